@@ -1,0 +1,2 @@
+pub mod NamesApart
+pub mod Places

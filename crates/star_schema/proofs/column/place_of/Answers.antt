@@ -1,0 +1,23 @@
+use Rattle.std.proofs.Common.{◌≡◌, ◌<◌, ◌+◌, ◌-◌, arith, Some, slice_get}
+use Rattle.star_schema.specs.Schema.{columns_of, index_of, place_of, table_of, width_of}
+use Rattle.star_schema.proofs.Places.{at_place, place_after_first, width_some}
+use Rattle.star_schema.proofs.column.place_of.Goals as goal
+
+pub column_at-first-requires : goal.column_at-first-requires
+column_at-first-requires c = let some = width_some c.table_of.result in omega arith
+
+pub overflow_sub-result : goal.overflow_sub-result
+overflow_sub-result c =
+    let after = place_after_first c.args.column c.column_at-first.result (rw c.table_of.ensures at c.column_at-first.ensures) in
+    omega (arith, after)
+
+pub returns-clause-place : goal.returns-clause-place
+returns-clause-place c =
+    let after = place_after_first c.args.column c.column_at-first.result (rw c.table_of.ensures at c.column_at-first.ensures) in
+    omega (arith, after)
+
+pub returns-clause-there : goal.returns-clause-there
+returns-clause-there c =
+    let after = place_after_first c.args.column c.column_at-first.result (rw c.table_of.ensures at c.column_at-first.ensures) in
+    let place : index_of c.args.column - index_of c.column_at-first.result ≡ place_of c.args.column = omega (arith, after) in
+    rw place (at_place c.args.column)

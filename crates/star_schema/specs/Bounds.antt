@@ -1,0 +1,24 @@
+-- The bounds of a column of numbers.
+use Rattle.std.specs.Prelude.{ℕ, ℤ, List, [], ◌∷◌, Option, Some, None, fold, map, pos, slice_get}
+use Rattle.std.specs.Int.{int_max, int_min}
+use Rattle.star_schema.specs.declared.column.ColumnId.{ColumnId}
+use Rattle.star_schema.specs.Schema.{place_of}
+use Rattle.star_schema.specs.Tables.{Value, Number, Text}
+
+-- the least of some numbers, 0 where there is none
+unfoldable pub least : List ℤ → ℤ
+least [] = pos 0
+least (x ∷ xs) = fold int_min x xs
+
+-- the greatest of some numbers, 0 where there is none
+unfoldable pub greatest : List ℤ → ℤ
+greatest [] = pos 0
+greatest (x ∷ xs) = fold int_max x xs
+
+abbrev pub number_in : Option Value → ℤ
+number_in (Some (Number n)) = n
+number_in _ = pos 0
+
+-- the numbers of a column of numbers, in the order of the rows of its table
+unfoldable pub numbers_of : ColumnId → List (List Value) → List ℤ
+numbers_of c rows = map (λ row. number_in (slice_get row (place_of c))) rows

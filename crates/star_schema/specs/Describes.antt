@@ -1,0 +1,10 @@
+-- What the code keeps of a column, beside what the schema says of it.
+use Rattle.std.specs.Prelude.{◌≡◌}
+use Rattle.star_schema.specs.declared.column.Column.{Column as Kept}
+use Rattle.star_schema.specs.Schema.{Column}
+
+pub record Describes (kept : Kept) (column : Column) : Type 0 where
+  pub name : kept.name.now ≡ column.name
+  pub table : kept.table ≡ column.table
+  pub kind : kept.kind ≡ column.kind
+  pub references : kept.references ≡ column.references

@@ -1,0 +1,20 @@
+//! The star schema: five tables, their columns and keys, the limits of a load and of a run, and where output goes.
+//!
+//! What a table file is, which rows it holds and what their bounds are stands in `specs/`: every crate above cites it.
+#![tactic(auto)]
+
+mod column;
+mod limits;
+mod name;
+mod sink;
+mod sizes;
+mod table;
+
+pub use column::{
+    COLUMNS, ColumnId, Kind, column_named, is_text, kind_of, place_of, references, table_of,
+};
+pub use limits::{Limits, MOST_ROWS, MOST_VISITS};
+pub use name::{Named, name_of};
+pub use sink::{Out, Sink, SinkFault};
+pub use sizes::Sizes;
+pub use table::{Key, TABLES, TableId, column_at, columns, key_of, table_named, width};

@@ -1,0 +1,109 @@
+// The five tables: their columns and keys.
+
+ghost use Rattle.std.specs.Prelude.{◌≡◌, ◌≤◌, ◌<◌, ◌↔◌, Some, length, slice_get};
+ghost use Rattle.star_schema.specs.declared.table.TableId.{TableId};
+ghost use Rattle.star_schema.specs.Schema as spec;
+
+use crate::column::{COLUMNS, ColumnId};
+use crate::name::{Named, first_named};
+use std::fmt;
+
+/// The tables of the Star Schema Benchmark (revision 3), in the order in which they are read, checked and listed.
+#[derive(Clone, Copy, Debug, PartialEq, Eq, Hash)]
+pub enum TableId {
+    Date,
+    Customer,
+    Supplier,
+    Part,
+    Lineorder,
+}
+
+/// All tables, in their order.
+pub static TABLES: [TableId; 5] = [
+    TableId::Date,
+    TableId::Customer,
+    TableId::Supplier,
+    TableId::Part,
+    TableId::Lineorder,
+];
+
+/// The columns that tell the rows of a table apart.
+#[derive(Clone, Copy, Debug, PartialEq, Eq, Hash)]
+pub enum Key {
+    One(ColumnId),
+    Two(ColumnId, ColumnId),
+}
+
+impl Named for TableId {
+    ghost name = { spec.table_name };
+
+    #[tactic(auto, unfolding(crate::specs::Schema::table_name))]
+    fn name(self) -> &'static str {
+        match self {
+            TableId::Date => "date",
+            TableId::Customer => "customer",
+            TableId::Supplier => "supplier",
+            TableId::Part => "part",
+            TableId::Lineorder => "lineorder",
+        }
+    }
+}
+
+impl fmt::Display for TableId {
+    ghost output = { λ table. Some (spec.table_name table) };
+
+    fn fmt<W: fmt::Write>(&self, f: &mut fmt::Formatter<W>) -> fmt::Result {
+        f.write_str(self.name())
+    }
+}
+
+/// The table with a name, if there is one. Names are lower case.
+pub fn table_named(name: &[u8]) -> Option<TableId>
+    ensures { (table : TableId) → (result ≡ Some table) ↔ (spec.table_name table ≡ name.now) }
+{
+    first_named(&TABLES, name)
+}
+
+/// The table's columns, in the order of a record's fields.
+#[tactic(auto, unfolding(crate::specs::Schema::column_of, crate::specs::Schema::columns_of))]
+pub fn columns(table: TableId) -> &'static [ColumnId]
+    ensures columns { result.now ≡ spec.columns_of table }
+    ensures some { 1 ≤ length result.now }
+    ensures few { length result.now ≤ 17 }
+{
+    match table {
+        TableId::Date => &COLUMNS[0..17],
+        TableId::Customer => &COLUMNS[17..25],
+        TableId::Supplier => &COLUMNS[25..32],
+        TableId::Part => &COLUMNS[32..41],
+        TableId::Lineorder => &COLUMNS[41..58],
+    }
+}
+
+/// How many columns the table has.
+pub fn width(table: TableId) -> usize
+    ensures { result ≡ spec.width_of table }
+{
+    columns(table).len()
+}
+
+/// The table's column at a place, from 0.
+pub fn column_at(table: TableId, place: usize) -> ColumnId
+    requires { place < spec.width_of table }
+    ensures { slice_get (spec.columns_of table) place ≡ Some result }
+{
+    columns(table)[place]
+}
+
+/// The table's key. No two rows of a loaded table have equal keys.
+pub fn key_of(table: TableId) -> Key
+    ensures { result ≡ spec.key_of table }
+{
+    match table {
+        TableId::Date => Key::One(ColumnId::DDatekey),
+        TableId::Customer => Key::One(ColumnId::CCustkey),
+        TableId::Supplier => Key::One(ColumnId::SSuppkey),
+        TableId::Part => Key::One(ColumnId::PPartkey),
+        TableId::Lineorder => Key::Two(ColumnId::LoOrderkey, ColumnId::LoLinenumber),
+    }
+}
