@@ -1,2 +1,3 @@
 pub mod NamesApart
 pub mod Places
+pub mod Lists

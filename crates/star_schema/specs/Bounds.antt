@@ -19,6 +19,10 @@ abbrev pub number_in : Option Value → ℤ
 number_in (Some (Number n)) = n
 number_in _ = pos 0
 
+-- the numbers at a place of some rows, in their order
+unfoldable pub numbers_at : ℕ → List (List Value) → List ℤ
+numbers_at place rows = map (λ row. number_in (slice_get row place)) rows
+
 -- the numbers of a column of numbers, in the order of the rows of its table
-unfoldable pub numbers_of : ColumnId → List (List Value) → List ℤ
-numbers_of c rows = map (λ row. number_in (slice_get row (place_of c))) rows
+abbrev pub numbers_of : ColumnId → List (List Value) → List ℤ
+numbers_of c rows = numbers_at (place_of c) rows

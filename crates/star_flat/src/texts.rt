@@ -1,0 +1,91 @@
+// A list of texts, one after another in one buffer.
+
+ghost use Rattle.std.specs.Prelude.{◌≡◌, ◌<◌, ◌++◌, ◌∷◌, ◌↔◌, [], IsTrue, Some, length, slice_get, OnOk, OnErr};
+ghost use Rattle.star_flat.specs.Cut.{texts_from, start_of, IsCut};
+
+use std::alloc::{AllocError, Global};
+use std::marker::Model;
+
+/// A list of texts, which a contract sees as the list of their bytes. No text has an allocation of its own.
+#[derive(Debug, Drop)]
+pub struct FlatTexts {
+    bytes: Vec<u8>,
+    ends: Vec<usize>,
+}
+
+impl Model for FlatTexts {
+    ghost use Rattle.std.specs.Prelude.{List, ℕ, length};
+    ghost use Rattle.star_flat.specs.Cut.{texts_from, IsCut};
+
+    ghost Value = { List (List ℕ) };
+
+    ghost view = { λ texts. texts_from 0 texts.bytes.items texts.ends.items };
+
+    ghost invariant = { λ texts. IsCut 0 texts.ends.items (length texts.bytes.items) };
+}
+
+impl FlatTexts {
+    /// No texts. Takes no memory.
+    pub fn new(alloc: Global) -> FlatTexts
+        ensures { result ≡ [] }
+    {
+        FlatTexts {
+            bytes: Vec::new(alloc),
+            ends: Vec::new(alloc),
+        }
+    }
+
+    /// How many texts there are.
+    pub fn len(&self) -> usize
+        ensures { result ≡ length self.now }
+    {
+        self.ends.len()
+    }
+
+    /// Whether there is no text.
+    pub fn is_empty(&self) -> bool
+        ensures { IsTrue result ↔ (self.now ≡ []) }
+    {
+        self.len() == 0
+    }
+
+    /// The text at a place, from 0.
+    pub fn get(&self, place: usize) -> &[u8]
+        requires { place < length self.now }
+        ensures { slice_get self.now place ≡ Some result.now }
+    {
+        text_at(self.bytes.as_slice(), self.ends.as_slice(), place)
+    }
+
+    /// Puts a text at the end, or changes nothing where memory is refused.
+    pub fn push(&mut self, text: &[u8]) -> Result<(), AllocError>
+        ensures ok { OnOk result (self.new ≡ self.old ++ text.now ∷ []) }
+        ensures err { OnErr result (self.new ≡ self.old) }
+    {
+        let start = self.bytes.len();
+        self.bytes.extend_from_slice(text)?;
+        if self.ends.push(self.bytes.len()).is_err() {
+            self.bytes.truncate(start);
+            return Err(AllocError);
+        }
+        Ok(())
+    }
+}
+
+// Where the text at a place begins.
+fn start_at(ends: &[usize], place: usize) -> usize
+    requires { place < length ends.now }
+    ensures { result ≡ start_of 0 ends.now place }
+{
+    if place == 0 { 0 } else { ends[place - 1] }
+}
+
+fn text_at<'t>(bytes: &'t [u8], ends: &[usize], place: usize) -> &'t [u8]
+    requires cut { IsCut 0 ends.now (length bytes.now) }
+    requires within { place < length ends.now }
+    ensures { slice_get (texts_from 0 bytes.now ends.now) place ≡ Some result.now }
+{
+    let start = start_at(ends, place);
+    let end = ends[place];
+    &bytes[start..end]
+}

@@ -1,0 +1,10 @@
+pub mod NextLine
+pub mod ReadFirst
+pub mod Numerals
+pub mod Fields
+pub mod Pushes
+pub mod Counts
+pub mod RowLemmas
+pub mod ColumnLemmas
+pub mod Law
+pub mod TableSteps

@@ -1,0 +1,111 @@
+-- One more record of a table.
+use Rattle.std.proofs.Common.{◌≡◌, ◌+◌, ◌<◌, ◌≤◌, ◌&&◌, ◌==◌, ℕ, List, [], ◌∷◌, ◌++◌, All, Bool, true, false, Bor, Option, Some, None, drop, length, map, take, refl, sym, ap, ◌∙◌, inl, inr, arith, append_assoc, rules, length-append}
+use Rattle.std.specs.Prelude.{nat_eq}
+use Rattle.std.specs.List.{starts_with}
+use Rattle.std.proofs.lemmas.Bool.{and_parts, cases_Bool, eqb-true, le-ltb, lt-ltb, true≢false}
+use Rattle.std.proofs.Math.ListN.{get_or-map}
+use Rattle.std.proofs.Math.Seq.{take-append_seam}
+use Rattle.std.proofs.lemmas.List.{append-nil, length-map}
+use Rattle.std.proofs.lemmas.List.Elements.{All-map}
+use Rattle.csv.specs.Reading.{is_bom, strip_bom}
+use Rattle.csv.specs.declared.reader.Reader.{Reader}
+use Rattle.star_schema.specs.declared.table.TableId.{TableId}
+use Rattle.star_schema.specs.declared.column.Kind.{Kind}
+use Rattle.star_schema.specs.First.{first_answer}
+use Rattle.star_schema.specs.Records.{fields_of, records_of}
+use Rattle.star_schema.specs.Schema.{kinds_of, width_of}
+use Rattle.star_schema.specs.Tables.{Value, cells_of, row_of, rows_of, values_of}
+use Rattle.star_reader.specs.declared.column.RawColumn.{RawColumn}
+use Rattle.star_reader.specs.declared.fault.ReadFault.{ReadFault}
+use Rattle.star_reader.specs.declared.fault.ReadFault.TheVariants as fault
+use Rattle.star_reader.specs.Columns.{AreColumnsOf, extended, first_rows, kind_of, values}
+use Rattle.star_reader.specs.Faults.{byte_order_mark, record_fault, records_fault}
+use Rattle.star_reader.specs.Lines.{HasLeft, TakesFirst}
+use Rattle.star_reader.specs.Steps.{HasRead}
+use Rattle.star_reader.proofs.Law.{width_kinds}
+use Rattle.star_reader.proofs.RowLemmas.{extended_full, first_rows-extended}
+
+-- a text with no byte order mark has none to take off
+pub no_mark : (text : List ℕ) → starts_with nat_eq text byte_order_mark ≡ false → strip_bom text ≡ text
+unfolding strip_bom
+no_mark [] h = refl
+no_mark (a ∷ []) h = refl
+no_mark (a ∷ b ∷ []) h = refl
+no_mark (a ∷ b ∷ c ∷ rest) h =
+    elim (cases_Bool (is_bom a b c)) [
+      | inl mark ↦
+          let parts = and_parts _ _ mark in
+          let front = and_parts _ _ parts.0 in
+          let ea = eqb-true a 0xEF front.0 in
+          let eb = eqb-true b 0xBB front.1 in
+          let ec = eqb-true c 0xBF parts.1 in
+          let bad : true ≡ false = rw (ea, eb, ec) at h in
+          absurd (true≢false bad)
+      | inr plain ↦ rw plain refl
+    ]
+
+pub start : (table : TableId) (most : ℕ) (text bytes : List ℕ) (columns : List RawColumn) (reader : Reader (Bor (List ℕ))) → bytes ≡ text → AreColumnsOf table 0 columns → HasLeft reader (records_of bytes)
+    → HasRead table most text 0 columns reader
+unfolding first_rows
+start table most text bytes columns reader same empty left = record { lines = records_of text; left = rw same at left; no_fault = refl; of_table = empty; so_far = refl }
+
+-- the next record's fault is the first
+pub faulty : (table : TableId) (most : ℕ) (text : List ℕ) (count : ℕ) (columns : List RawColumn) (old new : Reader (Bor (List ℕ))) (fields : List (List ℕ)) (f : ReadFault)
+    → (h : HasRead table most text count columns old) → TakesFirst h.lines fields new → count < most → record_fault (map kind_of columns) (count + 1) fields ≡ Some f
+    → records_fault table most 1 (records_of text) ≡ Some f
+unfolding first_answer
+faulty table most text count columns old new fields f h next within e =
+    let room = le-ltb most (count + 1) (omega arith) in
+    let here : record_fault (kinds_of table) (count + 1) (fields_of next.line) ≡ Some f = rw (next.fields_are, h.of_table.kinds) at e in
+    h.no_fault ∙ rw (next.was, room, here) refl
+
+-- what a record adds to the columns of its table
+pub record AddsRecord (at_row : ℕ) (fields : List (List ℕ)) (old new : List RawColumn) : Type 0 where
+  pub no_fault : record_fault (map kind_of old) at_row fields ≡ None
+  pub columns : map values new ≡ extended (map values old) (values_of (map kind_of old) (cells_of (length (map kind_of old)) fields))
+  pub width : length (values_of (map kind_of old) (cells_of (length (map kind_of old)) fields)) ≡ length old
+  pub kinds : map kind_of new ≡ map kind_of old
+
+-- the next record has no fault
+pub more : (table : TableId) (most : ℕ) (text : List ℕ) (count : ℕ) (columns later : List RawColumn) (old new : Reader (Bor (List ℕ))) (fields : List (List ℕ))
+    → (h : HasRead table most text count columns old) → TakesFirst h.lines fields new → count < most → AddsRecord (count + 1) fields columns later
+    → HasRead table most text (count + 1) later new
+unfolding first_answer
+more table most text count columns later old new fields h next within adds =
+    let room = le-ltb most (count + 1) (omega arith) in
+    let here : record_fault (kinds_of table) (count + 1) (fields_of next.line) ≡ None = rw (next.fields_are, h.of_table.kinds) at adds.no_fault in
+    let row : values_of (map kind_of columns) (cells_of (length (map kind_of columns)) fields) ≡ row_of table next.line = rw (next.fields_are, h.of_table.kinds, width_kinds table) refl in
+    let holds : map values later ≡ extended (map values columns) (row_of table next.line) = rw row at adds.columns in
+    let width : length (row_of table next.line) ≡ length (map values columns) = rw row at adds.width ∙ sym (length-map columns values) in
+    let full : All (λ (c : List Value). length c ≡ count) (map values columns) = All-map (λ (c : List Value). length c ≡ count) values columns h.of_table.full in
+    let longer : All (λ (c : List Value). length c ≡ count + 1) (map values later) = rw holds (extended_full (map values columns) (row_of table next.line) count full width) in
+    record {
+      lines = next.others;
+      left = next.rest;
+      no_fault = h.no_fault ∙ rw (next.was, room, here) refl;
+      of_table = record {
+        kinds = adds.kinds ∙ h.of_table.kinds;
+        full = λ k d within. let here : k < length (map values later) = omega (arith, within, length-map later values) in rw (← get_or-map values later k d) (longer k (values d) here);
+      };
+      so_far = rw (holds, first_rows-extended (map values columns) (row_of table next.line) count full width)
+          (append_assoc (first_rows count (map values columns)) (row_of table next.line ∷ []) _ ∙ rw next.was at h.so_far);
+    }
+
+-- there is no other record
+pub whole : (table : TableId) (most : ℕ) (text : List ℕ) (count : ℕ) (columns : List RawColumn) (reader : Reader (Bor (List ℕ)))
+    → (h : HasRead table most text count columns reader) → h.lines ≡ [] → (records_fault table most 1 (records_of text) ≡ None) × (first_rows count (map values columns) ≡ rows_of table text)
+unfolding first_answer
+whole table most text count columns reader h none = (h.no_fault ∙ rw none refl, sym (append-nil (first_rows count (map values columns))) ∙ rw none at h.so_far)
+
+-- one record is too many
+pub too_many : (table : TableId) (most : ℕ) (text : List ℕ) (count : ℕ) (columns : List RawColumn) (old new : Reader (Bor (List ℕ))) (fields : List (List ℕ))
+    → (h : HasRead table most text count columns old) → TakesFirst h.lines fields new → most ≤ count
+    → records_fault table most 1 (records_of text) ≡ Some fault.TooManyRows
+unfolding first_answer
+too_many table most text count columns old new fields h next full =
+    let over = lt-ltb most (count + 1) (omega arith) in
+    h.no_fault ∙ rw (next.was, over) refl
+
+-- a whole list that was written through a slice
+pub whole_slice : {X : Type 0} (n : ℕ) (new old : List X) → n ≡ length new → take n (new ++ drop (length new) old) ≡ new
+whole_slice n new old all = rw all (take-append_seam new (drop (length new) old))

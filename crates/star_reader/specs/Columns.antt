@@ -1,0 +1,42 @@
+-- What the columns of a table hold, and the rows that they make.
+use Rattle.std.specs.Prelude.{◌≡◌, ◌++◌, ℕ, zero, suc, List, [], ◌∷◌, All, length, map, pos, slice_index_or}
+use Rattle.star_schema.specs.declared.table.TableId.{TableId}
+use Rattle.star_schema.specs.declared.column.Kind.{Kind}
+use Rattle.star_schema.specs.declared.column.Kind.TheVariants as kind
+use Rattle.star_schema.specs.Schema.{kinds_of}
+use Rattle.star_schema.specs.Tables.{Value, Number, Text}
+use Rattle.star_reader.specs.declared.column.RawColumn.{RawColumn}
+use Rattle.star_reader.specs.declared.column.RawColumn.TheVariants.{Numbers, Texts}
+
+abbrev pub kind_of : RawColumn → Kind
+kind_of (Numbers numbers) = kind.Number
+kind_of (Texts texts) = kind.Text
+
+abbrev pub values : RawColumn → List Value
+values (Numbers numbers) = map Number numbers.items
+values (Texts texts) = map Text texts
+
+-- the columns with one more value each, as far as there are values
+unfoldable pub extended : List (List Value) → List Value → List (List Value)
+extended [] vs = []
+extended (column ∷ columns) [] = column ∷ columns
+extended (column ∷ columns) (v ∷ vs) = (column ++ v ∷ []) ∷ extended columns vs
+
+-- the row at a place of columns of one length
+abbrev pub row_at : List (List Value) → ℕ → List Value
+row_at columns i = map (λ column. slice_index_or column i (Number (pos 0))) columns
+
+-- the first n rows of columns
+unfoldable pub first_rows : ℕ → List (List Value) → List (List Value)
+first_rows zero columns = []
+first_rows (suc n) columns = first_rows n columns ++ row_at columns n ∷ []
+
+-- a table as it was read
+pub record Table : Type 0 where
+  pub table : TableId
+  pub rows : List (List Value)
+
+-- these columns are those of a table with so many rows
+pub record AreColumnsOf (table : TableId) (rows : ℕ) (columns : List RawColumn) : Type 0 where
+  pub kinds : map kind_of columns ≡ kinds_of table
+  pub full : All (λ column. length (values column) ≡ rows) columns

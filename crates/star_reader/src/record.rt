@@ -1,0 +1,66 @@
+// One record of a table.
+
+ghost use Rattle.std.specs.Prelude.{◌≡◌, ◌⊎◌, ◌≤◌, None, Some, length, map, slice_get, MatchResult};
+ghost use Rattle.std.specs.Option.{option_copied};
+ghost use Rattle.csv.specs.Records.{fields_of as fields_read};
+ghost use Rattle.star_schema.specs.Tables as spec;
+ghost use Rattle.star_reader.specs.Columns.{extended, kind_of, values};
+ghost use Rattle.star_reader.specs.Faults.{record_fault};
+
+use crate::column::RawColumn;
+use crate::fault::ReadFault;
+use csv::ByteRecord;
+
+fn field_at(record: &ByteRecord, place: usize) -> Option<&[u8]>
+    ensures { option_copied result ≡ slice_get (fields_read record.now) place }
+{
+    record.get(place)
+}
+
+// Whether a record has an empty field after the last column's.
+fn ends_in_bar(record: &ByteRecord, width: usize) -> bool
+    requires { width ≤ 17 }
+    ensures { result ≡ spec.ends_in_bar width (fields_read record.now) }
+{
+    record.len() == width + 1 && matches!(field_at(record, width), Some([]))
+}
+
+fn cell_count(record: &ByteRecord, width: usize) -> usize
+    requires { width ≤ 17 }
+    ensures { result ≡ length (spec.cells_of width (fields_read record.now)) }
+{
+    if ends_in_bar(record, width) {
+        width
+    } else {
+        record.len()
+    }
+}
+
+/// Adds the values of a record to the columns of its table. After a fault the columns may differ in length.
+pub(crate) fn push_record(
+    columns: &mut [RawColumn],
+    at_row: u32,
+    record: &ByteRecord,
+) -> Result<(), ReadFault>
+    requires { length columns.old ≤ 17 }
+    ensures pushed { let kinds = map kind_of columns.old in MatchResult result
+        (λ _. (record_fault kinds at_row (fields_read record.now) ≡ None)
+        × (map values columns.new ≡ extended (map values columns.old) (spec.values_of kinds (spec.cells_of (length kinds) (fields_read record.now))))
+        × (length (spec.values_of kinds (spec.cells_of (length kinds) (fields_read record.now))) ≡ length columns.old))
+        (λ fault. (fault ≡ ReadFault.OutOfMemory) ⊎ (record_fault kinds at_row (fields_read record.now) ≡ Some fault)) }
+    ensures kinds { map kind_of columns.new ≡ map kind_of columns.old }
+{
+    if cell_count(record, columns.len()) != columns.len() {
+        return Err(ReadFault::FieldCount { at_row });
+    }
+    for place in 0..columns.len() {
+        match field_at(record, place) {
+            Some(field) => {
+                let column = &mut columns[place];
+                column.push_cell(at_row, place + 1, field)?;
+            }
+            None => unreachable!(),
+        }
+    }
+    Ok(())
+}
