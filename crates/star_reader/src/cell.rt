@@ -1,6 +1,6 @@
 // One cell of a table.
 
-ghost use Rattle.std.specs.Prelude.{◌≡◌, ◌<◌, ◌^◌, true, Some, None, if◌then◌else◌};
+ghost use Rattle.std.specs.Prelude.{◌≡◌, ◌<◌, ◌≤◌, ◌^◌, Some, None, IfSome, if◌then◌else◌, length};
 ghost use Rattle.std.specs.Char.{is_ascii_digit};
 ghost use Rattle.std.specs.List.{list_all};
 ghost use Rattle.std.specs.Str.Parse.{digits_value};
@@ -16,18 +16,6 @@ fn unsigned(cell: &[u8]) -> &[u8]
     }
 }
 
-fn are_digits(digits: &[u8]) -> bool
-    ensures { result ≡ list_all is_ascii_digit digits.now }
-{
-    digits.iter().all(|b| b.is_ascii_digit())
-}
-
-fn is_numeral(digits: &[u8]) -> bool
-    ensures { result ≡ spec.is_numeral digits.now }
-{
-    !digits.is_empty() && digits.len() <= 18 && are_digits(digits)
-}
-
 /// Whether each byte of a cell is printable ASCII.
 pub(crate) fn is_printable(cell: &[u8]) -> bool
     ensures { result ≡ list_all spec.is_printable cell.now }
@@ -35,17 +23,20 @@ pub(crate) fn is_printable(cell: &[u8]) -> bool
     cell.iter().all(|&b| b >= b' ' && b <= b'~')
 }
 
-// The number that a numeral writes.
-fn magnitude(digits: &[u8]) -> u64
-    requires { spec.is_numeral digits.now ≡ true }
-    ensures value { result ≡ digits_value 10 digits.now }
-    ensures bound { result < 10 ^ 18 }
+// The number that some digits write, if each byte is one.
+fn magnitude(digits: &[u8]) -> Option<u64>
+    requires { length digits.now ≤ 18 }
+    ensures value { result ≡ (if list_all is_ascii_digit digits.now then Some (digits_value 10 digits.now) else None) }
+    ensures bound { IfSome result (λ magnitude. magnitude < 10 ^ 18) }
 {
     let mut magnitude = 0u64;
     for digit in digits {
+        if !digit.is_ascii_digit() {
+            return None;
+        }
         magnitude = magnitude * 10 + u64::from(*digit - b'0');
     }
-    magnitude
+    Some(magnitude)
 }
 
 /// The number that a cell writes, if it writes one.
@@ -53,10 +44,10 @@ pub(crate) fn parse_number(cell: &[u8]) -> Option<i64>
     ensures { result ≡ (if spec.is_number cell.now then Some (spec.number_of cell.now) else None) }
 {
     let digits = unsigned(cell);
-    if !is_numeral(digits) {
+    if digits.is_empty() || digits.len() > 18 {
         return None;
     }
-    let magnitude = magnitude(digits) as i64;
+    let magnitude = magnitude(digits)? as i64;
     if cell.starts_with(b"-") {
         Some(-magnitude)
     } else {

@@ -1,6 +1,6 @@
 // A column as it was read.
 
-ghost use Rattle.std.specs.Prelude.{◌≡◌, ◌++◌, ◌∷◌, ◌⊎◌, [], None, Some, MatchResult};
+ghost use Rattle.std.specs.Prelude.{◌≡◌, ◌++◌, ◌∷◌, ◌⊎◌, [], None, Some, MatchResult, false};
 ghost use Rattle.star_schema.specs.Tables as spec;
 ghost use Rattle.star_reader.specs.Columns.{kind_of, values};
 ghost use Rattle.star_reader.specs.Faults.{cell_fault};
@@ -16,6 +16,30 @@ use std::alloc::Global;
 pub enum RawColumn {
     Numbers(Vec<i64>),
     Texts(FlatTexts),
+}
+
+// The fault of a cell of a column of texts, if it has one.
+fn check_text(at_row: u32, field: usize, cell: &[u8]) -> Result<(), ReadFault>
+    ensures { MatchResult result (λ _. cell_fault at_row field Kind.Text cell.now ≡ None) (λ fault. cell_fault at_row field Kind.Text cell.now ≡ Some fault) }
+{
+    if cell.len() > 255 {
+        return Err(ReadFault::CellTooLong { at_row, field });
+    }
+    if !is_printable(cell) {
+        return Err(ReadFault::BadByte { at_row, field });
+    }
+    Ok(())
+}
+
+// The fault of a cell of a column of numbers that writes none.
+fn number_fault(at_row: u32, field: usize, cell: &[u8]) -> ReadFault
+    requires { spec.is_number cell.now ≡ false }
+    ensures { cell_fault at_row field Kind.Number cell.now ≡ Some result }
+{
+    match check_text(at_row, field, cell) {
+        Ok(()) => ReadFault::BadNumber { at_row, field },
+        Err(fault) => fault,
+    }
 }
 
 impl RawColumn {
@@ -42,18 +66,15 @@ impl RawColumn {
             (λ fault. (fault ≡ ReadFault.OutOfMemory) ⊎ (cell_fault at_row field (kind_of self.old) cell.now ≡ Some fault)) }
         ensures kind { kind_of self.new ≡ kind_of self.old }
     {
-        if cell.len() > 255 {
-            return Err(ReadFault::CellTooLong { at_row, field });
-        }
-        if !is_printable(cell) {
-            return Err(ReadFault::BadByte { at_row, field });
-        }
         match self {
             RawColumn::Numbers(numbers) => match parse_number(cell) {
                 Some(number) => numbers.push(number)?,
-                None => return Err(ReadFault::BadNumber { at_row, field }),
+                None => return Err(number_fault(at_row, field, cell)),
             },
-            RawColumn::Texts(texts) => texts.push(cell)?,
+            RawColumn::Texts(texts) => {
+                check_text(at_row, field, cell)?;
+                texts.push(cell)?;
+            }
         }
         Ok(())
     }

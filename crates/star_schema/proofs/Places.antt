@@ -1,12 +1,13 @@
 -- The places of the columns in their tables.
-use Rattle.std.specs.Prelude.{◌≡◌, ◌+◌, ◌≤◌, ℕ, IfSome, Some, slice_get, length, refl}
+use Rattle.std.specs.Prelude.{◌≡◌, ◌+◌, ◌≤◌, ℕ, zero, suc, Bool, true, false, List, [], ◌∷◌, IfSome, Some, None, filter, slice_get, length, refl}
 use Rattle.std.proofs.Common.{arith, subst, lit≤}
 use Rattle.std.specs.Prelude.{Option}
 use Rattle.star_schema.specs.declared.table.TableId.{TableId}
-use Rattle.star_schema.specs.declared.table.TableId.TheVariants.{Date}
+use Rattle.star_schema.specs.declared.table.TableId.TheVariants.{Date, Customer, Supplier, Part, Lineorder}
 use Rattle.star_schema.specs.declared.column.ColumnId.{ColumnId}
 use Rattle.star_schema.specs.declared.column.ColumnId.TheVariants.{DDatekey}
-use Rattle.star_schema.specs.Schema.{column_of, columns_of, index_of, place_of, table_of, width_of}
+use Rattle.star_schema.specs.declared.column.TheConstants.{COLUMNS}
+use Rattle.star_schema.specs.Schema.{column_of, columns_of, index_of, is_table, place_of, table_of, width_of}
 
 after_first : (c : ColumnId) → IfSome (slice_get (columns_of (table_of c)) 0) (λ d. place_of c + index_of d ≡ index_of c)
 unfolding column_of columns_of place_of
@@ -32,3 +33,28 @@ pub width_few : (t : TableId) → width_of t ≤ 17
 unfolding column_of columns_of
 width_few Date = lit≤ tt
 width_few _ = lit≤ tt
+
+is_table_same : (s t : TableId) → is_table s t ≡ true → t ≡ s
+is_table_same Date Date e = refl
+is_table_same Customer Customer e = refl
+is_table_same Supplier Supplier e = refl
+is_table_same Part Part e = refl
+is_table_same Lineorder Lineorder e = refl
+is_table_same _ _ e = cc
+
+passes_filter : {X : Type 0} (p : X → Bool) (xs : List X) (i : ℕ) (x : X) → slice_get (filter p xs) i ≡ Some x → p x ≡ true
+passes_filter p [] i x e = cc
+passes_filter p (y ∷ ys) i x e = go (p y) refl e (λ j. passes_filter p ys j x)
+  where
+    go : (b : Bool) → p y ≡ b → slice_get (filter p (y ∷ ys)) i ≡ Some x → ((j : ℕ) → slice_get (filter p ys) j ≡ Some x → p x ≡ true) → p x ≡ true
+    go true same e later = here i (rw same at e)
+      where
+        here : (j : ℕ) → slice_get (y ∷ filter p ys) j ≡ Some x → p x ≡ true
+        here zero first = let is : y ≡ x = cc in rw (← is) same
+        here (suc j) rest = later j rest
+    go false other e later = later i (rw other at e)
+
+-- a column at a place of a table is one of the table's
+pub in_table : (t : TableId) (place : ℕ) (c : ColumnId) → slice_get (columns_of t) place ≡ Some c → table_of c ≡ t
+unfolding columns_of
+in_table t place c at = is_table_same t (table_of c) (passes_filter (λ d. is_table t (table_of d)) COLUMNS place c at)

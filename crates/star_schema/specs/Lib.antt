@@ -6,3 +6,4 @@ pub mod Records
 pub mod Tables
 pub mod Bounds
 pub mod First
+pub mod Database

@@ -90,7 +90,8 @@ pub fn width(table: TableId) -> usize
 /// The table's column at a place, from 0.
 pub fn column_at(table: TableId, place: usize) -> ColumnId
     requires { place < spec.width_of table }
-    ensures { slice_get (spec.columns_of table) place ≡ Some result }
+    ensures at { slice_get (spec.columns_of table) place ≡ Some result }
+    ensures table { spec.table_of result ≡ table }
 {
     columns(table)[place]
 }

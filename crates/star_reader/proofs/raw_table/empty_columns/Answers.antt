@@ -19,7 +19,7 @@ take_one_more xs i x at =
 pub loop-place-preserved : goal.loop-place-preserved
 loop-place-preserved c =
     let there : slice_get (kinds_of c.args.table) c.loop-place.place ≡ Some (kind_in_schema c.column_at-column.result) =
-    slice_get-map kind_in_schema (columns_of c.args.table) c.loop-place.place ∙ ap (option_map kind_in_schema) c.column_at-column.ensures in
+    slice_get-map kind_in_schema (columns_of c.args.table) c.loop-place.place ∙ ap (option_map kind_in_schema) c.column_at-column.ensures.at in
     let kind = c.new.ensures.kind ∙ c.kind_of.ensures in
     let none : length (values c.new.result) ≡ 0 = ap length c.new.ensures.values in
     rw c.in_ok-push.ensures.items (

@@ -1,0 +1,142 @@
+// What the program prints, and its exit statuses.
+
+use crate::command::command;
+use std::alloc::AllocError;
+use std::process::Abort;
+use std::rt::Files;
+use std::test::Fail;
+use std::{fs, io};
+
+/// What a run gave.
+#[derive(Drop)]
+struct Ran {
+    status: u8,
+    out: Vec<u8>,
+    err: Vec<u8>,
+}
+
+fn run<R: Files + AllocGlobal>(rt: &R, words: &[&str]) -> Result<Ran, AllocError> {
+    let mut owned = Vec::new(rt.alloc());
+    for word in words {
+        owned.push(String::from_str(rt.alloc(), word)?)?;
+    }
+    let mut out = Vec::new(rt.alloc());
+    let mut err = Vec::new(rt.alloc());
+    let status = command(rt, owned.as_slice(), &mut out, &mut err);
+    Ok(Ran { status, out, err })
+}
+
+fn text(bytes: &[u8]) -> &str {
+    str::from_utf8(bytes).unwrap_or("no text")
+}
+
+#[test]
+fn asks_for_words(rt: HostRuntime) -> Result<(), Fail> {
+    for words in [
+        ["no"].as_slice(),
+        ["check"].as_slice(),
+        ["check", "a", "b"].as_slice(),
+        ["--no"].as_slice(),
+    ] {
+        let ran = run(&rt, words)?;
+        assert_eq!(rt; ran.status, 2, "{words:?}");
+        assert_eq!(rt; ran.out.len(), 0);
+        assert!(rt;
+            text(ran.err.as_slice()).starts_with("error: "),
+            "{words:?}"
+        );
+    }
+    Ok(())
+}
+
+#[test]
+fn helps(rt: HostRuntime) -> Result<(), Fail> {
+    for (words, front) in [
+        (["--help"], "Reports over"),
+        (["--version"], "star 0.1.0\n"),
+    ] {
+        let ran = run(&rt, words.as_slice())?;
+        assert_eq!(rt; ran.status, 0);
+        assert!(rt; text(ran.out.as_slice()).starts_with(front), "{front}");
+        assert_eq!(rt; ran.err.len(), 0);
+    }
+    Ok(())
+}
+
+// Writes the files of the sample into a folder.
+fn write_sample<R: Files + AllocGlobal>(rt: &R, folder: &str) -> io::Result<()> {
+    fs::create_dir_all(rt, folder)?;
+    let texts = star_engine::sample();
+    for (name, bytes) in [
+        ("date", texts.date),
+        ("customer", texts.customer),
+        ("supplier", texts.supplier),
+        ("part", texts.part),
+        ("lineorder", texts.lineorder),
+    ] {
+        let path = format!(in rt.alloc(); "{folder}/{name}.tbl")?;
+        fs::write(rt, path.as_str(), bytes)?;
+    }
+    Ok(())
+}
+
+#[test]
+fn checks_folders(rt: HostRuntime) -> Result<(), Fail> {
+    write_sample(&rt, "whole")?;
+    let sample = run(&rt, [].as_slice())?;
+    let whole = run(&rt, ["check", "whole"].as_slice())?;
+    assert_eq!(rt; (sample.status, whole.status), (0, 0));
+    assert!(rt; sample.out.as_slice().starts_with(b"table date rows 3\n"));
+    assert_eq!(rt; sample.out.as_slice(), whole.out.as_slice());
+    assert_eq!(rt; sample.err.len() + whole.err.len(), 0);
+    Ok(())
+}
+
+// A run that prints one line on standard error and nothing else.
+fn assert_fault<R: Files + AllocGlobal + Abort>(
+    rt: &R,
+    words: &[&str],
+    line: &str,
+    status: u8,
+) -> Result<(), Fail> {
+    let ran = run(rt, words)?;
+    assert_eq!(rt; text(ran.err.as_slice()), line);
+    assert_eq!(rt; ran.status, status, "{line}");
+    assert_eq!(rt; ran.out.len(), 0);
+    Ok(())
+}
+
+#[test]
+fn tells_faults(rt: HostRuntime) -> Result<(), Fail> {
+    write_sample(&rt, "damaged")?;
+    fs::create_dir_all(&rt, "empty")?;
+    assert_fault(&rt, ["check", "empty"].as_slice(), "file date.tbl\n", 6)?;
+    assert_fault(&rt, ["check", "none"].as_slice(), "file date.tbl\n", 6)?;
+    assert_fault(
+        &rt,
+        ["check", "damaged/part.tbl"].as_slice(),
+        "file date.tbl\n",
+        6,
+    )?;
+    fs::write(&rt, "damaged/supplier.tbl", b"\n1|a\n")?;
+    assert_fault(
+        &rt,
+        ["check", "damaged"].as_slice(),
+        "load 4 FieldCount table supplier record 1\n",
+        3,
+    )?;
+    fs::remove_file(&rt, "damaged/part.tbl")?;
+    assert_fault(&rt, ["check", "damaged"].as_slice(), "file part.tbl\n", 6)?;
+    fs::create_dir_all(&rt, "damaged/part.tbl")?;
+    assert_fault(&rt, ["check", "damaged"].as_slice(), "file part.tbl\n", 6)
+}
+
+#[test]
+fn tells_output_that_fails(rt: HostRuntime) {
+    let mut room = [0u8; 10];
+    let mut err = Vec::new(rt.alloc());
+    let status = command(&rt, [].as_slice(), &mut room.as_mut_slice(), &mut err);
+    assert_eq!(rt; status, 6);
+    assert_eq!(rt; room.as_slice(), b"table date".as_slice());
+    assert_eq!(rt; text(err.as_slice()), "write 10\n");
+}

@@ -1,0 +1,5 @@
+pub mod LoadLemmas
+pub mod BoundLemmas
+pub mod Sends
+pub mod Parts
+pub mod ListingLemmas

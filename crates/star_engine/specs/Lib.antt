@@ -1,0 +1,4 @@
+pub mod Kept
+pub mod Load
+pub mod Listing
+pub mod Faults

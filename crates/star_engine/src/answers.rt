@@ -1,0 +1,43 @@
+// The answers that the program gives.
+
+ghost use Rattle.std.specs.Prelude.{◌≡◌, ◌<◌, ℕ, true, false, Err, IfOk, OnOk, length, take};
+ghost use Rattle.std.specs.Io.KnownBytes.{Appends};
+ghost use Rattle.star_schema.specs.Database.{AreTables};
+ghost use Rattle.star_engine.specs.Listing.{check_text};
+ghost use Rattle.star_engine.specs.Load.{load_fault, text_of};
+ghost use Rattle.star_engine.specs.declared.catalogue.LoadFault.{LoadFault};
+
+use crate::catalogue::{Catalogue, Texts};
+use crate::deliver::write_whole;
+use crate::fault::EngineFault;
+use crate::listing::list_tables;
+use star_schema::{Limits, Sink};
+use std::alloc::Global;
+
+/// Writes how many rows each table has, and the bounds of its columns of numbers. The whole text is made before any
+/// of it is written.
+pub fn check<S: Sink>(
+    alloc: Global,
+    texts: &Texts<'_>,
+    limits: Limits,
+    out: &mut S,
+) -> Result<(), EngineFault>
+    ensures tables { OnOk result (AreTables limits.rows (text_of texts.now)) }
+    ensures printed { OnOk result (Appends (S.contents out.old) (S.contents out.new) (check_text (text_of texts.now))) }
+    ensures not_failed { OnOk result (S.is_failed out.new ≡ false) }
+
+    // Each fault comes where it is due, and has given `out` nothing but what it says.
+    ensures memory { result ≡ Err EngineFault.OutOfMemory → out.new ≡ out.old }
+    ensures load { (fault : LoadFault) → result ≡ Err (EngineFault.Load fault)
+        → (load_fault limits.rows (text_of texts.now) ≡ Some fault) × (AreTables limits.rows (text_of texts.now) → ⊥) × (out.new ≡ out.old) }
+    ensures write { (sent : ℕ) → result ≡ Err (EngineFault.Write sent)
+        → AreTables limits.rows (text_of texts.now) × (sent < length (check_text (text_of texts.now)))
+        × Appends (S.contents out.old) (S.contents out.new) (take sent (check_text (text_of texts.now))) × (S.is_failed out.new ≡ true) }
+{
+    let catalogue = Catalogue::load(alloc, texts, limits)?;
+    let text = list_tables(alloc, &catalogue)?;
+    match write_whole(out, text.as_bytes()) {
+        Ok(()) => Ok(()),
+        Err(fault) => Err(EngineFault::Write { sent: fault.sent }),
+    }
+}

@@ -1,0 +1,16 @@
+//! From the bytes of the table files to the bytes of an answer.
+#![tactic(auto)]
+
+mod answers;
+mod bounds;
+pub mod catalogue;
+mod deliver;
+mod fault;
+mod listing;
+mod sample_texts;
+#[cfg(test)]
+mod tests;
+
+pub use answers::check;
+pub use fault::EngineFault;
+pub use sample_texts::sample;

@@ -1,0 +1,18 @@
+-- Intervals, wide bounds and answers as ranges.
+use Rattle.std.specs.Prelude.{Result, Ok, Err}
+use Rattle.star_interval.specs.declared.Interval.{Interval}
+use Rattle.star_interval.specs.declared.Wide.{Wide}
+use Rattle.star_interval.specs.Range.{Range}
+
+-- the numbers of an interval
+abbrev pub range_of : Interval → Range
+range_of i = record { low = i.low; high = i.high }
+
+-- the numbers between wide bounds
+abbrev pub wide_range_of : Wide → Range
+wide_range_of w = record { low = w.low; high = w.high }
+
+-- the bounds that an answer carries, as an interval or as wide ones
+abbrev pub bounds_of : Result Interval Wide → Range
+bounds_of (Ok i) = range_of i
+bounds_of (Err w) = wide_range_of w

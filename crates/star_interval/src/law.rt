@@ -1,0 +1,52 @@
+//! Laws of ranges: functions with no body, whose clauses are the laws.
+
+ghost use Rattle.std.specs.Prelude.{◌≡◌, ℕ, ◌⊎◌, ◌↔◌, IsTrue, ℤ, pos, ◌+ℤ◌, ◌-ℤ◌, ◌*ℤ◌, FitsSigned};
+ghost use Rattle.std.specs.Int.{w64};
+ghost use Rattle.star_interval.specs.Range.{Range, Holds, IsWithin, FitsI64, fits_i64, IsLeast, IsResult, IsMultiple, only, hull, corner_range, multiple_range};
+ghost use Rattle.star_interval.specs.Laws.{KeepsValues, KeepsOrder};
+
+/// What an operation makes of held numbers is held by the range that it makes of their ranges.
+pub fn results_of_held_numbers_are_held()
+    ensures sums { KeepsValues ◌+ℤ◌ (corner_range ◌+ℤ◌) }
+    ensures differences { KeepsValues ◌-ℤ◌ (corner_range ◌-ℤ◌) }
+    ensures products { KeepsValues ◌*ℤ◌ (corner_range ◌*ℤ◌) }
+    ensures multiples { (n : ℕ) (r : Range) (z : ℤ)
+        → Holds r z → Holds (multiple_range n r) (pos n *ℤ z) }
+    ensures hulls { (a b : Range) (z : ℤ) → Holds a z ⊎ Holds b z → Holds (hull a b) z }
+    ensures with_zero { (r : Range) (z : ℤ)
+        → Holds r z ⊎ (z ≡ pos 0) → Holds (hull r (only (pos 0))) z }
+{}
+
+/// An operation makes a smaller range of smaller ranges.
+pub fn smaller_ranges_make_smaller_ranges()
+    ensures sums { KeepsOrder (corner_range ◌+ℤ◌) }
+    ensures differences { KeepsOrder (corner_range ◌-ℤ◌) }
+    ensures products { KeepsOrder (corner_range ◌*ℤ◌) }
+    ensures multiples { (n : ℕ) (a b : Range)
+        → IsWithin a b → IsWithin (multiple_range n a) (multiple_range n b) }
+    ensures hulls { (a b c d : Range)
+        → IsWithin a c → IsWithin b d → IsWithin (hull a b) (hull c d) }
+    ensures with_zero { (a b : Range)
+        → IsWithin a b → IsWithin (hull a (only (pos 0))) (hull b (only (pos 0))) }
+{}
+
+/// A range with ends of 64 bits holds numbers of 64 bits alone, and a test tells such ranges.
+pub fn numbers_of_fitting_ranges_fit()
+    ensures held { (r : Range) (z : ℤ) → FitsI64 r → Holds r z → FitsSigned w64 z }
+    ensures test { (r : Range) → IsTrue (fits_i64 r) ↔ FitsI64 r }
+{}
+
+/// A least range lies in each range that holds the same numbers.
+pub fn least_ranges_are_least()
+    ensures results { (operation : ℤ → ℤ → ℤ) (a b r s : Range)
+        → IsLeast (IsResult operation a b) r
+        → ((z : ℤ) → IsResult operation a b z → Holds s z) → IsWithin r s }
+    ensures multiples { (n : ℕ) (a r s : Range)
+        → IsLeast (IsMultiple n a) r → ((z : ℤ) → IsMultiple n a z → Holds s z) → IsWithin r s }
+    ensures hulls { (a b r s : Range)
+        → IsLeast (λ z. Holds a z ⊎ Holds b z) r
+        → ((z : ℤ) → Holds a z ⊎ Holds b z → Holds s z) → IsWithin r s }
+    ensures with_zero { (a r s : Range)
+        → IsLeast (λ z. Holds a z ⊎ (z ≡ pos 0)) r
+        → ((z : ℤ) → Holds a z ⊎ (z ≡ pos 0) → Holds s z) → IsWithin r s }
+{}

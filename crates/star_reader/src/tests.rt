@@ -1,0 +1,98 @@
+// Worked texts, each public call with ample memory, and many rows.
+
+use crate::{ReadFault, read_table};
+use star_schema::{Limits, TableId};
+use std::alloc::{AllocError, Global};
+use std::fmt::Write;
+use std::test::Fail;
+
+const SUPPLIER: &str = concat!(
+    "1|Supplier#000000001|b1|UNITED KI5|UNITED KINGDOM|EUROPE|33-444-444-4444|\n",
+    "2|Supplier#000000002|b2|UNITED ST4|UNITED STATES|AMERICA|34-555-555-5555|\n",
+);
+
+fn read_suppliers(alloc: Global, text: &[u8]) -> Result<u32, ReadFault> {
+    read_table(alloc, text, TableId::Supplier, Limits::widest()).map(|raw| raw.rows())
+}
+
+// A prefix of the suppliers is a table where its last record has a last field, and a phone number may be cut short.
+#[test]
+fn reads_prefixes(rt: HostRuntime) {
+    for length in 0..SUPPLIER.len() + 1 {
+        let expected = match length {
+            0 => Ok(0),
+            1..57 => Err(ReadFault::FieldCount { at_row: 1 }),
+            57..75 => Ok(1),
+            75..131 => Err(ReadFault::FieldCount { at_row: 2 }),
+            _ => Ok(2),
+        };
+        let got = read_suppliers(rt.alloc(), &SUPPLIER.as_bytes()[..length]);
+        if got != Err(ReadFault::OutOfMemory) {
+            assert_eq!(rt; got, expected, "at {length}");
+        }
+    }
+}
+
+#[test]
+fn tells_the_first_fault(rt: HostRuntime) {
+    let field = |field| ReadFault::BadByte { at_row: 1, field };
+    let number = |at_row| ReadFault::BadNumber { at_row, field: 1 };
+    let count = |at_row| ReadFault::FieldCount { at_row };
+    let cases: [(&[u8], Result<u32, ReadFault>); 14] = [
+        (b"", Ok(0)),
+        (b"\r\n\n\r", Ok(0)),
+        (b"1|a|b|c|d|e|f", Ok(1)),
+        (b"\n1|a|b|c|d|e|\r\n\r\n-0|||||||", Ok(2)),
+        (b"1|a|b|c|d|e|f||", Err(count(1))),
+        (b" ", Err(count(1))),
+        (b"x|a\t|b|c|d|e", Err(count(1))),
+        (b"x|a\t|b|c|d|e|f", Err(number(1))),
+        (b"1|a\t|b|c|d|e|\x7f", Err(field(2))),
+        (b"|a|b|c|d|e|f", Err(number(1))),
+        (b"+5|a|b|c|d|e|f", Err(number(1))),
+        (
+            b"123456789012345678|||||||\n1234567890123456789|||||||",
+            Err(number(2)),
+        ),
+        (b"\xef\xbb\xbf1|a|b|c|d|e|f", Err(ReadFault::ByteOrderMark)),
+        (b"1|a|b|c|d|e|\xef\xbb\xbf", Err(field(7))),
+    ];
+    for (text, expected) in cases {
+        let got = read_suppliers(rt.alloc(), text);
+        if got != Err(ReadFault::OutOfMemory) {
+            assert_eq!(rt; got, expected, "{text:?}");
+        }
+    }
+}
+
+const MANY: u32 = 100_000;
+
+fn many_suppliers(alloc: Global) -> Result<String, AllocError> {
+    let mut text = String::new(alloc);
+    for row in 0..MANY {
+        writeln!(text, "-{row}|name {row}|||||")?;
+    }
+    Ok(text)
+}
+
+#[test]
+#[tactic(auto, unfolding(star_schema::specs::Schema::column_of, star_schema::specs::Schema::columns_of))]
+fn reads_many_rows_back(rt: HostRuntime) -> Result<(), Fail> {
+    let text = many_suppliers(rt.alloc())?;
+    let limits = Limits::new(MANY, 0).ok_or("limits")?;
+    let raw = match read_table(rt.alloc(), text.as_bytes(), TableId::Supplier, limits) {
+        Ok(raw) => raw,
+        Err(fault) => return Err(Fail::from(format_args!("{fault:?}"))),
+    };
+    assert_eq!(rt; raw.table(), TableId::Supplier);
+    for row in 0..raw.rows() {
+        assert_eq!(rt; raw.number(row, 0), -i64::from(row));
+        let name = format!(in rt.alloc(); "name {row}")?;
+        assert_eq!(rt; raw.text(row, 1), name.as_bytes());
+    }
+    assert_eq!(rt; raw.numbers(0).len(), 100_000);
+    let few = Limits::new(MANY - 1, 0).ok_or("limits")?;
+    let refused = read_table(rt.alloc(), text.as_bytes(), TableId::Supplier, few);
+    assert!(rt; matches!(refused, Err(ReadFault::TooManyRows)));
+    Ok(())
+}
