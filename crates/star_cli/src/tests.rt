@@ -132,11 +132,14 @@ fn tells_faults(rt: HostRuntime) -> Result<(), Fail> {
 }
 
 #[test]
-fn tells_output_that_fails(rt: HostRuntime) {
-    let mut room = [0u8; 10];
+fn tells_output_that_fails(rt: HostRuntime) -> Result<(), Fail> {
+    let mut room = vec![in rt.alloc(); 0u8; 10]?;
     let mut err = Vec::new(rt.alloc());
-    let status = command(&rt, [].as_slice(), &mut room.as_mut_slice(), &mut err);
+    let mut left = room.as_mut_slice();
+    let no_words = Vec::new(rt.alloc());
+    let status = command(&rt, no_words.as_slice(), &mut left, &mut err);
     assert_eq!(rt; status, 6);
     assert_eq!(rt; room.as_slice(), b"table date".as_slice());
     assert_eq!(rt; text(err.as_slice()), "write 10\n");
+    Ok(())
 }
