@@ -11,28 +11,28 @@ use crate::column::RawColumn;
 use crate::fault::ReadFault;
 use csv::ByteRecord;
 
-fn field_at(record: &ByteRecord, place: usize) -> Option<&[u8]>
-    ensures { option_copied result ≡ slice_get (fields_read record.now) place }
+fn field_at(line: &ByteRecord, place: usize) -> Option<&[u8]>
+    ensures { option_copied result ≡ slice_get (fields_read line.now) place }
 {
-    record.get(place)
+    line.get(place)
 }
 
 // Whether a record has an empty field after the last column's.
-fn ends_in_bar(record: &ByteRecord, width: usize) -> bool
+fn ends_in_bar(line: &ByteRecord, width: usize) -> bool
     requires { width ≤ 17 }
-    ensures { result ≡ spec.ends_in_bar width (fields_read record.now) }
+    ensures { result ≡ spec.ends_in_bar width (fields_read line.now) }
 {
-    record.len() == width + 1 && matches!(field_at(record, width), Some([]))
+    line.len() == width + 1 && matches!(field_at(line, width), Some([]))
 }
 
-fn cell_count(record: &ByteRecord, width: usize) -> usize
+fn cell_count(line: &ByteRecord, width: usize) -> usize
     requires { width ≤ 17 }
-    ensures { result ≡ length (spec.cells_of width (fields_read record.now)) }
+    ensures { result ≡ length (spec.cells_of width (fields_read line.now)) }
 {
-    if ends_in_bar(record, width) {
+    if ends_in_bar(line, width) {
         width
     } else {
-        record.len()
+        line.len()
     }
 }
 
@@ -40,21 +40,21 @@ fn cell_count(record: &ByteRecord, width: usize) -> usize
 pub(crate) fn push_record(
     columns: &mut [RawColumn],
     at_row: u32,
-    record: &ByteRecord,
+    line: &ByteRecord,
 ) -> Result<(), ReadFault>
     requires { length columns.old ≤ 17 }
     ensures pushed { let kinds = map kind_of columns.old in MatchResult result
-        (λ _. (record_fault kinds at_row (fields_read record.now) ≡ None)
-        × (map values columns.new ≡ extended (map values columns.old) (spec.values_of kinds (spec.cells_of (length kinds) (fields_read record.now))))
-        × (length (spec.values_of kinds (spec.cells_of (length kinds) (fields_read record.now))) ≡ length columns.old))
-        (λ fault. (fault ≡ ReadFault.OutOfMemory) ⊎ (record_fault kinds at_row (fields_read record.now) ≡ Some fault)) }
+        (λ _. (record_fault kinds at_row (fields_read line.now) ≡ None)
+        × (map values columns.new ≡ extended (map values columns.old) (spec.values_of kinds (spec.cells_of (length kinds) (fields_read line.now))))
+        × (length (spec.values_of kinds (spec.cells_of (length kinds) (fields_read line.now))) ≡ length columns.old))
+        (λ fault. (fault ≡ ReadFault.OutOfMemory) ⊎ (record_fault kinds at_row (fields_read line.now) ≡ Some fault)) }
     ensures kinds { map kind_of columns.new ≡ map kind_of columns.old }
 {
-    if cell_count(record, columns.len()) != columns.len() {
+    if cell_count(line, columns.len()) != columns.len() {
         return Err(ReadFault::FieldCount { at_row });
     }
     for place in 0..columns.len() {
-        match field_at(record, place) {
+        match field_at(line, place) {
             Some(field) => {
                 let column = &mut columns[place];
                 column.push_cell(at_row, place + 1, field)?;

@@ -14,7 +14,7 @@ use Rattle.star_reader.proofs.record.push_record.Goals as goal
 pub returns-then-cell_count-columns-clause-pushed : goal.returns-then-cell_count-columns-clause-pushed
 returns-then-cell_count-columns-clause-pushed c =
     let width = length-map c.args.columns.now kind_of in
-    inr (wrong_count (map kind_of c.args.columns.now) c.args.at_row (fields_read c.args.record.now) (rw width (λ same. c.if-cell_count-columns.true (c.cell_count.ensures ∙ same))))
+    inr (wrong_count (map kind_of c.args.columns.now) c.args.at_row (fields_read c.args.line.now) (rw width (λ same. c.if-cell_count-columns.true (c.cell_count.ensures ∙ same))))
 
 pub loop-place-init : goal.loop-place-init
 loop-place-init c = pushes.start c.args.at_row (map kind_of c.args.columns.now) _ c.args.columns.now
@@ -22,7 +22,7 @@ loop-place-init c = pushes.start c.args.at_row (map kind_of c.args.columns.now) 
 pub returns-in_err-push_cell-in-Some-clause-pushed : goal.returns-in_err-push_cell-in-Some-clause-pushed
 returns-in_err-push_cell-in-Some-clause-pushed c =
     let ks : List Kind = map kind_of c.args.columns.now in
-    let fields : List (List ℕ) = fields_read c.args.record.now in
+    let fields : List (List ℕ) = fields_read c.args.line.now in
     let width : length ks ≡ length c.args.columns.now = length-map c.args.columns.now kind_of in
     let all : length (cells_of (length ks) fields) ≡ length ks = rw width (sym c.cell_count.ensures ∙ c.if-cell_count-columns.false) in
     let within : c.loop-place.place < length c.loop-place.columns = omega (arith, c.loop-place.auto.columns) in
@@ -44,12 +44,12 @@ returns-in_err-push_cell-in-Some-clause-kinds c =
 pub unreachable-requires : goal.unreachable-requires
 unreachable-requires c =
     let all = sym c.cell_count.ensures ∙ c.if-cell_count-columns.false in
-    field_there (length c.args.columns.now) (fields_read c.args.record.now) c.loop-place.place all (omega arith) (sym c.in-None.ensures)
+    field_there (length c.args.columns.now) (fields_read c.args.line.now) c.loop-place.place all (omega arith) (sym c.in-None.ensures)
 
 pub loop-place-preserved : goal.loop-place-preserved
 loop-place-preserved c =
     let ks : List Kind = map kind_of c.args.columns.now in
-    let fields : List (List ℕ) = fields_read c.args.record.now in
+    let fields : List (List ℕ) = fields_read c.args.line.now in
     let width : length ks ≡ length c.args.columns.now = length-map c.args.columns.now kind_of in
     let within : c.loop-place.place < length c.loop-place.columns = omega (arith, c.loop-place.auto.columns) in
     let at = slice_get-get_or c.loop-place.columns c.loop-place.place c.index-columns-place.result within in
@@ -61,7 +61,7 @@ loop-place-preserved c =
 pub returns-clause-pushed : goal.returns-clause-pushed
 returns-clause-pushed c =
     let ks : List Kind = map kind_of c.args.columns.now in
-    let fields : List (List ℕ) = fields_read c.args.record.now in
+    let fields : List (List ℕ) = fields_read c.args.line.now in
     let width : length ks ≡ length c.args.columns.now = length-map c.args.columns.now kind_of in
     let all : length (cells_of (length ks) fields) ≡ length ks = rw width (sym c.cell_count.ensures ∙ c.if-cell_count-columns.false) in
     let past : length ks ≤ c.loop-place.place = omega (arith, width) in
