@@ -71,9 +71,10 @@ impl Write for Short {
 
 // What `check` prints of some texts, or its fault line.
 fn checked(alloc: Global, texts: &Texts<'_>, limits: Limits) -> Result<String, AllocError> {
-    let mut printed = Vec::new(alloc);
+    let mut printed = Vec::with_capacity(alloc, LISTING.len())?;
     match check(alloc, texts, limits, &mut Out::new(&mut printed)) {
         Ok(()) => Ok(String::from_utf8(printed).unwrap_or_else(|_| String::new(alloc))),
+        Err(EngineFault::OutOfMemory) => Err(AllocError),
         Err(fault) => format!(in alloc; "{fault}"),
     }
 }
@@ -217,7 +218,7 @@ fn tells_faults_of_customer(rt: HostRuntime) -> Result<(), Fail> {
 fn tells_what_was_sent(rt: HostRuntime) -> Result<(), Fail> {
     for left in 0..LISTING.len() + 1 {
         let mut short = Short {
-            taken: Vec::new(rt.alloc()),
+            taken: Vec::with_capacity(rt.alloc(), LISTING.len())?,
             left,
         };
         let answer = check(
@@ -242,8 +243,9 @@ fn tells_what_was_sent(rt: HostRuntime) -> Result<(), Fail> {
 #[test]
 #[tactic(auto, unfolding(star_schema::specs::Schema::column_of))]
 fn looks_up_the_sample(rt: HostRuntime) -> Result<(), Fail> {
-    let Ok(catalogue) = Catalogue::load(rt.alloc(), &sample(), Limits::widest()) else {
-        return Err(Fail::from("load"));
+    let catalogue = match Catalogue::load(rt.alloc(), &sample(), Limits::widest()) {
+        Ok(catalogue) => catalogue,
+        Err(fault) => return Err(Fail::from(format_args!("{fault:?}"))),
     };
     assert_eq!(rt; catalogue.rows(TableId::Lineorder), 5);
     assert_eq!(rt; catalogue.sizes().of(TableId::Supplier), 2);

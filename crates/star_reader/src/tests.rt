@@ -1,7 +1,10 @@
 // Worked texts, each public call with ample memory, and many rows.
 
-use crate::{ReadFault, read_table};
-use star_schema::{Limits, TableId};
+ghost use Rattle.std.specs.Prelude.{◌≡◌, ◌<◌, length};
+ghost use Rattle.star_schema.specs.Schema.{kind_of, table_of};
+
+use crate::{RawTable, ReadFault, read_table};
+use star_schema::{ColumnId, Kind, Limits, TableId, place_of};
 use std::alloc::{AllocError, Global};
 use std::fmt::Write;
 use std::test::Fail;
@@ -75,8 +78,31 @@ fn many_suppliers(alloc: Global) -> Result<String, AllocError> {
     Ok(text)
 }
 
+fn number_of(raw: &RawTable, column: ColumnId, row: u32) -> i64
+    requires table { raw.now.table ≡ table_of column }
+    requires kind { kind_of column ≡ Kind.Number }
+    requires row { row < length raw.now.rows }
+{
+    raw.number(row, place_of(column))
+}
+
+fn count_of(raw: &RawTable, column: ColumnId) -> usize
+    requires table { raw.now.table ≡ table_of column }
+    requires kind { kind_of column ≡ Kind.Number }
+{
+    raw.numbers(place_of(column)).len()
+}
+
+fn text_of(raw: &RawTable, column: ColumnId, row: u32) -> &[u8]
+    requires table { raw.now.table ≡ table_of column }
+    requires kind { kind_of column ≡ Kind.Text }
+    requires row { row < length raw.now.rows }
+{
+    raw.text(row, place_of(column))
+}
+
 #[test]
-#[tactic(auto, unfolding(star_schema::specs::Schema::column_of, star_schema::specs::Schema::columns_of))]
+#[tactic(auto, unfolding(star_schema::specs::Schema::column_of))]
 fn reads_many_rows_back(rt: HostRuntime) -> Result<(), Fail> {
     let text = many_suppliers(rt.alloc())?;
     let limits = Limits::new(MANY, 0).ok_or("limits")?;
@@ -86,13 +112,18 @@ fn reads_many_rows_back(rt: HostRuntime) -> Result<(), Fail> {
     };
     assert_eq!(rt; raw.table(), TableId::Supplier);
     for row in 0..raw.rows() {
-        assert_eq!(rt; raw.number(row, 0), -i64::from(row));
+        assert_eq!(rt; number_of(&raw, ColumnId::SSuppkey, row), -i64::from(row));
         let name = format!(in rt.alloc(); "name {row}")?;
-        assert_eq!(rt; raw.text(row, 1), name.as_bytes());
+        assert_eq!(rt; text_of(&raw, ColumnId::SName, row), name.as_bytes());
     }
-    assert_eq!(rt; raw.numbers(0).len(), 100_000);
+    assert_eq!(rt; count_of(&raw, ColumnId::SSuppkey), 100_000);
     let few = Limits::new(MANY - 1, 0).ok_or("limits")?;
     let refused = read_table(rt.alloc(), text.as_bytes(), TableId::Supplier, few);
-    assert!(rt; matches!(refused, Err(ReadFault::TooManyRows)));
+    assert!(rt;
+        matches!(
+            refused,
+            Err(ReadFault::TooManyRows | ReadFault::OutOfMemory)
+        )
+    );
     Ok(())
 }
