@@ -1,0 +1,23 @@
+use Rattle.std.proofs.Common.{◌≡◌, [], ap, FitsSigned, w64, to_z-of_z, rules}
+use Rattle.star_schema.specs.Bounds.{least, greatest}
+use Rattle.star_column.proofs.Extremes.{least_is, greatest_is}
+use Rattle.star_column.proofs.number.bounds_of.Goals as goal
+use Rattle.star_column.proofs.number.bounds_of.Goals.{in_default-via-in-Some+in_default, in_default-via-in_default}
+
+pub returns-in_default : goal.returns-in_default
+unfolding least greatest
+returns-in_default c =
+    let none : c.args.numbers.now ≡ [] = elim c.in_default.branch [
+      | in_default-via-in-Some+in_default w ↦ w.in_default.ensures'.reached
+      | in_default-via-in_default w ↦ rw w.in_default.is-0 at c.least_of.ensures.reached
+    ] in
+    rw none (record { low = ap (λ r. r.low) c.point.ensures; high = ap (λ r. r.high) c.point.ensures })
+
+pub returns : goal.returns
+returns c =
+    let fits_low : FitsSigned w64 c.in-Some-Some.low = search rules in
+    let fits_high : FitsSigned w64 c.in-Some-Some.high = search rules in
+    record {
+      low = rw to_z-of_z (least_is c.args.numbers.now c.in-Some-Some.low c.in-Some-Some.ensures.bound c.in-Some-Some.ensures.reached);
+      high = rw to_z-of_z (greatest_is c.args.numbers.now c.in-Some-Some.high c.in-Some-Some.ensures'.bound c.in-Some-Some.ensures'.reached);
+    }

@@ -1,0 +1,5 @@
+pub mod Bounds
+pub mod Codes
+pub mod Dictionary
+pub mod Edge
+pub mod Order

@@ -1,0 +1,74 @@
+// From the texts of rows to their codes: first each row's text gets a number, in the order of first meeting, and then
+// each number is replaced by the place of its text in the dictionary.
+
+ghost use Rattle.std.specs.Prelude.{◌≡◌, ◌+◌, ◌<◌, ◌≤◌, ◌^◌, ◌++◌, ◌∷◌, [], All, IfOk, OnOk, length, map, slice_index, take};
+ghost use Rattle.star_column.specs.Codes.{AreNumbers, LeadBack};
+
+use crate::distinct::{Distinct, Numbered};
+use star_flat::FlatTexts;
+use std::alloc::{AllocError, Global};
+
+/// The different ones of these texts, and for each text its number among them.
+pub(crate) fn number_each<'t>(
+    alloc: Global,
+    texts: &'t FlatTexts,
+) -> Result<(Distinct<'t>, Vec<u32>), AllocError>
+    requires { length texts.now < 2 ^ 32 }
+    ensures numbers { IfOk result (λ numbered. AreNumbers numbered.0 numbered.1.items texts.now) }
+    ensures few { IfOk result (λ numbered. length numbered.0 ≤ length texts.now) }
+{
+    let mut distinct = Distinct::new(alloc);
+    let mut numbers = Vec::with_capacity(alloc, texts.len())?;
+    for row in 0..texts.len() {
+        let number = next_number(&mut distinct, numbers.as_slice(), texts)?;
+        numbers.push_reserved(number);
+    }
+    Ok((distinct, numbers))
+}
+
+/// The number of the first text that has none yet. A text that repeats the one before it isn't looked up.
+fn next_number<'t>(
+    distinct: &mut Distinct<'t>,
+    numbers: &[u32],
+    texts: &'t FlatTexts,
+) -> Result<u32, AllocError>
+    requires numbered { AreNumbers distinct.old numbers.now (take (length numbers.now) texts.now) }
+    requires left { length numbers.now < length texts.now }
+    requires few { length distinct.old < 2 ^ 32 }
+    ensures numbered { IfOk result (λ number. AreNumbers
+        distinct.new
+        (numbers.now ++ number ∷ [])
+        (take (length numbers.now + 1) texts.now)) }
+    ensures few { OnOk result (length distinct.new ≤ length distinct.old + 1) }
+{
+    let text = texts.get(numbers.len());
+    match numbers.last() {
+        Some(number) if texts.get(numbers.len() - 1) == text => Ok(*number),
+        _ => distinct.number_of(text),
+    }
+}
+
+/// For each number of these texts, which are in order, the place of the text.
+pub(crate) fn places_of(alloc: Global, ordered: &[Numbered<'_>]) -> Result<Vec<u32>, AllocError>
+    requires few { length ordered.now < 2 ^ 32 }
+    requires within { All (λ e. e.number < length ordered.now) ordered.now }
+    ensures len { IfOk result (λ places. length places.items ≡ length ordered.now) }
+    ensures places { IfOk result (λ places. LeadBack places.items (map (λ e. e.number) ordered.now)) }
+{
+    let mut places = vec![in alloc; 0; ordered.len()]?;
+    for (place, numbered) in ordered.iter().enumerate() {
+        places[numbered.number as usize] = place as u32;
+    }
+    Ok(places)
+}
+
+/// For each number the value that stands at that place.
+pub(crate) fn values_at(mut numbers: Vec<u32>, values: &[u32]) -> Vec<u32>
+    requires { All (λ number. number < length values.now) numbers.items }
+    ensures { result.items ≡ map (λ number. slice_index values.now number) numbers.items }
+{
+    for number in numbers.iter_mut() {
+        *number = values[*number as usize];
+    }
+    numbers
+}

@@ -1,0 +1,122 @@
+// The dictionary of a column: its texts, each once, in the order of their bytes.
+
+ghost use Rattle.std.specs.Prelude.{◌≡◌, ◌<◌, ◌^◌, Some, IfOk, count_by, length, map, slice_get};
+ghost use Rattle.std.specs.List.Sorted.{IsStrictlySortedBy};
+ghost use Rattle.star_column.specs.Dictionary.{text_cmp, low_in, high_in};
+ghost use Rattle.star_column.specs.Edge.{is_after};
+
+use crate::distinct::Numbered;
+use star_flat::FlatTexts;
+use std::alloc::{AllocError, Global};
+use std::cmp::Ordering;
+use std::convert::AsSlice;
+use std::marker::Model;
+
+/// Texts in the order of their bytes, each once.
+#[derive(Debug, Drop)]
+pub(crate) struct Dictionary {
+    texts: FlatTexts,
+}
+
+impl Model for Dictionary {
+    ghost use Rattle.std.specs.Prelude.{◌<◌, ◌^◌, ℕ, List, length};
+    ghost use Rattle.std.specs.List.Sorted.{IsStrictlySortedBy};
+    ghost use Rattle.star_column.specs.Dictionary.{text_cmp};
+
+    ghost Value = { List (List ℕ) };
+
+    ghost view = { λ dictionary. dictionary.texts };
+
+    ghost invariant = { λ dictionary. (length dictionary.texts < 2 ^ 32) × IsStrictlySortedBy text_cmp dictionary.texts };
+}
+
+/// The two edges of the place of a text among texts in order.
+#[derive(Clone, Copy)]
+enum Edge {
+    /// After the texts that are less.
+    Low,
+    /// After the texts that are less or equal.
+    High,
+}
+
+impl Edge {
+    /// Whether this edge of a text lies after one that compares so with it.
+    fn is_after(self, ordering: Ordering) -> bool
+        ensures { result ≡ is_after self ordering }
+    {
+        match self {
+            Edge::Low => ordering.is_lt(),
+            Edge::High => ordering.is_le(),
+        }
+    }
+}
+
+impl Dictionary {
+    /// How many texts there are.
+    pub(crate) fn entries(&self) -> u32
+        ensures { result ≡ length self.now }
+    {
+        self.texts.len() as u32
+    }
+
+    /// The text at a place, from 0.
+    pub(crate) fn text_of(&self, code: u32) -> &[u8]
+        requires { code < length self.now }
+        ensures { slice_get self.now code ≡ Some result.now }
+    {
+        self.texts.get(code as usize)
+    }
+
+    /// How many texts are less than this one.
+    pub(crate) fn low(&self, text: &[u8]) -> u32
+        ensures { result ≡ low_in self.now text.now }
+    {
+        self.edge(Edge::Low, text)
+    }
+
+    /// How many texts are less than this one or equal to it.
+    pub(crate) fn high(&self, text: &[u8]) -> u32
+        ensures { result ≡ high_in self.now text.now }
+    {
+        self.edge(Edge::High, text)
+    }
+
+    /// How many texts stand before an edge of this one.
+    fn edge(&self, edge: Edge, text: &[u8]) -> u32
+        ensures { result ≡ count_by (λ other. is_after edge (text_cmp other text.now)) self.now }
+    {
+        let mut low = 0;
+        let mut high = self.texts.len();
+        while low < high {
+            let middle = low + (high - low) / 2;
+            if edge.is_after(self.texts.get(middle).cmp(&text)) {
+                low = middle + 1;
+            } else {
+                high = middle;
+            }
+        }
+        low as u32
+    }
+
+    /// The dictionary of these texts, which are in the order of their bytes, each once.
+    pub(crate) fn build(alloc: Global, ordered: &[Numbered<'_>]) -> Result<Dictionary, AllocError>
+        requires sorted { IsStrictlySortedBy text_cmp (map (λ e. e.text.now) ordered.now) }
+        requires few { length ordered.now < 2 ^ 32 }
+        ensures { IfOk result (λ dictionary. dictionary ≡ map (λ e. e.text.now) ordered.now) }
+    {
+        Ok(Dictionary {
+            texts: flatten(alloc, ordered)?,
+        })
+    }
+}
+
+/// These texts in flat storage.
+pub(crate) fn flatten<T: AsSlice<u8>>(alloc: Global, texts: &[T]) -> Result<FlatTexts, AllocError>
+    ensures { IfOk result (λ flat. flat ≡ map T.items texts.now) }
+{
+    let mut flat = FlatTexts::new(alloc);
+    for text in texts {
+        flat.push(text.as_slice())?;
+    }
+    Ok(flat)
+}

@@ -1,0 +1,89 @@
+// The different texts of a column, numbered in the order in which they are first met.
+
+ghost use Rattle.std.specs.Prelude.{◌≡◌, ◌⊎◌, ◌<◌, ◌^◌, ◌++◌, ◌∷◌, [], Some, IfOk, OnOk, length, map, slice_get};
+ghost use Rattle.std.specs.List.{range_with_len};
+ghost use Rattle.star_column.specs.Order.{IsOrderOf};
+
+use indexmap::IndexSet;
+use std::alloc::{AllocError, Global};
+use std::convert::AsSlice;
+use std::marker::Model;
+
+/// A text, and its number among different texts.
+#[derive(Clone, Copy, Debug, PartialEq, Eq, PartialOrd, Ord)]
+pub(crate) struct Numbered<'t> {
+    pub(crate) text: &'t [u8],
+    pub(crate) number: u32,
+}
+
+impl AsSlice<u8> for Numbered<'_> {
+    ghost items = { λ numbered. numbered.text.now };
+
+    fn as_slice(&self) -> &[u8] {
+        self.text
+    }
+}
+
+/// Different texts, numbered from 0 in the order in which they were first met. A contract sees them as a list in that
+/// order.
+#[derive(Drop)]
+pub(crate) struct Distinct<'t> {
+    texts: IndexSet<&'t [u8]>,
+}
+
+impl<'t> Model for Distinct<'t> {
+    ghost use Rattle.std.specs.Prelude.{ℕ, List, map};
+
+    ghost Value = { List (List ℕ) };
+
+    ghost view = { λ distinct. map (λ text. text.now) distinct.texts.keys };
+}
+
+impl<'t> Distinct<'t> {
+    /// No texts.
+    pub(crate) fn new(alloc: Global) -> Distinct<'t>
+        ensures { result ≡ [] }
+    {
+        Distinct {
+            texts: IndexSet::new(alloc),
+        }
+    }
+
+    /// The number of a text, the next one where the text is new.
+    pub(crate) fn number_of(&mut self, text: &'t [u8]) -> Result<u32, AllocError>
+        requires { length self.old < 2 ^ 32 }
+        ensures number { IfOk result (λ number. slice_get self.new number ≡ Some text.now) }
+        ensures texts { OnOk result
+            ((self.new ≡ self.old) ⊎ (self.new ≡ self.old ++ text.now ∷ [])) }
+    {
+        let (number, _) = self.texts.insert_full(text)?;
+        Ok(number as u32)
+    }
+
+    /// The texts in the order of their bytes, with their numbers. The set is let go.
+    pub(crate) fn into_ordered(self, alloc: Global) -> Result<Vec<Numbered<'t>>, AllocError>
+        requires { length self < 2 ^ 32 }
+        ensures { IfOk result (λ ordered. IsOrderOf self.entry ordered.items) }
+    {
+        let mut ordered = with_numbers(alloc, self.texts.as_slice())?;
+        ordered.sort_unstable();
+        Ok(ordered)
+    }
+}
+
+/// These texts with their places as numbers.
+fn with_numbers<'t>(alloc: Global, texts: &[&'t [u8]]) -> Result<Vec<Numbered<'t>>, AllocError>
+    requires { length texts.now < 2 ^ 32 }
+    ensures texts { IfOk result (λ numbered. map (λ e. e.text) numbered.items ≡ texts.now) }
+    ensures numbers { IfOk result
+        (λ numbered. map (λ e. e.number) numbered.items ≡ range_with_len 0 (length texts.now)) }
+{
+    let mut numbered = Vec::with_capacity(alloc, texts.len())?;
+    for (number, text) in texts.iter().enumerate() {
+        numbered.push_reserved(Numbered {
+            text: *text,
+            number: number as u32,
+        });
+    }
+    Ok(numbered)
+}

@@ -1,0 +1,16 @@
+//! Columns of a table in memory: the values of the rows, the bounds of numbers, and the dictionary of texts.
+#![tactic(auto)]
+
+mod coding;
+mod column;
+mod dictionary;
+mod distinct;
+pub mod law;
+mod number;
+#[cfg(test)]
+mod tests;
+mod text;
+
+pub use column::ColumnData;
+pub use number::NumberColumn;
+pub use text::TextColumn;

@@ -1,0 +1,82 @@
+// Columns of numbers.
+
+ghost use Rattle.std.specs.Prelude.{◌≡◌, ◌<◌, ◌^◌, ◌≤ℤ◌, [], All, Contains, IfSome, IsOkAnd, MatchOption, vec_len};
+ghost use Rattle.star_column.specs.Bounds.{AreBounds};
+
+use crate::column::ColumnData;
+use star_interval::Interval;
+use std::alloc::AllocError;
+use std::marker::Model;
+
+/// A column of numbers, which a contract sees as the list of them in the order of the rows.
+#[derive(Debug, Drop)]
+pub struct NumberColumn {
+    numbers: Vec<i64>,
+    bounds: Interval,
+}
+
+impl Model for NumberColumn {
+    ghost use Rattle.std.specs.Prelude.{◌<◌, ◌^◌, ℤ, List, length};
+    ghost use Rattle.star_column.specs.Bounds.{AreBounds};
+
+    ghost Value = { List ℤ };
+
+    ghost view = { λ column. column.numbers.items };
+
+    ghost invariant = { λ column. (length column.numbers.items < 2 ^ 32) × AreBounds column.bounds column.numbers.items };
+}
+
+impl NumberColumn {
+    /// The column of these numbers, of which there are at most 4,294,967,295.
+    ///
+    /// It keeps the vector, without the room that this has to spare, and takes no memory, so it is always an `Ok`: a
+    /// `Result` as for every other kind of column.
+    pub fn build(mut numbers: Vec<i64>) -> Result<NumberColumn, AllocError>
+        requires { vec_len numbers < 2 ^ 32 }
+        ensures { IsOkAnd result (λ column. column ≡ numbers.items) }
+    {
+        numbers.shrink_to_fit();
+        let bounds = bounds_of(numbers.as_slice());
+        Ok(NumberColumn { numbers, bounds })
+    }
+}
+
+impl ColumnData for NumberColumn {
+    ghost values = { λ column. column };
+
+    fn len(&self) -> u32 {
+        self.numbers.len() as u32
+    }
+
+    fn at(&self, row: u32) -> i64 {
+        self.numbers[row as usize]
+    }
+
+    fn bounds(&self) -> Interval {
+        self.bounds
+    }
+}
+
+/// The least and the greatest number, 0 and 0 where there is none.
+fn bounds_of(numbers: &[i64]) -> Interval
+    ensures { AreBounds result numbers.now }
+{
+    let (Some(low), Some(high)) = (least_of(numbers), greatest_of(numbers)) else {
+        return Interval::point(0);
+    };
+    Interval { low, high }
+}
+
+fn least_of(numbers: &[i64]) -> Option<i64>
+    ensures reached { MatchOption result (numbers.now ≡ []) (Contains numbers.now) }
+    ensures bound { IfSome result (λ least. All (λ number. least ≤ℤ number) numbers.now) }
+{
+    numbers.iter().copied().min()
+}
+
+fn greatest_of(numbers: &[i64]) -> Option<i64>
+    ensures reached { MatchOption result (numbers.now ≡ []) (Contains numbers.now) }
+    ensures bound { IfSome result (λ greatest. All (λ number. number ≤ℤ greatest) numbers.now) }
+{
+    numbers.iter().copied().max()
+}

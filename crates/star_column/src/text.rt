@@ -1,0 +1,116 @@
+// Columns of texts.
+
+ghost use Rattle.std.specs.Prelude.{◌≡◌, ◌<◌, ◌^◌, IfOk, length, map, slice_get};
+ghost use Rattle.star_column.specs.Dictionary.{dictionary_of, codes_of, low_in, high_in, HasCode};
+
+use crate::coding::{number_each, places_of, values_at};
+use crate::column::ColumnData;
+use crate::dictionary::{Dictionary, flatten};
+use star_flat::FlatTexts;
+use star_interval::Interval;
+use std::alloc::{AllocError, Global};
+use std::marker::Model;
+
+/// A column of texts, which a contract sees as the list of them in the order of the rows.
+///
+/// It keeps each text once, in a dictionary in the order of bytes, and for each row a code, the place of its text there.
+/// Rows, places and codes count from 0.
+#[derive(Debug, Drop)]
+pub struct TextColumn {
+    codes: Vec<u32>,
+    dictionary: Dictionary,
+}
+
+impl Model for TextColumn {
+    ghost use Rattle.std.specs.Prelude.{ℕ, List};
+    ghost use Rattle.star_column.specs.Codes.{texts_at, AreCodes};
+
+    ghost Value = { List (List ℕ) };
+
+    ghost view = { λ column. texts_at column.dictionary column.codes.items };
+
+    ghost invariant = { λ column. AreCodes column.dictionary column.codes.items };
+}
+
+impl TextColumn {
+    /// The column of these texts, of which there are at most 4,294,967,295.
+    pub fn build(alloc: Global, texts: &[Vec<u8>]) -> Result<TextColumn, AllocError>
+        requires { length texts.now < 2 ^ 32 }
+        ensures { IfOk result (λ column. column ≡ map (λ text. text.items) texts.now) }
+    {
+        TextColumn::from_flat(alloc, flatten(alloc, texts)?)
+    }
+
+    /// The column of these texts, of which there are at most 4,294,967,295. They are let go.
+    ///
+    /// Only different texts are sorted: a row's text is looked up by its hash.
+    pub fn from_flat(alloc: Global, texts: FlatTexts) -> Result<TextColumn, AllocError>
+        requires { length texts < 2 ^ 32 }
+        ensures { IfOk result (λ column. column ≡ texts) }
+    {
+        let (distinct, numbers) = number_each(alloc, &texts)?;
+        let ordered = distinct.into_ordered(alloc)?;
+        let dictionary = Dictionary::build(alloc, ordered.as_slice())?;
+        let places = places_of(alloc, ordered.as_slice())?;
+        let codes = values_at(numbers, places.as_slice());
+        Ok(TextColumn { codes, dictionary })
+    }
+
+    /// The code of a row's text: its place in the dictionary, which is also the number of texts there that are less.
+    pub fn code_at(&self, row: u32) -> u32
+        requires { row < length self.now }
+        ensures stands { slice_get (dictionary_of self.now) result ≡ slice_get self.now row }
+        ensures within { result < length (dictionary_of self.now) }
+    {
+        self.codes[row as usize]
+    }
+
+    /// The text that a code stands for.
+    pub fn text_of(&self, code: u32) -> &[u8]
+        requires { code < length (dictionary_of self.now) }
+        ensures { HasCode self.now result.now code }
+    {
+        self.dictionary.text_of(code)
+    }
+
+    /// How many texts the dictionary has: those of the column, each counted once.
+    pub fn entries(&self) -> u32
+        ensures { result ≡ length (dictionary_of self.now) }
+    {
+        self.dictionary.entries()
+    }
+
+    /// How many texts of the dictionary are less than this one.
+    pub fn low(&self, text: &[u8]) -> u32
+        ensures { result ≡ low_in (dictionary_of self.now) text.now }
+    {
+        self.dictionary.low(text)
+    }
+
+    /// How many texts of the dictionary are less than this one or equal to it.
+    pub fn high(&self, text: &[u8]) -> u32
+        ensures { result ≡ high_in (dictionary_of self.now) text.now }
+    {
+        self.dictionary.high(text)
+    }
+}
+
+/// The column of the codes.
+impl ColumnData for TextColumn {
+    ghost values = { codes_of };
+
+    fn len(&self) -> u32 {
+        self.codes.len() as u32
+    }
+
+    fn at(&self, row: u32) -> i64 {
+        i64::from(self.code_at(row))
+    }
+
+    fn bounds(&self) -> Interval {
+        Interval {
+            low: 0,
+            high: i64::from(self.entries().saturating_sub(1)),
+        }
+    }
+}
