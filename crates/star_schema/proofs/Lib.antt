@@ -1,3 +1,4 @@
 pub mod NamesApart
 pub mod Places
 pub mod Lists
+mod WorkedGroups

@@ -1,5 +1,5 @@
 -- Facts on lists that the crates above want again and again.
-use Rattle.std.proofs.Common.{◌≡◌, ◌+◌, ℕ, zero, suc, List, [], ◌∷◌, Option, Some, drop, arith, refl}
+use Rattle.std.proofs.Common.{◌≡◌, ◌+◌, ℕ, zero, suc, List, [], ◌∷◌, Some, drop, arith, refl}
 use Rattle.std.specs.List.{slice_get}
 
 -- the element at a place comes first among those from there on

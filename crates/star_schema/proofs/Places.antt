@@ -1,6 +1,6 @@
 -- The places of the columns in their tables.
-use Rattle.std.specs.Prelude.{◌≡◌, ◌+◌, ◌≤◌, ℕ, zero, suc, Bool, true, false, List, [], ◌∷◌, IfSome, Some, None, filter, slice_get, length, refl}
-use Rattle.std.proofs.Common.{arith, subst, lit≤}
+use Rattle.std.specs.Prelude.{◌≡◌, ◌+◌, ◌≤◌, ℕ, zero, suc, Bool, true, false, List, [], ◌∷◌, IfSome, Some, filter, slice_get, refl}
+use Rattle.std.proofs.Common.{subst, lit≤}
 use Rattle.std.specs.Prelude.{Option}
 use Rattle.star_schema.specs.declared.table.TableId.{TableId}
 use Rattle.star_schema.specs.declared.table.TableId.TheVariants.{Date, Customer, Supplier, Part, Lineorder}

@@ -1,9 +1,9 @@
 -- The bounds of a column of numbers.
-use Rattle.std.specs.Prelude.{ℕ, ℤ, List, [], ◌∷◌, Option, Some, None, fold, map, pos, slice_get}
+use Rattle.std.specs.Prelude.{ℕ, ℤ, List, [], ◌∷◌, Option, Some, fold, map, pos, slice_get}
 use Rattle.std.specs.Int.{int_max, int_min}
 use Rattle.star_schema.specs.declared.column.ColumnId.{ColumnId}
 use Rattle.star_schema.specs.Schema.{place_of}
-use Rattle.star_schema.specs.Tables.{Value, Number, Text}
+use Rattle.star_schema.specs.Tables.{Value, Number}
 
 -- the least of some numbers, 0 where there is none
 unfoldable pub least : List ℤ → ℤ

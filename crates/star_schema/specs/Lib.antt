@@ -7,3 +7,5 @@ pub mod Tables
 pub mod Bounds
 pub mod First
 pub mod Database
+pub mod Groups
+pub mod Order

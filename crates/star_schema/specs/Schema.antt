@@ -1,5 +1,5 @@
 -- The five tables, their columns and keys (Star Schema Benchmark, revision 3; the lists of columns are this project's profile).
-use Rattle.std.specs.Prelude.{ℕ, ◌+◌, List, [], ◌∷◌, Bool, true, false, Option, Some, None, codes, filter, length, map, take}
+use Rattle.std.specs.Prelude.{ℕ, List, Bool, true, false, Option, Some, None, codes, filter, length, map, take}
 use denote.Enum.Declared.{tag_of}
 use Rattle.star_schema.specs.declared.table.TableId.{TableId}
 use Rattle.star_schema.specs.declared.table.TableId.TheVariants as table

@@ -1,5 +1,5 @@
 -- Which texts are tables, and which rows they hold (the cell forms are this project's profile of the benchmark's files).
-use Rattle.std.specs.Prelude.{◌≡◌, ◌+◌, ◌≤◌, ◌==◌, ◌&&◌, if◌then◌else◌, All, Bool, true, false, IsTrue, ℕ, ℤ, List, [], ◌∷◌, Option, Some, None, drop, take, length, map, nat_le, neg_ℤ, pos, slice_get, option_and_then}
+use Rattle.std.specs.Prelude.{◌≡◌, ◌+◌, ◌≤◌, ◌==◌, ◌&&◌, if◌then◌else◌, All, Bool, true, false, IsTrue, ℕ, ℤ, List, [], ◌∷◌, Option, Some, drop, take, length, map, nat_le, neg_ℤ, pos, slice_get, option_and_then}
 use Rattle.std.specs.List.{list_all}
 use Rattle.std.specs.Char.{is_ascii_digit}
 use Rattle.std.specs.Str.Parse.{digits_value, starts_with_minus}

@@ -4,6 +4,7 @@
 #![tactic(auto)]
 
 mod column;
+mod group;
 mod limits;
 mod name;
 mod sink;
@@ -13,6 +14,7 @@ mod table;
 pub use column::{
     COLUMNS, ColumnId, Kind, column_named, is_text, kind_of, place_of, references, table_of,
 };
+pub use group::{Aggregate, Direction, GroupColumn, Shape, SortKey};
 pub use limits::{Limits, MOST_ROWS, MOST_VISITS};
 pub use name::{Named, name_of};
 pub use sink::{Out, Sink, SinkFault};

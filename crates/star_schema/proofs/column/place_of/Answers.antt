@@ -1,5 +1,5 @@
-use Rattle.std.proofs.Common.{◌≡◌, ◌<◌, ◌+◌, ◌-◌, arith, Some, slice_get}
-use Rattle.star_schema.specs.Schema.{columns_of, index_of, place_of, table_of, width_of}
+use Rattle.std.proofs.Common.{◌≡◌, ◌-◌, arith}
+use Rattle.star_schema.specs.Schema.{index_of, place_of}
 use Rattle.star_schema.proofs.Places.{at_place, place_after_first, width_some}
 use Rattle.star_schema.proofs.column.place_of.Goals as goal
 

@@ -1,4 +1,4 @@
-use Rattle.std.proofs.Common.{◌≡◌, ◌∙◌, sym}
+use Rattle.std.proofs.Common.{◌∙◌, sym}
 use Rattle.star_schema.specs.declared.table.TheConstants.{TABLES}
 use Rattle.star_schema.specs.Schema.{table_name}
 use Rattle.star_schema.proofs.NamesApart.{table_by_name, found_named}

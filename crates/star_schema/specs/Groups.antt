@@ -1,0 +1,84 @@
+-- Groups of rows and their aggregates, over any kind of keys (Gray et al. 1997, sections 3 and 4).
+use Rattle.std.specs.Prelude.{◌≡◌, ◌⊎◌, ℕ, ◌+◌, ℤ, pos, ◌+ℤ◌, Bool, true, false, ◌&&◌, List, [], ◌∷◌, Contains, length, map, filter, replicate, slice_index_or, Option, Some, None}
+use Rattle.std.specs.Int.{int_min, int_max}
+use Rattle.std.specs.Ordering.{is_eq}
+use Rattle.std.specs.declared.cmp.Ordering.{Ordering}
+use Rattle.star_schema.specs.declared.group.Shape.{Shape}
+use Rattle.star_schema.specs.declared.group.Shape.TheVariants.{Plain, Cube}
+use Rattle.star_schema.specs.declared.group.Aggregate.{Aggregate}
+use Rattle.star_schema.specs.declared.group.Aggregate.TheVariants.{Sum, Count, Min, Max}
+
+-- what a row adds to its groups: its keys, and a number for each aggregate, which for COUNT is 1
+pub record Entry (K : Type 0) : Type 0 where
+  pub keys : List K
+  pub values : List ℤ
+
+-- ---- groups
+
+-- the keys of a row as a group of its shows them: all of them, or in a cube some of them hidden by ALL, which is None
+abbrev pub IsMasked : {K : Type 0} → Shape → List (Option K) → List K → Type 0
+IsMasked s [] [] = Unit {0}
+IsMasked s (Some m ∷ ms) (k ∷ ks) = (m ≡ k) × IsMasked s ms ks
+IsMasked Cube (None ∷ ms) (k ∷ ks) = IsMasked Cube ms ks
+IsMasked s ms ks = ⊥
+
+-- the grouping by no key has its one group over no rows too
+abbrev pub HasEmptySubset : Shape → ℕ → Type 0
+HasEmptySubset Cube count = Unit {0}
+HasEmptySubset Plain count = count ≡ 0
+
+-- the keys of a group of some rows with so many keys: those of a row of it, or ALL in each place
+abbrev pub IsGroup : {K : Type 0} → Shape → ℕ → List (Entry K) → List (Option K) → Type 0
+IsGroup {K} s count rows keys =
+    ((row : Entry K) × Contains rows row × IsMasked s keys row.keys) ⊎ (HasEmptySubset s count × (keys ≡ replicate count None))
+
+-- a row belongs to a group: each key of the group is ALL or the row's own
+abbrev pub belongs : {K : Type 0} → (K → K → Ordering) → List (Option K) → List K → Bool
+belongs cmp [] [] = true
+belongs cmp (None ∷ ms) (k ∷ ks) = belongs cmp ms ks
+belongs cmp (Some m ∷ ms) (k ∷ ks) = is_eq (cmp m k) && belongs cmp ms ks
+belongs cmp _ _ = false
+
+-- the rows of a group
+abbrev pub members : {K : Type 0} → (K → K → Ordering) → List (Option K) → List (Entry K) → List (Entry K)
+members cmp keys rows = filter (λ row. belongs cmp keys row.keys) rows
+
+-- ---- aggregates; None is NULL
+
+abbrev joined_with : (ℤ → ℤ → ℤ) → ℤ → Option ℤ → Option ℤ
+joined_with f x None = Some x
+joined_with f x (Some y) = Some (f x y)
+
+-- the numbers joined by an operation; none of none
+abbrev pub joined : (ℤ → ℤ → ℤ) → List ℤ → Option ℤ
+joined f [] = None
+joined f (x ∷ xs) = joined_with f x (joined f xs)
+
+abbrev pub aggregate : Aggregate → List ℤ → Option ℤ
+aggregate Count numbers = Some (pos (length numbers))
+aggregate Sum numbers = joined (λ x y. x +ℤ y) numbers
+aggregate Min numbers = joined int_min numbers
+aggregate Max numbers = joined int_max numbers
+
+-- the numbers of one aggregate, a row each
+abbrev pub numbers_for : {K : Type 0} → ℕ → List (Entry K) → List ℤ
+numbers_for place rows = map (λ row. slice_index_or row.values place (pos 0)) rows
+
+-- each aggregate over some rows, from the aggregate at a place on
+abbrev pub totals_from : {K : Type 0} → List Aggregate → ℕ → List (Entry K) → List (Option ℤ)
+totals_from [] place rows = []
+totals_from (a ∷ as') place rows = aggregate a (numbers_for place rows) ∷ totals_from as' (place + 1) rows
+
+abbrev pub totals_of : {K : Type 0} → List Aggregate → List (Entry K) → List (Option ℤ)
+totals_of aggregates rows = totals_from aggregates 0 rows
+
+-- ---- the rows that a report prints: a group's keys, in which None is ALL, and its aggregates, in which None is NULL
+
+pub record GroupRow (K : Type 0) : Type 0 where
+  pub keys : List (Option K)
+  pub totals : List (Option ℤ)
+
+-- each is a group with its aggregates, and each group is there
+pub record AreGroups {K : Type 0} (cmp : K → K → Ordering) (s : Shape) (count : ℕ) (aggregates : List Aggregate) (rows : List (Entry K)) (groups : List (GroupRow K)) : Type 0 where
+  pub each : (group : GroupRow K) → Contains groups group → IsGroup s count rows group.keys × (group.totals ≡ totals_of aggregates (members cmp group.keys rows))
+  pub all : (keys : List (Option K)) → IsGroup s count rows keys → (group : GroupRow K) × Contains groups group × (group.keys ≡ keys)
