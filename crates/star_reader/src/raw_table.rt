@@ -4,7 +4,7 @@ ghost use Rattle.std.specs.Prelude.{◌≡◌, ◌⊎◌, ◌<◌, [], None, Som
 ghost use Rattle.star_schema.specs.Bounds.{numbers_at};
 ghost use Rattle.star_schema.specs.Schema.{kinds_of};
 ghost use Rattle.star_schema.specs.Tables.{IsTable, Number, Text, rows_of, value_at};
-ghost use Rattle.star_reader.specs.Columns.{AreColumnsOf};
+ghost use Rattle.star_reader.specs.Columns.{AreColumnsOf, first_rows, values};
 ghost use Rattle.star_reader.specs.Faults.{text_fault};
 
 use crate::column::RawColumn;
@@ -84,6 +84,14 @@ impl RawTable {
             RawColumn::Texts(texts) => texts.get(row as usize),
             RawColumn::Numbers(_) => unreachable!(),
         }
+    }
+
+    /// The columns, in the order of a record's fields. The table is let go.
+    pub fn into_columns(self) -> Vec<RawColumn>
+        ensures columns { AreColumnsOf self.table (length self.rows) result.items }
+        ensures rows { self.rows ≡ first_rows (length self.rows) (map values result.items) }
+    {
+        self.columns
     }
 }
 

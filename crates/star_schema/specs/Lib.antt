@@ -9,3 +9,4 @@ pub mod First
 pub mod Database
 pub mod Groups
 pub mod Order
+pub mod Loadable
