@@ -1,0 +1,24 @@
+-- The values of keys and their order.
+use Rattle.std.specs.Prelude.{Bool, false, nat_eq, List}
+use Rattle.std.specs.Ordering.{int_cmp, int_eq, nat_cmp}
+use Rattle.std.specs.Cmp.Lexicographic.{pointwise}
+use Rattle.std.specs.declared.cmp.Ordering.{Ordering}
+use Rattle.std.specs.declared.cmp.Ordering.TheVariants.{Less, Greater}
+use Rattle.star_program.specs.declared.key.KeyValue.{KeyValue}
+use Rattle.star_program.specs.declared.key.KeyValue.TheVariants.{Number, Code}
+
+-- by value or by code; the keys of one column are all of one kind
+abbrev pub value_cmp : KeyValue → KeyValue → Ordering
+value_cmp (Number x) (Number y) = int_cmp x y
+value_cmp (Code m) (Code n) = nat_cmp m n
+value_cmp (Number x) (Code n) = Less
+value_cmp (Code m) (Number y) = Greater
+
+abbrev pub value_eq : KeyValue → KeyValue → Bool
+value_eq (Number x) (Number y) = int_eq x y
+value_eq (Code m) (Code n) = nat_eq m n
+value_eq _ _ = false
+
+-- the same key list
+abbrev pub same_keys : List KeyValue → List KeyValue → Bool
+same_keys = pointwise value_eq

@@ -1,0 +1,5 @@
+pub mod Code
+pub mod CodeOfSteps
+pub mod Smaller
+pub mod Limits
+pub mod Keys

@@ -1,0 +1,14 @@
+-- Each body inside a body is smaller than it.
+use Rattle.std.specs.Prelude.{◌≤◌, List, [], ◌∷◌}
+use Rattle.std.proofs.Common.{arith}
+use denote.Param.Weighed.{most}
+use Rattle.star_program.specs.Code.{code_size}
+use Rattle.star_program.specs.CodeOfSteps.{code_of_steps}
+use Rattle.star_program.specs.declared.body.Step.{Step}
+use Rattle.star_program.specs.declared.body.Step.TheVariants.{Act, Scan}
+use Rattle.star_program.specs.declared.body.Body.TheDeep.{deep-Step}
+
+pub most_le-code_size : (steps : List Step) → most deep-Step steps ≤ code_size (code_of_steps steps)
+most_le-code_size [] = omega arith
+most_le-code_size (Act op ∷ rest) = omega (arith, most_le-code_size rest)
+most_le-code_size (Scan table target body ∷ rest) = omega (arith, most_le-code_size rest)

@@ -1,0 +1,124 @@
+// The instructions of a program, one after another, with scans round some.
+
+ghost use Rattle.std.specs.Prelude.{◌≡◌, ◌≤◌, ◌<◌, ◌+◌, ◌↔◌, IsTrue, IfSome, IfNone};
+ghost use Rattle.star_program.specs.Code.{code_size, scan_depth};
+ghost use Rattle.star_program.specs.CodeOfSteps.{code_of_step, code_of_steps};
+
+use crate::op::Op;
+use star_schema::TableId;
+use std::marker::Model;
+
+/// Steps, one after another.
+#[cycle(body)]
+#[derive(Drop)]
+pub struct Body {
+    steps: Vec<Step>,
+}
+
+/// An instruction, or a scan: for each row of a table, in order, one turn of its body with the row in the register `target`.
+#[cycle(body)]
+#[derive(Drop)]
+pub enum Step {
+    Act(Op),
+    Scan {
+        table: TableId,
+        target: u16,
+        body: Body,
+    },
+}
+
+impl Model for Body {
+    ghost use Rattle.star_program.specs.Code.{Code, code_coded};
+
+    ghost Value = { Code };
+
+    ghost coded = { code_coded };
+
+    ghost use Rattle.star_program.specs.CodeOfSteps.{code_of_steps};
+    ghost use Rattle.star_program.specs.Code.{code_size};
+    ghost use Rattle.std.proofs.Common.{arith};
+
+    ghost view = { λ body. code_of_steps body.steps.items };
+
+    ghost size = { code_size };
+
+    ghost use Rattle.star_program.specs.Smaller.{most_le-code_size};
+
+    ghost size_decreases = { λ a h. omega (arith, most_le-code_size a.steps.items) };
+}
+
+impl Body {
+    /// The body of these steps.
+    pub fn from_vec(steps: Vec<Step>) -> Body
+        ensures { result ≡ code_of_steps steps.items }
+    {
+        Body { steps }
+    }
+
+    /// The steps.
+    pub fn into_vec(self) -> Vec<Step>
+        ensures { code_of_steps result.items ≡ self }
+    {
+        self.steps
+    }
+
+    /// The steps, in order.
+    pub fn as_slice(&self) -> &[Step]
+        ensures { code_of_steps result.now ≡ self.now }
+    {
+        &self.steps
+    }
+
+    // What is left of room for so many instructions after those of the body, if there is enough.
+    #[cycle(room)]
+    pub(crate) fn room_left(&self, room: u16) -> Option<u16>
+        ensures enough { IfSome result (λ left. left + code_size self.now ≡ room) }
+        ensures short { IfNone result (room < code_size self.now) }
+    {
+        let mut left = room;
+        for step in &self.steps {
+            left = step.room_left(left)?;
+        }
+        Some(left)
+    }
+
+    // Whether at most so many scans stand one in another.
+    #[cycle(nesting)]
+    pub(crate) fn is_nested_within(&self, scans: u8) -> bool
+        ensures { IsTrue result ↔ (scan_depth self.now ≤ scans) }
+    {
+        for step in &self.steps {
+            if !step.is_nested_within(scans) {
+                return false;
+            }
+        }
+        true
+    }
+}
+
+impl Step {
+    #[cycle(room)]
+    fn room_left(&self, room: u16) -> Option<u16>
+        ensures enough { IfSome result (λ left. left + code_size (code_of_step self.now) ≡ room) }
+        ensures short { IfNone result (room < code_size (code_of_step self.now)) }
+    {
+        let left = room.checked_sub(1)?;
+        match self {
+            Step::Act(_) => Some(left),
+            Step::Scan { body, .. } => body.room_left(left),
+        }
+    }
+
+    #[cycle(nesting)]
+    fn is_nested_within(&self, scans: u8) -> bool
+        ensures { IsTrue result ↔ (scan_depth (code_of_step self.now) ≤ scans) }
+    {
+        match self {
+            Step::Act(_) => true,
+            Step::Scan { body, .. } => match scans.checked_sub(1) {
+                Some(inner) => body.is_nested_within(inner),
+                None => false,
+            },
+        }
+    }
+}

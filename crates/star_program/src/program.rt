@@ -1,0 +1,135 @@
+// Programs and their parts.
+
+ghost use Rattle.std.specs.Prelude.{◌≡◌, ◌≤◌, ◌↔◌, All, length, IsSome, IfSome, IsTrue};
+ghost use Rattle.star_program.specs.Limits.{IsSmall, IsWithinLimits};
+
+use crate::body::Body;
+use crate::group::GroupDecl;
+use crate::items::Items;
+use star_schema::{GroupColumn, SortKey};
+use std::marker::Model;
+
+/// How many instructions a program has at most.
+pub const MOST_INSTRUCTIONS: u16 = 4_096;
+
+/// How many registers a program declares at most.
+pub const MOST_REGISTERS: u16 = 4_096;
+
+/// How many groups a program has at most.
+pub const MOST_GROUPS: usize = 8;
+
+/// How many keys a group has at most.
+pub const MOST_KEYS: usize = 6;
+
+/// How many aggregates a group has at most.
+pub const MOST_AGGREGATES: usize = 8;
+
+/// How many scans stand one in another at most.
+pub const MOST_SCANS: u8 = 3;
+
+/// How many show lines a program has at most.
+pub const MOST_SHOWS: usize = 16;
+
+/// How many sort lines a program has at most.
+pub const MOST_SORTS: usize = 16;
+
+/// The name of a shown column, as its bytes.
+pub type Name = Items<u8>;
+
+/// A column of the report: its name, and what of the reported group it shows.
+#[derive(Debug, Drop)]
+pub struct Show {
+    pub name: Name,
+    pub column: GroupColumn,
+}
+
+/// The groups of a program, by their numbers from 0.
+pub type Groups = Items<GroupDecl>;
+
+/// The columns of the report, in order.
+pub type Shows = Items<Show>;
+
+/// What the rows of the report are sorted by, the first key first.
+pub type Sorts = Items<SortKey>;
+
+/// What a program is made of: how many registers it declares, its groups, its instructions, and which group it reports and how.
+#[derive(Drop)]
+pub struct Parts {
+    pub registers: u16,
+    pub groups: Groups,
+    pub body: Body,
+    pub report: u16,
+    pub shows: Shows,
+    pub sorts: Sorts,
+}
+
+/// A program: parts within the limits, in clauses just these parts.
+#[derive(Drop)]
+pub struct Program {
+    parts: Parts,
+}
+
+impl Model for Program {
+    ghost use Rattle.star_program.specs.declared.program.Parts.{Parts};
+    ghost use Rattle.star_program.specs.contracts.program.Parts.{the_row};
+
+    ghost Value = { Parts };
+
+    ghost coded = { the_row.coded };
+
+    ghost use Rattle.star_program.specs.Limits.{IsWithinLimits};
+
+    ghost view = { λ program. program.parts };
+
+    ghost invariant = { λ program. IsWithinLimits program.parts };
+}
+
+impl Program {
+    /// The program of these parts, or `None` where a limit is passed.
+    pub fn new(parts: Parts) -> Option<Program>
+        ensures exactly { IsSome result ↔ IsWithinLimits parts }
+        ensures given { IfSome result (λ program. program ≡ parts) }
+    {
+        if parts.are_within_limits() {
+            Some(Program { parts })
+        } else {
+            None
+        }
+    }
+
+    /// What the program is made of.
+    pub fn parts(&self) -> &Parts
+        ensures same { result.now ≡ self.now }
+        ensures limits { IsWithinLimits self.now }
+    {
+        &self.parts
+    }
+}
+
+impl Parts {
+    fn are_within_limits(&self) -> bool
+        ensures { IsTrue result ↔ IsWithinLimits self.now }
+    {
+        let shows = self.shows.as_slice();
+        let sorts = self.sorts.as_slice();
+        self.registers <= MOST_REGISTERS
+            && self.body.room_left(MOST_INSTRUCTIONS).is_some()
+            && self.body.is_nested_within(MOST_SCANS)
+            && are_few(self.groups.as_slice())
+            && shows.len() <= MOST_SHOWS
+            && sorts.len() <= MOST_SORTS
+    }
+}
+
+// Whether there are at most so many groups, each with at most so many keys and aggregates.
+fn are_few(groups: &[GroupDecl]) -> bool
+    ensures { IsTrue result ↔ ((length groups.now ≤ 8) × All IsSmall groups.now) }
+{
+    groups.len() <= MOST_GROUPS && groups.iter().all(is_small)
+}
+
+fn is_small(group: &GroupDecl) -> bool
+    ensures { IsTrue result ↔ IsSmall group.now }
+{
+    group.keys.as_slice().len() <= MOST_KEYS && group.aggregates.as_slice().len() <= MOST_AGGREGATES
+}
