@@ -3,3 +3,17 @@ pub mod CodeOfSteps
 pub mod Smaller
 pub mod Limits
 pub mod Keys
+pub mod World
+pub mod Values
+pub mod Faults
+pub mod Puts
+pub mod Effects
+pub mod Shown
+pub mod Run
+pub mod Outcome
+pub mod Ranges
+pub mod Tallies
+pub mod Quote
+pub mod Contexts
+pub mod Refusals
+pub mod Admissible

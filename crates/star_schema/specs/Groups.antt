@@ -45,7 +45,7 @@ members cmp keys rows = filter (λ row. belongs cmp keys row.keys) rows
 
 -- ---- aggregates; None is NULL
 
-abbrev joined_with : (ℤ → ℤ → ℤ) → ℤ → Option ℤ → Option ℤ
+abbrev pub joined_with : (ℤ → ℤ → ℤ) → ℤ → Option ℤ → Option ℤ
 joined_with f x None = Some x
 joined_with f x (Some y) = Some (f x y)
 

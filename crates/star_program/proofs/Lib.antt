@@ -1,0 +1,3 @@
+mod Sample
+mod WorkedRuns
+mod WorkedRefusals

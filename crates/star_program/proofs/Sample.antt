@@ -1,0 +1,151 @@
+-- A small catalogue and programs over it, as the worked rows want them.
+use Rattle.std.proofs.Common.{ℕ, List, [], ◌∷◌, None}
+use Rattle.std.specs.Prelude.{ℤ, pos, slice_index_or, codes}
+use Rattle.star_schema.specs.declared.table.TableId.{TableId}
+use Rattle.star_schema.specs.declared.table.TableId.TheVariants.{Date, Customer, Supplier, Part, Lineorder}
+use Rattle.star_schema.specs.declared.column.ColumnId.{ColumnId}
+use Rattle.star_schema.specs.declared.column.ColumnId.TheVariants.{LoQuantity, LoLinenumber, LoExtendedprice}
+use Rattle.star_schema.specs.declared.group.Shape.TheVariants.{Plain, Cube}
+use Rattle.star_schema.specs.declared.group.Aggregate.{Aggregate}
+use Rattle.star_schema.specs.declared.group.Aggregate.TheVariants as aggregate
+use Rattle.star_schema.specs.declared.group.GroupColumn.TheVariants as column
+use Rattle.star_interval.specs.Range.{Range, only}
+use Rattle.star_program.specs.declared.group.GroupDecl.{GroupDecl}
+use Rattle.star_program.specs.declared.group.GroupKey.TheVariants as key
+use Rattle.star_program.specs.declared.op.Op.TheVariants as op
+use Rattle.star_program.specs.declared.program.Parts.{Parts}
+use Rattle.star_program.specs.Code.{Code, Stop, Then, Each}
+use Rattle.star_program.specs.World.{World}
+
+-- ---- catalogues
+
+abbrev pub sizes : TableId → ℕ
+sizes Date = 3
+sizes Customer = 3
+sizes Supplier = 2
+sizes Part = 3
+sizes Lineorder = 5
+
+abbrev quantities : List ℤ
+quantities = pos 10 ∷ pos 30 ∷ pos 24 ∷ pos 50 ∷ pos 1 ∷ []
+
+abbrev prices : List ℤ
+prices = pos 1000 ∷ pos 2000 ∷ pos 500 ∷ pos 3000 ∷ pos 700 ∷ []
+
+abbrev sample_number : ColumnId → ℕ → ℤ
+sample_number LoQuantity row = slice_index_or quantities row (pos 0)
+sample_number LoExtendedprice row = slice_index_or prices row (pos 0)
+sample_number _ row = pos 0
+
+abbrev sample_bounds : ColumnId → Range
+sample_bounds LoQuantity = record { low = pos 1; high = pos 50 }
+sample_bounds LoExtendedprice = record { low = pos 500; high = pos 3000 }
+sample_bounds _ = only (pos 0)
+
+-- five lines, as far as these programs read them
+abbrev pub sample : World
+sample = record {
+  size = sizes;
+  number = sample_number;
+  code = λ c row. 0;
+  low = λ c text. 0;
+  high = λ c text. 0;
+  text = λ c n. [];
+  find = λ t z. None;
+  bounds = sample_bounds;
+}
+
+abbrev line_sizes : TableId → ℕ
+line_sizes Lineorder = 10
+line_sizes t = 0
+
+abbrev line_number : ColumnId → ℕ → ℤ
+line_number LoLinenumber row = slice_index_or (pos 1 ∷ pos 2 ∷ pos 3 ∷ pos 4 ∷ pos 5 ∷ pos 6 ∷ pos 7 ∷ pos 8 ∷ pos 9 ∷ pos 10 ∷ []) row (pos 0)
+line_number LoExtendedprice row = pos 900000000000000000
+line_number _ row = pos 0
+
+abbrev line_bounds : ColumnId → Range
+line_bounds LoLinenumber = record { low = pos 1; high = pos 10 }
+line_bounds LoExtendedprice = only (pos 900000000000000000)
+line_bounds _ = only (pos 0)
+
+-- ten lines of one great price
+abbrev pub great_prices : World
+great_prices = record {
+  size = line_sizes;
+  number = line_number;
+  code = λ c row. 0;
+  low = λ c text. 0;
+  high = λ c text. 0;
+  text = λ c n. [];
+  find = λ t z. None;
+  bounds = line_bounds;
+}
+
+-- ---- programs
+
+abbrev pub plain : List Aggregate → GroupDecl
+plain gs = record { shape = Plain; keys = []; aggregates = gs }
+
+-- a program of these registers and groups that shows the first aggregate of one of them
+abbrev pub program : ℕ → List GroupDecl → ℕ → Code → Parts
+program registers groups report body = record {
+  registers = registers;
+  groups = groups;
+  body = body;
+  report = report;
+  shows = record { name = codes "n"; column = column.Aggregate 0 } ∷ [];
+  sorts = [];
+}
+
+-- one group, which counts
+abbrev pub counting : Code → Parts
+counting body = program 3 (plain (aggregate.Count ∷ []) ∷ []) 0 body
+
+-- lines priced above the average
+abbrev pub above_average : Parts
+above_average = program 8 (plain (aggregate.Sum ∷ aggregate.Count ∷ []) ∷ plain (aggregate.Count ∷ []) ∷ []) 1
+    (Each Lineorder 0 (Then (op.Load 1 LoExtendedprice 0) (Then (op.Put 0 [] (1 ∷ [])) Stop))
+    (Then (op.Read 2 0 0 (pos 0)) (Then (op.Read 3 0 1 (pos 0))
+    (Each Lineorder 4 (Then (op.Load 5 LoExtendedprice 4) (Then (op.Mul 6 5 3) (Then (op.Less 7 2 6) (Then (op.Keep 7) (Then (op.Put 1 [] []) Stop))))) Stop))))
+
+-- a row of the dates by a quantity
+abbrev pub find_by_quantity : Parts
+find_by_quantity = counting
+    (Each Lineorder 0 (Then (op.Load 1 LoQuantity 0) (Then (op.Find 2 Date 1) (Then (op.Put 0 [] []) Stop))) Stop)
+
+-- a read in the scan that puts
+abbrev pub read_while_putting : Parts
+read_while_putting = counting (Each Lineorder 0 (Then (op.Put 0 [] []) (Then (op.Read 1 0 0 (pos 0)) Stop)) Stop)
+
+abbrev pub written_twice : Parts
+written_twice = counting (Then (op.Const 0 (pos 1)) (Then (op.Const 0 (pos 2)) Stop))
+
+abbrev pub keep_outside : Parts
+keep_outside = counting (Then (op.Const 0 (pos 1)) (Then (op.Equal 1 0 0) (Then (op.Keep 1) Stop)))
+
+-- a key of a group without keys is shown
+abbrev pub shows_no_key : Parts
+shows_no_key = record {
+  registers = 3;
+  groups = plain (aggregate.Count ∷ []) ∷ [];
+  body = Stop;
+  report = 0;
+  shows = record { name = codes "n"; column = column.Key 0 } ∷ [];
+  sorts = [];
+}
+
+abbrev pub scan_in_scan : Parts
+scan_in_scan = counting (Each Date 0 (Each Supplier 1 (Then (op.Put 0 [] []) Stop) Stop) Stop)
+
+-- twice the difference of a sum and a constant
+abbrev pub doubled_difference : Parts
+doubled_difference = program 10 (plain (aggregate.Sum ∷ []) ∷ plain (aggregate.Max ∷ []) ∷ []) 1
+    (Each Lineorder 0
+    (Then (op.Load 1 LoLinenumber 0) (Then (op.Const 2 (pos 1)) (Then (op.Equal 3 1 2) (Then (op.Keep 3)
+    (Then (op.Load 4 LoExtendedprice 0) (Then (op.Put 0 [] (4 ∷ [])) Stop))))))
+    (Then (op.Read 5 0 0 (pos 0)) (Then (op.Const 6 (pos 9000000000000000000)) (Then (op.Sub 7 5 6)
+    (Then (op.Const 8 (pos 2)) (Then (op.Mul 9 7 8) (Then (op.Put 1 [] (9 ∷ [])) Stop)))))))
+
+abbrev pub two_keys : GroupDecl
+two_keys = record { shape = Cube; keys = key.Number ∷ key.Number ∷ []; aggregates = aggregate.Sum ∷ aggregate.Count ∷ [] }

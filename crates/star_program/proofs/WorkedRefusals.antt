@@ -1,0 +1,42 @@
+-- Refusals of small programs, by computation.
+use Rattle.std.proofs.Common.{◌≡◌, [], Some, None, refl}
+use Rattle.std.specs.Prelude.{pos, neg_ℤ}
+use Rattle.star_schema.specs.Schema.{column_of}
+use Rattle.star_interval.specs.Range.{is_i64}
+use Rattle.star_program.specs.Faults.{WrittenTwice, Misplaced}
+use Rattle.star_program.specs.Quote.{quote}
+use Rattle.star_program.specs.Refusals.{Faulty, NotAForeignKey, OpenGroup, Overflow, reached}
+use Rattle.star_program.specs.Admissible.{TooCostly, Refused, BadShow, first_refusal}
+use Rattle.star_program.proofs.Sample.{sample, great_prices, above_average, find_by_quantity, read_while_putting, written_twice, keep_outside, shows_no_key, scan_in_scan, doubled_difference}
+
+above_average_accepted : first_refusal sample 10 above_average ≡ None
+unfolding column_of is_i64 reached
+above_average_accepted = refl
+
+above_average_too_costly : first_refusal sample 9 above_average ≡ Some (TooCostly 10)
+above_average_too_costly = refl
+
+find_by_quantity_refused : first_refusal sample 5 find_by_quantity ≡ Some (Refused (3, NotAForeignKey))
+unfolding column_of is_i64 reached
+find_by_quantity_refused = refl
+
+read_while_putting_refused : first_refusal sample 5 read_while_putting ≡ Some (Refused (3, OpenGroup))
+unfolding column_of is_i64 reached
+read_while_putting_refused = refl
+
+written_twice_refused : first_refusal sample 0 written_twice ≡ Some (Refused (2, Faulty WrittenTwice))
+written_twice_refused = refl
+
+keep_outside_refused : first_refusal sample 0 keep_outside ≡ Some (Refused (3, Faulty Misplaced))
+keep_outside_refused = refl
+
+shows_no_key_refused : first_refusal sample 0 shows_no_key ≡ Some (BadShow 1)
+shows_no_key_refused = refl
+
+scan_in_scan_quoted : quote sample.size scan_in_scan ≡ 9
+scan_in_scan_quoted = refl
+
+-- nothing is reached through a read, so no columns are named
+doubled_difference_refused : first_refusal great_prices 10 doubled_difference ≡ Some (Refused (12, Overflow (record { low = neg_ℤ (pos 18000000000000000000); high = pos 0 }) []))
+unfolding column_of is_i64 reached
+doubled_difference_refused = refl

@@ -1,0 +1,68 @@
+-- What is known of a register before a run: its kind, and of a number its range.
+use Rattle.std.specs.Prelude.{ℕ, ℤ, pos, Bool, true, false, ◌||◌, Option, Some, None}
+use Rattle.std.specs.Option.{option_map}
+use Rattle.star_schema.specs.declared.table.TableId.{TableId}
+use Rattle.star_schema.specs.declared.column.ColumnId.{ColumnId}
+use Rattle.star_interval.specs.Range.{Range, only, corner_range}
+use Rattle.star_program.specs.World.{World, is_column}
+use Rattle.star_program.specs.Values.{Kind, NumberKind, TextKind, PlaceKind, RowKind, FlagKind}
+use Rattle.star_program.specs.Faults.{Kinds}
+
+-- the columns that a number is computed from
+abbrev pub Reach : Type 0
+Reach = ColumnId → Bool
+
+abbrev pub no_reach : Reach
+no_reach c = false
+
+abbrev pub joined_reach : Reach → Reach → Reach
+joined_reach a b c = a c || b c
+
+-- of a number its range, the columns that it is computed from, and the column that it was loaded from, if it was
+pub data Known : Type 0 where
+  KnownNumber : Range → Reach → Option ColumnId → Known
+  KnownText : ColumnId → Known
+  KnownPlace : ColumnId → Known
+  KnownRow : TableId → Known
+  KnownFlag : Known
+
+abbrev pub known_kind : Known → Kind
+known_kind (KnownNumber r reach origin) = NumberKind
+known_kind (KnownText c) = TextKind c
+known_kind (KnownPlace c) = PlaceKind c
+known_kind (KnownRow t) = RowKind t
+known_kind KnownFlag = FlagKind
+
+-- what is known of the registers in scope, by their numbers
+abbrev pub Table : Type 0
+Table = ℕ → Option Known
+
+abbrev pub kinds_known : Table → Kinds
+kinds_known known r = option_map known_kind (known r)
+
+abbrev pub range_at : Option Known → Range
+range_at (Some (KnownNumber r reach origin)) = r
+range_at _ = only (pos 0)
+
+abbrev pub reach_at : Option Known → Reach
+reach_at (Some (KnownNumber r reach origin)) = reach
+reach_at _ = no_reach
+
+abbrev pub origin_at : Option Known → Option ColumnId
+origin_at (Some (KnownNumber r reach origin)) = origin
+origin_at _ = None
+
+-- ---- what an instruction makes
+
+-- a constant, or what is read: computed from no column
+abbrev pub given : Range → Known
+given r = KnownNumber r no_reach None
+
+-- a column's value: a number has the column's bounds
+abbrev pub loaded_known : World → ColumnId → Bool → Known
+loaded_known w c true = KnownText c
+loaded_known w c false = KnownNumber (w.bounds c) (is_column c) (Some c)
+
+-- a result of arithmetic: the least and the greatest result over the ends of the operands' ranges
+abbrev pub computed : (ℤ → ℤ → ℤ) → Option Known → Option Known → Known
+computed operation l r = KnownNumber (corner_range operation (range_at l) (range_at r)) (joined_reach (reach_at l) (reach_at r)) None
