@@ -1,3 +1,11 @@
 mod Sample
 mod WorkedRuns
 mod WorkedRefusals
+mod Numbers
+mod TallyOrder
+mod Tallied
+mod Instructions
+mod Turns
+mod Sound
+mod Runs
+mod Always

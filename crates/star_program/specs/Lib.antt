@@ -17,3 +17,5 @@ pub mod Quote
 pub mod Contexts
 pub mod Refusals
 pub mod Admissible
+pub mod Moments
+pub mod Laws

@@ -7,6 +7,7 @@ mod body;
 mod group;
 mod items;
 mod key;
+pub mod law;
 mod op;
 mod program;
 #[cfg(test)]

@@ -1,0 +1,35 @@
+-- Numbers in ranges, and in 64 bits.
+use Rattle.std.proofs.Common.{◌≡◌, ◌^◌, ◌≤◌, ◌<◌, true, refl, arith, inl, inr}
+use Rattle.std.specs.Prelude.{ℤ, pos, negsuc, ◌≤ℤ◌}
+use Rattle.std.proofs.lemmas.Bool.{lt-ltb, and_parts}
+use Rattle.std.proofs.lemmas.Int.{ints}
+use borrow.Author.Differences.{up, down}
+use Rattle.star_interval.specs.Range.{Range, Holds, is_i64, fits_i64, only, hull}
+use Rattle.star_interval.proofs.Ranges as ranges
+
+pub holds_itself : (z : ℤ) → Holds (only z) z
+holds_itself z = ranges.holds_only z z refl
+
+pub holds_hull_left : (a b : Range) (z : ℤ) → Holds a z → Holds (hull a b) z
+holds_hull_left a b z held = ranges.hulls_held a b z (inl held)
+
+pub holds_hull_right : (a b : Range) (z : ℤ) → Holds b z → Holds (hull a b) z
+holds_hull_right a b z held = ranges.hulls_held a b z (inr held)
+
+-- a number in a range of 64 bits
+pub fits_held : (r : Range) (z : ℤ) → fits_i64 r ≡ true → Holds r z → is_i64 z ≡ true
+fits_held r z fits held =
+    let fit = ranges.fits_held r z ((ranges.fits_i64_fits r).0 fits) held in
+    (and_parts (is_i64 z) (is_i64 z) ((ranges.fits_i64_fits (only z)).1 (fit, fit))).0
+
+-- how far a number of 64 bits lies above 0 and below it
+pub fits_in : (z : ℤ) → up z < 2 ^ 63 → down z ≤ 2 ^ 63 → is_i64 z ≡ true
+unfolding is_i64
+fits_in (pos n) p q = lt-ltb n (2 ^ 63) p
+fits_in (negsuc n) p q = lt-ltb n (2 ^ 63) q
+
+pub up_grows : (a b : ℤ) → a ≤ℤ b → (up a ≤ up b) × (down b ≤ down a)
+up_grows (pos a) (pos b) h = omega (arith, ints)
+up_grows (pos a) (negsuc b) h = absurd (omega (arith, ints))
+up_grows (negsuc a) (pos b) h = omega (arith, ints)
+up_grows (negsuc a) (negsuc b) h = omega (arith, ints)

@@ -1,0 +1,23 @@
+//! Laws of programs: functions with no body, whose clauses are the laws.
+
+ghost use Rattle.std.specs.Prelude.{ℕ, ◌≤◌};
+ghost use Rattle.star_program.specs.declared.program.Parts.{Parts};
+ghost use Rattle.star_program.specs.World.{World};
+ghost use Rattle.star_program.specs.Run.{run_of, bounded_run_of};
+ghost use Rattle.star_program.specs.Quote.{quote};
+ghost use Rattle.star_program.specs.Moments.{AtEveryMoment};
+ghost use Rattle.star_program.specs.Laws.{IsAccepted, EndsWith, EndsWithin, TotalsLie};
+
+/// An admissible program runs to its end with no trap, over any loaded catalogue.
+///
+/// It visits at most what is quoted, a bound of at least that never stops it, and at every moment its numbers and the sums of its updates lie in their ranges; so do all totals at the end.
+pub fn admissible_programs_never_trap()
+    ensures ends { (w : World) (parts : Parts)
+        → IsAccepted w parts → EndsWithin (quote w.size parts) (run_of w parts) }
+    ensures never_limited { (w : World) (parts : Parts) (most : ℕ)
+        → IsAccepted w parts → quote w.size parts ≤ most
+        → EndsWithin (quote w.size parts) (bounded_run_of w most parts) }
+    ensures moments { (w : World) (parts : Parts) → IsAccepted w parts → AtEveryMoment w parts }
+    ensures totals { (w : World) (parts : Parts)
+        → IsAccepted w parts → EndsWith (run_of w parts) (TotalsLie w parts) }
+{}
