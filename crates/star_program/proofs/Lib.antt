@@ -9,3 +9,5 @@ mod Turns
 mod Sound
 mod Runs
 mod Always
+mod OwnGroups
+mod Refused

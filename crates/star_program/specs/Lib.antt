@@ -19,3 +19,4 @@ pub mod Refusals
 pub mod Admissible
 pub mod Moments
 pub mod Laws
+pub mod Overflow

@@ -1,11 +1,15 @@
 //! Laws of programs: functions with no body, whose clauses are the laws.
 
-ghost use Rattle.std.specs.Prelude.{ℕ, ◌≤◌};
+ghost use Rattle.std.specs.Prelude.{◌≡◌, ◌↔◌, ℕ, ◌≤◌, IsTrue, List, None};
+ghost use Rattle.star_program.specs.declared.group.GroupDecl.{GroupDecl};
 ghost use Rattle.star_program.specs.declared.program.Parts.{Parts};
 ghost use Rattle.star_program.specs.World.{World};
 ghost use Rattle.star_program.specs.Run.{run_of, bounded_run_of};
 ghost use Rattle.star_program.specs.Quote.{quote};
 ghost use Rattle.star_program.specs.Moments.{AtEveryMoment};
+ghost use Rattle.star_program.specs.Puts.{Update, overflows};
+ghost use Rattle.star_program.specs.Overflow.{LeavesSomewhere};
+ghost use Rattle.star_program.specs.Admissible.{IsAdmissible, first_refusal};
 ghost use Rattle.star_program.specs.Laws.{IsAccepted, EndsWith, EndsWithin, TotalsLie};
 
 /// An admissible program runs to its end with no trap, over any loaded catalogue.
@@ -20,4 +24,16 @@ pub fn admissible_programs_never_trap()
     ensures moments { (w : World) (parts : Parts) → IsAccepted w parts → AtEveryMoment w parts }
     ensures totals { (w : World) (parts : Parts)
         → IsAccepted w parts → EndsWith (run_of w parts) (TotalsLie w parts) }
+{}
+
+/// An update leaves 64 bits exactly where a SUM or a COUNT over one of its groups, or over all updates, does.
+pub fn updates_overflow_in_their_groups()
+    ensures { (d : GroupDecl) (others : List Update) (update : Update)
+        → IsTrue (overflows d others update) ↔ LeavesSomewhere d others update }
+{}
+
+/// Nothing refuses a program exactly where it is admissible and its quote is within the limit on visits.
+pub fn admissible_programs_within_the_limit_are_not_refused()
+    ensures { (w : World) (most : ℕ) (parts : Parts)
+        → (first_refusal w most parts ≡ None) ↔ (IsAdmissible w parts × (quote w.size parts ≤ most)) }
 {}

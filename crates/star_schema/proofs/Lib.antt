@@ -1,4 +1,6 @@
 pub mod NamesApart
 pub mod Places
 pub mod Lists
+pub mod Firsts
+pub mod KeyColumns
 mod WorkedGroups

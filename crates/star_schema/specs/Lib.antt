@@ -10,3 +10,4 @@ pub mod Database
 pub mod Groups
 pub mod Order
 pub mod Loadable
+pub mod Texts

@@ -1,6 +1,7 @@
 -- Which five texts can be loaded: they are tables, whose keys tell their rows apart and whose foreign keys are found.
-use Rattle.std.specs.Prelude.{◌≡◌, ◌≢◌, ℕ, ℤ, List, [], ◌∷◌, All, AllPairs, Contains, Some, map, slice_get}
+use Rattle.std.specs.Prelude.{◌≡◌, ◌≢◌, ℕ, ℤ, List, [], ◌∷◌, All, AllPairs, Contains, Some, filter, is_some, map, slice_get}
 use Rattle.star_schema.specs.declared.column.ColumnId.{ColumnId}
+use Rattle.star_schema.specs.declared.column.TheConstants.{COLUMNS}
 use Rattle.star_schema.specs.declared.table.Key.{Key}
 use Rattle.star_schema.specs.declared.table.Key.TheVariants.{One, Two}
 use Rattle.star_schema.specs.declared.table.TableId.{TableId}
@@ -26,6 +27,10 @@ keys_of t rows = map (key_numbers (key_of t)) rows
 -- no two rows of a table have equal keys
 abbrev pub HasDistinctKeys : TableId → List (List Value) → Type 0
 HasDistinctKeys t rows = AllPairs (λ a b. a ≢ b) (keys_of t rows)
+
+-- the columns that refer to a table, in the order of columns
+unfoldable pub foreign_keys : List ColumnId
+foreign_keys = filter (λ c. is_some (references c)) COLUMNS
 
 -- each number of a column is a key of a table
 abbrev pub RefersTo : Database → ColumnId → TableId → Type 0

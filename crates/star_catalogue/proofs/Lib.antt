@@ -1,0 +1,8 @@
+pub mod Repeats
+pub mod Apart
+pub mod Rising
+pub mod KeyLists
+pub mod Found
+pub mod Placed
+pub mod Refers
+pub mod Loading

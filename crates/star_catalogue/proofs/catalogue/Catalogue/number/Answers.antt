@@ -1,0 +1,7 @@
+use Rattle.star_schema.specs.Database.{rows_in}
+use Rattle.star_schema.specs.Schema.{place_of, table_of}
+use Rattle.star_catalogue.proofs.KeyLists.{length-numbers_at}
+use Rattle.star_catalogue.proofs.catalogue.Catalogue.number.Goals as goal
+
+pub at-requires : goal.at-requires
+at-requires c = rw (c.numbers.ensures, length-numbers_at (place_of c.args.column) (rows_in c.self.inside.tables (table_of c.args.column)), c.self.view_is) c.requires.row

@@ -1,0 +1,17 @@
+-- What is kept of five tables.
+use Rattle.std.specs.Prelude.{◌≡◌}
+use Rattle.star_schema.specs.declared.table.TableId.TheVariants as id
+use Rattle.star_schema.specs.Database.{Database}
+use Rattle.star_catalogue.specs.declared.tables.Tables.TheInside.{Inside}
+
+abbrev pub database_kept : Inside → Database
+database_kept kept =
+    record { date = kept.date.rows; customer = kept.customer.rows; supplier = kept.supplier.rows; part = kept.part.rows; lineorder = kept.lineorder.rows }
+
+-- each is the table that it stands for
+pub record AreInPlace (kept : Inside) : Type 0 where
+  pub date : kept.date.table ≡ id.Date
+  pub customer : kept.customer.table ≡ id.Customer
+  pub supplier : kept.supplier.table ≡ id.Supplier
+  pub part : kept.part.table ≡ id.Part
+  pub lineorder : kept.lineorder.table ≡ id.Lineorder

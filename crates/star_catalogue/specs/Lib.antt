@@ -1,0 +1,5 @@
+pub mod Columns
+pub mod Load
+pub mod Keys
+pub mod Kept
+pub mod FiveTables

@@ -1,0 +1,151 @@
+// The catalogue of the five tables.
+
+ghost use Rattle.std.specs.Prelude.{◌≡◌, ◌⊎◌, ◌↔◌, ◌<◌, ◌∷◌, [], ℕ, Some, IfErr, IfOk, length, slice_get};
+ghost use Rattle.star_schema.specs.Bounds.{greatest, least, numbers_of};
+ghost use Rattle.star_schema.specs.Database.{rows_in};
+ghost use Rattle.star_schema.specs.Loadable.{IsLoadable, IsSound, database_of, keys_of};
+ghost use Rattle.star_schema.specs.Schema.{kind_of, table_of};
+ghost use Rattle.star_schema.specs.Sizes.{size_of};
+ghost use Rattle.star_schema.specs.Texts.{texts_of};
+ghost use Rattle.star_schema.specs.declared.table.TableId.{TableId};
+ghost use Rattle.star_column.specs.Dictionary.{HasCode, dictionary_of, high_in, low_in};
+ghost use Rattle.star_catalogue.specs.Load.{load_fault, text_of};
+
+use crate::fault::LoadFault;
+use crate::references::check_references;
+use crate::tables::Tables;
+use crate::texts::Texts;
+use star_column::ColumnData;
+use star_interval::Interval;
+use star_schema::{ColumnId, Kind, Limits, Sizes, TableId};
+use std::alloc::Global;
+use std::marker::Model;
+
+/// Five sound tables. A contract sees the rows of each. No look-up takes memory.
+#[derive(Debug, Drop)]
+pub struct Catalogue {
+    tables: Tables,
+}
+
+impl Model for Catalogue {
+    ghost use Rattle.star_schema.specs.Database.{Database};
+    ghost use Rattle.star_schema.specs.Loadable.{IsSound};
+
+    ghost Value = { Database };
+
+    ghost view = { λ catalogue. catalogue.tables };
+
+    ghost invariant = { λ catalogue. IsSound catalogue.tables };
+}
+
+impl Catalogue {
+    /// The tables that five texts are, or the first fault: of the tables in their order, and then of the foreign keys by
+    /// record and then by column.
+    pub fn load(alloc: Global, texts: &Texts<'_>, limits: Limits) -> Result<Catalogue, LoadFault>
+        ensures loadable { IfOk result (λ catalogue. IsLoadable limits.rows (text_of texts.now)) }
+        ensures rows { IfOk result (λ catalogue. catalogue ≡ database_of (text_of texts.now)) }
+        ensures refused { IfErr result (λ fault. (fault ≡ LoadFault.OutOfMemory)
+            ⊎ ((load_fault limits.rows (text_of texts.now) ≡ Some fault) × ¬ IsLoadable limits.rows (text_of texts.now))) }
+    {
+        let tables = Tables::load(alloc, texts, limits)?;
+        check_references(&tables)?;
+        Ok(Catalogue { tables })
+    }
+
+    /// Keys tell the rows of each table apart, and each foreign key is found.
+    pub fn law(&self)
+        ensures { IsSound self.now }
+    {
+        let _tables = &self.tables;
+    }
+
+    /// How many rows a table has.
+    pub fn rows(&self, table: TableId) -> u32
+        ensures { result ≡ length (rows_in self.now table) }
+    {
+        self.tables.rows(table)
+    }
+
+    /// How many rows each table has.
+    pub fn sizes(&self) -> Sizes
+        ensures { (table : TableId) → size_of result table ≡ length (rows_in self.now table) }
+    {
+        Sizes {
+            date: self.rows(TableId::Date),
+            customer: self.rows(TableId::Customer),
+            supplier: self.rows(TableId::Supplier),
+            part: self.rows(TableId::Part),
+            lineorder: self.rows(TableId::Lineorder),
+        }
+    }
+
+    /// The number of a row, from 0, in a column of numbers.
+    pub fn number(&self, column: ColumnId, row: u32) -> i64
+        requires kind { kind_of column ≡ Kind.Number }
+        requires row { row < length (rows_in self.now (table_of column)) }
+        ensures { slice_get (numbers_of column (rows_in self.now (table_of column))) row ≡ Some result }
+    {
+        self.tables.numbers(column).at(row)
+    }
+
+    /// The code of the text of a row, from 0, in a column of texts: its place in the column's dictionary.
+    pub fn code(&self, column: ColumnId, row: u32) -> u32
+        requires kind { kind_of column ≡ Kind.Text }
+        requires row { row < length (rows_in self.now (table_of column)) }
+        ensures stands { slice_get (dictionary_of (texts_of column (rows_in self.now (table_of column)))) result
+            ≡ slice_get (texts_of column (rows_in self.now (table_of column))) row }
+        ensures within { result < length (dictionary_of (texts_of column (rows_in self.now (table_of column)))) }
+    {
+        self.tables.texts(column).code_at(row)
+    }
+
+    /// The text that a code stands for in a column of texts.
+    pub fn text(&self, column: ColumnId, code: u32) -> &[u8]
+        requires kind { kind_of column ≡ Kind.Text }
+        requires code { code < length (dictionary_of (texts_of column (rows_in self.now (table_of column)))) }
+        ensures { HasCode (texts_of column (rows_in self.now (table_of column))) result.now code }
+    {
+        self.tables.texts(column).text_of(code)
+    }
+
+    /// How many texts of a column's dictionary are less than this one.
+    pub fn low(&self, column: ColumnId, text: &[u8]) -> u32
+        requires { kind_of column ≡ Kind.Text }
+        ensures { result ≡ low_in (dictionary_of (texts_of column (rows_in self.now (table_of column)))) text.now }
+    {
+        self.tables.texts(column).low(text)
+    }
+
+    /// How many texts of a column's dictionary are less than this one or equal to it.
+    pub fn high(&self, column: ColumnId, text: &[u8]) -> u32
+        requires { kind_of column ≡ Kind.Text }
+        ensures { result ≡ high_in (dictionary_of (texts_of column (rows_in self.now (table_of column)))) text.now }
+    {
+        self.tables.texts(column).high(text)
+    }
+
+    /// How many texts a column's dictionary has: those of the column, each counted once.
+    pub fn entries(&self, column: ColumnId) -> u32
+        requires { kind_of column ≡ Kind.Text }
+        ensures { result ≡ length (dictionary_of (texts_of column (rows_in self.now (table_of column)))) }
+    {
+        self.tables.texts(column).entries()
+    }
+
+    /// The least and the greatest number of a column of numbers, 0 and 0 where its table has no rows.
+    pub fn bounds(&self, column: ColumnId) -> Interval
+        requires { kind_of column ≡ Kind.Number }
+        ensures low { result.low ≡ least (numbers_of column (rows_in self.now (table_of column))) }
+        ensures high { result.high ≡ greatest (numbers_of column (rows_in self.now (table_of column))) }
+    {
+        self.tables.numbers(column).bounds()
+    }
+
+    /// The row of a table, from 0, whose key is this number, if there is one. The keys of lineorder are pairs, so there is
+    /// none in it.
+    pub fn find(&self, table: TableId, key: i64) -> Option<u32>
+        ensures { (row : ℕ) → (result ≡ Some row) ↔ (slice_get (keys_of table (rows_in self.now table)) row ≡ Some (key ∷ [])) }
+    {
+        self.tables.find(table, key)
+    }
+}

@@ -1,0 +1,15 @@
+//! The five tables in memory: sound ones, whose keys tell their rows apart and whose foreign keys are all found.
+#![tactic(auto)]
+
+mod catalogue;
+mod columns;
+mod fault;
+mod keys;
+mod references;
+mod table;
+mod tables;
+mod texts;
+
+pub use catalogue::Catalogue;
+pub use fault::LoadFault;
+pub use texts::Texts;

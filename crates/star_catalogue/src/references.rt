@@ -1,0 +1,77 @@
+// The foreign keys of lineorder.
+
+ghost use Rattle.std.specs.Prelude.{◌≡◌, ◌+◌, ◌<◌, ◌^◌, [], None, Some, MatchResult, length, slice_index_or};
+ghost use Rattle.star_schema.specs.Database.{rows_in};
+ghost use Rattle.star_schema.specs.Loadable.{foreign_keys};
+ghost use Rattle.star_schema.specs.Schema.{kind_of, table_of};
+ghost use Rattle.star_catalogue.specs.Load.{absent_fault, cell_fault, row_fault};
+
+use crate::fault::LoadFault;
+use crate::tables::Tables;
+use star_column::ColumnData;
+use star_schema::{ColumnId, Kind, TableId, references};
+
+/// The columns that refer to a table, in the order of columns.
+static FOREIGN_KEYS: [ColumnId; 5] = [
+    ColumnId::LoCustkey,
+    ColumnId::LoPartkey,
+    ColumnId::LoSuppkey,
+    ColumnId::LoOrderdate,
+    ColumnId::LoCommitdate,
+];
+
+#[tactic(auto, unfolding(star_schema::specs::Schema::column_of, star_schema::specs::Loadable::foreign_keys))]
+fn foreign_key_columns() -> &'static [ColumnId]
+    ensures { result.now ≡ foreign_keys }
+{
+    &FOREIGN_KEYS
+}
+
+/// Checks that a row of lineorder has in a column a key of the table that the column refers to.
+fn check_cell(tables: &Tables, row: u32, column: ColumnId) -> Result<(), LoadFault>
+    requires row { row < length (rows_in tables.now TableId.Lineorder) }
+    requires few { row + 1 < 2 ^ 32 }
+    requires table { table_of column ≡ TableId.Lineorder }
+    requires kind { kind_of column ≡ Kind.Number }
+    ensures { let values = slice_index_or (rows_in tables.now TableId.Lineorder) row [] in MatchResult result
+        (λ _. cell_fault tables.now (row + 1) values column ≡ None)
+        (λ fault. cell_fault tables.now (row + 1) values column ≡ Some fault) }
+{
+    let Some(table) = references(column) else {
+        return Ok(());
+    };
+    let number = tables.numbers(column).at(row);
+    match tables.find(table, number) {
+        Some(_) => Ok(()),
+        None => Err(LoadFault::AbsentKey {
+            at_row: row + 1,
+            column,
+        }),
+    }
+}
+
+/// Checks the foreign keys of a row of lineorder, in the order of columns.
+fn check_row(tables: &Tables, row: u32) -> Result<(), LoadFault>
+    requires row { row < length (rows_in tables.now TableId.Lineorder) }
+    requires few { row + 1 < 2 ^ 32 }
+    ensures { let values = slice_index_or (rows_in tables.now TableId.Lineorder) row [] in MatchResult result
+        (λ _. row_fault tables.now (row + 1) values ≡ None)
+        (λ fault. row_fault tables.now (row + 1) values ≡ Some fault) }
+{
+    for column in foreign_key_columns() {
+        check_cell(tables, row, *column)?;
+    }
+    Ok(())
+}
+
+/// Checks the foreign keys of all rows of lineorder, row by row.
+pub(crate) fn check_references(tables: &Tables) -> Result<(), LoadFault>
+    ensures { MatchResult result
+        (λ _. absent_fault tables.now ≡ None)
+        (λ fault. absent_fault tables.now ≡ Some fault) }
+{
+    for row in 0..tables.rows(TableId::Lineorder) {
+        check_row(tables, row)?;
+    }
+    Ok(())
+}

@@ -1,0 +1,127 @@
+// A table in memory.
+
+ghost use Rattle.std.specs.Prelude.{◌≡◌, ◌⊎◌, ◌↔◌, ◌<◌, ◌∷◌, [], ℕ, Some, MatchResult, length, slice_get};
+ghost use Rattle.std.specs.Option.{option_map};
+ghost use Rattle.star_schema.specs.Bounds.{numbers_of};
+ghost use Rattle.star_schema.specs.Loadable.{HasDistinctKeys, keys_of};
+ghost use Rattle.star_schema.specs.Schema.{kind_of, table_of};
+ghost use Rattle.star_schema.specs.Tables.{IsTable, rows_of};
+ghost use Rattle.star_schema.specs.Texts.{texts_of};
+ghost use Rattle.star_reader.specs.Faults.{text_fault};
+ghost use Rattle.star_catalogue.specs.Load.{keys_fault, table_fault};
+
+use crate::columns::{Column, build_columns};
+use crate::fault::LoadFault;
+use crate::keys::Keys;
+use star_column::{NumberColumn, TextColumn};
+use star_reader::{RawTable, ReadFault, read_table};
+use star_schema::{ColumnId, Kind, Limits, TableId, place_of};
+use std::alloc::Global;
+use std::marker::Model;
+
+/// A table in memory, by columns, with an index of its keys. A contract sees which table it is, and the list of its rows.
+#[derive(Debug, Drop)]
+pub struct LoadedTable {
+    table: TableId,
+    rows: u32,
+    columns: Vec<Column>,
+    keys: Keys,
+}
+
+impl Model for LoadedTable {
+    ghost use Rattle.star_reader.specs.Columns.{Table};
+
+    ghost Value = { Table };
+
+    ghost use Rattle.star_catalogue.specs.Kept.{table_kept, IsKept};
+
+    ghost view = { table_kept };
+
+    ghost invariant = { IsKept };
+}
+
+/// The table that a text is, or its first fault.
+fn read(alloc: Global, text: &[u8], table: TableId, limits: Limits) -> Result<RawTable, LoadFault>
+    ensures { MatchResult result
+        (λ raw. IsTable table limits.rows text.now × (raw.table ≡ table) × (raw.rows ≡ rows_of table text.now))
+        (λ fault. (fault ≡ LoadFault.OutOfMemory) ⊎ (option_map (LoadFault.Read table) (text_fault table limits.rows text.now) ≡ Some fault)) }
+{
+    match read_table(alloc, text, table, limits) {
+        Ok(raw) => Ok(raw),
+        Err(ReadFault::OutOfMemory) => Err(LoadFault::OutOfMemory),
+        Err(fault) => Err(LoadFault::Read { table, fault }),
+    }
+}
+
+/// The table that was read, whose keys all differ, or the first record whose key an earlier one has.
+fn keep(alloc: Global, raw: RawTable) -> Result<LoadedTable, LoadFault>
+    ensures { MatchResult result
+        (λ loaded. (loaded ≡ raw) × HasDistinctKeys raw.table raw.rows)
+        (λ fault. (fault ≡ LoadFault.OutOfMemory) ⊎ (keys_fault raw.table raw.rows ≡ Some fault)) }
+{
+    let table = raw.table();
+    let rows = raw.rows();
+    let keys = Keys::build(alloc, &raw)?;
+    let columns = build_columns(alloc, raw.into_columns())?;
+    Ok(LoadedTable {
+        table,
+        rows,
+        columns,
+        keys,
+    })
+}
+
+impl LoadedTable {
+    /// The table that a text is, or its first fault: as a table, and then in its keys.
+    pub(crate) fn load(
+        alloc: Global,
+        text: &[u8],
+        table: TableId,
+        limits: Limits,
+    ) -> Result<LoadedTable, LoadFault>
+        ensures { MatchResult result
+            (λ loaded. IsTable table limits.rows text.now × (loaded.table ≡ table) × (loaded.rows ≡ rows_of table text.now) × HasDistinctKeys table (rows_of table text.now))
+            (λ fault. (fault ≡ LoadFault.OutOfMemory) ⊎ (table_fault table limits.rows text.now ≡ Some fault)) }
+    {
+        let raw = read(alloc, text, table, limits)?;
+        keep(alloc, raw)
+    }
+
+    /// How many rows there are.
+    pub(crate) fn rows(&self) -> u32
+        ensures { result ≡ length self.now.rows }
+    {
+        self.rows
+    }
+
+    /// A column of numbers.
+    pub(crate) fn numbers(&self, column: ColumnId) -> &NumberColumn
+        requires table { table_of column ≡ self.now.table }
+        requires kind { kind_of column ≡ Kind.Number }
+        ensures { result.now ≡ numbers_of column self.now.rows }
+    {
+        match &self.columns[place_of(column)] {
+            Column::Numbers(numbers) => numbers,
+            Column::Texts(_) => unreachable!(),
+        }
+    }
+
+    /// A column of texts.
+    pub(crate) fn texts(&self, column: ColumnId) -> &TextColumn
+        requires table { table_of column ≡ self.now.table }
+        requires kind { kind_of column ≡ Kind.Text }
+        ensures { result.now ≡ texts_of column self.now.rows }
+    {
+        match &self.columns[place_of(column)] {
+            Column::Texts(texts) => texts,
+            Column::Numbers(_) => unreachable!(),
+        }
+    }
+
+    /// The row with a key of one number, if there is one.
+    pub(crate) fn find(&self, key: i64) -> Option<u32>
+        ensures { (row : ℕ) → (result ≡ Some row) ↔ (slice_get (keys_of self.now.table self.now.rows) row ≡ Some (key ∷ [])) }
+    {
+        self.keys.find(key)
+    }
+}

@@ -1,0 +1,125 @@
+-- From the rows of a map to the content of a store.
+use Rattle.std.proofs.Common.{◌≡◌, ℕ, zero, suc, ◌+◌, ◌<◌, ◌≤◌, Bool, true, false, ◌||◌, ℤ, List, [], ◌∷◌, Option, Some, None, Result, Ok, Err, OnOk, IfErr, IfOk, length, get_or, ap, sym, ◌∙◌, subst, refl, cond, arith}
+use Rattle.std.specs.List.{AllByRecursion}
+use Rattle.star_schema.specs.declared.group.Aggregate.{Aggregate}
+use Rattle.star_schema.specs.declared.group.Aggregate.TheVariants.{Sum, Count, Min, Max}
+use Rattle.star_schema.specs.Groups.{aggregate, members, numbers_for}
+use Rattle.star_program.specs.declared.key.KeyValue.{KeyValue}
+use Rattle.star_program.specs.Keys.{value_cmp}
+use Rattle.star_program.specs.Puts.{own_groups, some_leaves, leaves as leaves_total}
+use Rattle.star_group.specs.Cells.{held, leaves}
+use Rattle.star_group.specs.OwnKeys.{key_eq, padded, in_places, own_keys}
+use Rattle.star_group.specs.Rows.{blank, PutsRows, SomeLeaves, with_blanks}
+use Rattle.star_group.specs.Stores.{Put, Group, aggregate_at, overflows}
+use Rattle.star_group.specs.Held.{IsOwn, changes, held_at, IsRow, Holds, PutStays, PutLeaves}
+use Rattle.star_group.proofs.OwnKeyLemmas.{all_padded}
+use Rattle.star_group.proofs.PutSteps.{or_right, holds_more, stays_more, leaves_more, blank_none}
+use Rattle.star_group.proofs.GroupKeys.{key_equiv, own_mask, own_belongs, members_at, changes_belongs, own_at}
+use Rattle.star_group.proofs.OwnGroups.{any_false, all_more, groups_own, own_any}
+use Rattle.star_group.proofs.Totals.{some_aggregate}
+
+pub on_ok : {T E : Type 0} (P Q : Type 0) (r : Result T E) → (P → Q) → OnOk r P → OnOk r Q
+on_ok P Q (Ok x) f h = f h
+on_ok P Q (Err e) f h = tt
+
+pub if_ok : {T E : Type 0} (P Q : T → Type 0) (r : Result T E) → ((x : T) → P x → Q x) → IfOk r P → IfOk r Q
+if_ok P Q (Ok x) f h = f x h
+if_ok P Q (Err e) f h = tt
+
+pub if_err : {T E : Type 0} (P Q : E → Type 0) (r : Result T E) → ((e : E) → P e → Q e) → IfErr r P → IfErr r Q
+if_err P Q (Ok x) f h = tt
+if_err P Q (Err e) f h = f e h
+
+-- ---- which aggregates leave 64 bits
+
+leaves_same : (g : Aggregate) (z : ℤ) → leaves_total g (Some z) ≡ leaves g z
+leaves_same Sum z = refl
+leaves_same Count z = refl
+leaves_same Min z = refl
+leaves_same Max z = refl
+
+null_stays : (g : Aggregate) → leaves_total g None ≡ false
+null_stays Sum = refl
+null_stays Count = refl
+null_stays Min = refl
+null_stays Max = refl
+
+no_leaves : (gs : List Aggregate) (p : ℕ) (ps : List Put) → ((a : ℕ) → a < length gs → leaves_total (get_or gs a Count) (aggregate (get_or gs a Count) (numbers_for (p + a) ps)) ≡ false) → some_leaves gs p ps ≡ false
+no_leaves [] p ps each = refl
+no_leaves (g ∷ gs) p ps each =
+    let here : p ≡ p + 0 = omega arith in
+    let next : (a : ℕ) → suc p + a ≡ p + suc a = λ a. omega arith in
+    λ i. (ap (λ n. leaves_total g (aggregate g (numbers_for n ps))) here ∙ each 0 (omega arith)) i
+    || no_leaves gs (suc p) ps (λ a lt. ap (λ n. leaves_total (get_or gs a Count) (aggregate (get_or gs a Count) (numbers_for n ps))) (next a) ∙ each (suc a) (omega arith)) i
+
+one_leaves : (gs : List Aggregate) (p : ℕ) (ps : List Put) (a : ℕ) → a < length gs → leaves_total (get_or gs a Count) (aggregate (get_or gs a Count) (numbers_for (p + a) ps)) ≡ true → some_leaves gs p ps ≡ true
+one_leaves [] p ps a lt h = absurd (omega (arith, lt))
+one_leaves (g ∷ gs) p ps zero lt h =
+    let here : p ≡ p + 0 = omega arith in
+    ap (λ b. b || some_leaves gs (suc p) ps) (ap (λ n. leaves_total g (aggregate g (numbers_for n ps))) here ∙ h)
+one_leaves (g ∷ gs) p ps (suc a) lt h =
+    let next : suc p + a ≡ p + suc a = omega arith in
+    or_right (leaves_total g (aggregate g (numbers_for p ps))) _ (one_leaves gs (suc p) ps a (omega (arith, lt)) (ap (λ n. leaves_total (get_or gs a Count) (aggregate (get_or gs a Count) (numbers_for n ps))) next ∙ h))
+
+-- the aggregates of a group that has the put, in the row with its key
+module _ (d : Group) (us : List Put) (u : Put) (m : List (Option KeyValue)) (few : d.count ≤ 6) (fits : length u.keys ≡ d.count) (own : IsOwn d m u) where
+  one_member : members value_cmp m (u ∷ us) ≡ u ∷ members value_cmp m us
+  one_member = ap (λ b. cond b (u ∷ members value_cmp m us) (members value_cmp m us)) (own_belongs d m u fits own)
+
+  pub held_is : AllByRecursion (λ w. length w.keys ≡ d.count) us → (place : ℕ) → held_at d (u ∷ us) (in_places 6 m) place ≡ aggregate (aggregate_at d place) (numbers_for place (members value_cmp m (u ∷ us)))
+  held_is fit place =
+      ap (λ ps. held (aggregate_at d place) (numbers_for place ps)) (members_at d m (u ∷ us) (own_mask d m u fits own) few (fits, fit) ∙ one_member)
+      ∙ some_aggregate (aggregate_at d place) _ _
+      ∙ ap (λ ps. aggregate (aggregate_at d place) (numbers_for place ps)) (sym one_member)
+
+module _ (d : Group) (us : List Put) (u : Put) (few : d.count ≤ 6) (fits : length u.keys ≡ d.count) (fit : AllByRecursion (λ w. length w.keys ≡ d.count) us) where
+  row_of_group : (m : List (Option KeyValue)) → IsOwn d m u → changes d (in_places 6 m) u ≡ true
+  row_of_group m own = changes_belongs d m u (own_mask d m u fits own) fits few ∙ own_belongs d m u fits own
+
+  none_leaves : PutStays d us u → (m : List (Option KeyValue)) → IsOwn d m u → some_leaves d.aggregates 0 (members value_cmp m (u ∷ us)) ≡ false
+  none_leaves s m own = no_leaves d.aggregates 0 (members value_cmp m (u ∷ us)) each
+    where
+      by : (a : ℕ) → a < length d.aggregates → (r : Option ℤ) → aggregate (aggregate_at d a) (numbers_for a (members value_cmp m (u ∷ us))) ≡ r → leaves_total (aggregate_at d a) r ≡ false
+      by a lt None e = null_stays (aggregate_at d a)
+      by a lt (Some z) e = leaves_same (aggregate_at d a) z ∙ s.stays (in_places 6 m) a z (row_of_group m own) lt (held_is d us u m few fits own fit a ∙ e)
+
+      each : (a : ℕ) → a < length d.aggregates → leaves_total (get_or d.aggregates a Count) (aggregate (get_or d.aggregates a Count) (numbers_for (0 + a) (members value_cmp m (u ∷ us)))) ≡ false
+      each a lt = let zeros : 0 + a ≡ a = omega arith in rw zeros (by a lt (aggregate (aggregate_at d a) (numbers_for a (members value_cmp m (u ∷ us)))) refl)
+
+  pub stays_all : PutStays d us u → overflows d us u ≡ false
+  stays_all s = any_false (λ m. some_leaves d.aggregates 0 (members value_cmp m (u ∷ us))) (own_groups d.shape u.keys)
+      (all_more (λ m. IsOwn d m u) (λ m. some_leaves d.aggregates 0 (members value_cmp m (u ∷ us)) ≡ false) (none_leaves s) (own_groups d.shape u.keys) (groups_own d u fits))
+
+  pub overflows_some : PutLeaves d us u → overflows d us u ≡ true
+  overflows_some l =
+      let at = own_at d l.key u fits few l.own in
+      let is : aggregate (aggregate_at d l.place) (numbers_for l.place (members value_cmp at.keys (u ∷ us))) ≡ Some l.number = sym (held_is d us u at.keys few fits at.own fit l.place) ∙ ap (λ k. held_at d (u ∷ us) k l.place) (sym at.is) ∙ l.is_held in
+      own_any d at.keys u fits at.own (λ m. some_leaves d.aggregates 0 (members value_cmp m (u ∷ us)))
+      (one_leaves d.aggregates 0 (members value_cmp at.keys (u ∷ us)) l.place l.declared
+      (let zeros : 0 + l.place ≡ l.place = omega arith in rw zeros (ap (leaves_total (aggregate_at d l.place)) is ∙ leaves_same (aggregate_at d l.place) l.number ∙ l.leaves)))
+
+module _ (d : Group) (u : Put) (own : List (List (Option KeyValue))) (gs : List Aggregate) (old new : List (Option KeyValue) → Option (List (Option ℤ)))
+    (is_own : own ≡ own_keys d.shape (length u.keys) (padded 6 u.keys)) (is_gs : gs ≡ d.aggregates) (few : d.count ≤ 6) (fits : length u.keys ≡ d.count) where
+  puts_here : PutsRows key_eq own gs u.values old new → PutsRows key_eq (own_keys d.shape (length u.keys) (padded 6 u.keys)) d.aggregates u.values old new
+  puts_here h = subst (λ o. PutsRows key_eq o d.aggregates u.values old new) is_own (subst (λ g. PutsRows key_eq own g u.values old new) is_gs h)
+
+  pub put_holds : PutsRows key_eq own gs u.values old new → (us : List Put) → Holds d old us → Holds d new (u ∷ us)
+  put_holds h us holds = holds_more d us u old new holds fits (puts_here h).changes
+
+  pub put_stays : PutsRows key_eq own gs u.values old new → (us : List Put) → Holds d old us → overflows d us u ≡ false
+  put_stays h us holds = stays_all d us u few fits holds.fit (stays_more d us u old new holds (puts_here h).stay)
+
+  pub put_leaves : SomeLeaves key_eq (with_blanks key_eq own old) own gs u.values → (us : List Put) → Holds d old us → overflows d us u ≡ true
+  put_leaves h us holds = overflows_some d us u few fits holds.fit (leaves_more d us u old new holds
+      (subst (λ o. SomeLeaves key_eq (with_blanks key_eq o old) o d.aggregates u.values) is_own (subst (λ g. SomeLeaves key_eq (with_blanks key_eq own old) own g u.values) is_gs h)))
+
+-- the rows of no puts: the row of all of them
+pub holds_new : (d : Group) (look : List (Option KeyValue) → Option (List (Option ℤ))) → ((q : List (Option KeyValue)) → look q ≡ cond (key_eq (None ∷ None ∷ None ∷ None ∷ None ∷ None ∷ []) q) (Some blank) None) → Holds d look []
+unfolding held
+holds_new d look h = record { fit = tt; rows = λ q. by q (key_eq (padded 6 []) q) refl }
+  where
+    by : (q : List (Option KeyValue)) (b : Bool) → key_eq (padded 6 []) q ≡ b → IsRow d [] q (look q)
+    by q true e = subst (IsRow d [] q) (sym (h q ∙ ap (λ b. cond b (Some blank) None) (ap (λ k. key_eq k q) (sym all_padded) ∙ e)))
+        (record { due = ap (λ b. b || false) (key_equiv.symm q (padded 6 []) ∙ e); cells = λ a lt. blank_none a })
+    by q false e = subst (IsRow d [] q) (sym (h q ∙ ap (λ b. cond b (Some blank) None) (ap (λ k. key_eq k q) (sym all_padded) ∙ e)))
+        (ap (λ b. b || false) (key_equiv.symm q (padded 6 []) ∙ e))

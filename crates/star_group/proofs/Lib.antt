@@ -1,0 +1,15 @@
+pub mod Lists
+pub mod Lookups
+pub mod Changes
+pub mod OwnKeyLemmas
+pub mod PutSteps
+pub mod Distinct
+pub mod Places
+pub mod GroupKeys
+pub mod Contents
+pub mod Totals
+pub mod Rooms
+pub mod GivenRows
+pub mod GivenGroups
+pub mod OwnGroups
+pub mod SmallNumbers

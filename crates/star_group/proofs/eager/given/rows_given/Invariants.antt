@@ -1,0 +1,6 @@
+use Rattle.std.proofs.Common.{◌≡◌, take}
+use Rattle.star_group.specs.Given.{rows_given}
+use Rattle.star_group.proofs.eager.given.rows_given.Given as goal
+
+abbrev pub invariant-loop-place : goal.invariant-loop-place
+invariant-loop-place l = l.given.items ≡ rows_given l.shape l.count l.aggregates (take l.place l.rows.entries)

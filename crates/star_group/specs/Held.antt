@@ -1,0 +1,56 @@
+-- The content of an eager store: each row has the aggregates of the puts that change it.
+use Rattle.std.specs.Prelude.{◌≡◌, ◌⊎◌, replicate, ℕ, ◌<◌, Bool, true, false, ◌||◌, ℤ, List, [], ◌∷◌, Option, Some, None, filter, length, slice_index_or}
+use Rattle.std.specs.List.{list_any, AllByRecursion}
+use Rattle.star_schema.specs.Groups.{IsMasked, numbers_for}
+use Rattle.star_program.specs.declared.key.KeyValue.{KeyValue}
+use Rattle.star_group.specs.Cells.{held, leaves}
+use Rattle.star_group.specs.OwnKeys.{key_eq, padded, own_keys}
+use Rattle.star_group.specs.Stores.{Put, Group, aggregate_at}
+
+-- the keys of a group of the put, or ALL in each place, which is the group of all puts
+abbrev pub IsOwn : Group → List (Option KeyValue) → Put → Type 0
+IsOwn d keys put = IsMasked d.shape keys put.keys ⊎ (keys ≡ replicate d.count None)
+
+-- the put changes the row with this key
+abbrev pub changes : Group → List (Option KeyValue) → Put → Bool
+changes d q put = list_any (key_eq q) (own_keys d.shape (length put.keys) (padded 6 put.keys))
+
+-- the puts that change it
+abbrev pub puts_at : Group → List (Option KeyValue) → List Put → List Put
+puts_at d q puts = filter (changes d q) puts
+
+abbrev pub has_puts : List Put → Bool
+has_puts [] = false
+has_puts (put ∷ puts) = true
+
+-- an aggregate of the row with this key, None over no puts
+abbrev pub held_at : Group → List Put → List (Option KeyValue) → ℕ → Option ℤ
+held_at d puts q place = held (aggregate_at d place) (numbers_for place (puts_at d q puts))
+
+-- a row is found exactly where some put changes it, or where it is the row of all puts; and it holds their aggregates
+pub record IsFound (d : Group) (puts : List Put) (q : List (Option KeyValue)) (row : List (Option ℤ)) : Type 0 where
+  pub due : (key_eq q (padded 6 []) || has_puts (puts_at d q puts)) ≡ true
+  pub cells : (place : ℕ) → place < length d.aggregates → slice_index_or row place None ≡ held_at d puts q place
+
+abbrev pub IsRow : Group → List Put → List (Option KeyValue) → Option (List (Option ℤ)) → Type 0
+IsRow d puts q None = (key_eq q (padded 6 []) || has_puts (puts_at d q puts)) ≡ false
+IsRow d puts q (Some row) = IsFound d puts q row
+
+-- the rows that are looked up are those of these puts
+pub record Holds (d : Group) (look : List (Option KeyValue) → Option (List (Option ℤ))) (puts : List Put) : Type 0 where
+  pub fit : AllByRecursion (λ put. length put.keys ≡ d.count) puts
+  pub rows : (q : List (Option KeyValue)) → IsRow d puts q (look q)
+
+-- with this put after those, no SUM or COUNT of a row that it changes leaves 64 bits
+pub record PutStays (d : Group) (puts : List Put) (put : Put) : Type 0 where
+  pub stays : (q : List (Option KeyValue)) (place : ℕ) (z : ℤ) → changes d q put ≡ true → place < length d.aggregates → held_at d (put ∷ puts) q place ≡ Some z → leaves (aggregate_at d place) z ≡ false
+
+-- and here one does
+pub record PutLeaves (d : Group) (puts : List Put) (put : Put) : Type 0 where
+  pub key : List (Option KeyValue)
+  pub place : ℕ
+  pub number : ℤ
+  pub own : changes d key put ≡ true
+  pub declared : place < length d.aggregates
+  pub is_held : held_at d (put ∷ puts) key place ≡ Some number
+  pub leaves : leaves (aggregate_at d place) number ≡ true

@@ -1,0 +1,9 @@
+-- What the contracts of star_group cite.
+pub mod Stores
+pub mod Cells
+pub mod OwnKeys
+pub mod Rows
+pub mod Held
+pub mod Eager
+pub mod Shown
+pub mod Given

@@ -1,0 +1,20 @@
+//! The rows of a group: what the trait of stores promises, and a store that keeps every row up to date.
+//!
+//! A store is told by lists of puts: it has the content of some puts, the newest first, and then its rows are the groups of these puts with their aggregates, and its totals are the aggregates over all of them.
+#![tactic(auto)]
+
+mod cell;
+mod eager;
+mod group_row;
+pub mod law;
+mod own;
+mod rows;
+mod store;
+#[cfg(test)]
+mod tests;
+
+pub use eager::EagerStore;
+pub use group_row::{GroupRow, RowAggregates, RowKeys};
+pub use rows::PutFault;
+pub use star_program::KeyValue;
+pub use store::GroupStore;
