@@ -1,5 +1,5 @@
 -- One more write of a text.
-use Rattle.std.proofs.Common.{◌≡◌, ◌+◌, ◌<◌, ◌≤◌, Bool, false, ℕ, List, [], ◌∷◌, ◌++◌, zero, suc, zero-add, length, ◌-◌, arith, Option, Some, None, take, drop, sym, ap, ◌∙◌, refl, append_assoc}
+use Rattle.std.proofs.Common.{◌≡◌, ◌+◌, ◌<◌, ◌≤◌, Bool, false, ℕ, List, [], ◌∷◌, ◌++◌, zero, suc, zero-add, length, ◌-◌, arith, Option, Some, None, take, drop, ap, ◌∙◌, refl, append_assoc}
 use Rattle.std.specs.Io.KnownBytes.{Appends}
 use Rattle.std.proofs.lemmas.List.{length-drop, take_all}
 

@@ -1,4 +1,2 @@
-pub mod Kept
-pub mod Load
 pub mod Listing
 pub mod Faults

@@ -2,15 +2,15 @@
 
 ghost use Rattle.std.specs.Prelude.{◌≡◌, ◌<◌, ℕ, true, false, Err, IfOk, OnOk, length, take};
 ghost use Rattle.std.specs.Io.KnownBytes.{Appends};
-ghost use Rattle.star_schema.specs.Database.{AreTables};
+ghost use Rattle.star_schema.specs.Loadable.{IsLoadable};
+ghost use Rattle.star_catalogue.specs.Load.{load_fault, text_of};
+ghost use Rattle.star_catalogue.specs.declared.fault.LoadFault.{LoadFault};
 ghost use Rattle.star_engine.specs.Listing.{check_text};
-ghost use Rattle.star_engine.specs.Load.{load_fault, text_of};
-ghost use Rattle.star_engine.specs.declared.catalogue.LoadFault.{LoadFault};
 
-use crate::catalogue::{Catalogue, Texts};
 use crate::deliver::write_whole;
 use crate::fault::EngineFault;
 use crate::listing::list_tables;
+use star_catalogue::{Catalogue, Texts};
 use star_schema::{Limits, Sink};
 use std::alloc::Global;
 
@@ -22,16 +22,16 @@ pub fn check<S: Sink>(
     limits: Limits,
     out: &mut S,
 ) -> Result<(), EngineFault>
-    ensures tables { OnOk result (AreTables limits.rows (text_of texts.now)) }
+    ensures loadable { OnOk result (IsLoadable limits.rows (text_of texts.now)) }
     ensures printed { OnOk result (Appends (S.contents out.old) (S.contents out.new) (check_text (text_of texts.now))) }
     ensures not_failed { OnOk result (S.is_failed out.new ≡ false) }
 
     // Each fault comes where it is due, and has given `out` nothing but what it says.
     ensures memory { result ≡ Err EngineFault.OutOfMemory → out.new ≡ out.old }
     ensures load { (fault : LoadFault) → result ≡ Err (EngineFault.Load fault)
-        → (load_fault limits.rows (text_of texts.now) ≡ Some fault) × (AreTables limits.rows (text_of texts.now) → ⊥) × (out.new ≡ out.old) }
+        → (load_fault limits.rows (text_of texts.now) ≡ Some fault) × ¬ IsLoadable limits.rows (text_of texts.now) × (out.new ≡ out.old) }
     ensures write { (sent : ℕ) → result ≡ Err (EngineFault.Write sent)
-        → AreTables limits.rows (text_of texts.now) × (sent < length (check_text (text_of texts.now)))
+        → IsLoadable limits.rows (text_of texts.now) × (sent < length (check_text (text_of texts.now)))
         × Appends (S.contents out.old) (S.contents out.new) (take sent (check_text (text_of texts.now))) × (S.is_failed out.new ≡ true) }
 {
     let catalogue = Catalogue::load(alloc, texts, limits)?;

@@ -3,7 +3,7 @@
 ghost use Rattle.std.specs.Prelude.{◌≡◌};
 ghost use Rattle.star_engine.specs.declared.fault.EngineFault.TheVariants.{OutOfMemory};
 
-use crate::catalogue::LoadFault;
+use star_catalogue::LoadFault;
 use std::alloc::AllocError;
 use thiserror::Error;
 
@@ -37,7 +37,7 @@ impl From<LoadFault> for EngineFault {
     fn from(fault: LoadFault) -> EngineFault {
         match fault {
             LoadFault::OutOfMemory => EngineFault::OutOfMemory,
-            LoadFault::Read { .. } => EngineFault::Load(fault),
+            fault => EngineFault::Load(fault),
         }
     }
 }

@@ -2,8 +2,6 @@
 #![tactic(auto)]
 
 mod answers;
-mod bounds;
-pub mod catalogue;
 mod deliver;
 mod fault;
 mod listing;

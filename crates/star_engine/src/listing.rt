@@ -6,7 +6,7 @@ ghost use Rattle.star_schema.specs.Database.{rows_in};
 ghost use Rattle.star_schema.specs.Schema.{columns_of, kind_of, table_of};
 ghost use Rattle.star_engine.specs.Listing.{column_text, listing_of, table_text};
 
-use crate::catalogue::Catalogue;
+use star_catalogue::Catalogue;
 use star_schema::{ColumnId, Kind, TABLES, TableId, column_at, kind_of, width};
 use std::alloc::{AllocError, Global};
 use std::fmt::Write;

@@ -1,8 +1,8 @@
 // The worked listing, the fault lines of changed samples, and output that fails.
 
-use crate::catalogue::{Catalogue, Texts};
 use crate::{EngineFault, check, sample};
-use star_schema::{ColumnId, Limits, Out, TableId};
+use star_catalogue::Texts;
+use star_schema::{Limits, Out};
 use std::alloc::{AllocError, Global};
 use std::io;
 use std::io::Write;
@@ -156,6 +156,16 @@ fn tells_faults_of_lineorder(rt: HostRuntime) -> Result<(), Fail> {
             "\u{feff}1|1|1|1|2|",
             "load 2 ByteOrderMark table lineorder",
         ),
+        (
+            "|19940105|MAIL|",
+            "|19990101|MAIL|",
+            "load 9 AbsentKey table lineorder record 1 column lo_commitdate",
+        ),
+        (
+            "3|2|1|2|1|19971215|",
+            "3|1|1|2|1|19971215|",
+            "load 8 DuplicateKey table lineorder record 5",
+        ),
     ];
     for (old, new, expected) in cases {
         let lineorder = replaced(rt.alloc(), lines, old, new)?;
@@ -237,20 +247,5 @@ fn tells_what_was_sent(rt: HostRuntime) -> Result<(), Fail> {
             assert_eq!(rt; short.taken.as_slice(), &LISTING.as_bytes()[..left]);
         }
     }
-    Ok(())
-}
-
-#[test]
-#[tactic(auto, unfolding(star_schema::specs::Schema::column_of))]
-fn looks_up_the_sample(rt: HostRuntime) -> Result<(), Fail> {
-    let catalogue = match Catalogue::load(rt.alloc(), &sample(), Limits::widest()) {
-        Ok(catalogue) => catalogue,
-        Err(fault) => return Err(Fail::from(format_args!("{fault:?}"))),
-    };
-    assert_eq!(rt; catalogue.rows(TableId::Lineorder), 5);
-    assert_eq!(rt; catalogue.sizes().of(TableId::Supplier), 2);
-    assert_eq!(rt; catalogue.number(ColumnId::LoRevenue, 3), 3000);
-    let bounds = catalogue.bounds(ColumnId::LoExtendedprice);
-    assert_eq!(rt; (bounds.low, bounds.high), (500, 3000));
     Ok(())
 }

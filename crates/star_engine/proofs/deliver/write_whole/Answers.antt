@@ -1,7 +1,7 @@
-use Rattle.std.proofs.Common.{◌≡◌, ◌<◌, ◌∙◌, ◌-◌, Bool, true, false, arith, drop, inl, inr, length, take}
+use Rattle.std.proofs.Common.{◌≡◌, ◌<◌, ◌∙◌, ◌-◌, false, arith, drop, inl, inr, length, take}
 use Rattle.std.proofs.lemmas.Bool.{cases_Bool}
 use Rattle.std.proofs.lemmas.List.{length-drop}
-use Rattle.star_engine.proofs.Sends.{HasSent, rest_of, sends_more}
+use Rattle.star_engine.proofs.Sends.{rest_of, sends_more}
 use Rattle.star_engine.proofs.deliver.write_whole.Goals as goal
 
 pub loop-sent-preserved : goal.loop-sent-preserved

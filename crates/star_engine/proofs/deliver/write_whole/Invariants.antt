@@ -1,4 +1,4 @@
-use Rattle.std.proofs.Common.{◌≤◌, ◌-◌, length}
+use Rattle.std.proofs.Common.{◌-◌, length}
 use Rattle.star_engine.proofs.Sends.{HasSent}
 use Rattle.star_engine.proofs.deliver.write_whole.Given as goal
 

@@ -1,4 +1,4 @@
-use Rattle.std.proofs.Common.{◌≡◌, ◌≤◌, ◌++◌, List, ℕ, arith, length, string_bytes}
+use Rattle.std.proofs.Common.{◌≤◌, List, ℕ, arith, length, string_bytes}
 use Rattle.star_schema.specs.declared.column.ColumnId.{ColumnId}
 use Rattle.star_schema.specs.Database.{rows_in}
 use Rattle.star_schema.specs.Schema.{columns_of, kind_of}
