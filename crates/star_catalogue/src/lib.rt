@@ -6,10 +6,14 @@ mod columns;
 mod fault;
 mod keys;
 mod references;
+mod sample_texts;
 mod table;
 mod tables;
+#[cfg(test)]
+mod tests;
 mod texts;
 
 pub use catalogue::Catalogue;
 pub use fault::LoadFault;
+pub use sample_texts::sample;
 pub use texts::Texts;

@@ -1,7 +1,7 @@
 // The five table files of a folder.
 
 use crate::failure::Failure;
-use star_catalogue::Texts;
+use star_engine::Texts;
 use std::alloc::AllocError;
 use std::rt::Files;
 use std::{fs, io};

@@ -1,3 +1,1 @@
-pub mod Sends
-pub mod Parts
 pub mod ListingLemmas

@@ -7,10 +7,10 @@ ghost use Rattle.star_catalogue.specs.Load.{load_fault, text_of};
 ghost use Rattle.star_catalogue.specs.declared.fault.LoadFault.{LoadFault};
 ghost use Rattle.star_engine.specs.Listing.{check_text};
 
-use crate::deliver::write_whole;
 use crate::fault::EngineFault;
 use crate::listing::list_tables;
 use star_catalogue::{Catalogue, Texts};
+use star_report::write_whole;
 use star_schema::{Limits, Sink};
 use std::alloc::Global;
 

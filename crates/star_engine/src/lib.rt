@@ -2,13 +2,11 @@
 #![tactic(auto)]
 
 mod answers;
-mod deliver;
 mod fault;
 mod listing;
-mod sample_texts;
 #[cfg(test)]
 mod tests;
 
 pub use answers::check;
 pub use fault::EngineFault;
-pub use sample_texts::sample;
+pub use star_catalogue::{LoadFault, Texts, sample};

@@ -1,7 +1,6 @@
 // The worked listing, the fault lines of changed samples, and output that fails.
 
-use crate::{EngineFault, check, sample};
-use star_catalogue::Texts;
+use crate::{EngineFault, Texts, check, sample};
 use star_schema::{Limits, Out};
 use std::alloc::{AllocError, Global};
 use std::io;

@@ -11,3 +11,4 @@ mod Runs
 mod Always
 mod OwnGroups
 mod Refused
+mod Told

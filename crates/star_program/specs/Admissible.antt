@@ -13,10 +13,12 @@ pub record IsAdmissible (w : World) (parts : Parts) : Type 0 where
   pub instructions : first_reason w parts at_first 1 parts.body ≡ None
   pub report : shown_fault parts ≡ None
 
--- a refusal: more visits quoted than are allowed; an instruction and why; a line of the report, 0 for its group or where it shows nothing
 pub data Refusal : Type 0 where
+  -- more visits are quoted than are allowed
   TooCostly : ℕ → Refusal
+  -- an instruction, by its number
   Refused : ℕ × Reason → Refusal
+  -- a line of the report: 0 for its group or where it shows nothing, else its number among the show and then the sort lines
   BadShow : ℕ → Refusal
 
 abbrev pub cost_refusal : ℕ → Bool → Option Refusal

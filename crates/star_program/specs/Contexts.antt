@@ -15,13 +15,18 @@ use Rattle.star_program.specs.Puts.{aligned}
 use Rattle.star_program.specs.Ranges.{Known, KnownPlace, KnownRow, KnownFlag, Table, range_at, reach_at, given, loaded_known, computed}
 use Rattle.star_program.specs.Tallies.{Tally, no_tally, once, Tallies, no_tallies, plus_all, times_all, read_range}
 
--- whether a scan stands round it; how often it is met at most, the product of the row counts of the scans round it; what is known of the registers in scope; the targets of earlier instructions; what earlier puts can add up to; and the groups that a later instruction puts to, or one in a scan round it
 pub record Context : Type 0 where
+  -- whether a scan stands round it
   pub inside : Bool
+  -- how often it is met at most: the product of the row counts of the scans round it
   pub met : ℕ
+  -- what is known of the registers in scope
   pub known : Table
+  -- the targets of earlier instructions, in scope or not
   pub written : ℕ → Bool
+  -- what earlier puts can add up to
   pub so_far : Tallies
+  -- the groups that a later instruction puts to, or one in a scan round it
   pub open_groups : ℕ → Bool
 
 -- at the first instruction

@@ -20,3 +20,4 @@ pub mod Admissible
 pub mod Moments
 pub mod Laws
 pub mod Overflow
+pub mod Standing

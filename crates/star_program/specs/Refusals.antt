@@ -18,11 +18,15 @@ use Rattle.star_program.specs.Ranges.{Reach, Known, KnownNumber, origin_at, kind
 use Rattle.star_program.specs.Tallies.{Tally, sum_range, sum_fits, times_all}
 use Rattle.star_program.specs.Contexts.{Context, after_op, puts_to, in_scan, after_scan, gain}
 
--- why an instruction is refused: by the kinds of its operands; a find by a number that isn't a foreign key to its table; a read of an open group; a range that leaves 64 bits, with the columns that it is computed from and their bounds
+-- why an instruction is refused
 pub data Reason : Type 0 where
+  -- by the kinds of its operands
   Faulty : Fault → Reason
+  -- a find by a number that isn't a foreign key to its table
   NotAForeignKey : Reason
+  -- a read of a group that is still put to
   OpenGroup : Reason
+  -- a range that leaves 64 bits, with the columns that it is computed from and their bounds
   Overflow : Range → List (ColumnId × Range) → Reason
 
 abbrev pub refuses : Bool → Reason → Option Reason

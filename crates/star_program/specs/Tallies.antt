@@ -6,12 +6,17 @@ use Rattle.star_schema.specs.declared.group.Aggregate.TheVariants.{Sum, Count, M
 use Rattle.star_interval.specs.Range.{Range, hull}
 use Rattle.star_program.specs.Ranges.{Reach, no_reach, joined_reach}
 
--- of the numbers that updates give an aggregate: how far below 0 the negative ones add up, how far above it the positive ones, how many there are, the range of one, and the columns that they are computed from
+-- of the numbers that updates give an aggregate
 pub record Tally : Type 0 where
+  -- how far below 0 the negative ones add up
   pub below : ℕ
+  -- how far above 0 the positive ones add up
   pub above : ℕ
+  -- how many there are
   pub many : ℕ
+  -- the range that each lies in, where there is one
   pub each : Option Range
+  -- the columns that they are computed from
   pub reach : Reach
 
 abbrev pub no_tally : Tally

@@ -1,6 +1,6 @@
 //! Laws of programs: functions with no body, whose clauses are the laws.
 
-ghost use Rattle.std.specs.Prelude.{◌≡◌, ◌↔◌, ℕ, ◌≤◌, IsTrue, List, None};
+ghost use Rattle.std.specs.Prelude.{◌≡◌, ◌↔◌, ℕ, ◌≤◌, IsTrue, List, [], None};
 ghost use Rattle.star_program.specs.declared.group.GroupDecl.{GroupDecl};
 ghost use Rattle.star_program.specs.declared.program.Parts.{Parts};
 ghost use Rattle.star_program.specs.World.{World};
@@ -10,6 +10,10 @@ ghost use Rattle.star_program.specs.Moments.{AtEveryMoment};
 ghost use Rattle.star_program.specs.Puts.{Update, overflows};
 ghost use Rattle.star_program.specs.Overflow.{LeavesSomewhere};
 ghost use Rattle.star_program.specs.Admissible.{IsAdmissible, first_refusal};
+ghost use Rattle.star_schema.specs.First.{first_answer};
+ghost use Rattle.star_program.specs.Contexts.{at_first};
+ghost use Rattle.star_program.specs.Refusals.{first_reason};
+ghost use Rattle.star_program.specs.Standing.{instructions_of, reason_of, AreTold};
 ghost use Rattle.star_program.specs.Laws.{IsAccepted, EndsWith, EndsWithin, TotalsLie};
 
 /// An admissible program runs to its end with no trap, over any loaded catalogue.
@@ -36,4 +40,14 @@ pub fn updates_overflow_in_their_groups()
 pub fn admissible_programs_within_the_limit_are_not_refused()
     ensures { (w : World) (most : ℕ) (parts : Parts)
         → (first_refusal w most parts ≡ None) ↔ (IsAdmissible w parts × (quote w.size parts ≤ most)) }
+{}
+
+/// The context of each instruction is told by the instructions before it, and the first that is refused in its context decides.
+///
+/// Instructions are numbered in the order of the text. What is known of a register is what an earlier instruction that writes it makes; what a group can add up to is the sum, over the puts before, of as often as each is met times what it adds; how often that is is the product of the row counts of the scans round it.
+pub fn instructions_are_judged_in_their_contexts()
+    ensures told { (w : World) (parts : Parts) → AreTold w parts [] (instructions_of w parts) }
+    ensures first { (w : World) (parts : Parts)
+        → first_reason w parts at_first 1 parts.body
+        ≡ first_answer (reason_of w parts) (instructions_of w parts) }
 {}

@@ -9,6 +9,7 @@ mod items;
 mod key;
 pub mod law;
 mod op;
+mod outcome;
 mod program;
 #[cfg(test)]
 mod tests;
@@ -18,6 +19,7 @@ pub use group::{Aggregates, GroupDecl, GroupKey, GroupKeys};
 pub use items::Items;
 pub use key::KeyValue;
 pub use op::{Op, RegisterList, Text};
+pub use outcome::{Cell, Outcome};
 pub use program::{
     Groups, MOST_AGGREGATES, MOST_GROUPS, MOST_INSTRUCTIONS, MOST_KEYS, MOST_REGISTERS, MOST_SCANS,
     MOST_SHOWS, MOST_SORTS, Name, Parts, Program, Show, Shows, Sorts,

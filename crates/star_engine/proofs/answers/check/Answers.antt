@@ -1,4 +1,4 @@
-use Rattle.std.proofs.Common.{◌≡◌, ◌<◌, ◌∙◌, length}
+use Rattle.std.proofs.Common.{◌≡◌, ◌<◌, ◌∙◌, length, refl}
 use Rattle.star_schema.specs.Database.{rows_in}
 use Rattle.star_engine.specs.Listing.{check_text}
 use Rattle.star_catalogue.specs.Load.{text_of}
@@ -9,7 +9,7 @@ pub returns-in-Ok-clause-not_failed : goal.returns-in-Ok-clause-not_failed
 returns-in-Ok-clause-not_failed g c =
     let made = c.as_bytes.ensures.value ∙ c.in_ok-text.ensures in
     let some : 0 < length c.as_bytes.result.now = rw made (listing_some (rows_in c.in_ok-catalogue.catalogue)) in
-    c.in-Ok.ensures.goes_on some
+    (c.in-Ok.ensures.ok some).0 refl
 
 pub returns-in-Ok-clause-printed : goal.returns-in-Ok-clause-printed
 returns-in-Ok-clause-printed g c =

@@ -5,7 +5,7 @@ use Rattle.star_schema.specs.declared.table.TableId.TheVariants.{Date}
 use Rattle.star_schema.specs.declared.table.TheConstants.{TABLES}
 use Rattle.star_schema.specs.Database.{rows_in}
 use Rattle.star_engine.specs.Listing.{listing_of, table_text}
-use Rattle.star_engine.proofs.Parts.{all_parts, one_more}
+use Rattle.star_report.proofs.Parts.{all_parts, one_more}
 use Rattle.star_engine.proofs.listing.list_tables.Goals as goal
 
 pub loop-table-preserved : goal.loop-table-preserved

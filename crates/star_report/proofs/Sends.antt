@@ -19,7 +19,7 @@ sends_more (Some xs) (Some ys) None i n text h k = k
 sends_more (Some xs) (Some ys) (Some zs) i n text h k = k ∙ rw h (append_assoc xs (take i text) (take n (drop i text)) ∙ ap (λ (t : List ℕ). xs ++ t) (take-add i n text))
 
 -- what `text[sent..]` is
-pub rest_of : (text : List ℕ) (sent : ℕ) → take (length text - sent) (drop sent text) ≡ drop sent text
+pub rest_of : {X : Type 0} (text : List X) (sent : ℕ) → take (length text - sent) (drop sent text) ≡ drop sent text
 rest_of text sent = take_all (length text - sent) (drop sent text) (omega (arith, length-drop sent text))
 
 -- so many bytes of a text were written, and where there is one the sink has not failed

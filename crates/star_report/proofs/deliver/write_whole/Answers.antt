@@ -1,12 +1,12 @@
-use Rattle.std.proofs.Common.{◌≡◌, ◌<◌, ◌∙◌, ◌-◌, false, arith, drop, inl, inr, length, take}
+use Rattle.std.proofs.Common.{◌≡◌, ◌<◌, ◌∙◌, ◌-◌, false, ap, arith, drop, inl, inr, length, refl, take}
 use Rattle.std.proofs.lemmas.Bool.{cases_Bool}
 use Rattle.std.proofs.lemmas.List.{length-drop}
-use Rattle.star_engine.proofs.Sends.{rest_of, sends_more}
-use Rattle.star_engine.proofs.deliver.write_whole.Goals as goal
+use Rattle.star_report.proofs.Sends.{rest_of, sends_more}
+use Rattle.star_report.proofs.deliver.write_whole.Goals as goal
 
 pub loop-sent-preserved : goal.loop-sent-preserved
 loop-sent-preserved g c =
-    let h = c.loop-sent.invariant in
+    let h = c.loop-sent.invariant.sent in
     let whole = rest_of c.args.text.now c.loop-sent.sent in
     let takes = rw whole at c.in-Ok.ensures.takes in
     let within = rw whole at c.in-Ok.ensures.within in
@@ -18,7 +18,13 @@ loop-sent-preserved g c =
       | inr fine ↦ fine
     ] in
     record {
-      within = omega (arith, within, length-drop c.loop-sent.sent c.args.text.now, c.loop-sent-test.true);
-      holds = sends_more _ _ _ c.loop-sent.sent c.in-Ok.count c.args.text.now h.holds takes;
-      goes_on = λ sent. c.in-Ok.ensures.goes_on (inl some) ∙ was;
+      sent = record {
+        within = omega (arith, within, length-drop c.loop-sent.sent c.args.text.now, c.loop-sent-test.true);
+        holds = sends_more _ _ _ c.loop-sent.sent c.in-Ok.count c.args.text.now h.holds takes;
+        goes_on = λ sent. c.in-Ok.ensures.goes_on (inl some) ∙ was;
+      };
+      untouched = λ none. absurd (omega arith);
     }
+
+pub returns-clause-empty : goal.returns-clause-empty
+returns-clause-empty g c = λ none. let e = ap length none in (refl, c.loop-sent.invariant.untouched (omega (arith, c.loop-sent.invariant.sent.within)))

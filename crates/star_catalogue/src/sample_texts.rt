@@ -1,6 +1,6 @@
 // The built-in sample tables.
 
-use star_catalogue::Texts;
+use crate::texts::Texts;
 
 const DATE: &str = concat!(
     "19930210|February 10, 1993|Wednesday|February|1993|199302|Feb1993|4|10|41|2|6|Winter|0|0|0|1|\n",

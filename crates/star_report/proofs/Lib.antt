@@ -1,0 +1,9 @@
+pub mod Parts
+pub mod Sends
+pub mod Joins
+pub mod Bytes
+pub mod Numbers
+pub mod Quotes
+pub mod Cells
+pub mod Lines
+pub mod Worked

@@ -1,0 +1,31 @@
+-- What the cells of a printed column are.
+use Rattle.std.specs.Prelude.{◌||◌, Bool, not, IsTrue, FitsSigned, ℕ, List, All as Each}
+use Rattle.std.specs.Int.{w64}
+use Rattle.std.specs.List.{AllZip, list_all}
+use Rattle.star_schema.specs.Records.{ends_line, is_bar}
+use Rattle.star_program.specs.declared.outcome.Cell.{Cell}
+use Rattle.star_program.specs.declared.outcome.Cell.TheVariants.{Number, Text, All, Null}
+
+-- a column of a report: a key of numbers, a key of texts, or an aggregate
+pub data ColumnKind : Type 0 where
+  NumberKey : ColumnKind
+  TextKey : ColumnKind
+  Total : ColumnKind
+
+-- no bar, carriage return or line feed
+abbrev pub is_field : List ℕ → Bool
+is_field text = list_all (λ b. not (is_bar b || ends_line b)) text
+
+-- keys are numbers, or texts, or ALL; aggregates are numbers or NULL
+abbrev pub IsCellOf : ColumnKind → Cell → Type 0
+IsCellOf NumberKey (Number n) = FitsSigned w64 n
+IsCellOf NumberKey All = Unit {0}
+IsCellOf TextKey (Text text) = IsTrue (is_field text)
+IsCellOf TextKey All = Unit {0}
+IsCellOf Total (Number n) = FitsSigned w64 n
+IsCellOf Total Null = Unit {0}
+IsCellOf _ _ = ⊥
+
+-- rows with a cell for each column, of the column's kind
+abbrev pub AreRowsOf : List ColumnKind → List (List Cell) → Type 0
+AreRowsOf kinds rows = Each (AllZip IsCellOf kinds) rows

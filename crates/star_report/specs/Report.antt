@@ -1,0 +1,38 @@
+-- The printed rows: a line of names and a line for each row, fields parted by bars.
+use Rattle.std.specs.Prelude.{◌==◌, ◌||◌, ◌++◌, ◌∷◌, [], if◌then◌else◌, Bool, ℕ, List, codes, map, nat_eq}
+use Rattle.std.specs.Cmp.Lexicographic.{pointwise}
+use Rattle.std.specs.Fmt.{signed_decimal}
+use Rattle.std.specs.List.{flat_map, join_with_byte, starts_with}
+use Rattle.star_program.specs.declared.outcome.Cell.{Cell}
+use Rattle.star_program.specs.declared.outcome.Cell.TheVariants.{Number, Text, All, Null}
+
+-- a text that could be read as ALL, or as a text in quotes
+abbrev pub is_ambiguous : List ℕ → Bool
+is_ambiguous text = pointwise nat_eq text (codes "ALL") || starts_with nat_eq text (codes "'")
+
+-- a byte of a text in quotes: a quote stands twice
+abbrev pub quoted_byte : ℕ → List ℕ
+quoted_byte b = if b == 39 then codes "''" else b ∷ []
+
+unfoldable pub quoted : List ℕ → List ℕ
+quoted text = codes "'" ++ flat_map quoted_byte text ++ codes "'"
+
+-- a text in quotes where it could be read as something else, and else as it is
+abbrev pub field_of_text : List ℕ → List ℕ
+field_of_text text = if is_ambiguous text then quoted text else text
+
+unfoldable pub cell_text : Cell → List ℕ
+cell_text (Number n) = signed_decimal n
+cell_text (Text text) = field_of_text text
+cell_text All = codes "ALL"
+cell_text Null = codes "NULL"
+
+-- fields with a bar between each two, and the end of the line
+unfoldable pub line_text : List (List ℕ) → List ℕ
+line_text fields = join_with_byte 124 fields ++ codes "\n"
+
+abbrev pub row_text : List Cell → List ℕ
+row_text row = line_text (map cell_text row)
+
+unfoldable pub report_text : List (List ℕ) → List (List Cell) → List ℕ
+report_text names rows = line_text names ++ flat_map row_text rows

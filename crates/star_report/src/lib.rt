@@ -1,0 +1,12 @@
+//! The printed rows of a run, and the writing of a whole text.
+#![tactic(auto)]
+
+mod deliver;
+mod law;
+mod report;
+#[cfg(test)]
+mod tests;
+
+pub use deliver::{WriteFault, write_whole};
+pub use law::one_text_has_one_meaning;
+pub use report::report_text;

@@ -1,0 +1,134 @@
+// The text of an outcome: a line of names and a line for each row.
+
+ghost use Rattle.std.specs.Prelude.{◌≡◌, ◌++◌, ◌∷◌, ℕ, List, IfOk, OnOk, map};
+ghost use Rattle.std.specs.List.{flat_map, join_with_byte};
+ghost use Rattle.star_report.specs.Report.{cell_text, field_of_text, is_ambiguous, line_text, quoted, quoted_byte, report_text};
+ghost use Rattle.std.specs.Fmt.{signed_decimal};
+
+use itoa::Buffer;
+use star_program::{Cell, Items, Outcome};
+use std::alloc::{AllocError, Global};
+
+/// What stands in a field of a line.
+trait Field {
+    // What is printed of it.
+    ghost printed: { Self → List ℕ };
+
+    /// Adds what is printed of it to a text.
+    fn push_to(&self, text: &mut Vec<u8>) -> Result<(), AllocError>
+        ensures { OnOk result (text.new.items ≡ text.old.items ++ printed self.now) };
+}
+
+// A name stands as it is.
+impl Field for Items<u8> {
+    ghost printed = { λ name. name };
+
+    fn push_to(&self, text: &mut Vec<u8>) -> Result<(), AllocError> {
+        text.extend_from_slice(self.as_slice())
+    }
+}
+
+impl Field for Cell {
+    ghost printed = { cell_text };
+
+    #[tactic(auto, unfolding(crate::specs::Report::cell_text))]
+    fn push_to(&self, text: &mut Vec<u8>) -> Result<(), AllocError> {
+        match self {
+            Cell::Number(number) => push_number(text, *number),
+            Cell::Text(bytes) => push_text(text, bytes.as_slice()),
+            Cell::All => text.extend_from_slice(b"ALL"),
+            Cell::Null => text.extend_from_slice(b"NULL"),
+        }
+    }
+}
+
+fn push_number(text: &mut Vec<u8>, number: i64) -> Result<(), AllocError>
+    ensures { OnOk result (text.new.items ≡ text.old.items ++ signed_decimal number) }
+{
+    text.extend_from_slice(Buffer::new().format(number).as_bytes())
+}
+
+/// Whether a text could be read as ALL, or as a text in quotes.
+fn is_ambiguous(bytes: &[u8]) -> bool
+    ensures { result ≡ is_ambiguous bytes.now }
+{
+    bytes == b"ALL".as_slice() || bytes.starts_with(b"'")
+}
+
+fn push_text(text: &mut Vec<u8>, bytes: &[u8]) -> Result<(), AllocError>
+    ensures { OnOk result (text.new.items ≡ text.old.items ++ field_of_text bytes.now) }
+{
+    if is_ambiguous(bytes) {
+        push_quoted(text, bytes)
+    } else {
+        text.extend_from_slice(bytes)
+    }
+}
+
+#[tactic(auto, unfolding(crate::specs::Report::quoted))]
+fn push_quoted(text: &mut Vec<u8>, bytes: &[u8]) -> Result<(), AllocError>
+    ensures { OnOk result (text.new.items ≡ text.old.items ++ quoted bytes.now) }
+{
+    text.push(b'\'')?;
+    for byte in bytes {
+        push_quoted_byte(text, *byte)?;
+    }
+    text.push(b'\'')?;
+    Ok(())
+}
+
+fn push_quoted_byte(text: &mut Vec<u8>, byte: u8) -> Result<(), AllocError>
+    ensures { OnOk result (text.new.items ≡ text.old.items ++ quoted_byte byte) }
+{
+    if byte == b'\'' {
+        text.extend_from_slice(b"''")
+    } else {
+        text.push(byte)?;
+        Ok(())
+    }
+}
+
+/// Adds each field after a bar.
+fn push_after_bars<F: Field>(text: &mut Vec<u8>, fields: &[F]) -> Result<(), AllocError>
+    ensures { OnOk result (text.new.items ≡ text.old.items ++ flat_map (λ field. 124 ∷ F.printed field) fields.now) }
+{
+    for field in fields {
+        text.push(b'|')?;
+        field.push_to(text)?;
+    }
+    Ok(())
+}
+
+/// Adds fields with a bar between each two.
+fn push_fields<F: Field>(text: &mut Vec<u8>, fields: &[F]) -> Result<(), AllocError>
+    ensures { OnOk result (text.new.items ≡ text.old.items ++ join_with_byte 124 (map F.printed fields.now)) }
+{
+    match fields {
+        [] => Ok(()),
+        [first, others @ ..] => {
+            first.push_to(text)?;
+            push_after_bars(text, others)
+        }
+    }
+}
+
+#[tactic(auto, unfolding(crate::specs::Report::line_text))]
+fn push_line<F: Field>(text: &mut Vec<u8>, fields: &[F]) -> Result<(), AllocError>
+    ensures { OnOk result (text.new.items ≡ text.old.items ++ line_text (map F.printed fields.now)) }
+{
+    push_fields(text, fields)?;
+    text.push(b'\n')?;
+    Ok(())
+}
+
+/// The line of names and the lines of the rows.
+pub fn report_text(alloc: Global, outcome: &Outcome) -> Result<Vec<u8>, AllocError>
+    ensures { IfOk result (λ text. text.items ≡ report_text outcome.now.names outcome.now.rows) }
+{
+    let mut text = Vec::new(alloc);
+    push_line(&mut text, outcome.names.as_slice())?;
+    for row in outcome.rows.as_slice() {
+        push_line(&mut text, row.as_slice())?;
+    }
+    Ok(text)
+}
