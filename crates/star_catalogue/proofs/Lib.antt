@@ -6,3 +6,4 @@ pub mod Found
 pub mod Placed
 pub mod Refers
 pub mod Loading
+pub mod Typed

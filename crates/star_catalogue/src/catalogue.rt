@@ -1,11 +1,12 @@
 // The catalogue of the five tables.
 
-ghost use Rattle.std.specs.Prelude.{◌≡◌, ◌⊎◌, ◌↔◌, ◌<◌, ◌∷◌, [], ℕ, Some, IfErr, IfOk, length, slice_get};
+ghost use Rattle.std.specs.Prelude.{◌≡◌, ◌⊎◌, ◌↔◌, ◌<◌, ◌∷◌, [], ℕ, All, Some, IfErr, IfOk, length, slice_get};
 ghost use Rattle.star_schema.specs.Bounds.{greatest, least, numbers_of};
 ghost use Rattle.star_schema.specs.Database.{rows_in};
 ghost use Rattle.star_schema.specs.Loadable.{IsLoadable, IsSound, database_of, keys_of};
 ghost use Rattle.star_schema.specs.Schema.{kind_of, table_of};
 ghost use Rattle.star_schema.specs.Sizes.{size_of};
+ghost use Rattle.star_schema.specs.Tables.{IsRowOf};
 ghost use Rattle.star_schema.specs.Texts.{texts_of};
 ghost use Rattle.star_schema.specs.declared.table.TableId.{TableId};
 ghost use Rattle.star_column.specs.Dictionary.{HasCode, dictionary_of, high_in, low_in};
@@ -52,11 +53,13 @@ impl Catalogue {
         Ok(Catalogue { tables })
     }
 
-    /// Keys tell the rows of each table apart, and each foreign key is found.
+    /// What holds of every catalogue: each row of a table has a value for each column, of the column's kind; keys tell
+    /// the rows of each table apart, and each foreign key is found.
     pub fn law(&self)
-        ensures { IsSound self.now }
+        ensures sound { IsSound self.now }
+        ensures rows { (table : TableId) → All (IsRowOf table) (rows_in self.now table) }
     {
-        let _tables = &self.tables;
+        self.tables.law();
     }
 
     /// How many rows a table has.

@@ -1,11 +1,11 @@
 // A table in memory.
 
-ghost use Rattle.std.specs.Prelude.{◌≡◌, ◌⊎◌, ◌↔◌, ◌<◌, ◌∷◌, [], ℕ, Some, MatchResult, length, slice_get};
+ghost use Rattle.std.specs.Prelude.{◌≡◌, ◌⊎◌, ◌↔◌, ◌<◌, ◌∷◌, [], ℕ, All, Some, MatchResult, length, slice_get};
 ghost use Rattle.std.specs.Option.{option_map};
 ghost use Rattle.star_schema.specs.Bounds.{numbers_of};
 ghost use Rattle.star_schema.specs.Loadable.{HasDistinctKeys, keys_of};
 ghost use Rattle.star_schema.specs.Schema.{kind_of, table_of};
-ghost use Rattle.star_schema.specs.Tables.{IsTable, rows_of};
+ghost use Rattle.star_schema.specs.Tables.{IsRowOf, IsTable, rows_of};
 ghost use Rattle.star_schema.specs.Texts.{texts_of};
 ghost use Rattle.star_reader.specs.Faults.{text_fault};
 ghost use Rattle.star_catalogue.specs.Load.{keys_fault, table_fault};
@@ -85,6 +85,13 @@ impl LoadedTable {
     {
         let raw = read(alloc, text, table, limits)?;
         keep(alloc, raw)
+    }
+
+    /// Each row has a value for each column, of the column's kind.
+    pub(crate) fn law(&self)
+        ensures { All (IsRowOf self.now.table) self.now.rows }
+    {
+        let _columns = &self.columns;
     }
 
     /// How many rows there are.

@@ -1,11 +1,11 @@
 // Five tables in memory.
 
-ghost use Rattle.std.specs.Prelude.{◌≡◌, ◌⊎◌, ◌↔◌, ◌∷◌, [], ℕ, Some, MatchResult, length, slice_get};
+ghost use Rattle.std.specs.Prelude.{◌≡◌, ◌⊎◌, ◌↔◌, ◌∷◌, [], ℕ, All, Some, MatchResult, length, slice_get};
 ghost use Rattle.star_schema.specs.Bounds.{numbers_of};
 ghost use Rattle.star_schema.specs.Database.{AreTables, rows_in};
 ghost use Rattle.star_schema.specs.Loadable.{HasDistinctKeys, database_of, keys_of};
 ghost use Rattle.star_schema.specs.Schema.{kind_of, table_of};
-ghost use Rattle.star_schema.specs.Tables.{rows_of};
+ghost use Rattle.star_schema.specs.Tables.{IsRowOf, rows_of};
 ghost use Rattle.star_schema.specs.Texts.{texts_of};
 ghost use Rattle.star_schema.specs.declared.table.TableId.{TableId};
 ghost use Rattle.star_catalogue.specs.Load.{tables_fault, text_of};
@@ -79,6 +79,17 @@ impl Tables {
             TableId::Part => &self.part,
             TableId::Lineorder => &self.lineorder,
         }
+    }
+
+    /// Each row of a table has a value for each column, of the column's kind.
+    pub(crate) fn law(&self)
+        ensures { (table : TableId) → All (IsRowOf table) (rows_in self.now table) }
+    {
+        self.date.law();
+        self.customer.law();
+        self.supplier.law();
+        self.part.law();
+        self.lineorder.law();
     }
 
     /// How many rows a table has.

@@ -1,0 +1,70 @@
+-- Counts of parts.
+use Rattle.std.proofs.Common.{◌≡◌, ℕ, ◌+◌, ◌<◌, ◌≤◌, Bool, true, false, List, [], ◌∷◌, length, refl, sym, subst, arith}
+use Rattle.std.specs.Prelude.{nat_lt, if◌then◌else◌}
+use Rattle.std.proofs.lemmas.Bool.{ltb-true, ltb-false}
+use Rattle.star_query.specs.declared.counts.Part.{Part}
+use Rattle.star_query.specs.declared.counts.Part.TheVariants.{Item, Aggregate, GroupColumn, SortKey, Comparison, Operand}
+use Rattle.star_query.specs.declared.counts.Counts.{Counts}
+use Rattle.star_query.specs.Symbols.{Symbol, name}
+use Rattle.star_query.specs.Derives.{limit, same_part, among, IsShort, IsLong}
+use Rattle.star_query.specs.Machine.{number_of, bump, plus, is_over, is_long}
+
+pub not_below : (a b : ℕ) → b ≤ a → nat_lt a b ≡ false
+not_below a b le = grind arith
+
+-- which way a test went
+pub by_bool : {X : Type 0} (b : Bool) → (b ≡ true → X) → (b ≡ false → X) → X
+by_bool true f g = f refl
+by_bool false f g = g refl
+
+number-bump : (q p : Part) (n : Counts) → number_of (bump q n) p ≡ number_of n p + (if same_part p q then 1 else 0)
+number-bump Item Item n = refl
+number-bump Aggregate Aggregate n = refl
+number-bump GroupColumn GroupColumn n = refl
+number-bump SortKey SortKey n = refl
+number-bump Comparison Comparison n = refl
+number-bump Operand Operand n = refl
+number-bump _ _ n = omega arith
+
+pub number-plus : (ps : List Part) (n : Counts) (p : Part) → number_of (plus n ps) p ≡ number_of n p + among p ps
+number-plus [] n p = omega arith
+number-plus (q ∷ ps) n p = omega (arith, number-plus ps (bump q n) p, number-bump q p n)
+
+pub not_over : (n : Counts) (ps : List Part) → ((p : Part) → number_of n p ≤ limit p) → is_over n ps ≡ false
+not_over n [] fits = refl
+not_over n (p ∷ ps) fits = rw (not_below (limit p) (number_of n p) (fits p)) (not_over n ps fits)
+
+pub over_some : (n : Counts) (ps : List Part) → is_over n ps ≡ true → (p : Part) × (limit p < number_of n p)
+over_some n [] e = cc
+over_some n (p ∷ ps) e =
+    by_bool (nat_lt (limit p) (number_of n p)) (λ here. (p, ltb-true _ _ here)) (λ other. over_some n ps (rw other at e))
+
+same-part : (p q : Part) → same_part p q ≡ true → p ≡ q
+same-part Item Item e = refl
+same-part Aggregate Aggregate e = refl
+same-part GroupColumn GroupColumn e = refl
+same-part SortKey SortKey e = refl
+same-part Comparison Comparison e = refl
+same-part Operand Operand e = refl
+same-part _ _ e = cc
+
+not_over_at : (n : Counts) (ps : List Part) (p : Part) → is_over n ps ≡ false → 0 < among p ps → number_of n p ≤ limit p
+not_over_at n [] p e some = absurd (omega arith)
+not_over_at n (q ∷ ps) p e some =
+    by_bool (nat_lt (limit q) (number_of n q)) (λ over. let h : false ≡ true = sym (rw over at e) in cc) (λ within. by_bool (same_part p q) (λ same. subst (λ r. number_of n r ≤ limit r) (sym (same-part p q same)) (ltb-false _ _ within)) (λ other. let more : 0 < 0 + among p ps = rw other at some in not_over_at n ps p (rw within at e) (omega arith)))
+
+pub fits_after : (n : Counts) (ps : List Part) → ((p : Part) → number_of n p ≤ limit p) → is_over (plus n ps) ps ≡ false → (p : Part) → number_of (plus n ps) p ≤ limit p
+fits_after n ps fits e p =
+    by_bool (nat_lt 0 (among p ps)) (λ some. not_over_at (plus n ps) ps p e (ltb-true _ _ some)) (λ none. let h : among p ps ≤ 0 = ltb-false _ _ none in omega (arith, number-plus ps n p, fits p))
+
+pub short_name : (x : Symbol) → is_long x ≡ false → IsShort x
+short_name (name t p) e = ltb-false _ _ e
+short_name _ e = tt
+
+pub long_name : (x : Symbol) → is_long x ≡ true → IsLong x
+long_name (name t p) e = ltb-true _ _ e
+long_name _ e = cc
+
+pub not_long : (x : Symbol) → IsShort x → is_long x ≡ false
+not_long (name t p) e = not_below 64 (length t) e
+not_long _ e = refl

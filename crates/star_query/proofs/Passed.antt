@@ -1,0 +1,531 @@
+-- What was read on the way to a state, and that a query begins so.
+use Rattle.std.proofs.Common.{◌≡◌, ◌∙◌, ℕ, ◌+◌, Bool, true, false, List, [], ◌∷◌, Option, Some, None, refl, sym, ap, subst}
+use Rattle.star_query.specs.declared.token.Keyword.TheVariants as k
+use Rattle.star_query.specs.declared.token.Sign.TheVariants as s
+use Rattle.star_query.specs.declared.token.Additive.TheVariants.{Minus}
+use Rattle.star_query.specs.declared.token.Relation.{Relation}
+use Rattle.star_query.specs.declared.token.Relation.TheVariants as r
+use Rattle.star_query.specs.declared.counts.Part.TheVariants as part
+use Rattle.star_query.specs.Symbols.{Symbol, keyword, fold, count, relation, sign, additive, name, number, text}
+use Rattle.star_query.specs.Tree.{Name}
+use Rattle.star_query.specs.Grammar.{Several, one, Expr, lone_term, joined, Term, lone_factor, times, Factor, constant, negative, parens, Lit, whole, negated, Cond, lone_conj, or_conj, Conj, lone_unit, and_unit, Unary, not_unit, group, pair, compare, between, Agg, folded, counted, Item, plain, aggregate, Key, unmarked, ascending, descending, ungrouped, grouped, cubed, Query, Mark, at, first, ident, function, expr_marks, term_marks, factor_marks, lit_marks, cond_marks, conj_marks, unit_marks, agg_marks, item_marks, table_marks, column_marks, key_marks, several_marks, where_marks, groups_marks, keys_marks, query_marks}
+use Rattle.star_query.specs.Machine.{extended, ExprHole, in_fold, in_parens, TermHole, first_term, next_term, FactorHole, first_factor, next_factor, CondHole, in_where, in_group, ConjHole, first_conj, next_conj, UnitHole, first_unit, next_unit, under_not, LitHole, compared, low, high, Filtered, Grouped, filtered_by, grouped_by, query_of, expr_depth, term_depth, factor_depth, cond_depth, conj_depth, unit_depth, lit_depth, State, begin, item_wanted, fold_named, count_named, count_opened, count_starred, factor_wanted, factor_negative, term_had, agg_had, alias_wanted, items_had, table_wanted, tables_had, unit_wanted, unit_named, equal_had, lit_wanted, lit_negative, low_had, conj_had, filtered_had, group_had, by_had, cube_had, column_wanted, columns_had, grouped_had, order_had, key_wanted, key_named, keys_had, done, ended, Step, give_factor, joined_expr, around_term, give_unit, joined_cond, around_conj, give_lit, behind_relation, closed_expr, on_begin, on_item, on_fold, on_count, on_count_opened, on_count_starred, on_factor, on_negative, on_term, on_items, on_agg, on_alias, on_table, on_done, on_grouped, on_filtered, on_tables, on_unit, on_named, on_lit, on_equal, on_lit_negative, on_low, closed_cond, on_cond, on_conj, on_group, on_column, on_by, on_cube, on_cubed, on_columns, on_order, on_key, on_keys, on_key_named, step, cond_end, at_end}
+
+abbrev pub before_marks : {A : Type 0} → (A → List Mark → List Mark) → Option (Several A) → List Mark → List Mark
+before_marks marks None rest = rest
+before_marks marks (Some xs) rest = several_marks marks xs (at 0 (sign s.Comma) ∷ rest)
+
+abbrev pub select_passed : Option (Several Item) → List Mark → List Mark
+select_passed b rest = at 0 (keyword k.Select) ∷ before_marks item_marks b rest
+
+abbrev pub items_passed : Several Item → List Mark → List Mark
+items_passed is rest = at 0 (keyword k.Select) ∷ several_marks item_marks is rest
+
+abbrev pub tables_passed : Several Item → Several Name → List Mark → List Mark
+tables_passed is ts rest = items_passed is (at 0 (keyword k.From) ∷ several_marks table_marks ts rest)
+
+abbrev pub filtered_passed : Filtered → List Mark → List Mark
+filtered_passed f rest = tables_passed f.items f.tables (where_marks f.condition rest)
+
+abbrev pub by_passed : Filtered → List Mark → List Mark
+by_passed f rest = filtered_passed f (at 0 (keyword k.Group) ∷ at 0 (keyword k.By) ∷ rest)
+
+abbrev pub cube_passed : Bool → List Mark → List Mark
+cube_passed false rest = rest
+cube_passed true rest = at 0 (keyword k.Cube) ∷ at 0 (sign s.Open) ∷ rest
+
+abbrev pub grouped_passed : Grouped → List Mark → List Mark
+grouped_passed g rest = filtered_passed g.filtered (groups_marks g.groups rest)
+
+abbrev pub order_passed : Grouped → List Mark → List Mark
+order_passed g rest = grouped_passed g (at 0 (keyword k.Order) ∷ at 0 (keyword k.By) ∷ rest)
+
+abbrev mutual
+  pub expr_passed : ExprHole → List Mark → List Mark
+  expr_passed (in_fold b f p) rest = select_passed b (function (fold f p) ∷ at 0 (sign s.Open) ∷ rest)
+  expr_passed (in_parens h) rest = factor_passed h (at (factor_depth h + 1) (sign s.Open) ∷ rest)
+
+  pub term_passed : TermHole → List Mark → List Mark
+  term_passed (first_term h) rest = expr_passed h rest
+  term_passed (next_term e q h) rest = expr_passed h (expr_marks (expr_depth h) e (at (expr_depth h) (additive q) ∷ rest))
+
+  pub factor_passed : FactorHole → List Mark → List Mark
+  factor_passed (first_factor h) rest = term_passed h rest
+  factor_passed (next_factor t h) rest = term_passed h (term_marks (term_depth h) t (at (term_depth h) (sign s.Star) ∷ rest))
+
+abbrev mutual
+  pub cond_passed : CondHole → List Mark → List Mark
+  cond_passed (in_where is ts) rest = tables_passed is ts (at 0 (keyword k.Where) ∷ rest)
+  cond_passed (in_group h) rest = unit_passed h (at (unit_depth h + 1) (sign s.Open) ∷ rest)
+
+  pub conj_passed : ConjHole → List Mark → List Mark
+  conj_passed (first_conj h) rest = cond_passed h rest
+  conj_passed (next_conj a h) rest = cond_passed h (cond_marks (cond_depth h) a (at (cond_depth h) (keyword k.Or) ∷ rest))
+
+  pub unit_passed : UnitHole → List Mark → List Mark
+  unit_passed (first_unit h) rest = conj_passed h rest
+  unit_passed (next_unit c h) rest = conj_passed h (conj_marks (conj_depth h) c (at (conj_depth h) (keyword k.And) ∷ rest))
+  unit_passed (under_not h) rest = unit_passed h (first (part.Comparison ∷ []) (unit_depth h + 1) (keyword k.Not) ∷ rest)
+
+-- a comparison's column was read
+abbrev pub named_passed : UnitHole → Name → List Mark → List Mark
+named_passed h i rest = unit_passed h (first (part.Comparison ∷ []) (unit_depth h) (ident i) ∷ rest)
+
+abbrev pub between_passed : UnitHole → Name → List Mark → List Mark
+between_passed h i rest = named_passed h i (at (unit_depth h) (keyword k.Between) ∷ rest)
+
+abbrev pub lit_passed : LitHole → List Mark → List Mark
+lit_passed (compared h i q) rest = named_passed h i (at (unit_depth h) (relation q) ∷ rest)
+lit_passed (low h i) rest = between_passed h i rest
+lit_passed (high h i l) rest = between_passed h i (lit_marks (unit_depth h) l (at (unit_depth h) (keyword k.And) ∷ rest))
+
+abbrev pub passed : State → List Mark → List Mark
+passed begin rest = rest
+passed (item_wanted b) rest = select_passed b rest
+passed (fold_named b f p) rest = select_passed b (function (fold f p) ∷ rest)
+passed (count_named b p) rest = select_passed b (function (count p) ∷ rest)
+passed (count_opened b p) rest = select_passed b (function (count p) ∷ at 0 (sign s.Open) ∷ rest)
+passed (count_starred b p) rest = select_passed b (function (count p) ∷ at 0 (sign s.Open) ∷ at 0 (sign s.Star) ∷ rest)
+passed (factor_wanted h) rest = factor_passed h rest
+passed (factor_negative h) rest = factor_passed h (at (factor_depth h) (additive Minus) ∷ rest)
+passed (term_had t h) rest = term_passed h (term_marks (term_depth h) t rest)
+passed (agg_had b a) rest = select_passed b (agg_marks a rest)
+passed (alias_wanted b a) rest = select_passed b (agg_marks a (at 0 (keyword k.As) ∷ rest))
+passed (items_had is) rest = items_passed is rest
+passed (table_wanted is b) rest = items_passed is (at 0 (keyword k.From) ∷ before_marks table_marks b rest)
+passed (tables_had is ts) rest = tables_passed is ts rest
+passed (unit_wanted h) rest = unit_passed h rest
+passed (unit_named h i) rest = named_passed h i rest
+passed (equal_had h i) rest = lit_passed (compared h i r.Equal) rest
+passed (lit_wanted h) rest = lit_passed h rest
+passed (lit_negative h) rest = lit_passed h (at (lit_depth h) (additive Minus) ∷ rest)
+passed (low_had h i l) rest = between_passed h i (lit_marks (unit_depth h) l rest)
+passed (conj_had c h) rest = conj_passed h (conj_marks (conj_depth h) c rest)
+passed (filtered_had f) rest = filtered_passed f rest
+passed (group_had f) rest = filtered_passed f (at 0 (keyword k.Group) ∷ rest)
+passed (by_had f) rest = by_passed f rest
+passed (cube_had f) rest = by_passed f (at 0 (keyword k.Cube) ∷ rest)
+passed (column_wanted f cube b) rest = by_passed f (cube_passed cube (before_marks column_marks b rest))
+passed (columns_had f cube is) rest = by_passed f (cube_passed cube (several_marks column_marks is rest))
+passed (grouped_had g) rest = grouped_passed g rest
+passed (order_had g) rest = grouped_passed g (at 0 (keyword k.Order) ∷ rest)
+passed (key_wanted g b) rest = order_passed g (before_marks key_marks b rest)
+passed (key_named g b i) rest = order_passed g (before_marks key_marks b (first (part.SortKey ∷ []) 0 (ident i) ∷ rest))
+passed (keys_had g ks) rest = order_passed g (several_marks key_marks ks rest)
+passed (done g ks) rest = grouped_passed g (keys_marks ks rest)
+passed (ended g ks) rest = grouped_passed g (keys_marks ks (at 0 (sign s.Semicolon) ∷ rest))
+
+several-extended : {A : Type 0} (marks : A → List Mark → List Mark) (b : Option (Several A)) (x : A) (rest : List Mark) → several_marks marks (extended b x) rest ≡ before_marks marks b (marks x rest)
+several-extended marks None x rest = refl
+several-extended marks (Some xs) x rest = refl
+
+-- a step reads the symbol, and no more
+pub record Moves (from : State) (x : Symbol) (st : Step) : Type 0 where
+  pub symbol : st.at.symbol ≡ x
+  pub more : (rest : List Mark) → passed st.next rest ≡ passed from (st.at ∷ rest)
+
+abbrev pub IfStep : Option Step → (Step → Type 0) → Type 0
+IfStep None P = Unit {0}
+IfStep (Some st) P = P st
+
+moves : (from : State) (x : Symbol) (next : State) (m : Mark) → m.symbol ≡ x → ((rest : List Mark) → passed next rest ≡ passed from (m ∷ rest)) → Moves from x (record { next = next; at = m })
+moves from x next m e f = record { symbol = e; more = f }
+
+-- the same from a state on whose way the same was read
+moves_along : (from other : State) (x : Symbol) (o : Option Step) → ((rest : List Mark) → passed other rest ≡ passed from rest) → IfStep o (Moves other x) → IfStep o (Moves from x)
+moves_along from other x None same m = tt
+moves_along from other x (Some st) same m = record { symbol = m.symbol; more = λ rest. m.more rest ∙ same (st.at ∷ rest) }
+
+give_factor_passed : (h : FactorHole) (f : Factor) (rest : List Mark) → passed (give_factor f h) rest ≡ factor_passed h (factor_marks (factor_depth h) f rest)
+give_factor_passed (first_factor h) f rest = refl
+give_factor_passed (next_factor t h) f rest = refl
+
+joined_expr_passed : (h : TermHole) (t : Term) (rest : List Mark) → expr_passed (around_term h) (expr_marks (expr_depth (around_term h)) (joined_expr t h) rest) ≡ term_passed h (term_marks (term_depth h) t rest)
+joined_expr_passed (first_term h) t rest = refl
+joined_expr_passed (next_term e q h) t rest = refl
+
+same_depth : (h : TermHole) → expr_depth (around_term h) ≡ term_depth h
+same_depth (first_term h) = refl
+same_depth (next_term e q h) = refl
+
+give_unit_passed : (h : UnitHole) (u : Unary) (rest : List Mark) → passed (give_unit u h) rest ≡ unit_passed h (unit_marks (unit_depth h) u rest)
+give_unit_passed (first_unit h) u rest = refl
+give_unit_passed (next_unit c h) u rest = refl
+give_unit_passed (under_not h) u rest = give_unit_passed h (not_unit u) rest
+
+joined_cond_passed : (h : ConjHole) (c : Conj) (rest : List Mark) → cond_passed (around_conj h) (cond_marks (cond_depth (around_conj h)) (joined_cond c h) rest) ≡ conj_passed h (conj_marks (conj_depth h) c rest)
+joined_cond_passed (first_conj h) c rest = refl
+joined_cond_passed (next_conj a h) c rest = refl
+
+give_lit_passed : (h : LitHole) (l : Lit) (rest : List Mark) → passed (give_lit l h) rest ≡ lit_passed h (lit_marks (lit_depth h) l rest)
+give_lit_passed (compared h i q) l rest = give_unit_passed h (compare i q l) rest
+give_lit_passed (low h i) l rest = refl
+give_lit_passed (high h i m) l rest = give_unit_passed h (between i m l) rest
+
+begin_moves : (x : Symbol) → IfStep (on_begin x) (Moves begin x)
+begin_moves (keyword k.Select) = moves _ _ _ _ refl (λ rest. refl)
+begin_moves _ = tt
+
+item_moves : (b : Option (Several Item)) (x : Symbol) → IfStep (on_item b x) (Moves (item_wanted b) x)
+item_moves b (name t p) = moves _ _ _ _ refl (λ rest. ap (λ l. at 0 (keyword k.Select) ∷ l) (several-extended item_marks b _ rest))
+item_moves b (fold f p) = moves _ _ _ _ refl (λ rest. refl)
+item_moves b (count p) = moves _ _ _ _ refl (λ rest. refl)
+item_moves b _ = tt
+
+fold_moves : (b : Option (Several Item)) (f : _) (p : ℕ) (x : Symbol) → IfStep (on_fold b f p x) (Moves (fold_named b f p) x)
+fold_moves b f p (sign s.Open) = moves _ _ _ _ refl (λ rest. refl)
+fold_moves b f p _ = tt
+
+count_moves : (b : Option (Several Item)) (p : ℕ) (x : Symbol) → IfStep (on_count b p x) (Moves (count_named b p) x)
+count_moves b p (sign s.Open) = moves _ _ _ _ refl (λ rest. refl)
+count_moves b p _ = tt
+
+opened_moves : (b : Option (Several Item)) (p : ℕ) (x : Symbol) → IfStep (on_count_opened b p x) (Moves (count_opened b p) x)
+opened_moves b p (sign s.Star) = moves _ _ _ _ refl (λ rest. refl)
+opened_moves b p _ = tt
+
+starred_moves : (b : Option (Several Item)) (p : ℕ) (x : Symbol) → IfStep (on_count_starred b p x) (Moves (count_starred b p) x)
+starred_moves b p (sign s.Close) = moves _ _ _ _ refl (λ rest. refl)
+starred_moves b p _ = tt
+
+factor_moves : (h : FactorHole) (x : Symbol) → IfStep (on_factor h x) (Moves (factor_wanted h) x)
+factor_moves h (name t p) = moves _ _ _ _ refl (give_factor_passed h _)
+factor_moves h (number n) = moves _ _ _ _ refl (give_factor_passed h _)
+factor_moves h (additive Minus) = moves _ _ _ _ refl (λ rest. refl)
+factor_moves h (sign s.Open) = moves _ _ _ _ refl (λ rest. refl)
+factor_moves h _ = tt
+
+negative_moves : (h : FactorHole) (x : Symbol) → IfStep (on_negative h x) (Moves (factor_negative h) x)
+negative_moves h (number n) = moves _ _ _ _ refl (give_factor_passed h _)
+negative_moves h _ = tt
+
+close_moves : (t : Term) (h : TermHole) (e : Expr) (o : ExprHole) → ((rest : List Mark) → expr_passed o (expr_marks (expr_depth o) e rest) ≡ term_passed h (term_marks (term_depth h) t rest)) → IfStep (closed_expr e o) (Moves (term_had t h) (sign s.Close))
+close_moves t h e (in_fold b f p) same = moves _ _ _ _ refl (λ rest. same (at 0 (sign s.Close) ∷ rest))
+close_moves t h e (in_parens o) same =
+    moves _ _ _ _ refl (λ rest. give_factor_passed o (parens e) rest ∙ same (at (factor_depth o + 1) (sign s.Close) ∷ rest))
+
+term_moves : (t : Term) (h : TermHole) (x : Symbol) → IfStep (on_term t h x) (Moves (term_had t h) x)
+term_moves t h (sign s.Star) = moves _ _ _ _ refl (λ rest. refl)
+term_moves t h (additive q) =
+    moves _ _ _ _ refl (λ rest. ap (λ d. expr_passed (around_term h) (expr_marks (expr_depth (around_term h)) (joined_expr t h) (at d (additive q) ∷ rest))) (same_depth h) ∙ joined_expr_passed h t (at (term_depth h) (additive q) ∷ rest))
+term_moves t h (sign s.Close) = close_moves t h (joined_expr t h) (around_term h) (joined_expr_passed h t)
+term_moves t h _ = tt
+
+items_moves : (is : Several Item) (x : Symbol) → IfStep (on_items is x) (Moves (items_had is) x)
+items_moves is (sign s.Comma) = moves _ _ _ _ refl (λ rest. refl)
+items_moves is (keyword k.From) = moves _ _ _ _ refl (λ rest. refl)
+items_moves is _ = tt
+
+agg_moves : (b : Option (Several Item)) (a : Agg) (x : Symbol) → IfStep (on_agg b a x) (Moves (agg_had b a) x)
+agg_moves b a (keyword k.As) = moves _ _ _ _ refl (λ rest. refl)
+agg_moves b a x =
+    moves_along (agg_had b a) (items_had (extended b (aggregate a None))) x (on_agg b a x) (λ rest. ap (λ l. at 0 (keyword k.Select) ∷ l) (several-extended item_marks b _ rest)) (items_moves (extended b (aggregate a None)) x)
+
+alias_moves : (b : Option (Several Item)) (a : Agg) (x : Symbol) → IfStep (on_alias b a x) (Moves (alias_wanted b a) x)
+alias_moves b a (name t p) = moves _ _ _ _ refl (λ rest. ap (λ l. at 0 (keyword k.Select) ∷ l) (several-extended item_marks b _ rest))
+alias_moves b a _ = tt
+
+table_moves : (is : Several Item) (b : Option (Several Name)) (x : Symbol) → IfStep (on_table is b x) (Moves (table_wanted is b) x)
+table_moves is b (name t p) = moves _ _ _ _ refl (λ rest. ap (λ l. items_passed is (at 0 (keyword k.From) ∷ l)) (several-extended table_marks b _ rest))
+table_moves is b _ = tt
+
+done_moves : (g : Grouped) (ks : Option (Several Key)) (x : Symbol) → IfStep (on_done g ks x) (Moves (done g ks) x)
+done_moves g ks (sign s.Semicolon) = moves _ _ _ _ refl (λ rest. refl)
+done_moves g ks _ = tt
+
+grouped_moves : (g : Grouped) (x : Symbol) → IfStep (on_grouped g x) (Moves (grouped_had g) x)
+grouped_moves g (keyword k.Order) = moves _ _ _ _ refl (λ rest. refl)
+grouped_moves g x = moves_along (grouped_had g) (done g None) x (on_grouped g x) (λ rest. refl) (done_moves g None x)
+
+filtered_moves : (f : Filtered) (x : Symbol) → IfStep (on_filtered f x) (Moves (filtered_had f) x)
+filtered_moves f (keyword k.Group) = moves _ _ _ _ refl (λ rest. refl)
+filtered_moves f x =
+    moves_along (filtered_had f) (grouped_had (grouped_by f ungrouped)) x (on_filtered f x) (λ rest. refl) (grouped_moves (grouped_by f ungrouped) x)
+
+tables_moves : (is : Several Item) (ts : Several Name) (x : Symbol) → IfStep (on_tables is ts x) (Moves (tables_had is ts) x)
+tables_moves is ts (sign s.Comma) = moves _ _ _ _ refl (λ rest. refl)
+tables_moves is ts (keyword k.Where) = moves _ _ _ _ refl (λ rest. refl)
+tables_moves is ts x =
+    moves_along (tables_had is ts) (filtered_had (filtered_by is ts None)) x (on_tables is ts x) (λ rest. refl) (filtered_moves (filtered_by is ts None) x)
+
+unit_moves : (h : UnitHole) (x : Symbol) → IfStep (on_unit h x) (Moves (unit_wanted h) x)
+unit_moves h (name t p) = moves _ _ _ _ refl (λ rest. refl)
+unit_moves h (keyword k.Not) = moves _ _ _ _ refl (λ rest. refl)
+unit_moves h (sign s.Open) = moves _ _ _ _ refl (λ rest. refl)
+unit_moves h _ = tt
+
+relation_passed : (h : UnitHole) (i : Name) (q : Relation) (rest : List Mark) → passed (behind_relation h i q) rest ≡ lit_passed (compared h i q) rest
+relation_passed h i r.Equal rest = refl
+relation_passed h i _ rest = refl
+
+named_moves : (h : UnitHole) (i : Name) (x : Symbol) → IfStep (on_named h i x) (Moves (unit_named h i) x)
+named_moves h i (relation q) = moves _ _ _ _ refl (relation_passed h i q)
+named_moves h i (keyword k.Between) = moves _ _ _ _ refl (λ rest. refl)
+named_moves h i _ = tt
+
+lit_moves : (h : LitHole) (x : Symbol) → IfStep (on_lit h x) (Moves (lit_wanted h) x)
+lit_moves h (number n) = moves _ _ _ _ refl (give_lit_passed h _)
+lit_moves h (text t) = moves _ _ _ _ refl (give_lit_passed h _)
+lit_moves h (additive Minus) = moves _ _ _ _ refl (λ rest. refl)
+lit_moves h _ = tt
+
+equal_moves : (h : UnitHole) (i : Name) (x : Symbol) → IfStep (on_equal h i x) (Moves (equal_had h i) x)
+equal_moves h i (name t p) = moves _ _ _ _ refl (give_unit_passed h _)
+equal_moves h i x =
+    moves_along (equal_had h i) (lit_wanted (compared h i r.Equal)) x (on_equal h i x) (λ rest. refl) (lit_moves (compared h i r.Equal) x)
+
+lit_negative_moves : (h : LitHole) (x : Symbol) → IfStep (on_lit_negative h x) (Moves (lit_negative h) x)
+lit_negative_moves h (number n) = moves _ _ _ _ refl (give_lit_passed h _)
+lit_negative_moves h _ = tt
+
+low_moves : (h : UnitHole) (i : Name) (l : Lit) (x : Symbol) → IfStep (on_low h i l x) (Moves (low_had h i l) x)
+low_moves h i l (keyword k.And) = moves _ _ _ _ refl (λ rest. refl)
+low_moves h i l _ = tt
+
+closed_moves : (from : State) (a : Cond) (h : UnitHole) (x : Symbol) → ((rest : List Mark) → cond_passed (in_group h) (cond_marks (unit_depth h + 1) a rest) ≡ passed from rest) → IfStep (closed_cond a h x) (Moves from x)
+closed_moves from a h (sign s.Close) same =
+    moves _ _ _ _ refl (λ rest. give_unit_passed h (group a) rest ∙ same (at (unit_depth h + 1) (sign s.Close) ∷ rest))
+closed_moves from a h _ same = tt
+
+cond_moves : (from : State) (a : Cond) (h : CondHole) (x : Symbol) → ((rest : List Mark) → cond_passed h (cond_marks (cond_depth h) a rest) ≡ passed from rest) → IfStep (on_cond a h x) (Moves from x)
+cond_moves from a (in_where is ts) x same =
+    moves_along from (filtered_had (filtered_by is ts (Some a))) x (on_filtered (filtered_by is ts (Some a)) x) same (filtered_moves (filtered_by is ts (Some a)) x)
+cond_moves from a (in_group h) x same = closed_moves from a h x same
+
+conj_depth_around : (h : ConjHole) → cond_depth (around_conj h) ≡ conj_depth h
+conj_depth_around (first_conj h) = refl
+conj_depth_around (next_conj a h) = refl
+
+conj_moves : (c : Conj) (h : ConjHole) (x : Symbol) → IfStep (on_conj c h x) (Moves (conj_had c h) x)
+conj_moves c h (keyword k.And) = moves _ _ _ _ refl (λ rest. refl)
+conj_moves c h (keyword k.Or) =
+    moves _ _ _ _ refl (λ rest. ap (λ d. cond_passed (around_conj h) (cond_marks (cond_depth (around_conj h)) (joined_cond c h) (at d (keyword k.Or) ∷ rest))) (conj_depth_around h) ∙ joined_cond_passed h c (at (conj_depth h) (keyword k.Or) ∷ rest))
+conj_moves c h x = cond_moves (conj_had c h) (joined_cond c h) (around_conj h) x (joined_cond_passed h c)
+
+group_moves : (f : Filtered) (x : Symbol) → IfStep (on_group f x) (Moves (group_had f) x)
+group_moves f (keyword k.By) = moves _ _ _ _ refl (λ rest. refl)
+group_moves f _ = tt
+
+column_moves : (f : Filtered) (cube : Bool) (b : Option (Several Name)) (x : Symbol) → IfStep (on_column f cube b x) (Moves (column_wanted f cube b) x)
+column_moves f cube b (name t p) = moves _ _ _ _ refl (λ rest. ap (λ l. by_passed f (cube_passed cube l)) (several-extended column_marks b _ rest))
+column_moves f cube b _ = tt
+
+by_moves : (f : Filtered) (x : Symbol) → IfStep (on_by f x) (Moves (by_had f) x)
+by_moves f (keyword k.Cube) = moves _ _ _ _ refl (λ rest. refl)
+by_moves f x = moves_along (by_had f) (column_wanted f false None) x (on_by f x) (λ rest. refl) (column_moves f false None x)
+
+cube_moves : (f : Filtered) (x : Symbol) → IfStep (on_cube f x) (Moves (cube_had f) x)
+cube_moves f (sign s.Open) = moves _ _ _ _ refl (λ rest. refl)
+cube_moves f _ = tt
+
+cubed_moves : (f : Filtered) (is : Several Name) (x : Symbol) → IfStep (on_cubed f is x) (Moves (columns_had f true is) x)
+cubed_moves f is (sign s.Close) = moves _ _ _ _ refl (λ rest. refl)
+cubed_moves f is _ = tt
+
+columns_moves : (f : Filtered) (cube : Bool) (is : Several Name) (x : Symbol) → IfStep (on_columns f cube is x) (Moves (columns_had f cube is) x)
+columns_moves f cube is (sign s.Comma) = moves _ _ _ _ refl (λ rest. refl)
+columns_moves f true is x = cubed_moves f is x
+columns_moves f false is x =
+    moves_along (columns_had f false is) (grouped_had (grouped_by f (grouped is))) x (on_columns f false is x) (λ rest. refl) (grouped_moves (grouped_by f (grouped is)) x)
+
+order_moves : (g : Grouped) (x : Symbol) → IfStep (on_order g x) (Moves (order_had g) x)
+order_moves g (keyword k.By) = moves _ _ _ _ refl (λ rest. refl)
+order_moves g _ = tt
+
+key_moves : (g : Grouped) (b : Option (Several Key)) (x : Symbol) → IfStep (on_key g b x) (Moves (key_wanted g b) x)
+key_moves g b (name t p) = moves _ _ _ _ refl (λ rest. refl)
+key_moves g b _ = tt
+
+keys_moves : (g : Grouped) (ks : Several Key) (x : Symbol) → IfStep (on_keys g ks x) (Moves (keys_had g ks) x)
+keys_moves g ks (sign s.Comma) = moves _ _ _ _ refl (λ rest. refl)
+keys_moves g ks x = moves_along (keys_had g ks) (done g (Some ks)) x (on_keys g ks x) (λ rest. refl) (done_moves g (Some ks) x)
+
+key_named_moves : (g : Grouped) (b : Option (Several Key)) (i : Name) (x : Symbol) → IfStep (on_key_named g b i x) (Moves (key_named g b i) x)
+key_named_moves g b i (keyword k.Asc) = moves _ _ _ _ refl (λ rest. ap (order_passed g) (several-extended key_marks b (ascending i) rest))
+key_named_moves g b i (keyword k.Desc) = moves _ _ _ _ refl (λ rest. ap (order_passed g) (several-extended key_marks b (descending i) rest))
+key_named_moves g b i x =
+    moves_along (key_named g b i) (keys_had g (extended b (unmarked i))) x (on_key_named g b i x) (λ rest. ap (order_passed g) (several-extended key_marks b (unmarked i) rest)) (keys_moves g (extended b (unmarked i)) x)
+
+all_moves : (from : State) (x : Symbol) → IfStep (step from x) (Moves from x)
+all_moves begin x = begin_moves x
+all_moves (item_wanted b) x = item_moves b x
+all_moves (fold_named b f p) x = fold_moves b f p x
+all_moves (count_named b p) x = count_moves b p x
+all_moves (count_opened b p) x = opened_moves b p x
+all_moves (count_starred b p) x = starred_moves b p x
+all_moves (factor_wanted h) x = factor_moves h x
+all_moves (factor_negative h) x = negative_moves h x
+all_moves (term_had t h) x = term_moves t h x
+all_moves (agg_had b a) x = agg_moves b a x
+all_moves (alias_wanted b a) x = alias_moves b a x
+all_moves (items_had is) x = items_moves is x
+all_moves (table_wanted is b) x = table_moves is b x
+all_moves (tables_had is ts) x = tables_moves is ts x
+all_moves (unit_wanted h) x = unit_moves h x
+all_moves (unit_named h i) x = named_moves h i x
+all_moves (equal_had h i) x = equal_moves h i x
+all_moves (lit_wanted h) x = lit_moves h x
+all_moves (lit_negative h) x = lit_negative_moves h x
+all_moves (low_had h i l) x = low_moves h i l x
+all_moves (conj_had c h) x = conj_moves c h x
+all_moves (filtered_had f) x = filtered_moves f x
+all_moves (group_had f) x = group_moves f x
+all_moves (by_had f) x = by_moves f x
+all_moves (cube_had f) x = cube_moves f x
+all_moves (column_wanted f cube b) x = column_moves f cube b x
+all_moves (columns_had f cube is) x = columns_moves f cube is x
+all_moves (grouped_had g) x = grouped_moves g x
+all_moves (order_had g) x = order_moves g x
+all_moves (key_wanted g b) x = key_moves g b x
+all_moves (key_named g b i) x = key_named_moves g b i x
+all_moves (keys_had g ks) x = keys_moves g ks x
+all_moves (done g ks) x = done_moves g ks x
+all_moves (ended g ks) x = tt
+
+pub step_moves : (from : State) (x : Symbol) (st : Step) → step from x ≡ Some st → Moves from x st
+step_moves from x st e = subst (λ o. IfStep o (Moves from x)) e (all_moves from x)
+
+-- some query is written so, with more behind
+abbrev pub Finishes : (List Mark → List Mark) → Type 0
+Finishes front = (q : Query) × (more : List Mark) × (query_marks q ≡ front more)
+
+someone : Name
+someone = record { text = []; place = 0 }
+
+-- a query with these clauses
+abbrev with_filter : Several Item → Several Name → Option Cond → Query
+with_filter is ts c = query_of (grouped_by (filtered_by is ts c) ungrouped) None false
+
+items_finish : (is : Several Item) → Finishes (items_passed is)
+items_finish is = (with_filter is (one someone) None, at 0 (keyword k.From) ∷ at 0 (ident someone) ∷ [], refl)
+
+item_finishes : (b : Option (Several Item)) (i : Item) → Finishes (λ more. select_passed b (item_marks i more))
+item_finishes b i =
+    let r = items_finish (extended b i) in
+    (r.0, r.1, r.2 ∙ ap (λ l. at 0 (keyword k.Select) ∷ l) (several-extended item_marks b i r.1))
+
+mutual
+  expr_finishes : (h : ExprHole) (e : Expr) → Finishes (λ more. expr_passed h (expr_marks (expr_depth h) e more))
+  expr_finishes (in_fold b f p) e = let r = item_finishes b (aggregate (folded f p e) None) in (r.0, at 0 (sign s.Close) ∷ r.1, r.2)
+  expr_finishes (in_parens h) e = let r = factor_finishes h (parens e) in (r.0, at (factor_depth h + 1) (sign s.Close) ∷ r.1, r.2)
+
+  term_finishes : (h : TermHole) (t : Term) → Finishes (λ more. term_passed h (term_marks (term_depth h) t more))
+  term_finishes (first_term h) t = expr_finishes h (lone_term t)
+  term_finishes (next_term e q h) t = expr_finishes h (joined e q t)
+
+  factor_finishes : (h : FactorHole) (f : Factor) → Finishes (λ more. factor_passed h (factor_marks (factor_depth h) f more))
+  factor_finishes (first_factor h) f = term_finishes h (lone_factor f)
+  factor_finishes (next_factor t h) f = term_finishes h (times t f)
+
+mutual
+  cond_finishes : (h : CondHole) (a : Cond) → Finishes (λ more. cond_passed h (cond_marks (cond_depth h) a more))
+  cond_finishes (in_where is ts) a = (with_filter is ts (Some a), [], refl)
+  cond_finishes (in_group h) a = let r = unit_finishes h (group a) in (r.0, at (unit_depth h + 1) (sign s.Close) ∷ r.1, r.2)
+
+  conj_finishes : (h : ConjHole) (c : Conj) → Finishes (λ more. conj_passed h (conj_marks (conj_depth h) c more))
+  conj_finishes (first_conj h) c = cond_finishes h (lone_conj c)
+  conj_finishes (next_conj a h) c = cond_finishes h (or_conj a c)
+
+  unit_finishes : (h : UnitHole) (u : Unary) → Finishes (λ more. unit_passed h (unit_marks (unit_depth h) u more))
+  unit_finishes (first_unit h) u = conj_finishes h (lone_unit u)
+  unit_finishes (next_unit c h) u = conj_finishes h (and_unit c u)
+  unit_finishes (under_not h) u = unit_finishes h (not_unit u)
+
+-- the front goes on with these marks
+behind : (front : List Mark → List Mark) (marks : List Mark → List Mark) → Finishes (λ more. front (marks more)) → Finishes front
+behind front marks r = (r.0, marks r.1, r.2)
+
+lit_finishes : (h : LitHole) (l : Lit) → Finishes (λ more. lit_passed h (lit_marks (lit_depth h) l more))
+lit_finishes (compared h i q) l = unit_finishes h (compare i q l)
+lit_finishes (low h i) l =
+    behind (λ more. between_passed h i (lit_marks (unit_depth h) l more)) (λ more. at (unit_depth h) (keyword k.And) ∷ lit_marks (unit_depth h) (whole 0) more) (unit_finishes h (between i l (whole 0)))
+lit_finishes (high h i m) l = unit_finishes h (between i m l)
+
+grouped_finishes : (g : Grouped) (ks : Option (Several Key)) → Finishes (λ more. grouped_passed g (keys_marks ks more))
+grouped_finishes g ks = (query_of g ks false, [], refl)
+
+columns_finish : (f : Filtered) (cube : Bool) (is : Several Name) → Finishes (λ more. by_passed f (cube_passed cube (several_marks column_marks is more)))
+columns_finish f false is = (query_of (grouped_by f (grouped is)) None false, [], refl)
+columns_finish f true is = (query_of (grouped_by f (cubed is)) None false, at 0 (sign s.Close) ∷ [], refl)
+
+column_finishes : (f : Filtered) (cube : Bool) (b : Option (Several Name)) → Finishes (λ more. by_passed f (cube_passed cube (before_marks column_marks b more)))
+column_finishes f cube b =
+    let r = columns_finish f cube (extended b someone) in
+    (r.0, column_marks someone r.1, r.2 ∙ ap (λ l. by_passed f (cube_passed cube l)) (several-extended column_marks b someone r.1))
+
+key_finishes : (g : Grouped) (b : Option (Several Key)) (i : Key) → Finishes (λ more. order_passed g (before_marks key_marks b (key_marks i more)))
+key_finishes g b i =
+    let r = grouped_finishes g (Some (extended b i)) in
+    (r.0, r.1, r.2 ∙ ap (order_passed g) (several-extended key_marks b i r.1))
+
+table_finishes : (is : Several Item) (b : Option (Several Name)) → Finishes (λ more. items_passed is (at 0 (keyword k.From) ∷ before_marks table_marks b more))
+table_finishes is b =
+    (with_filter is (extended b someone) None, table_marks someone [], ap (λ l. items_passed is (at 0 (keyword k.From) ∷ l)) (several-extended table_marks b someone []))
+
+-- whatever state was reached, a query begins with what was read
+pub state_finishes : (from : State) → Finishes (passed from)
+state_finishes begin = let q = with_filter (one (plain someone)) (one someone) None in (q, query_marks q, refl)
+state_finishes (item_wanted b) = behind _ (item_marks (plain someone)) (item_finishes b (plain someone))
+state_finishes (fold_named b f p) =
+    behind _ (λ more. at 0 (sign s.Open) ∷ expr_marks 0 (lone_term (lone_factor (constant 0))) (at 0 (sign s.Close) ∷ more)) (item_finishes b (aggregate (folded f p (lone_term (lone_factor (constant 0)))) None))
+state_finishes (count_named b p) =
+    behind _ (λ more. at 0 (sign s.Open) ∷ at 0 (sign s.Star) ∷ at 0 (sign s.Close) ∷ more) (item_finishes b (aggregate (counted p) None))
+state_finishes (count_opened b p) =
+    behind _ (λ more. at 0 (sign s.Star) ∷ at 0 (sign s.Close) ∷ more) (item_finishes b (aggregate (counted p) None))
+state_finishes (count_starred b p) = behind _ (λ more. at 0 (sign s.Close) ∷ more) (item_finishes b (aggregate (counted p) None))
+state_finishes (factor_wanted h) = behind _ (factor_marks (factor_depth h) (constant 0)) (factor_finishes h (constant 0))
+state_finishes (factor_negative h) =
+    behind _ (λ more. first (part.Operand ∷ []) (factor_depth h) (number 0) ∷ more) (factor_finishes h (negative 0))
+state_finishes (term_had t h) = term_finishes h t
+state_finishes (agg_had b a) = item_finishes b (aggregate a None)
+state_finishes (alias_wanted b a) = behind _ (λ more. at 0 (ident someone) ∷ more) (item_finishes b (aggregate a (Some someone)))
+state_finishes (items_had is) = items_finish is
+state_finishes (table_wanted is b) = table_finishes is b
+state_finishes (tables_had is ts) = (with_filter is ts None, [], refl)
+state_finishes (unit_wanted h) = behind _ (unit_marks (unit_depth h) (pair someone someone)) (unit_finishes h (pair someone someone))
+state_finishes (unit_named h i) =
+    behind _ (λ more. at (unit_depth h) (relation r.Equal) ∷ at (unit_depth h) (ident someone) ∷ more) (unit_finishes h (pair i someone))
+state_finishes (equal_had h i) = behind _ (λ more. at (unit_depth h) (ident someone) ∷ more) (unit_finishes h (pair i someone))
+state_finishes (lit_wanted h) = behind _ (lit_marks (lit_depth h) (whole 0)) (lit_finishes h (whole 0))
+state_finishes (lit_negative h) = behind _ (λ more. at (lit_depth h) (number 0) ∷ more) (lit_finishes h (negated 0))
+state_finishes (low_had h i l) = lit_finishes (low h i) l
+state_finishes (conj_had c h) = conj_finishes h c
+state_finishes (filtered_had f) = (query_of (grouped_by f ungrouped) None false, [], refl)
+state_finishes (group_had f) =
+    behind _ (λ more. at 0 (keyword k.By) ∷ column_marks someone more) (columns_finish f false (one someone))
+state_finishes (by_had f) = behind _ (column_marks someone) (columns_finish f false (one someone))
+state_finishes (cube_had f) = behind _ (λ more. at 0 (sign s.Open) ∷ column_marks someone more) (columns_finish f true (one someone))
+state_finishes (column_wanted f cube b) = column_finishes f cube b
+state_finishes (columns_had f cube is) = columns_finish f cube is
+state_finishes (grouped_had g) = (query_of g None false, [], refl)
+state_finishes (order_had g) =
+    behind _ (λ more. at 0 (keyword k.By) ∷ key_marks (unmarked someone) more) (grouped_finishes g (Some (one (unmarked someone))))
+state_finishes (key_wanted g b) = behind _ (key_marks (unmarked someone)) (key_finishes g b (unmarked someone))
+state_finishes (key_named g b i) = key_finishes g b (unmarked i)
+state_finishes (keys_had g ks) = grouped_finishes g (Some ks)
+state_finishes (done g ks) = grouped_finishes g ks
+state_finishes (ended g ks) = (query_of g ks true, [], refl)
+
+cond_end_passed : (a : Cond) (h : CondHole) (q : Query) → cond_end a h ≡ Some q → cond_passed h (cond_marks (cond_depth h) a []) ≡ query_marks q
+cond_end_passed a (in_where is ts) q e = let same : with_filter is ts (Some a) ≡ q = cc in ap query_marks same
+cond_end_passed a (in_group h) q e = cc
+
+columns_end_passed : (f : Filtered) (cube : Bool) (is : Several Name) (q : Query) → at_end (columns_had f cube is) ≡ Some q → passed (columns_had f cube is) [] ≡ query_marks q
+columns_end_passed f false is q e =
+    let same : query_of (grouped_by f (grouped is)) None false ≡ q = cc in ap query_marks same
+columns_end_passed f true is q e = cc
+
+-- what was read where a query ends
+pub end_passed : (from : State) (q : Query) → at_end from ≡ Some q → passed from [] ≡ query_marks q
+end_passed (tables_had is ts) q e = let same : with_filter is ts None ≡ q = cc in ap query_marks same
+end_passed (conj_had c h) q e = sym (joined_cond_passed h c []) ∙ cond_end_passed (joined_cond c h) (around_conj h) q e
+end_passed (filtered_had f) q e = let same : query_of (grouped_by f ungrouped) None false ≡ q = cc in ap query_marks same
+end_passed (columns_had f cube is) q e = columns_end_passed f cube is q e
+end_passed (grouped_had g) q e = let same : query_of g None false ≡ q = cc in ap query_marks same
+end_passed (key_named g b i) q e =
+    let same : query_of g (Some (extended b (unmarked i))) false ≡ q = cc in
+    sym (ap (order_passed g) (several-extended key_marks b (unmarked i) [])) ∙ ap query_marks same
+end_passed (keys_had g ks) q e = let same : query_of g (Some ks) false ≡ q = cc in ap query_marks same
+end_passed (done g ks) q e = let same : query_of g ks false ≡ q = cc in ap query_marks same
+end_passed (ended g ks) q e = let same : query_of g ks true ≡ q = cc in ap query_marks same
+end_passed _ q e = cc

@@ -1,0 +1,131 @@
+-- Which texts are a query within the limits, and what else is the first fault.
+use Rattle.std.specs.Prelude.{◌≡◌, ℕ, ◌+◌, ◌<◌, ◌≤◌, ◌⊎◌, Bool, true, false, List, [], ◌∷◌, ◌++◌, map, length, Ok, Err, if◌then◌else◌}
+use Rattle.std.specs.List.{AllByRecursion}
+use Rattle.star_query.specs.declared.counts.Part.{Part}
+use Rattle.star_query.specs.declared.counts.Part.TheVariants.{Item, Aggregate, GroupColumn, SortKey, Comparison, Operand}
+use Rattle.star_query.specs.declared.fault.Fault.{Fault}
+use Rattle.star_query.specs.declared.fault.Fault.TheVariants.{Unexpected, TooDeep, TooMany}
+use Rattle.star_query.specs.declared.fault.QueryFault.{QueryFault}
+use Rattle.star_query.specs.declared.fault.QueryFault.TheVariants as faults
+use Rattle.star_query.specs.Symbols.{Symbol, name, Placed, symbols}
+use Rattle.star_query.specs.Cut.{cut_of}
+use Rattle.star_query.specs.Grammar.{Query, Mark, query_marks, query_tree}
+use Rattle.star_query.specs.Tree.{Tree}
+
+-- the most of a part that a query may have
+abbrev pub limit : Part → ℕ
+limit Item = 16
+limit Aggregate = 8
+limit GroupColumn = 6
+limit SortKey = 16
+limit Comparison = 256
+limit Operand = 512
+
+abbrev pub same_part : Part → Part → Bool
+same_part Item Item = true
+same_part Aggregate Aggregate = true
+same_part GroupColumn GroupColumn = true
+same_part SortKey SortKey = true
+same_part Comparison Comparison = true
+same_part Operand Operand = true
+same_part p q = false
+
+-- how often a part is among these
+abbrev pub among : Part → List Part → ℕ
+among p [] = 0
+among p (q ∷ qs) = (if same_part p q then 1 else 0) + among p qs
+
+-- how many of a part begin at these marks
+abbrev pub count_of : Part → List Mark → ℕ
+count_of p [] = 0
+count_of p (m ∷ ms) = among p m.parts + count_of p ms
+
+abbrev pub IsShort : Symbol → Type 0
+IsShort (name text place) = length text ≤ 64
+IsShort x = Unit {0}
+
+abbrev pub IsLong : Symbol → Type 0
+IsLong (name text place) = 64 < length text
+IsLong x = ⊥
+
+-- at most 32 nestings, at most so many of each part, and no name of more than 64 bytes
+pub record IsWithin (ms : List Mark) : Type 0 where
+  pub depth : AllByRecursion (λ m. m.depth ≤ 32) ms
+  pub counts : (p : Part) → count_of p ms ≤ limit p
+  pub names : AllByRecursion (λ m. IsShort m.symbol) ms
+
+abbrev pub symbols_at : List Mark → List Symbol
+symbols_at ms = map (λ m. m.symbol) ms
+
+-- symbols are a query within the limits, and this is its tree
+pub record Derives (xs : List Symbol) (tree : Tree) : Type 0 where
+  pub phrase : Query
+  pub written : symbols_at (query_marks phrase) ≡ xs
+  pub read : query_tree phrase ≡ tree
+  pub within : IsWithin (query_marks phrase)
+
+-- some query, within the limits or not, is written by these marks and more
+pub record Begins (front : List Mark) : Type 0 where
+  pub phrase : Query
+  pub more : List Mark
+  pub written : query_marks phrase ≡ front ++ more
+
+-- no query goes on with what is left, where the end of the text is what is left last
+abbrev pub IsDead : List Symbol → List Symbol → Type 0
+IsDead front [] = (phrase : Query) → symbols_at (query_marks phrase) ≡ front → ⊥
+IsDead front (x ∷ left) = (phrase : Query) (more : List Symbol) → symbols_at (query_marks phrase) ≡ front ++ x ∷ more → ⊥
+
+-- some query goes on with the first symbol that is left, and this symbol breaks a limit
+pub record Breaks (IsOver : List Mark → Mark → Type 0) (front : List Mark) (left : List Symbol) : Type 0 where
+  pub at : Mark
+  pub others : List Symbol
+  pub here : left ≡ at.symbol ∷ others
+  pub begins : Begins (front ++ at ∷ [])
+  pub over : IsOver front at
+
+abbrev pub IsTooDeep : List Mark → Mark → Type 0
+IsTooDeep front at = 32 < at.depth
+
+abbrev pub IsTooMany : List Mark → Mark → Type 0
+IsTooMany front at = (at.depth ≤ 32) × (((p : Part) × (limit p < count_of p (front ++ at ∷ []))) ⊎ IsLong at.symbol)
+
+abbrev pub Fails : Fault → List Mark → List Symbol → Type 0
+Fails Unexpected front left = IsDead (symbols_at front) left
+Fails TooDeep front left = Breaks IsTooDeep front left
+Fails TooMany front left = Breaks IsTooMany front left
+
+-- the symbols before what is left begin a query within the limits, and the next one is at fault
+pub record FirstFault (xs : List Symbol) (fault : Fault) (left : List Symbol) : Type 0 where
+  pub front : List Mark
+  pub cut : xs ≡ symbols_at front ++ left
+  pub begins : Begins front
+  pub within : IsWithin front
+  pub fails : Fails fault front left
+
+-- a text of at most 65,536 bytes, its tokens, and what they are
+pub record Means (bytes : List ℕ) (tree : Tree) : Type 0 where
+  pub short : length bytes ≤ 65536
+  pub tokens : List Placed
+  pub cut : cut_of bytes ≡ Ok tokens
+  pub derives : Derives (symbols tokens) tree
+
+-- where what is left begins: at its first token, or at the end of the text
+abbrev pub place_of : List Placed → ℕ → ℕ
+place_of [] end = end
+place_of (t ∷ ts) end = t.place
+
+-- a text whose tokens have this first fault, before these that are left
+pub record StopsAt (bytes : List ℕ) (fault : Fault) (left : List Placed) : Type 0 where
+  pub short : length bytes ≤ 65536
+  pub front : List Placed
+  pub cut : cut_of bytes ≡ Ok (front ++ left)
+  pub first : FirstFault (symbols (front ++ left)) fault (symbols left)
+
+-- the first fault of a text; want of memory may come before it
+abbrev pub IsFirstFault : List ℕ → QueryFault → Type 0
+IsFirstFault bytes faults.OutOfMemory = Unit {0}
+IsFirstFault bytes faults.TooLong = 65536 < length bytes
+IsFirstFault bytes (faults.Unexpected place) = (left : List Placed) × StopsAt bytes Unexpected left × (place ≡ place_of left (length bytes))
+IsFirstFault bytes faults.TooDeep = (left : List Placed) × StopsAt bytes TooDeep left
+IsFirstFault bytes faults.TooMany = (left : List Placed) × StopsAt bytes TooMany left
+IsFirstFault bytes fault = (length bytes ≤ 65536) × (cut_of bytes ≡ Err fault)

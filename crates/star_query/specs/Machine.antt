@@ -1,0 +1,465 @@
+-- A machine that reads one symbol after another. It is no part of the claim: the parser is shown to go with it, and it with the grammar.
+use Rattle.std.specs.Prelude.{ℕ, ◌+◌, nat_lt, Bool, true, false, ◌||◌, List, [], ◌∷◌, length, Option, Some, None, if◌then◌else◌}
+use Rattle.star_query.specs.declared.token.Keyword.TheVariants as k
+use Rattle.star_query.specs.declared.token.Sign.TheVariants as s
+use Rattle.star_query.specs.declared.token.Additive.{Additive}
+use Rattle.star_query.specs.declared.token.Additive.TheVariants.{Minus}
+use Rattle.star_query.specs.declared.token.Fold.{Fold}
+use Rattle.star_query.specs.declared.token.Relation.{Relation}
+use Rattle.star_query.specs.declared.token.Relation.TheVariants as r
+use Rattle.star_query.specs.declared.counts.Part.{Part}
+use Rattle.star_query.specs.declared.counts.Part.TheVariants as part
+use Rattle.star_query.specs.declared.counts.Counts.{Counts}
+use Rattle.star_query.specs.declared.fault.Fault.{Fault}
+use Rattle.star_query.specs.declared.fault.Fault.TheVariants.{Unexpected, TooDeep, TooMany}
+use Rattle.star_query.specs.Symbols.{Symbol, keyword, fold, count, relation, sign, additive, name, number, text}
+use Rattle.star_query.specs.Tree.{Name}
+use Rattle.star_query.specs.Grammar.{Several, one, more, Expr, lone_term, joined, Term, lone_factor, times, Factor, column, constant, negative, parens, Lit, whole, negated, quoted, Cond, lone_conj, or_conj, Conj, lone_unit, and_unit, Unary, not_unit, group, pair, compare, between, Agg, folded, counted, Item, plain, aggregate, Key, unmarked, ascending, descending, Groups, ungrouped, grouped, cubed, Query, Mark, at, first, function}
+use Rattle.star_query.specs.Derives.{limit}
+
+-- one more behind these, if there are any
+abbrev pub extended : {A : Type 0} → Option (Several A) → A → Several A
+extended None x = one x
+extended (Some xs) x = more xs x
+
+-- what stands to the left of a phrase that is to come
+mutual
+  pub data ExprHole : Type 0 where
+    in_fold : Option (Several Item) → Fold → (place : ℕ) → ExprHole
+    in_parens : FactorHole → ExprHole
+
+  pub data TermHole : Type 0 where
+    first_term : ExprHole → TermHole
+    next_term : Expr → Additive → ExprHole → TermHole
+
+  pub data FactorHole : Type 0 where
+    first_factor : TermHole → FactorHole
+    next_factor : Term → TermHole → FactorHole
+
+mutual
+  pub data CondHole : Type 0 where
+    in_where : Several Item → Several Name → CondHole
+    in_group : UnitHole → CondHole
+
+  pub data ConjHole : Type 0 where
+    first_conj : CondHole → ConjHole
+    next_conj : Cond → CondHole → ConjHole
+
+  pub data UnitHole : Type 0 where
+    first_unit : ConjHole → UnitHole
+    next_unit : Conj → ConjHole → UnitHole
+    under_not : UnitHole → UnitHole
+
+pub data LitHole : Type 0 where
+  compared : UnitHole → Name → Relation → LitHole
+  low : UnitHole → Name → LitHole
+  high : UnitHole → Name → Lit → LitHole
+
+-- the clauses up to WHERE
+pub record Filtered : Type 0 where
+  pub items : Several Item
+  pub tables : Several Name
+  pub condition : Option Cond
+
+-- the clauses up to GROUP BY
+pub record Grouped : Type 0 where
+  pub filtered : Filtered
+  pub groups : Groups
+
+abbrev pub filtered_by : Several Item → Several Name → Option Cond → Filtered
+filtered_by is ts c = record { items = is; tables = ts; condition = c }
+
+abbrev pub grouped_by : Filtered → Groups → Grouped
+grouped_by f g = record { filtered = f; groups = g }
+
+abbrev pub query_of : Grouped → Option (Several Key) → Bool → Query
+query_of g ks end =
+    record { items = g.filtered.items; tables = g.filtered.tables; condition = g.filtered.condition; groups = g.groups; keys = ks; semicolon = end }
+
+abbrev mutual
+  pub expr_depth : ExprHole → ℕ
+  expr_depth (in_fold b f p) = 0
+  expr_depth (in_parens h) = factor_depth h + 1
+
+  pub term_depth : TermHole → ℕ
+  term_depth (first_term h) = expr_depth h
+  term_depth (next_term e q h) = expr_depth h
+
+  pub factor_depth : FactorHole → ℕ
+  factor_depth (first_factor h) = term_depth h
+  factor_depth (next_factor t h) = term_depth h
+
+abbrev mutual
+  pub cond_depth : CondHole → ℕ
+  cond_depth (in_where is ts) = 0
+  cond_depth (in_group h) = unit_depth h + 1
+
+  pub conj_depth : ConjHole → ℕ
+  conj_depth (first_conj h) = cond_depth h
+  conj_depth (next_conj a h) = cond_depth h
+
+  pub unit_depth : UnitHole → ℕ
+  unit_depth (first_unit h) = conj_depth h
+  unit_depth (next_unit c h) = conj_depth h
+  unit_depth (under_not h) = unit_depth h + 1
+
+abbrev pub lit_depth : LitHole → ℕ
+lit_depth (compared h i q) = unit_depth h
+lit_depth (low h i) = unit_depth h
+lit_depth (high h i l) = unit_depth h
+
+-- what was read last, or is to be read next
+pub data State : Type 0 where
+  begin : State
+  item_wanted : Option (Several Item) → State
+  fold_named : Option (Several Item) → Fold → (place : ℕ) → State
+  count_named count_opened count_starred : Option (Several Item) → (place : ℕ) → State
+  factor_wanted factor_negative : FactorHole → State
+  term_had : Term → TermHole → State
+  agg_had alias_wanted : Option (Several Item) → Agg → State
+  items_had : Several Item → State
+  table_wanted : Several Item → Option (Several Name) → State
+  tables_had : Several Item → Several Name → State
+  unit_wanted : UnitHole → State
+  unit_named equal_had : UnitHole → Name → State
+  lit_wanted lit_negative : LitHole → State
+  low_had : UnitHole → Name → Lit → State
+  conj_had : Conj → ConjHole → State
+  filtered_had group_had by_had cube_had : Filtered → State
+  column_wanted : Filtered → (cube : Bool) → Option (Several Name) → State
+  columns_had : Filtered → (cube : Bool) → Several Name → State
+  grouped_had order_had : Grouped → State
+  key_wanted : Grouped → Option (Several Key) → State
+  key_named : Grouped → Option (Several Key) → Name → State
+  keys_had : Grouped → Several Key → State
+  done ended : Grouped → Option (Several Key) → State
+
+pub record Step : Type 0 where
+  pub next : State
+  pub at : Mark
+
+abbrev pub to : State → Mark → Option Step
+to next m = Some (record { next = next; at = m })
+
+abbrev pub named : List ℕ → ℕ → Name
+named t p = record { text = t; place = p }
+
+abbrev pub give_factor : Factor → FactorHole → State
+give_factor f (first_factor h) = term_had (lone_factor f) h
+give_factor f (next_factor t h) = term_had (times t f) h
+
+abbrev pub joined_expr : Term → TermHole → Expr
+joined_expr t (first_term h) = lone_term t
+joined_expr t (next_term e q h) = joined e q t
+
+abbrev pub around_term : TermHole → ExprHole
+around_term (first_term h) = h
+around_term (next_term e q h) = h
+
+-- an expression was read
+abbrev pub expr_had : Expr → ExprHole → State
+expr_had (lone_term t) h = term_had t (first_term h)
+expr_had (joined e q t) h = term_had t (next_term e q h)
+
+abbrev pub give_unit : Unary → UnitHole → State
+give_unit u (first_unit h) = conj_had (lone_unit u) h
+give_unit u (next_unit c h) = conj_had (and_unit c u) h
+give_unit u (under_not h) = give_unit (not_unit u) h
+
+abbrev pub joined_cond : Conj → ConjHole → Cond
+joined_cond c (first_conj h) = lone_conj c
+joined_cond c (next_conj a h) = or_conj a c
+
+abbrev pub around_conj : ConjHole → CondHole
+around_conj (first_conj h) = h
+around_conj (next_conj a h) = h
+
+-- a condition was read
+abbrev pub cond_had : Cond → CondHole → State
+cond_had (lone_conj c) h = conj_had c (first_conj h)
+cond_had (or_conj a c) h = conj_had c (next_conj a h)
+
+abbrev pub give_lit : Lit → LitHole → State
+give_lit l (compared h i q) = give_unit (compare i q l) h
+give_lit l (low h i) = low_had h i l
+give_lit l (high h i m) = give_unit (between i m l) h
+
+abbrev pub on_begin : Symbol → Option Step
+on_begin (keyword k.Select) = to (item_wanted None) (at 0 (keyword k.Select))
+on_begin x = None
+
+abbrev pub on_item : Option (Several Item) → Symbol → Option Step
+on_item b (name t p) = to (items_had (extended b (plain (named t p)))) (first (part.Item ∷ []) 0 (name t p))
+on_item b (fold f p) = to (fold_named b f p) (function (fold f p))
+on_item b (count p) = to (count_named b p) (function (count p))
+on_item b x = None
+
+abbrev pub on_fold : Option (Several Item) → Fold → ℕ → Symbol → Option Step
+on_fold b f p (sign s.Open) = to (factor_wanted (first_factor (first_term (in_fold b f p)))) (at 0 (sign s.Open))
+on_fold b f p x = None
+
+abbrev pub on_count : Option (Several Item) → ℕ → Symbol → Option Step
+on_count b p (sign s.Open) = to (count_opened b p) (at 0 (sign s.Open))
+on_count b p x = None
+
+abbrev pub on_count_opened : Option (Several Item) → ℕ → Symbol → Option Step
+on_count_opened b p (sign s.Star) = to (count_starred b p) (at 0 (sign s.Star))
+on_count_opened b p x = None
+
+abbrev pub on_count_starred : Option (Several Item) → ℕ → Symbol → Option Step
+on_count_starred b p (sign s.Close) = to (agg_had b (counted p)) (at 0 (sign s.Close))
+on_count_starred b p x = None
+
+abbrev pub on_factor : FactorHole → Symbol → Option Step
+on_factor h (name t p) = to (give_factor (column (named t p)) h) (first (part.Operand ∷ []) (factor_depth h) (name t p))
+on_factor h (number n) = to (give_factor (constant n) h) (first (part.Operand ∷ []) (factor_depth h) (number n))
+on_factor h (additive Minus) = to (factor_negative h) (at (factor_depth h) (additive Minus))
+on_factor h (sign s.Open) = to (factor_wanted (first_factor (first_term (in_parens h)))) (at (factor_depth h + 1) (sign s.Open))
+on_factor h x = None
+
+abbrev pub on_negative : FactorHole → Symbol → Option Step
+on_negative h (number n) = to (give_factor (negative n) h) (first (part.Operand ∷ []) (factor_depth h) (number n))
+on_negative h x = None
+
+abbrev pub closed_expr : Expr → ExprHole → Option Step
+closed_expr e (in_fold b f p) = to (agg_had b (folded f p e)) (at 0 (sign s.Close))
+closed_expr e (in_parens h) = to (give_factor (parens e) h) (at (factor_depth h + 1) (sign s.Close))
+
+abbrev pub on_term : Term → TermHole → Symbol → Option Step
+on_term t h (sign s.Star) = to (factor_wanted (next_factor t h)) (at (term_depth h) (sign s.Star))
+on_term t h (additive q) = to (factor_wanted (first_factor (next_term (joined_expr t h) q (around_term h)))) (at (term_depth h) (additive q))
+on_term t h (sign s.Close) = closed_expr (joined_expr t h) (around_term h)
+on_term t h x = None
+
+abbrev pub on_items : Several Item → Symbol → Option Step
+on_items is (sign s.Comma) = to (item_wanted (Some is)) (at 0 (sign s.Comma))
+on_items is (keyword k.From) = to (table_wanted is None) (at 0 (keyword k.From))
+on_items is x = None
+
+abbrev pub on_agg : Option (Several Item) → Agg → Symbol → Option Step
+on_agg b a (keyword k.As) = to (alias_wanted b a) (at 0 (keyword k.As))
+on_agg b a x = on_items (extended b (aggregate a None)) x
+
+abbrev pub on_alias : Option (Several Item) → Agg → Symbol → Option Step
+on_alias b a (name t p) = to (items_had (extended b (aggregate a (Some (named t p))))) (at 0 (name t p))
+on_alias b a x = None
+
+abbrev pub on_table : Several Item → Option (Several Name) → Symbol → Option Step
+on_table is b (name t p) = to (tables_had is (extended b (named t p))) (at 0 (name t p))
+on_table is b x = None
+
+abbrev pub on_done : Grouped → Option (Several Key) → Symbol → Option Step
+on_done g ks (sign s.Semicolon) = to (ended g ks) (at 0 (sign s.Semicolon))
+on_done g ks x = None
+
+abbrev pub on_grouped : Grouped → Symbol → Option Step
+on_grouped g (keyword k.Order) = to (order_had g) (at 0 (keyword k.Order))
+on_grouped g x = on_done g None x
+
+abbrev pub on_filtered : Filtered → Symbol → Option Step
+on_filtered f (keyword k.Group) = to (group_had f) (at 0 (keyword k.Group))
+on_filtered f x = on_grouped (grouped_by f ungrouped) x
+
+abbrev pub on_tables : Several Item → Several Name → Symbol → Option Step
+on_tables is ts (sign s.Comma) = to (table_wanted is (Some ts)) (at 0 (sign s.Comma))
+on_tables is ts (keyword k.Where) = to (unit_wanted (first_unit (first_conj (in_where is ts)))) (at 0 (keyword k.Where))
+on_tables is ts x = on_filtered (filtered_by is ts None) x
+
+abbrev pub on_unit : UnitHole → Symbol → Option Step
+on_unit h (name t p) = to (unit_named h (named t p)) (first (part.Comparison ∷ []) (unit_depth h) (name t p))
+on_unit h (keyword k.Not) = to (unit_wanted (under_not h)) (first (part.Comparison ∷ []) (unit_depth h + 1) (keyword k.Not))
+on_unit h (sign s.Open) = to (unit_wanted (first_unit (first_conj (in_group h)))) (at (unit_depth h + 1) (sign s.Open))
+on_unit h x = None
+
+-- an equals sign may stand before a name too
+abbrev pub behind_relation : UnitHole → Name → Relation → State
+behind_relation h i r.Equal = equal_had h i
+behind_relation h i q = lit_wanted (compared h i q)
+
+abbrev pub on_named : UnitHole → Name → Symbol → Option Step
+on_named h i (relation q) = to (behind_relation h i q) (at (unit_depth h) (relation q))
+on_named h i (keyword k.Between) = to (lit_wanted (low h i)) (at (unit_depth h) (keyword k.Between))
+on_named h i x = None
+
+abbrev pub on_lit : LitHole → Symbol → Option Step
+on_lit h (number n) = to (give_lit (whole n) h) (at (lit_depth h) (number n))
+on_lit h (text t) = to (give_lit (quoted t) h) (at (lit_depth h) (text t))
+on_lit h (additive Minus) = to (lit_negative h) (at (lit_depth h) (additive Minus))
+on_lit h x = None
+
+abbrev pub on_equal : UnitHole → Name → Symbol → Option Step
+on_equal h i (name t p) = to (give_unit (pair i (named t p)) h) (at (unit_depth h) (name t p))
+on_equal h i x = on_lit (compared h i r.Equal) x
+
+abbrev pub on_lit_negative : LitHole → Symbol → Option Step
+on_lit_negative h (number n) = to (give_lit (negated n) h) (at (lit_depth h) (number n))
+on_lit_negative h x = None
+
+abbrev pub on_low : UnitHole → Name → Lit → Symbol → Option Step
+on_low h i l (keyword k.And) = to (lit_wanted (high h i l)) (at (unit_depth h) (keyword k.And))
+on_low h i l x = None
+
+abbrev pub closed_cond : Cond → UnitHole → Symbol → Option Step
+closed_cond a h (sign s.Close) = to (give_unit (group a) h) (at (unit_depth h + 1) (sign s.Close))
+closed_cond a h x = None
+
+abbrev pub on_cond : Cond → CondHole → Symbol → Option Step
+on_cond a (in_where is ts) x = on_filtered (filtered_by is ts (Some a)) x
+on_cond a (in_group h) x = closed_cond a h x
+
+abbrev pub on_conj : Conj → ConjHole → Symbol → Option Step
+on_conj c h (keyword k.And) = to (unit_wanted (next_unit c h)) (at (conj_depth h) (keyword k.And))
+on_conj c h (keyword k.Or) = to (unit_wanted (first_unit (next_conj (joined_cond c h) (around_conj h)))) (at (conj_depth h) (keyword k.Or))
+on_conj c h x = on_cond (joined_cond c h) (around_conj h) x
+
+abbrev pub on_group : Filtered → Symbol → Option Step
+on_group f (keyword k.By) = to (by_had f) (at 0 (keyword k.By))
+on_group f x = None
+
+abbrev pub on_column : Filtered → Bool → Option (Several Name) → Symbol → Option Step
+on_column f cube b (name t p) = to (columns_had f cube (extended b (named t p))) (first (part.GroupColumn ∷ []) 0 (name t p))
+on_column f cube b x = None
+
+abbrev pub on_by : Filtered → Symbol → Option Step
+on_by f (keyword k.Cube) = to (cube_had f) (at 0 (keyword k.Cube))
+on_by f x = on_column f false None x
+
+abbrev pub on_cube : Filtered → Symbol → Option Step
+on_cube f (sign s.Open) = to (column_wanted f true None) (at 0 (sign s.Open))
+on_cube f x = None
+
+abbrev pub on_cubed : Filtered → Several Name → Symbol → Option Step
+on_cubed f is (sign s.Close) = to (grouped_had (grouped_by f (cubed is))) (at 0 (sign s.Close))
+on_cubed f is x = None
+
+abbrev pub on_columns : Filtered → Bool → Several Name → Symbol → Option Step
+on_columns f cube is (sign s.Comma) = to (column_wanted f cube (Some is)) (at 0 (sign s.Comma))
+on_columns f true is x = on_cubed f is x
+on_columns f false is x = on_grouped (grouped_by f (grouped is)) x
+
+abbrev pub on_order : Grouped → Symbol → Option Step
+on_order g (keyword k.By) = to (key_wanted g None) (at 0 (keyword k.By))
+on_order g x = None
+
+abbrev pub on_key : Grouped → Option (Several Key) → Symbol → Option Step
+on_key g b (name t p) = to (key_named g b (named t p)) (first (part.SortKey ∷ []) 0 (name t p))
+on_key g b x = None
+
+abbrev pub on_keys : Grouped → Several Key → Symbol → Option Step
+on_keys g ks (sign s.Comma) = to (key_wanted g (Some ks)) (at 0 (sign s.Comma))
+on_keys g ks x = on_done g (Some ks) x
+
+abbrev pub on_key_named : Grouped → Option (Several Key) → Name → Symbol → Option Step
+on_key_named g b i (keyword k.Asc) = to (keys_had g (extended b (ascending i))) (at 0 (keyword k.Asc))
+on_key_named g b i (keyword k.Desc) = to (keys_had g (extended b (descending i))) (at 0 (keyword k.Desc))
+on_key_named g b i x = on_keys g (extended b (unmarked i)) x
+
+abbrev pub step : State → Symbol → Option Step
+step begin x = on_begin x
+step (item_wanted b) x = on_item b x
+step (fold_named b f p) x = on_fold b f p x
+step (count_named b p) x = on_count b p x
+step (count_opened b p) x = on_count_opened b p x
+step (count_starred b p) x = on_count_starred b p x
+step (factor_wanted h) x = on_factor h x
+step (factor_negative h) x = on_negative h x
+step (term_had t h) x = on_term t h x
+step (agg_had b a) x = on_agg b a x
+step (alias_wanted b a) x = on_alias b a x
+step (items_had is) x = on_items is x
+step (table_wanted is b) x = on_table is b x
+step (tables_had is ts) x = on_tables is ts x
+step (unit_wanted h) x = on_unit h x
+step (unit_named h i) x = on_named h i x
+step (equal_had h i) x = on_equal h i x
+step (lit_wanted h) x = on_lit h x
+step (lit_negative h) x = on_lit_negative h x
+step (low_had h i l) x = on_low h i l x
+step (conj_had c h) x = on_conj c h x
+step (filtered_had f) x = on_filtered f x
+step (group_had f) x = on_group f x
+step (by_had f) x = on_by f x
+step (cube_had f) x = on_cube f x
+step (column_wanted f cube b) x = on_column f cube b x
+step (columns_had f cube is) x = on_columns f cube is x
+step (grouped_had g) x = on_grouped g x
+step (order_had g) x = on_order g x
+step (key_wanted g b) x = on_key g b x
+step (key_named g b i) x = on_key_named g b i x
+step (keys_had g ks) x = on_keys g ks x
+step (done g ks) x = on_done g ks x
+step (ended g ks) x = None
+
+-- the query that was read, where one may end
+abbrev pub cond_end : Cond → CondHole → Option Query
+cond_end a (in_where is ts) = Some (query_of (grouped_by (filtered_by is ts (Some a)) ungrouped) None false)
+cond_end a (in_group h) = None
+
+abbrev pub at_end : State → Option Query
+at_end (tables_had is ts) = Some (query_of (grouped_by (filtered_by is ts None) ungrouped) None false)
+at_end (conj_had c h) = cond_end (joined_cond c h) (around_conj h)
+at_end (filtered_had f) = Some (query_of (grouped_by f ungrouped) None false)
+at_end (columns_had f false is) = Some (query_of (grouped_by f (grouped is)) None false)
+at_end (grouped_had g) = Some (query_of g None false)
+at_end (key_named g b i) = Some (query_of g (Some (extended b (unmarked i))) false)
+at_end (keys_had g ks) = Some (query_of g (Some ks) false)
+at_end (done g ks) = Some (query_of g ks false)
+at_end (ended g ks) = Some (query_of g ks true)
+at_end _ = None
+
+pub data Verdict : Type 0 where
+  Whole : Query → Verdict
+  Bad : Fault → List Symbol → Verdict
+
+abbrev pub number_of : Counts → Part → ℕ
+number_of n part.Item = n.items
+number_of n part.Aggregate = n.aggregates
+number_of n part.GroupColumn = n.columns
+number_of n part.SortKey = n.keys
+number_of n part.Comparison = n.comparisons
+number_of n part.Operand = n.operands
+
+-- one more of a part
+abbrev pub bump : Part → Counts → Counts
+bump part.Item n = record n { items = n.items + 1 }
+bump part.Aggregate n = record n { aggregates = n.aggregates + 1 }
+bump part.GroupColumn n = record n { columns = n.columns + 1 }
+bump part.SortKey n = record n { keys = n.keys + 1 }
+bump part.Comparison n = record n { comparisons = n.comparisons + 1 }
+bump part.Operand n = record n { operands = n.operands + 1 }
+
+abbrev pub plus : Counts → List Part → Counts
+plus n [] = n
+plus n (p ∷ ps) = plus (bump p n) ps
+
+abbrev pub is_over : Counts → List Part → Bool
+is_over n [] = false
+is_over n (p ∷ ps) = nat_lt (limit p) (number_of n p) || is_over n ps
+
+abbrev pub is_long : Symbol → Bool
+is_long (name t p) = nat_lt 64 (length t)
+is_long x = false
+
+-- a symbol within the limits, after these counts
+abbrev pub checked : Counts → Mark → List Symbol → (Counts → Verdict) → Verdict
+checked n m left go =
+    if nat_lt 32 m.depth
+    then Bad TooDeep left
+    else if is_over (plus n m.parts) m.parts || is_long m.symbol
+    then Bad TooMany left
+    else go (plus n m.parts)
+
+abbrev pub after : Option Step → Counts → List Symbol → (State → Counts → Verdict) → Verdict
+after None n left go = Bad Unexpected left
+after (Some x) n left go = checked n x.at left (go x.next)
+
+abbrev pub ends : Option Query → Verdict
+ends None = Bad Unexpected []
+ends (Some q) = Whole q
+
+abbrev pub run : List Symbol → State → Counts → Verdict
+run [] at n = ends (at_end at)
+run (x ∷ xs) at n = after (step at x) n (x ∷ xs) (run xs)
+
+abbrev pub nothing_counted : Counts
+nothing_counted = record { items = 0; aggregates = 0; columns = 0; keys = 0; comparisons = 0; operands = 0 }

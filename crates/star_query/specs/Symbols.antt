@@ -1,0 +1,72 @@
+-- The symbols of a query: its tokens, of which names and functions keep their place.
+use Rattle.std.specs.Prelude.{ℕ, List, [], ◌∷◌, Bool, true, false, ◌==◌, codes, map}
+use Rattle.std.specs.Char.{to_ascii_lowercase}
+use Rattle.star_query.specs.declared.token.Keyword.{Keyword}
+use Rattle.star_query.specs.declared.token.Keyword.TheVariants as k
+use Rattle.star_query.specs.declared.token.Fold.{Fold}
+use Rattle.star_query.specs.declared.token.Fold.TheVariants as folds
+use Rattle.star_query.specs.declared.token.Relation.{Relation}
+use Rattle.star_query.specs.declared.token.Sign.{Sign}
+use Rattle.star_query.specs.declared.token.Additive.{Additive}
+use Rattle.star_query.specs.declared.token.Word.{Word}
+use Rattle.star_query.specs.declared.token.Word.TheVariants as words
+
+pub data Symbol : Type 0 where
+  keyword : Keyword → Symbol
+  fold : Fold → (place : ℕ) → Symbol
+  count : (place : ℕ) → Symbol
+  relation : Relation → Symbol
+  sign : Sign → Symbol
+  additive : Additive → Symbol
+  name : (text : List ℕ) → (place : ℕ) → Symbol
+  number : ℕ → Symbol
+  text : List ℕ → Symbol
+
+-- a symbol, and where its token begins
+pub record Placed : Type 0 where
+  pub symbol : Symbol
+  pub place : ℕ
+
+abbrev pub symbols : List Placed → List Symbol
+symbols tokens = map (λ t. t.symbol) tokens
+
+-- how a reserved word is written
+unfoldable pub spelling : Word → List ℕ
+spelling (words.Keyword k.Select) = codes "select"
+spelling (words.Keyword k.From) = codes "from"
+spelling (words.Keyword k.Where) = codes "where"
+spelling (words.Keyword k.Group) = codes "group"
+spelling (words.Keyword k.By) = codes "by"
+spelling (words.Keyword k.Order) = codes "order"
+spelling (words.Keyword k.As) = codes "as"
+spelling (words.Keyword k.And) = codes "and"
+spelling (words.Keyword k.Or) = codes "or"
+spelling (words.Keyword k.Not) = codes "not"
+spelling (words.Keyword k.Between) = codes "between"
+spelling (words.Keyword k.Cube) = codes "cube"
+spelling (words.Keyword k.Rollup) = codes "rollup"
+spelling (words.Keyword k.Asc) = codes "asc"
+spelling (words.Keyword k.Desc) = codes "desc"
+spelling (words.Fold folds.Sum) = codes "sum"
+spelling (words.Fold folds.Min) = codes "min"
+spelling (words.Fold folds.Max) = codes "max"
+spelling words.Count = codes "count"
+
+abbrev pub word_symbol : Word → ℕ → Symbol
+word_symbol (words.Keyword w) place = keyword w
+word_symbol (words.Fold f) place = fold f place
+word_symbol words.Count place = count place
+
+-- letters in lower case
+abbrev pub lowered : List ℕ → List ℕ
+lowered word = map to_ascii_lowercase word
+
+-- of two quotes in a row the second is left out
+abbrev pub unquoted_after : (a_quote : Bool) → List ℕ → List ℕ
+unquoted_after q [] = []
+unquoted_after true (b ∷ bs) = unquoted_after false bs
+unquoted_after false (b ∷ bs) = b ∷ unquoted_after (b == 39) bs
+
+-- what a text says, of whose quotes each is doubled
+abbrev pub unquoted : List ℕ → List ℕ
+unquoted inside = unquoted_after false inside

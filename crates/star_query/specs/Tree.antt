@@ -1,0 +1,54 @@
+-- The tree of a query, without where it lies in memory.
+use Rattle.std.specs.Prelude.{ℕ, ℤ, List, Option}
+use Rattle.star_query.specs.declared.token.Fold.{Fold}
+use Rattle.star_query.specs.declared.token.Relation.{Relation}
+use Rattle.star_query.specs.declared.tree.Shape.{Shape}
+use Rattle.star_query.specs.declared.tree.Direction.{Direction}
+
+pub record Name : Type 0 where
+  pub text : List ℕ
+  pub place : ℕ
+
+pub data Literal : Type 0 where
+  number : ℤ → Literal
+  text : List ℕ → Literal
+
+pub data Expression : Type 0 where
+  column : Name → Expression
+  constant : ℤ → Expression
+  add sub mul : Expression → Expression → Expression
+
+pub data Condition : Type 0 where
+  either both : Condition → Condition → Condition
+  negation : Condition → Condition
+  pair : Name → Name → Condition
+  compare : Name → Relation → Literal → Condition
+  between : Name → Literal → Literal → Condition
+
+pub data Measure : Type 0 where
+  fold : Fold → Expression → Measure
+  count : Measure
+
+pub record Aggregate : Type 0 where
+  pub measure : Measure
+  pub place : ℕ
+  pub name : Option Name
+
+pub data Item : Type 0 where
+  plain : Name → Item
+  aggregate : Aggregate → Item
+
+pub record Grouping : Type 0 where
+  pub shape : Shape
+  pub columns : List Name
+
+pub record SortKey : Type 0 where
+  pub name : Name
+  pub direction : Direction
+
+pub record Tree : Type 0 where
+  pub items : List Item
+  pub tables : List Name
+  pub condition : Option Condition
+  pub grouping : Grouping
+  pub keys : List SortKey

@@ -1,0 +1,51 @@
+// Why a text is no query.
+
+ghost use Rattle.std.specs.Prelude.{◌≡◌};
+ghost use Rattle.star_query.specs.declared.fault.QueryFault.TheVariants.{OutOfMemory};
+
+use std::alloc::{AllocError, AllocFailed};
+
+/// The first fault of a text. A place counts bytes from 0, and the end of the text has the text's length as its place.
+#[derive(Clone, Copy, Debug, PartialEq, Eq)]
+pub enum QueryFault {
+    /// Memory was refused. It may come before any other fault.
+    OutOfMemory,
+    /// The text has more than 65,536 bytes.
+    TooLong,
+    /// No token begins with this byte, or it may not stand in a text.
+    BadCharacter { at: usize },
+    /// A number of more than 18 digits, or one that a letter or `_` follows.
+    BadNumber { at: usize },
+    /// A text that isn't closed.
+    OpenText { at: usize },
+    /// No query goes on with this token, or none ends here.
+    Unexpected { at: usize },
+    /// More than 32 nested `not`s and parentheses.
+    TooDeep,
+    /// Too many things of a kind, or too long a name.
+    TooMany,
+}
+
+impl From<AllocError> for QueryFault {
+    ghost from_gives = { λ _ fault. fault ≡ OutOfMemory };
+
+    fn from(_refused: AllocError) -> QueryFault {
+        QueryFault::OutOfMemory
+    }
+}
+
+impl<T: Drop> From<AllocFailed<T>> for QueryFault {
+    ghost from_gives = { λ _ fault. fault ≡ OutOfMemory };
+
+    fn from(_refused: AllocFailed<T>) -> QueryFault {
+        QueryFault::OutOfMemory
+    }
+}
+
+/// A fault of the grammar or of its limits.
+#[derive(Clone, Copy, PartialEq, Eq)]
+pub(crate) enum Fault {
+    Unexpected,
+    TooDeep,
+    TooMany,
+}

@@ -1,0 +1,353 @@
+// A text cut into tokens.
+
+ghost use Rattle.std.specs.Prelude.{◌≡◌, ◌≤◌, ◌<◌, ◌+◌, ◌-◌, ◌*◌, ◌^◌, ◌&&◌, drop, length, slice_get, IfOk, Ok, Some, None, Option, IsTrue, false, true, ℕ, slice_index, IfErr, option_to_list, max, map, Err};
+ghost use Rattle.std.specs.List.{prefix_len, take_while, list_all};
+ghost use Rattle.std.specs.Char.{is_ascii_digit};
+ghost use Rattle.star_query.specs.Cut as spec;
+ghost use Rattle.star_query.specs.Lexed as lexed;
+
+use crate::fault::QueryFault;
+use crate::token::{Additive, Digits, Kind, Relation, Sign, Token, WORDS, Word};
+use std::alloc::Global;
+
+// The most digits of a number.
+const MAX_DIGITS: usize = 18;
+
+// What begins at a place.
+#[derive(Clone, Copy)]
+enum Piece<'a> {
+    Blank,
+    Token(Kind<'a>, usize),
+    Bad(QueryFault),
+}
+
+// How a text ends: by its closing quote, behind this many bytes; at a byte that may not stand in it; or not at all.
+#[derive(Clone, Copy)]
+enum Ending {
+    Closed(usize),
+    Stopped(usize),
+    Open,
+}
+
+fn is_blank(byte: u8) -> bool
+    ensures { result ≡ spec.is_blank byte }
+{
+    byte == b' ' || byte == b'\t' || byte == b'\r' || byte == b'\n'
+}
+
+fn is_letter(byte: u8) -> bool
+    ensures { result ≡ spec.is_letter byte }
+{
+    byte.is_ascii_alphabetic() || byte == b'_'
+}
+
+fn is_word_byte(byte: u8) -> bool
+    ensures { result ≡ spec.is_word_byte byte }
+{
+    is_letter(byte) || byte.is_ascii_digit()
+}
+
+fn is_printed(byte: u8) -> bool
+    ensures { result ≡ spec.is_printed byte }
+{
+    (b' '..=b'~').contains(&byte)
+}
+
+// Whether a word is this reserved word, in any case.
+fn is_spelled(reserved: Word, word: &[u8]) -> bool
+    ensures { result ≡ spec.is_spelled word.now reserved }
+{
+    let spelling = reserved.spelling().as_bytes();
+    spelling.eq_ignore_ascii_case(word)
+}
+
+// The reserved word that a word is, in any case.
+#[tactic(auto, unfolding(crate::specs::Cut::reserved))]
+fn reserved_word(word: &[u8]) -> Option<Word>
+    ensures { result ≡ spec.reserved word.now }
+{
+    WORDS
+        .iter()
+        .copied()
+        .find(|reserved| is_spelled(*reserved, word))
+}
+
+#[tactic(auto, using(crate::proofs::Lexing::prefix_within))]
+fn digits_width(text: &[u8]) -> usize
+    ensures width { result ≡ prefix_len is_ascii_digit text.now }
+    ensures within { result ≤ length text.now }
+{
+    text.iter().take_while(|byte| byte.is_ascii_digit()).count()
+}
+
+#[tactic(auto, using(crate::proofs::Lexing::prefix_within))]
+fn word_width(text: &[u8]) -> usize
+    ensures width { result ≡ prefix_len spec.is_word_byte text.now }
+    ensures within { result ≤ length text.now }
+{
+    text.iter().take_while(|byte| is_word_byte(**byte)).count()
+}
+
+fn digit_value(digit: u8) -> u64
+    requires { is_ascii_digit digit ≡ true }
+    ensures value { result ≡ digit - 48 }
+    ensures digit { result < 10 }
+{
+    u64::from(digit - b'0')
+}
+
+// The value of digits.
+fn value_of(digits: &[u8]) -> u64
+    requires few { length digits.now ≤ 18 }
+    requires digits { (k : ℕ) → k < length digits.now → is_ascii_digit (slice_index digits.now k) ≡ true }
+    ensures value { result ≡ spec.value_after 0 digits.now }
+    ensures few { result < 10 ^ 18 }
+{
+    let mut value = 0;
+    for digit in digits {
+        value = 10 * value + digit_value(*digit);
+    }
+    value
+}
+
+// Whether a text goes on with a byte, and whether it then ends unless a quote follows.
+fn goes_on(quote: bool, byte: u8) -> Option<bool>
+    ensures { result ≡ spec.goes_on quote byte }
+{
+    if quote {
+        if byte == b'\'' { Some(false) } else { None }
+    } else if byte == b'\'' {
+        Some(true)
+    } else if is_printed(byte) {
+        Some(false)
+    } else {
+        None
+    }
+}
+
+// How a text ends, from behind its opening quote.
+fn end_of_text(text: &[u8]) -> Ending
+    ensures ending { lexed.ending_of result ≡ spec.ending_after false text.now }
+    ensures within { lexed.EndsWithin result (length text.now) }
+{
+    let mut quote = false;
+    for (i, byte) in text.iter().enumerate() {
+        let Some(next) = goes_on(quote, *byte) else {
+            return if quote {
+                Ending::Closed(i)
+            } else {
+                Ending::Stopped(i)
+            };
+        };
+        quote = next;
+    }
+    if quote {
+        Ending::Closed(text.len())
+    } else {
+        Ending::Open
+    }
+}
+
+// A sign, the longest that fits, and how many bytes it has.
+fn sign<'a>(byte: u8, next: Option<u8>, place: usize) -> Piece<'a>
+    ensures piece { lexed.piece_of place result ≡ spec.sign_piece place byte next }
+    ensures some { 1 ≤ lexed.width_of result }
+    ensures within { lexed.width_of result ≤ 1 + length (option_to_list next) }
+{
+    match byte {
+        b',' => Piece::Token(Kind::Sign(Sign::Comma), 1),
+        b'(' => Piece::Token(Kind::Sign(Sign::Open), 1),
+        b')' => Piece::Token(Kind::Sign(Sign::Close), 1),
+        b'*' => Piece::Token(Kind::Sign(Sign::Star), 1),
+        b'+' => Piece::Token(Kind::Additive(Additive::Plus), 1),
+        b'-' => Piece::Token(Kind::Additive(Additive::Minus), 1),
+        b';' => Piece::Token(Kind::Sign(Sign::Semicolon), 1),
+        b'=' => Piece::Token(Kind::Relation(Relation::Equal), 1),
+        b'<' => match next {
+            Some(b'=') => Piece::Token(Kind::Relation(Relation::AtMost), 2),
+            Some(b'>') => Piece::Token(Kind::Relation(Relation::Unequal), 2),
+            _ => Piece::Token(Kind::Relation(Relation::Less), 1),
+        },
+        b'>' => match next {
+            Some(b'=') => Piece::Token(Kind::Relation(Relation::AtLeast), 2),
+            _ => Piece::Token(Kind::Relation(Relation::Greater), 1),
+        },
+        _ => Piece::Bad(QueryFault::BadCharacter { at: place }),
+    }
+}
+
+fn begins_with_letter(text: &[u8]) -> bool
+    ensures { result ≡ spec.begins_with_letter text.now }
+{
+    match text {
+        [] => false,
+        [first, ..] => is_letter(*first),
+    }
+}
+
+// The longest run of digits as a number.
+#[tactic(auto, using(crate::proofs::Lexing::number_some))]
+fn number<'a>(text: &'a [u8], place: usize) -> Piece<'a>
+    requires { lexed.begins_with_digit text.now ≡ true }
+    ensures piece { lexed.piece_of place result ≡ spec.number_piece place text.now }
+    ensures some { 1 ≤ lexed.width_of result }
+    ensures within { lexed.width_of result ≤ max 1 (length text.now) }
+{
+    let width = digits_width(text);
+    let (digits, rest) = text.split_at(width);
+    if width > MAX_DIGITS || begins_with_letter(rest) {
+        return Piece::Bad(QueryFault::BadNumber { at: place });
+    }
+    let value = value_of(digits);
+    Piece::Token(Kind::Number(Digits { value }), width)
+}
+
+// The longest run of letters, digits and `_`: a reserved word or a name.
+#[tactic(auto, using(crate::proofs::Lexing::word_some))]
+fn word<'a>(text: &'a [u8], place: usize) -> Piece<'a>
+    requires { spec.begins_with_letter text.now ≡ true }
+    ensures piece { lexed.piece_of place result ≡ spec.word_piece place text.now }
+    ensures some { 1 ≤ lexed.width_of result }
+    ensures within { lexed.width_of result ≤ max 1 (length text.now) }
+{
+    let width = word_width(text);
+    let (word, _) = text.split_at(width);
+    let kind = match reserved_word(word) {
+        None => Kind::Name(word),
+        Some(Word::Keyword(keyword)) => Kind::Keyword(keyword),
+        Some(Word::Fold(fold)) => Kind::Fold(fold),
+        Some(Word::Count) => Kind::Count,
+    };
+    Piece::Token(kind, width)
+}
+
+// A text, from behind its opening quote.
+fn quoted<'a>(text: &'a [u8], place: usize) -> Piece<'a>
+    requires { place + 1 + length text.now ≤ usize.MAX }
+    ensures piece { lexed.piece_of place result ≡ spec.text_piece place text.now }
+    ensures some { 1 ≤ lexed.width_of result }
+    ensures within { lexed.width_of result ≤ 1 + length text.now }
+{
+    match end_of_text(text) {
+        Ending::Closed(end) => {
+            let (inside, _) = text.split_at(end - 1);
+            Piece::Token(Kind::Text(inside), end + 1)
+        }
+        Ending::Stopped(end) => Piece::Bad(QueryFault::BadCharacter {
+            at: place + 1 + end,
+        }),
+        Ending::Open => Piece::Bad(QueryFault::OpenText { at: place }),
+    }
+}
+
+// What begins with the first of these bytes.
+fn next_piece<'a>(text: &'a [u8], place: usize) -> Piece<'a>
+    requires { place + length text.now ≤ usize.MAX }
+    ensures piece { lexed.piece_of place result ≡ spec.front_piece place text.now }
+    ensures some { 1 ≤ lexed.width_of result }
+    ensures within { lexed.width_of result ≤ max 1 (length text.now) }
+{
+    let Some((first, rest)) = text.split_first() else {
+        return Piece::Blank;
+    };
+    if is_blank(*first) {
+        Piece::Blank
+    } else if is_letter(*first) {
+        word(text, place)
+    } else if first.is_ascii_digit() {
+        number(text, place)
+    } else if *first == b'\'' {
+        quoted(rest, place)
+    } else {
+        sign(*first, rest.first().copied(), place)
+    }
+}
+
+// The tokens of a text, or its first fault from the left.
+pub(crate) fn tokens_of(alloc: Global, text: &[u8]) -> Result<Vec<Token<'_>>, QueryFault>
+    ensures found { IfOk result (λ tokens. spec.cut_of text.now ≡ Ok (map lexed.placed tokens.items)) }
+    ensures fault { IfErr result (λ fault. lexed.IsCutFault text.now fault) }
+{
+    let mut tokens = Vec::new(alloc);
+    let mut place = 0;
+    while place < text.len() {
+        let (_, left) = text.split_at(place);
+        match next_piece(left, place) {
+            Piece::Blank => place += 1,
+            Piece::Token(kind, width) => {
+                tokens.push(Token { kind, place })?;
+                place += width;
+            }
+            Piece::Bad(fault) => return Err(fault),
+        }
+    }
+    Ok(tokens)
+}
+
+#[cfg(test)]
+mod tests {
+    use super::*;
+
+    // The first fault of a text; none where memory was refused.
+    fn fault_of(alloc: Global, text: &[u8]) -> Option<QueryFault> {
+        match tokens_of(alloc, text) {
+            Ok(_) => None,
+            Err(QueryFault::OutOfMemory) => None,
+            Err(fault) => Some(fault),
+        }
+    }
+
+    fn count_of(alloc: Global, text: &[u8]) -> Option<usize> {
+        match tokens_of(alloc, text) {
+            Ok(tokens) => Some(tokens.len()),
+            Err(_) => None,
+        }
+    }
+
+    #[test]
+    fn numbers_are_digits_alone(rt: HostRuntime) {
+        let mixed = fault_of(rt.alloc(), b"select sum(1x)");
+        assert!(rt; mixed == None || mixed == Some(QueryFault::BadNumber { at: 11 }));
+        let long = fault_of(rt.alloc(), b"= 1234567890123456789");
+        assert!(rt; long == None || long == Some(QueryFault::BadNumber { at: 2 }));
+    }
+
+    #[test]
+    fn bad_bytes_are_told_at_their_place(rt: HostRuntime) {
+        let zero = fault_of(rt.alloc(), b"select count(*)\x00");
+        assert!(rt; zero == None || zero == Some(QueryFault::BadCharacter { at: 15 }));
+        let in_text = fault_of(rt.alloc(), b"'a\n");
+        assert!(rt; in_text == None || in_text == Some(QueryFault::BadCharacter { at: 2 }));
+    }
+
+    #[test]
+    fn open_texts_are_told_where_they_open(rt: HostRuntime) {
+        let open = fault_of(
+            rt.alloc(),
+            b"select count(*) from lineorder where lo_tax = 'a",
+        );
+        assert!(rt; open == None || open == Some(QueryFault::OpenText { at: 46 }));
+        let doubled = fault_of(rt.alloc(), b"'a''");
+        assert!(rt; doubled == None || doubled == Some(QueryFault::OpenText { at: 0 }));
+    }
+
+    #[test]
+    fn the_longest_sign_is_one_token(rt: HostRuntime) {
+        let signs = count_of(rt.alloc(), b"<= >= <> < > =,()*+-;");
+        assert!(rt; signs == None || signs == Some(13));
+    }
+
+    #[test]
+    fn doubled_quotes_stay_in_a_text(rt: HostRuntime) {
+        let one = count_of(rt.alloc(), b"'a''b'");
+        assert!(rt; one == None || one == Some(1));
+        let two = count_of(rt.alloc(), b"'a' 'b'");
+        assert!(rt; two == None || two == Some(2));
+    }
+
+    #[test]
+    fn white_space_parts_tokens(rt: HostRuntime) {
+        let four = count_of(rt.alloc(), b" SeLeCt\ta_1\r\n,\nfrom ");
+        assert!(rt; four == None || four == Some(4));
+    }
+}

@@ -1,0 +1,19 @@
+//! Query texts: their tokens, their grammar, and the tree that a text means.
+//!
+//! What the tokens of a text are, which tokens are a query and what else is the first fault stands in `specs/`.
+#![tactic(auto)]
+
+mod counts;
+mod fault;
+mod laws;
+mod lexer;
+mod token;
+mod tree;
+
+pub use fault::QueryFault;
+pub use laws::{one_front, one_tree};
+pub use token::{Fold, Relation};
+pub use tree::{
+    Aggregate, Condition, Direction, Expression, Grouping, Item, Literal, Measure, Name, Shape,
+    SortKey, Tree,
+};
