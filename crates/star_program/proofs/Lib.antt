@@ -12,3 +12,12 @@ mod Always
 mod OwnGroups
 mod Refused
 mod Told
+pub mod Positions
+pub mod LineLemmas
+pub mod WordLemmas
+pub mod NumeralLemmas
+pub mod WrittenLemmas
+pub mod Depths
+pub mod Quotes
+pub mod ListLemmas
+pub mod ByName

@@ -21,3 +21,9 @@ pub mod Moments
 pub mod Laws
 pub mod Overflow
 pub mod Standing
+pub mod Keywords
+pub mod Lines
+pub mod Numerals
+pub mod Statements
+pub mod Written
+pub mod Said

@@ -1,11 +1,16 @@
 // The instructions of a program, one after another, with scans round some.
 
-ghost use Rattle.std.specs.Prelude.{◌≡◌, ◌≤◌, ◌<◌, ◌+◌, ◌↔◌, IsTrue, IfSome, IfNone};
+ghost use Rattle.std.specs.Prelude.{◌≡◌, ◌≤◌, ◌<◌, ◌+◌, ◌++◌, ◌↔◌, IsTrue, IfSome, IfNone, OnOk};
 ghost use Rattle.star_program.specs.Code.{code_size, scan_depth};
 ghost use Rattle.star_program.specs.CodeOfSteps.{code_of_step, code_of_steps};
+ghost use Rattle.star_program.specs.Statements.{lines_of_code};
+ghost use Rattle.star_program.specs.Written.{line_text};
+ghost use Rattle.std.specs.List.{flat_map};
 
 use crate::op::Op;
+use crate::spelling::program_lines::{push_end_line, push_op_line, push_scan_line};
 use star_schema::TableId;
+use std::alloc::AllocError;
 use std::marker::Model;
 
 /// Steps, one after another.
@@ -82,6 +87,18 @@ impl Body {
         Some(left)
     }
 
+    /// Adds the lines of the body, where so many scans stand round it.
+    #[cycle(writing)]
+    pub(crate) fn write(&self, out: &mut Vec<u8>, depth: u8) -> Result<(), AllocError>
+        requires { depth + scan_depth self.now ≤ 3 }
+        ensures { OnOk result (out.new.items ≡ out.old.items ++ flat_map line_text (lines_of_code depth self.now)) }
+    {
+        for step in &self.steps {
+            step.write(out, depth)?;
+        }
+        Ok(())
+    }
+
     // Whether at most so many scans stand one in another.
     #[cycle(nesting)]
     pub(crate) fn is_nested_within(&self, scans: u8) -> bool
@@ -119,6 +136,25 @@ impl Step {
                 Some(inner) => body.is_nested_within(inner),
                 None => false,
             },
+        }
+    }
+
+    #[cycle(writing)]
+    fn write(&self, out: &mut Vec<u8>, depth: u8) -> Result<(), AllocError>
+        requires { depth + scan_depth (code_of_step self.now) ≤ 3 }
+        ensures { OnOk result (out.new.items ≡ out.old.items ++ flat_map line_text (lines_of_code depth (code_of_step self.now))) }
+    {
+        match self {
+            Step::Act(op) => push_op_line(out, depth, op),
+            Step::Scan {
+                table,
+                target,
+                body,
+            } => {
+                push_scan_line(out, depth, *table, *target)?;
+                body.write(out, depth + 1)?;
+                push_end_line(out, depth)
+            }
         }
     }
 }

@@ -2,6 +2,7 @@
 
 ghost use Rattle.std.specs.Prelude.{◌≡◌};
 
+use std::alloc::Global;
 use std::marker::Model;
 
 /// A list, in clauses just its items. It is made from a `Vec` and gives it back without taking memory.
@@ -38,5 +39,10 @@ impl<T> Items<T> {
         ensures { result.now ≡ self.now }
     {
         &self.items
+    }
+
+    // What the list takes its memory from.
+    pub(crate) fn allocator(&self) -> Global {
+        *self.items.allocator()
     }
 }

@@ -11,6 +11,7 @@ pub mod law;
 mod op;
 mod outcome;
 mod program;
+mod spelling;
 #[cfg(test)]
 mod tests;
 

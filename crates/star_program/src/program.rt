@@ -1,12 +1,15 @@
 // Programs and their parts.
 
-ghost use Rattle.std.specs.Prelude.{◌≡◌, ◌≤◌, ◌↔◌, All, length, IsSome, IfSome, IsTrue};
+ghost use Rattle.std.specs.Prelude.{◌≡◌, ◌≤◌, ◌↔◌, All, length, IsSome, IfOk, IfSome, IsTrue};
+ghost use Rattle.star_program.specs.Written.{text_of};
 ghost use Rattle.star_program.specs.Limits.{IsSmall, IsWithinLimits};
 
 use crate::body::Body;
 use crate::group::GroupDecl;
 use crate::items::Items;
+use crate::spelling::program_lines::write_parts;
 use star_schema::{GroupColumn, SortKey};
+use std::alloc::AllocError;
 use std::marker::Model;
 
 /// How many instructions a program has at most.
@@ -103,6 +106,13 @@ impl Program {
         ensures limits { IsWithinLimits self.now }
     {
         &self.parts
+    }
+
+    /// The program's text: a line for each statement, one space between words, two before a line for each scan round it, numbers without zeros in front, a line feed after each line.
+    pub fn to_text(&self) -> Result<Vec<u8>, AllocError>
+        ensures { IfOk result (λ text. text.items ≡ text_of self.now) }
+    {
+        write_parts(self.parts.groups.allocator(), &self.parts)
     }
 }
 

@@ -1,0 +1,23 @@
+-- How deep the scans of a step and of the steps after it stand one in another.
+use Rattle.std.proofs.Common.{◌≡◌, ◌≤◌, ◌+◌, ℕ, List, Some, drop, arith}
+use Rattle.std.specs.Prelude.{nat_lt, if◌then◌else◌}
+use Rattle.std.specs.List.{slice_get}
+use Rattle.star_schema.proofs.Lists.{drop_at_place}
+use Rattle.star_program.specs.Code.{Code, scan_depth}
+use Rattle.star_program.specs.CodeOfSteps.{before, code_of_steps}
+use Rattle.star_program.specs.declared.body.Step.{Step}
+use Rattle.star_program.specs.declared.body.Step.TheVariants.{Act, Scan}
+
+at_least : (a b : ℕ) → b ≤ (if nat_lt a b then b else a)
+at_least a b = grind arith
+
+rest_depth : (step : Step) (rest : Code) → scan_depth rest ≤ scan_depth (before step rest)
+rest_depth (Act op) rest = omega arith
+rest_depth (Scan table target body) rest = at_least (1 + scan_depth body) (scan_depth rest)
+
+-- the steps after a step stand no deeper
+pub rest_nested : (depth : ℕ) (steps : List Step) (i : ℕ) (step : Step) → slice_get steps i ≡ Some step → depth + scan_depth (code_of_steps (drop i steps)) ≤ 3
+    → depth + scan_depth (code_of_steps (drop (i + 1) steps)) ≤ 3
+rest_nested depth steps i step at h =
+    let here : depth + scan_depth (before step (code_of_steps (drop (i + 1) steps))) ≤ 3 = rw (drop_at_place steps i step at) at h in
+    omega (arith, here, rest_depth step (code_of_steps (drop (i + 1) steps)))

@@ -1,0 +1,38 @@
+-- The number that some digits write.
+use Rattle.std.proofs.Common.{◌≡◌, ◌+◌, ◌*◌, ◌^◌, ◌<◌, ◌≤◌, ℕ, true, List, [], ◌∷◌, get_or, length, take, arith, refl, lit<, add-one}
+use Rattle.std.specs.Char.{digit_value, is_ascii_digit}
+use Rattle.std.specs.List.{list_all}
+use Rattle.std.specs.Str.Parse.{digits_value}
+use Rattle.std.proofs.Math.Seq.{take-suc}
+use Rattle.std.proofs.lemmas.Bool.{and_parts, leb-true}
+use Rattle.std.proofs.lemmas.Int.Digits.{digits_value_more}
+use Rattle.std.proofs.lemmas.List.Folds.{list_all-append}
+use Rattle.std.proofs.lemmas.Str.{digit_value_digit}
+use Rattle.std.proofs.Math.Nat.{pow-le-pow_right, pow-suc}
+
+-- a digit is a byte from 48 to 57
+pub digit_bounds : (b : ℕ) → is_ascii_digit b ≡ true → (48 ≤ b) × (b ≤ 57)
+digit_bounds b digit = (leb-true _ _ (and_parts _ _ digit).0, leb-true _ _ (and_parts _ _ digit).1)
+
+-- one more digit
+pub digits_more : (ds : List ℕ) (i m d : ℕ) → i < length ds → is_ascii_digit (get_or ds i 0) ≡ true → m ≡ digits_value 10 (take i ds) → d + 48 ≡ get_or ds i 0
+    → m * 10 + d ≡ digits_value 10 (take (i + 1) ds)
+digits_more ds i m d within digit was is =
+    let value = digit_value_digit (get_or ds i 0) (digit_bounds (get_or ds i 0) digit) in
+    let more = digits_value_more 10 ds i within in
+    let same : d ≡ digit_value (get_or ds i 0) = omega (arith, value, is) in
+    rw (more, was, same) refl
+
+pub all_more : (ds : List ℕ) (i : ℕ) → i < length ds → list_all is_ascii_digit (take i ds) ≡ true → is_ascii_digit (get_or ds i 0) ≡ true → list_all is_ascii_digit (take (i + 1) ds) ≡ true
+all_more ds i within so_far digit = rw (add-one, take-suc ds i 0 within, list_all-append is_ascii_digit (take i ds) (get_or ds i 0 ∷ []), so_far, digit) refl
+
+-- the bound that one more digit keeps
+pub room : (i m d : ℕ) → m < 10 ^ i → d < 10 → m * 10 + d < 10 ^ (i + 1)
+room i m d small digit =
+    let next : 10 ^ (i + 1) ≡ 10 ^ i * 10 = rw add-one (pow-suc 10 i) in
+    omega (arith, next)
+
+pub below_power : (i k m : ℕ) → m < 10 ^ i → i ≤ k → m < 10 ^ k
+below_power i k m small within =
+    let h : 10 ^ i ≤ 10 ^ k = pow-le-pow_right (lit< tt) within in
+    omega (arith, h)

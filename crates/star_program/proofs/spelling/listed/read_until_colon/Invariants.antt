@@ -1,0 +1,12 @@
+-- What was read, and the words still to come.
+use Rattle.std.proofs.Common.{◌≡◌, length}
+use Rattle.star_program.specs.Lines.{words_of}
+use Rattle.star_program.specs.Said.{until_colon}
+use Rattle.star_program.proofs.ListLemmas.{joined_front}
+use Rattle.star_program.proofs.spelling.listed.read_until_colon.Given as goal
+
+abbrev pub invariant-loop-word : goal.invariant-loop-word
+invariant-loop-word g l = until_colon g.T.Listed.meaning (words_of l.line) ≡ joined_front l.items.items (until_colon g.T.Listed.meaning (words_of l.rest))
+
+abbrev pub decreases-loop-word : goal.decreases-loop-word
+decreases-loop-word g l = length l.rest

@@ -1,0 +1,9 @@
+-- The groups still to come.
+use Rattle.std.proofs.Common.{◌≡◌, ◌++◌, drop}
+use Rattle.std.specs.List.{flat_map}
+use Rattle.star_program.specs.Statements.{group_lines}
+use Rattle.star_program.specs.Written.{line_text}
+use Rattle.star_program.proofs.spelling.program_lines.push_groups.Given as goal
+
+abbrev pub invariant-loop-place : goal.invariant-loop-place
+invariant-loop-place l = l.out.items ++ flat_map line_text (group_lines l.place (drop l.place l.groups)) ≡ l.fn.out.items ++ flat_map line_text (group_lines 0 l.groups)

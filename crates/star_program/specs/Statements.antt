@@ -1,0 +1,44 @@
+-- The statements of a program, a line each, and how deep in scans each stands.
+use Rattle.std.specs.Prelude.{ℕ, ◌+◌, List, [], ◌∷◌, ◌++◌, map}
+use Rattle.std.specs.List.{enumerate_from}
+use Rattle.star_program.specs.Code.{Code, Stop, Then, Each}
+use Rattle.star_program.specs.declared.program.Parts.{Parts}
+use Rattle.star_program.specs.declared.spelling.statement.Statement.{Statement}
+use Rattle.star_program.specs.declared.spelling.statement.Statement.TheVariants.{Header, Registers, Group, Act, Scan, End, Report}
+use Rattle.star_program.specs.declared.spelling.statement.Statement.TheVariants as says
+use Rattle.star_program.specs.declared.group.GroupDecl.{GroupDecl}
+use Rattle.star_program.specs.declared.program.Show.{Show}
+use Rattle.star_schema.specs.declared.group.SortKey.{SortKey}
+
+-- a statement, and how many scans stand round it
+pub record Line : Type 0 where
+  pub depth : ℕ
+  pub says : Statement
+
+abbrev pub line : ℕ → Statement → Line
+line depth says = record { depth = depth; says = says }
+
+-- a scan is its line, its body and an end
+unfoldable pub lines_of_code : ℕ → Code → List Line
+lines_of_code depth Stop = []
+lines_of_code depth (Then op rest) = line depth (Act op) ∷ lines_of_code depth rest
+lines_of_code depth (Each table target body rest) =
+    line depth (Scan table target) ∷ (lines_of_code (depth + 1) body ++ line depth End ∷ lines_of_code depth rest)
+
+abbrev pub group_lines : ℕ → List GroupDecl → List Line
+group_lines from groups = map (λ (place, group). line 0 (Group place group)) (enumerate_from from groups)
+
+abbrev pub show_line : Show → Line
+show_line show = line 0 (says.Show show)
+
+abbrev pub sort_line : SortKey → Line
+sort_line key = line 0 (says.Sort key)
+
+-- the header, the registers, the groups by their numbers, the body, the report, its columns and what sorts it
+abbrev pub lines_of_program : Parts → List Line
+lines_of_program p =
+    line 0 Header ∷ line 0 (Registers p.registers)
+    ∷ (group_lines 0 p.groups
+    ++ (lines_of_code 0 p.body
+    ++ (line 0 (Report p.report)
+    ∷ (map show_line p.shows ++ map sort_line p.sorts))))

@@ -1,0 +1,227 @@
+// The fixed words of a program.
+
+ghost use Rattle.std.specs.Prelude.{◌≡◌, ℕ, List, Some, find, nat_eq};
+ghost use Rattle.std.specs.Cmp.Lexicographic.{pointwise};
+ghost use Rattle.star_program.specs.Keywords as spec;
+
+use star_schema::{Aggregate, Direction, Shape};
+use std::fmt;
+
+/// The first word of a line, but for a register.
+#[derive(Clone, Copy, Debug, PartialEq, Eq)]
+pub enum Keyword {
+    Star,
+    Registers,
+    Group,
+    Keep,
+    Put,
+    Scan,
+    End,
+    Report,
+    Show,
+    Sort,
+}
+
+pub static KEYWORDS: [Keyword; 10] = [
+    Keyword::Star,
+    Keyword::Registers,
+    Keyword::Group,
+    Keyword::Keep,
+    Keyword::Put,
+    Keyword::Scan,
+    Keyword::End,
+    Keyword::Report,
+    Keyword::Show,
+    Keyword::Sort,
+];
+
+/// What computes the value of a register.
+#[derive(Clone, Copy, Debug, PartialEq, Eq)]
+pub enum Operator {
+    Const,
+    Low,
+    High,
+    Load,
+    Find,
+    Add,
+    Sub,
+    Mul,
+    Less,
+    LessOrEqual,
+    Equal,
+    Within,
+    And,
+    Or,
+    Not,
+    Read,
+}
+
+pub static OPERATORS: [Operator; 16] = [
+    Operator::Const,
+    Operator::Low,
+    Operator::High,
+    Operator::Load,
+    Operator::Find,
+    Operator::Add,
+    Operator::Sub,
+    Operator::Mul,
+    Operator::Less,
+    Operator::LessOrEqual,
+    Operator::Equal,
+    Operator::Within,
+    Operator::And,
+    Operator::Or,
+    Operator::Not,
+    Operator::Read,
+];
+
+impl Keyword {
+    #[tactic(auto, unfolding(crate::specs::Keywords::keyword_name))]
+    fn name(self) -> &'static str
+        ensures { result.now ≡ spec.keyword_name self }
+    {
+        match self {
+            Keyword::Star => "star",
+            Keyword::Registers => "registers",
+            Keyword::Group => "group",
+            Keyword::Keep => "keep",
+            Keyword::Put => "put",
+            Keyword::Scan => "scan",
+            Keyword::End => "end",
+            Keyword::Report => "report",
+            Keyword::Show => "show",
+            Keyword::Sort => "sort",
+        }
+    }
+
+    /// The keyword that a word is, if it is one.
+    #[tactic(auto, unfolding(crate::specs::Keywords::keyword_of))]
+    pub(crate) fn read(word: &[u8]) -> Option<Keyword>
+        ensures { result ≡ spec.keyword_of word.now }
+    {
+        KEYWORDS
+            .iter()
+            .copied()
+            .find(|keyword| keyword.name().as_bytes() == word)
+    }
+}
+
+impl Operator {
+    #[tactic(auto, unfolding(crate::specs::Keywords::operator_name))]
+    fn name(self) -> &'static str
+        ensures { result.now ≡ spec.operator_name self }
+    {
+        match self {
+            Operator::Const => "const",
+            Operator::Low => "low",
+            Operator::High => "high",
+            Operator::Load => "load",
+            Operator::Find => "find",
+            Operator::Add => "add",
+            Operator::Sub => "sub",
+            Operator::Mul => "mul",
+            Operator::Less => "lt",
+            Operator::LessOrEqual => "le",
+            Operator::Equal => "eq",
+            Operator::Within => "within",
+            Operator::And => "and",
+            Operator::Or => "or",
+            Operator::Not => "not",
+            Operator::Read => "read",
+        }
+    }
+
+    /// The operator that a word names, if it names one.
+    #[tactic(auto, unfolding(crate::specs::Keywords::operator_of))]
+    pub(crate) fn read(word: &[u8]) -> Option<Operator>
+        ensures { result ≡ spec.operator_of word.now }
+    {
+        OPERATORS
+            .iter()
+            .copied()
+            .find(|operator| operator.name().as_bytes() == word)
+    }
+}
+
+impl fmt::Display for Operator {
+    ghost output = { λ operator. Some (spec.operator_name operator) };
+
+    fn fmt<W: fmt::Write>(&self, f: &mut fmt::Formatter<W>) -> fmt::Result {
+        f.write_str(self.name())
+    }
+}
+
+#[tactic(auto, unfolding(crate::specs::Keywords::shape_name))]
+pub(crate) fn shape_name(shape: Shape) -> &'static str
+    ensures { result.now ≡ spec.shape_name shape }
+{
+    match shape {
+        Shape::Plain => "plain",
+        Shape::Cube => "cube",
+    }
+}
+
+#[tactic(auto, unfolding(crate::specs::Keywords::shape_of))]
+pub(crate) fn read_shape(word: &[u8]) -> Option<Shape>
+    ensures { result ≡ spec.shape_of word.now }
+{
+    if word == "plain".as_bytes() {
+        Some(Shape::Plain)
+    } else if word == "cube".as_bytes() {
+        Some(Shape::Cube)
+    } else {
+        None
+    }
+}
+
+#[tactic(auto, unfolding(crate::specs::Keywords::aggregate_name))]
+pub(crate) fn aggregate_name(aggregate: Aggregate) -> &'static str
+    ensures { result.now ≡ spec.aggregate_name aggregate }
+{
+    match aggregate {
+        Aggregate::Sum => "sum",
+        Aggregate::Count => "count",
+        Aggregate::Min => "min",
+        Aggregate::Max => "max",
+    }
+}
+
+#[tactic(auto, unfolding(crate::specs::Keywords::aggregate_of))]
+pub(crate) fn read_aggregate(word: &[u8]) -> Option<Aggregate>
+    ensures { result ≡ spec.aggregate_of word.now }
+{
+    if word == "sum".as_bytes() {
+        Some(Aggregate::Sum)
+    } else if word == "count".as_bytes() {
+        Some(Aggregate::Count)
+    } else if word == "min".as_bytes() {
+        Some(Aggregate::Min)
+    } else if word == "max".as_bytes() {
+        Some(Aggregate::Max)
+    } else {
+        None
+    }
+}
+
+#[tactic(auto, unfolding(crate::specs::Keywords::direction_name))]
+pub(crate) fn direction_name(direction: Direction) -> &'static str
+    ensures { result.now ≡ spec.direction_name direction }
+{
+    match direction {
+        Direction::Ascending => "ascending",
+        Direction::Descending => "descending",
+    }
+}
+
+#[tactic(auto, unfolding(crate::specs::Keywords::direction_of))]
+pub(crate) fn read_direction(word: &[u8]) -> Option<Direction>
+    ensures { result ≡ spec.direction_of word.now }
+{
+    if word == "ascending".as_bytes() {
+        Some(Direction::Ascending)
+    } else if word == "descending".as_bytes() {
+        Some(Direction::Descending)
+    } else {
+        None
+    }
+}

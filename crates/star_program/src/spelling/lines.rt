@@ -1,0 +1,80 @@
+// The lines of a text, and the words of a line.
+
+ghost use Rattle.std.specs.Prelude.{◌≡◌, ◌∷◌, ◌==◌, ◌||◌, ◌<◌, ◌≤◌, ◌+◌, [], IfSome, MatchOption, drop, length, not};
+ghost use Rattle.std.specs.List.{position};
+ghost use Rattle.star_program.specs.Lines as spec;
+
+// The bytes from a place on.
+fn from_place(bytes: &[u8], place: usize) -> &[u8]
+    requires { place ≤ length bytes.now }
+    ensures { result.now ≡ drop place bytes.now }
+{
+    &bytes[place..]
+}
+
+fn line_end(text: &[u8]) -> Option<usize>
+    ensures { result ≡ position (λ b. b == 10) text.now }
+{
+    text.iter().position(|&b| b == b'\n')
+}
+
+// A line without the carriage return of its end.
+fn without_return(line: &[u8]) -> &[u8]
+    ensures { result.now ≡ spec.without_return line.now }
+{
+    match line.split_last() {
+        Some((last, front)) => { if *last == b'\r' { front } else { line } }
+        None => line,
+    }
+}
+
+/// The first line of a text, and the text after it.
+pub(crate) fn split_line(text: &[u8]) -> Option<(&[u8], &[u8])>
+    ensures line { MatchOption result (spec.lines_of text.now ≡ []) (λ parts. spec.lines_of text.now ≡ parts.0.now ∷ spec.lines_of parts.1.now) }
+    ensures shorter { IfSome result (λ parts. length parts.1.now < length text.now) }
+{
+    if text.is_empty() {
+        return None;
+    }
+    match line_end(text) {
+        Some(end) => Some((without_return(&text[..end]), from_place(text, end + 1))),
+        None => Some((text, &[])),
+    }
+}
+
+fn word_start(line: &[u8]) -> Option<usize>
+    ensures { result ≡ position (λ b. not (b == 32)) line.now }
+{
+    line.iter().position(|&b| b != b' ')
+}
+
+// Where the first space or quote stands.
+fn word_end(line: &[u8]) -> Option<usize>
+    ensures { result ≡ position (λ b. (b == 32) || (b == 39)) line.now }
+{
+    line.iter().position(|&b| b == b' ' || b == b'\'')
+}
+
+/// The first word of a line, and the line after it.
+pub(crate) fn split_word(line: &[u8]) -> Option<(&[u8], &[u8])>
+    ensures word { MatchOption result (spec.words_of line.now ≡ []) (λ parts. spec.words_of line.now ≡ parts.0.now ∷ spec.words_of parts.1.now) }
+    ensures shorter { IfSome result (λ parts. length parts.1.now < length line.now) }
+{
+    let start = word_start(line)?;
+    let rest = from_place(line, start);
+    let Some(end) = word_end(rest) else {
+        return Some((rest, &[]));
+    };
+    if rest[end] == b' ' {
+        Some((&rest[..end], from_place(rest, end + 1)))
+    } else {
+        Some((rest, &[]))
+    }
+}
+
+/// Whether a line has nothing but spaces.
+pub(crate) fn is_blank(line: &[u8]) -> bool
+    ensures { result ≡ spec.is_blank line.now }
+{
+    line.iter().all(|&b| b == b' ')
+}

@@ -1,0 +1,180 @@
+// Lists of words, and texts in quotes.
+
+ghost use Rattle.std.specs.Prelude.{◌≡◌, ◌∷◌, ◌<◌, ℕ, List, Option, Some, None, [], IfSome, MatchOption, MatchResult, length, if◌then◌else◌};
+ghost use Rattle.std.specs.Option.{option_map};
+ghost use Rattle.star_program.specs.Keywords as words;
+ghost use Rattle.star_program.specs.Lines.{words_of};
+ghost use Rattle.star_program.specs.Numerals.{register_of};
+ghost use Rattle.star_program.specs.Said as spec;
+
+use crate::group::GroupKey;
+use crate::items::Items;
+use crate::op::Text;
+use crate::spelling::fault::LineFault;
+use crate::spelling::keyword::read_aggregate;
+use crate::spelling::lines::{is_blank, split_word};
+use crate::spelling::numerals::read_register;
+use star_schema::{Aggregate, ColumnId, TableId, column_named, table_named};
+use std::alloc::Global;
+
+/// What stands in lists of words.
+pub trait Listed: Copy + Drop {
+    ghost meaning: { List ℕ → Option Self };
+
+    /// What a word means.
+    fn read(word: &[u8]) -> Option<Self>
+        ensures { result ≡ meaning word.now };
+}
+
+/// The number of a register.
+impl Listed for u16 {
+    ghost meaning = { register_of };
+
+    fn read(word: &[u8]) -> Option<u16> {
+        read_register(word)
+    }
+}
+
+impl Listed for Aggregate {
+    ghost meaning = { words.aggregate_of };
+
+    fn read(word: &[u8]) -> Option<Aggregate> {
+        read_aggregate(word)
+    }
+}
+
+impl Listed for GroupKey {
+    ghost meaning = { spec.group_key_of };
+
+    #[tactic(auto, unfolding(crate::specs::Said::group_key_of))]
+    fn read(word: &[u8]) -> Option<GroupKey> {
+        if word == "number".as_bytes() {
+            Some(GroupKey::Number)
+        } else {
+            Some(GroupKey::Text(read_column(word)?))
+        }
+    }
+}
+
+pub(crate) fn read_column(word: &[u8]) -> Option<ColumnId>
+    ensures { result ≡ words.column_of word.now }
+{
+    column_named(word)
+}
+
+pub(crate) fn read_table(word: &[u8]) -> Option<TableId>
+    ensures { result ≡ words.table_of word.now }
+{
+    table_named(word)
+}
+
+// The words up to a colon, and the line after it.
+fn read_until_colon<T: Listed>(alloc: Global, line: &[u8]) -> Result<(Items<T>, &[u8]), LineFault>
+    ensures { MatchResult result
+        (λ parts. spec.until_colon T.meaning (words_of line.now) ≡ Some (parts.0, words_of parts.1.now))
+        (λ fault. spec.IsMissed fault (spec.until_colon T.meaning (words_of line.now))) }
+{
+    let mut items = Vec::new(alloc);
+    let mut rest = line;
+    while let Some((word, after)) = split_word(rest) {
+        rest = after;
+        if word == ":".as_bytes() {
+            return Ok((Items::from_vec(items), rest));
+        }
+        match T::read(word) {
+            Some(item) => items.push(item)?,
+            None => return Err(LineFault::Unreadable),
+        }
+    }
+    Err(LineFault::Unreadable)
+}
+
+// The words up to the end of a line.
+fn read_each<T: Listed>(alloc: Global, line: &[u8]) -> Result<Items<T>, LineFault>
+    ensures { spec.Reads result (spec.each T.meaning (words_of line.now)) }
+{
+    let mut items = Vec::new(alloc);
+    let mut rest = line;
+    while let Some((word, after)) = split_word(rest) {
+        rest = after;
+        match T::read(word) {
+            Some(item) => items.push(item)?,
+            None => return Err(LineFault::Unreadable),
+        }
+    }
+    Ok(Items::from_vec(items))
+}
+
+/// Two lists parted by a colon.
+pub(crate) fn read_lists<A: Listed, B: Listed>(
+    alloc: Global,
+    line: &[u8],
+) -> Result<(Items<A>, Items<B>), LineFault>
+    ensures { spec.Reads result (spec.lists A.meaning B.meaning (words_of line.now)) }
+{
+    let (front, rest) = read_until_colon(alloc, line)?;
+    let back = read_each(alloc, rest)?;
+    Ok((front, back))
+}
+
+// The next byte of a text in quotes, and what follows it.
+fn text_byte(quoted: &[u8]) -> Option<(u8, &[u8])>
+    ensures byte { MatchOption result
+        (spec.unquoted quoted.now ≡ (if spec.closes quoted.now then Some [] else None))
+        (λ parts. spec.unquoted quoted.now ≡ option_map (λ text. parts.0 ∷ text) (spec.unquoted parts.1.now)) }
+    ensures shorter { IfSome result (λ parts. length parts.1.now < length quoted.now) }
+{
+    let (byte, rest) = quoted.split_first()?;
+    if *byte != b'\'' {
+        return Some((*byte, rest));
+    }
+    let (next, after) = rest.split_first()?;
+    if *next == b'\'' {
+        Some((*next, after))
+    } else {
+        None
+    }
+}
+
+// Whether a text ends here, at a quote after which only spaces follow.
+fn closes(quoted: &[u8]) -> bool
+    ensures { result ≡ spec.closes quoted.now }
+{
+    match quoted.split_first() {
+        Some((first, rest)) => *first == b'\'' && is_blank(rest),
+        None => false,
+    }
+}
+
+// The text after its opening quote.
+fn read_unquoted(alloc: Global, quoted: &[u8]) -> Result<Text, LineFault>
+    ensures { spec.Reads result (spec.unquoted quoted.now) }
+{
+    let mut text = Vec::new(alloc);
+    let mut rest = quoted;
+    while let Some((byte, after)) = text_byte(rest) {
+        text.push(byte)?;
+        rest = after;
+    }
+    if closes(rest) {
+        Ok(Items::from_vec(text))
+    } else {
+        Err(LineFault::Unreadable)
+    }
+}
+
+/// A text in quotes.
+pub(crate) fn read_quoted(alloc: Global, word: &[u8]) -> Result<Text, LineFault>
+    ensures { spec.Reads result (spec.quoted_text_of word.now) }
+{
+    match word.split_first() {
+        Some((first, quoted)) => {
+            if *first == b'\'' {
+                read_unquoted(alloc, quoted)
+            } else {
+                Err(LineFault::Unreadable)
+            }
+        }
+        None => Err(LineFault::Unreadable),
+    }
+}

@@ -1,0 +1,110 @@
+// The words that write numbers, registers and names.
+
+ghost use Rattle.std.specs.Prelude.{◌≡◌, ◌<◌, ◌≤◌, ◌^◌, Some, None, IfSome, if◌then◌else◌, length, neg_ℤ, pos};
+ghost use Rattle.std.specs.Option.{option_map};
+ghost use Rattle.std.specs.Char.{is_ascii_digit};
+ghost use Rattle.std.specs.List.{list_all};
+ghost use Rattle.std.specs.Str.Parse.{digits_value};
+ghost use Rattle.star_program.specs.Numerals as spec;
+
+// The number that some digits write, if each byte is one.
+fn magnitude(digits: &[u8]) -> Option<u64>
+    requires { length digits.now ≤ 19 }
+    ensures value { result ≡ (if list_all is_ascii_digit digits.now then Some (digits_value 10 digits.now) else None) }
+    ensures bound { IfSome result (λ magnitude. magnitude < 10 ^ length digits.now) }
+{
+    let mut magnitude = 0u64;
+    for digit in digits {
+        if !digit.is_ascii_digit() {
+            return None;
+        }
+        magnitude = magnitude * 10 + u64::from(*digit - b'0');
+    }
+    Some(magnitude)
+}
+
+// The number that 1 to so many digits write.
+fn numeral(places: usize, word: &[u8]) -> Option<u64>
+    requires { places ≤ 19 }
+    ensures value { result ≡ spec.numeral_of places word.now }
+    ensures bound { IfSome result (λ number. number < 10 ^ places) }
+{
+    if word.is_empty() || word.len() > places {
+        return None;
+    }
+    magnitude(word)
+}
+
+/// The count or the place that a word of 1 to 4 digits writes.
+#[tactic(auto, unfolding(crate::specs::Numerals::count_of))]
+pub(crate) fn read_count(word: &[u8]) -> Option<u16>
+    ensures value { result ≡ spec.count_of word.now }
+{
+    let count = numeral(4, word)?;
+    Some(count as u16)
+}
+
+// The number below zero of this magnitude.
+fn negative(magnitude: u64) -> Option<i64>
+    ensures { result ≡ option_map (λ n. neg_ℤ (pos n)) (spec.up_to 9223372036854775808 (Some magnitude)) }
+{
+    if magnitude <= 1 << 63 {
+        Some((-(magnitude as i128)) as i64)
+    } else {
+        None
+    }
+}
+
+// The number of this magnitude.
+fn positive(magnitude: u64) -> Option<i64>
+    ensures { result ≡ option_map pos (spec.up_to 9223372036854775807 (Some magnitude)) }
+{
+    if magnitude <= i64::MAX as u64 {
+        Some(magnitude as i64)
+    } else {
+        None
+    }
+}
+
+/// The number that a constant of 64 bits writes.
+#[tactic(auto, unfolding(crate::specs::Numerals::constant_of))]
+pub(crate) fn read_constant(word: &[u8]) -> Option<i64>
+    ensures { result ≡ spec.constant_of word.now }
+{
+    match word {
+        [b'-', digits @ ..] => {
+            let magnitude = numeral(19, digits)?;
+            negative(magnitude)
+        }
+        _ => {
+            let magnitude = numeral(19, word)?;
+            positive(magnitude)
+        }
+    }
+}
+
+/// The number of the register that a word names.
+#[tactic(auto, unfolding(crate::specs::Numerals::register_of))]
+pub(crate) fn read_register(word: &[u8]) -> Option<u16>
+    ensures { result ≡ spec.register_of word.now }
+{
+    match word {
+        [b'r', number @ ..] => read_count(number),
+        _ => None,
+    }
+}
+
+// Whether a word has only letters, digits and underscores.
+fn is_of_name_bytes(word: &[u8]) -> bool
+    ensures { result ≡ list_all spec.is_name_byte word.now }
+{
+    word.iter().all(|&b| b.is_ascii_alphanumeric() || b == b'_')
+}
+
+/// Whether a word is a name of 1 to 64 bytes.
+#[tactic(auto, unfolding(crate::specs::Numerals::is_name))]
+pub(crate) fn is_name(word: &[u8]) -> bool
+    ensures { result ≡ spec.is_name word.now }
+{
+    !word.is_empty() && word.len() <= 64 && is_of_name_bytes(word)
+}

@@ -1,0 +1,158 @@
+// The lines of a program, one after another.
+
+ghost use Rattle.std.specs.Prelude.{◌≡◌, ◌*◌, ◌≤◌, ◌<◌, ◌++◌, Some, OnOk, IfOk, length, replicate, slice_get};
+ghost use Rattle.std.specs.List.{flat_map};
+ghost use Rattle.star_program.specs.Statements as lines;
+ghost use Rattle.star_program.specs.Written as spec;
+ghost use Rattle.star_program.specs.declared.spelling.statement.Statement.TheVariants as says;
+ghost use Rattle.star_program.specs.Limits.{IsWithinLimits};
+
+use crate::group::GroupDecl;
+use crate::op::Op;
+use crate::program::{Parts, Show};
+use crate::spelling::writing::{push_group, push_op, push_register, push_show, push_sort};
+use star_schema::{SortKey, TableId};
+use std::alloc::{AllocError, Global};
+
+// Adds two spaces for each scan round a line.
+fn push_indent(out: &mut Vec<u8>, depth: u8) -> Result<(), AllocError>
+    ensures { OnOk result (out.new.items ≡ out.old.items ++ replicate (2 * depth) 32) }
+{
+    let mut left = depth;
+    while left > 0 {
+        out.extend_from_slice(b"  ")?;
+        left -= 1;
+    }
+    Ok(())
+}
+
+/// Adds the line of an instruction.
+#[tactic(auto, unfolding(crate::specs::Written::line_text))]
+pub(crate) fn push_op_line(out: &mut Vec<u8>, depth: u8, op: &Op) -> Result<(), AllocError>
+    ensures { OnOk result (out.new.items ≡ out.old.items ++ spec.line_text (lines.line depth (says.Act op.now))) }
+{
+    push_indent(out, depth)?;
+    push_op(out, op)?;
+    out.push(b'\n')?;
+    Ok(())
+}
+
+/// Adds the line that begins a scan.
+#[tactic(auto, unfolding(crate::specs::Written::line_text))]
+pub(crate) fn push_scan_line(
+    out: &mut Vec<u8>,
+    depth: u8,
+    table: TableId,
+    target: u16,
+) -> Result<(), AllocError>
+    ensures { OnOk result (out.new.items ≡ out.old.items ++ spec.line_text (lines.line depth (says.Scan table target))) }
+{
+    push_indent(out, depth)?;
+    let text = format!(in *out.allocator(); "scan {table}")?;
+    out.extend_from_slice(text.as_bytes())?;
+    push_register(out, target)?;
+    out.push(b'\n')?;
+    Ok(())
+}
+
+/// Adds the line that ends a scan.
+#[tactic(auto, unfolding(crate::specs::Written::line_text))]
+pub(crate) fn push_end_line(out: &mut Vec<u8>, depth: u8) -> Result<(), AllocError>
+    ensures { OnOk result (out.new.items ≡ out.old.items ++ spec.line_text (lines.line depth says.End)) }
+{
+    push_indent(out, depth)?;
+    out.extend_from_slice(b"end\n")
+}
+
+#[tactic(auto, unfolding(crate::specs::Written::line_text))]
+fn push_head(out: &mut Vec<u8>, registers: u16) -> Result<(), AllocError>
+    ensures { OnOk result (out.new.items ≡ out.old.items ++ (spec.line_text (lines.line 0 says.Header) ++ spec.line_text (lines.line 0 (says.Registers registers)))) }
+{
+    let text = format!(in *out.allocator(); "star program 1\nregisters {registers}\n")?;
+    out.extend_from_slice(text.as_bytes())
+}
+
+#[tactic(auto, unfolding(crate::specs::Written::line_text))]
+fn push_group_line(out: &mut Vec<u8>, place: u16, group: &GroupDecl) -> Result<(), AllocError>
+    ensures { OnOk result (out.new.items ≡ out.old.items ++ spec.line_text (lines.line 0 (says.Group place group.now))) }
+{
+    push_group(out, place, group)?;
+    out.push(b'\n')?;
+    Ok(())
+}
+
+fn group_at(groups: &[GroupDecl], place: usize) -> &GroupDecl
+    requires { place < length groups.now }
+    ensures { slice_get groups.now place ≡ Some result.now }
+{
+    &groups[place]
+}
+
+fn push_groups(out: &mut Vec<u8>, groups: &[GroupDecl]) -> Result<(), AllocError>
+    requires { length groups.now ≤ 8 }
+    ensures { OnOk result (out.new.items ≡ out.old.items ++ flat_map spec.line_text (lines.group_lines 0 groups.now)) }
+{
+    for place in 0..groups.len() {
+        push_group_line(out, place as u16, group_at(groups, place))?;
+    }
+    Ok(())
+}
+
+#[tactic(auto, unfolding(crate::specs::Written::line_text))]
+fn push_report(out: &mut Vec<u8>, group: u16) -> Result<(), AllocError>
+    ensures { OnOk result (out.new.items ≡ out.old.items ++ spec.line_text (lines.line 0 (says.Report group))) }
+{
+    let text = format!(in *out.allocator(); "report {group}\n")?;
+    out.extend_from_slice(text.as_bytes())
+}
+
+#[tactic(auto, unfolding(crate::specs::Written::line_text))]
+fn push_show_line(out: &mut Vec<u8>, show: &Show) -> Result<(), AllocError>
+    ensures { OnOk result (out.new.items ≡ out.old.items ++ spec.line_text (lines.show_line show.now)) }
+{
+    push_show(out, show)?;
+    out.push(b'\n')?;
+    Ok(())
+}
+
+fn push_shows(out: &mut Vec<u8>, shows: &[Show]) -> Result<(), AllocError>
+    ensures { OnOk result (out.new.items ≡ out.old.items ++ flat_map (λ show. spec.line_text (lines.show_line show)) shows.now) }
+{
+    for show in shows {
+        push_show_line(out, show)?;
+    }
+    Ok(())
+}
+
+#[tactic(auto, unfolding(crate::specs::Written::line_text))]
+fn push_sort_line(out: &mut Vec<u8>, key: SortKey) -> Result<(), AllocError>
+    ensures { OnOk result (out.new.items ≡ out.old.items ++ spec.line_text (lines.sort_line key)) }
+{
+    push_sort(out, key)?;
+    out.push(b'\n')?;
+    Ok(())
+}
+
+fn push_sorts(out: &mut Vec<u8>, sorts: &[SortKey]) -> Result<(), AllocError>
+    ensures { OnOk result (out.new.items ≡ out.old.items ++ flat_map (λ key. spec.line_text (lines.sort_line key)) sorts.now) }
+{
+    for key in sorts {
+        push_sort_line(out, *key)?;
+    }
+    Ok(())
+}
+
+/// The text of a program's parts.
+pub(crate) fn write_parts(alloc: Global, parts: &Parts) -> Result<Vec<u8>, AllocError>
+    requires { IsWithinLimits parts.now }
+    ensures { IfOk result (λ text. text.items ≡ spec.text_of parts.now) }
+{
+    let mut out = Vec::new(alloc);
+    push_head(&mut out, parts.registers)?;
+    push_groups(&mut out, parts.groups.as_slice())?;
+    parts.body.write(&mut out, 0)?;
+    push_report(&mut out, parts.report)?;
+    push_shows(&mut out, parts.shows.as_slice())?;
+    push_sorts(&mut out, parts.sorts.as_slice())?;
+    Ok(out)
+}

@@ -1,0 +1,357 @@
+// The lines of a program, written.
+
+ghost use Rattle.std.specs.Prelude.{◌≡◌, ◌+◌, ◌*◌, ◌≤◌, ◌++◌, ◌∷◌, [], OnOk, codes, decimal, replicate};
+ghost use Rattle.std.specs.Fmt.{signed_decimal};
+ghost use Rattle.std.specs.List.{flat_map};
+ghost use Rattle.star_schema.specs.Schema.{column_name, table_name};
+ghost use Rattle.star_program.specs.Written as spec;
+
+use crate::group::{GroupDecl, GroupKey};
+use crate::op::Op;
+use crate::program::Show;
+use crate::spelling::keyword::{Operator, aggregate_name, direction_name, shape_name};
+use star_schema::{Aggregate, ColumnId, GroupColumn, SortKey, TableId};
+use std::alloc::AllocError;
+
+// Adds the bytes of a text in quotes.
+fn push_all_doubled(out: &mut Vec<u8>, text: &[u8]) -> Result<(), AllocError>
+    ensures { OnOk result (out.new.items ≡ out.old.items ++ flat_map spec.doubled text.now) }
+{
+    for byte in text {
+        push_doubled(out, *byte)?;
+    }
+    Ok(())
+}
+
+// Adds a text in quotes.
+#[tactic(auto, unfolding(crate::specs::Written::quoted))]
+fn push_quoted(out: &mut Vec<u8>, text: &[u8]) -> Result<(), AllocError>
+    ensures { OnOk result (out.new.items ≡ out.old.items ++ spec.quoted text.now) }
+{
+    out.push(b'\'')?;
+    push_all_doubled(out, text)?;
+    out.push(b'\'')?;
+    Ok(())
+}
+
+// Adds a byte of a text in quotes.
+fn push_doubled(out: &mut Vec<u8>, byte: u8) -> Result<(), AllocError>
+    ensures { OnOk result (out.new.items ≡ out.old.items ++ spec.doubled byte) }
+{
+    if byte == b'\'' {
+        out.extend_from_slice(b"''")
+    } else {
+        out.push(byte)?;
+        Ok(())
+    }
+}
+
+#[tactic(auto, unfolding(crate::specs::Written::register_text))]
+pub(crate) fn push_register(out: &mut Vec<u8>, register: u16) -> Result<(), AllocError>
+    ensures { OnOk result (out.new.items ≡ out.old.items ++ spec.register_text register) }
+{
+    let text = format!(in *out.allocator(); " r{register}")?;
+    out.extend_from_slice(text.as_bytes())
+}
+
+fn push_registers(out: &mut Vec<u8>, registers: &[u16]) -> Result<(), AllocError>
+    ensures { OnOk result (out.new.items ≡ out.old.items ++ flat_map spec.register_text registers.now) }
+{
+    for register in registers {
+        push_register(out, *register)?;
+    }
+    Ok(())
+}
+
+// Adds what begins an instruction that writes a register.
+#[tactic(auto, unfolding(crate::specs::Written::target_text))]
+fn push_target(out: &mut Vec<u8>, target: u16, operator: Operator) -> Result<(), AllocError>
+    ensures { OnOk result (out.new.items ≡ out.old.items ++ spec.target_text target operator) }
+{
+    let text = format!(in *out.allocator(); "r{target} = {operator}")?;
+    out.extend_from_slice(text.as_bytes())
+}
+
+// Adds an instruction with two registers as operands.
+fn push_two(
+    out: &mut Vec<u8>,
+    target: u16,
+    operator: Operator,
+    left: u16,
+    right: u16,
+) -> Result<(), AllocError>
+    ensures { OnOk result (out.new.items ≡ out.old.items ++ (spec.target_text target operator ++ (spec.register_text left ++ spec.register_text right))) }
+{
+    push_target(out, target, operator)?;
+    push_register(out, left)?;
+    push_register(out, right)
+}
+
+fn push_column(out: &mut Vec<u8>, column: ColumnId) -> Result<(), AllocError>
+    ensures { OnOk result (out.new.items ≡ out.old.items ++ (codes " " ++ column_name column)) }
+{
+    let text = format!(in *out.allocator(); " {column}")?;
+    out.extend_from_slice(text.as_bytes())
+}
+
+// Adds a search in the texts of a column.
+fn push_search(
+    out: &mut Vec<u8>,
+    target: u16,
+    operator: Operator,
+    column: ColumnId,
+    text: &[u8],
+) -> Result<(), AllocError>
+    ensures { OnOk result (out.new.items ≡ out.old.items ++ (spec.target_text target operator ++ (codes " " ++ (column_name column ++ (codes " " ++ spec.quoted text.now))))) }
+{
+    push_target(out, target, operator)?;
+    push_column(out, column)?;
+    out.push(b' ')?;
+    push_quoted(out, text)
+}
+
+// Adds a constant.
+fn push_constant(out: &mut Vec<u8>, target: u16, number: i64) -> Result<(), AllocError>
+    ensures { OnOk result (out.new.items ≡ out.old.items ++ (spec.target_text target Operator.Const ++ (codes " " ++ signed_decimal number))) }
+{
+    push_target(out, target, Operator::Const)?;
+    let text = format!(in *out.allocator(); " {number}")?;
+    out.extend_from_slice(text.as_bytes())
+}
+
+// Adds the total of an aggregate.
+fn push_read(
+    out: &mut Vec<u8>,
+    target: u16,
+    group: u16,
+    aggregate: u16,
+    default: i64,
+) -> Result<(), AllocError>
+    ensures { OnOk result (out.new.items ≡ out.old.items ++ (spec.target_text target Operator.Read ++ (codes " " ++ (decimal group ++ (codes " " ++ (decimal aggregate ++ (codes " " ++ signed_decimal default))))))) }
+{
+    push_target(out, target, Operator::Read)?;
+    let text = format!(in *out.allocator(); " {group} {aggregate} {default}")?;
+    out.extend_from_slice(text.as_bytes())
+}
+
+// Adds a look-up of a row.
+fn push_find(out: &mut Vec<u8>, target: u16, table: TableId, key: u16) -> Result<(), AllocError>
+    ensures { OnOk result (out.new.items ≡ out.old.items ++ (spec.target_text target Operator.Find ++ (codes " " ++ (table_name table ++ spec.register_text key)))) }
+{
+    push_target(out, target, Operator::Find)?;
+    let text = format!(in *out.allocator(); " {table}")?;
+    out.extend_from_slice(text.as_bytes())?;
+    push_register(out, key)
+}
+
+// Adds an update of a group.
+fn push_put(out: &mut Vec<u8>, group: u16, keys: &[u16], values: &[u16]) -> Result<(), AllocError>
+    ensures { OnOk result (out.new.items ≡ out.old.items ++ (codes "put " ++ (decimal group ++ (flat_map spec.register_text keys.now ++ (codes " :" ++ flat_map spec.register_text values.now))))) }
+{
+    let text = format!(in *out.allocator(); "put {group}")?;
+    out.extend_from_slice(text.as_bytes())?;
+    push_registers(out, keys)?;
+    out.extend_from_slice(b" :")?;
+    push_registers(out, values)
+}
+
+fn push_load(out: &mut Vec<u8>, target: u16, column: ColumnId, row: u16) -> Result<(), AllocError>
+    ensures { OnOk result (out.new.items ≡ out.old.items ++ (spec.target_text target Operator.Load ++ (codes " " ++ (column_name column ++ spec.register_text row)))) }
+{
+    push_target(out, target, Operator::Load)?;
+    push_column(out, column)?;
+    push_register(out, row)
+}
+
+fn push_within(
+    out: &mut Vec<u8>,
+    target: u16,
+    value: u16,
+    from: u16,
+    below: u16,
+) -> Result<(), AllocError>
+    ensures { OnOk result (out.new.items ≡ out.old.items ++ (spec.target_text target Operator.Within ++ (spec.register_text value ++ (spec.register_text from ++ spec.register_text below)))) }
+{
+    push_target(out, target, Operator::Within)?;
+    push_register(out, value)?;
+    push_register(out, from)?;
+    push_register(out, below)
+}
+
+fn push_not(out: &mut Vec<u8>, target: u16, flag: u16) -> Result<(), AllocError>
+    ensures { OnOk result (out.new.items ≡ out.old.items ++ (spec.target_text target Operator.Not ++ spec.register_text flag)) }
+{
+    push_target(out, target, Operator::Not)?;
+    push_register(out, flag)
+}
+
+fn push_keep(out: &mut Vec<u8>, flag: u16) -> Result<(), AllocError>
+    ensures { OnOk result (out.new.items ≡ out.old.items ++ (codes "keep" ++ spec.register_text flag)) }
+{
+    out.extend_from_slice(b"keep")?;
+    push_register(out, flag)
+}
+
+// Adds an instruction.
+#[tactic(auto, unfolding(crate::specs::Written::op_text))]
+pub(crate) fn push_op(out: &mut Vec<u8>, op: &Op) -> Result<(), AllocError>
+    ensures { OnOk result (out.new.items ≡ out.old.items ++ spec.op_text op.now) }
+{
+    match op {
+        Op::Const { target, number } => push_constant(out, *target, *number),
+        Op::Low {
+            target,
+            column,
+            text,
+        } => { push_search(out, *target, Operator::Low, *column, text.as_slice()) }
+        Op::High {
+            target,
+            column,
+            text,
+        } => { push_search(out, *target, Operator::High, *column, text.as_slice()) }
+        Op::Load {
+            target,
+            column,
+            row,
+        } => push_load(out, *target, *column, *row),
+        Op::Find { target, table, key } => push_find(out, *target, *table, *key),
+        Op::Add {
+            target,
+            left,
+            right,
+        } => push_two(out, *target, Operator::Add, *left, *right),
+        Op::Sub {
+            target,
+            left,
+            right,
+        } => push_two(out, *target, Operator::Sub, *left, *right),
+        Op::Mul {
+            target,
+            left,
+            right,
+        } => push_two(out, *target, Operator::Mul, *left, *right),
+        Op::Less {
+            target,
+            left,
+            right,
+        } => push_two(out, *target, Operator::Less, *left, *right),
+        Op::LessOrEqual {
+            target,
+            left,
+            right,
+        } => { push_two(out, *target, Operator::LessOrEqual, *left, *right) }
+        Op::Equal {
+            target,
+            left,
+            right,
+        } => { push_two(out, *target, Operator::Equal, *left, *right) }
+        Op::Within {
+            target,
+            value,
+            from,
+            below,
+        } => { push_within(out, *target, *value, *from, *below) }
+        Op::And {
+            target,
+            left,
+            right,
+        } => push_two(out, *target, Operator::And, *left, *right),
+        Op::Or {
+            target,
+            left,
+            right,
+        } => push_two(out, *target, Operator::Or, *left, *right),
+        Op::Not { target, flag } => push_not(out, *target, *flag),
+        Op::Keep { flag } => push_keep(out, *flag),
+        Op::Put {
+            group,
+            keys,
+            values,
+        } => { push_put(out, *group, keys.as_slice(), values.as_slice()) }
+        Op::Read {
+            target,
+            group,
+            aggregate,
+            default,
+        } => { push_read(out, *target, *group, *aggregate, *default) }
+    }
+}
+
+#[tactic(auto, unfolding(crate::specs::Written::key_text))]
+fn push_key(out: &mut Vec<u8>, key: GroupKey) -> Result<(), AllocError>
+    ensures { OnOk result (out.new.items ≡ out.old.items ++ spec.key_text key) }
+{
+    match key {
+        GroupKey::Number => out.extend_from_slice(b" number"),
+        GroupKey::Text(column) => push_column(out, column),
+    }
+}
+
+fn push_keys(out: &mut Vec<u8>, keys: &[GroupKey]) -> Result<(), AllocError>
+    ensures { OnOk result (out.new.items ≡ out.old.items ++ flat_map spec.key_text keys.now) }
+{
+    for key in keys {
+        push_key(out, *key)?;
+    }
+    Ok(())
+}
+
+fn push_aggregate(out: &mut Vec<u8>, aggregate: Aggregate) -> Result<(), AllocError>
+    ensures { OnOk result (out.new.items ≡ out.old.items ++ spec.aggregate_text aggregate) }
+{
+    out.push(b' ')?;
+    out.extend_from_slice(aggregate_name(aggregate).as_bytes())
+}
+
+fn push_aggregates(out: &mut Vec<u8>, aggregates: &[Aggregate]) -> Result<(), AllocError>
+    ensures { OnOk result (out.new.items ≡ out.old.items ++ flat_map spec.aggregate_text aggregates.now) }
+{
+    for aggregate in aggregates {
+        push_aggregate(out, *aggregate)?;
+    }
+    Ok(())
+}
+
+// Adds a group by its number.
+#[tactic(auto, unfolding(crate::specs::Written::group_text))]
+pub(crate) fn push_group(out: &mut Vec<u8>, place: u16, group: &GroupDecl) -> Result<(), AllocError>
+    ensures { OnOk result (out.new.items ≡ out.old.items ++ spec.group_text place group.now) }
+{
+    let shape = shape_name(group.shape);
+    let text = format!(in *out.allocator(); "group {place} {shape}")?;
+    out.extend_from_slice(text.as_bytes())?;
+    push_keys(out, group.keys.as_slice())?;
+    out.extend_from_slice(b" :")?;
+    push_aggregates(out, group.aggregates.as_slice())
+}
+
+// Adds which column of a group is meant.
+#[tactic(auto, unfolding(crate::specs::Written::column_text))]
+fn push_place(out: &mut Vec<u8>, column: GroupColumn) -> Result<(), AllocError>
+    ensures { OnOk result (out.new.items ≡ out.old.items ++ spec.column_text column) }
+{
+    let text = match column {
+        GroupColumn::Key(place) => format!(in *out.allocator(); " key {place}")?,
+        GroupColumn::Aggregate(place) => format!(in *out.allocator(); " aggregate {place}")?,
+    };
+    out.extend_from_slice(text.as_bytes())
+}
+
+#[tactic(auto, unfolding(crate::specs::Written::show_text))]
+pub(crate) fn push_show(out: &mut Vec<u8>, show: &Show) -> Result<(), AllocError>
+    ensures { OnOk result (out.new.items ≡ out.old.items ++ spec.show_text show.now) }
+{
+    out.extend_from_slice(b"show ")?;
+    out.extend_from_slice(show.name.as_slice())?;
+    push_place(out, show.column)
+}
+
+#[tactic(auto, unfolding(crate::specs::Written::sort_text))]
+pub(crate) fn push_sort(out: &mut Vec<u8>, key: SortKey) -> Result<(), AllocError>
+    ensures { OnOk result (out.new.items ≡ out.old.items ++ spec.sort_text key) }
+{
+    out.extend_from_slice(b"sort")?;
+    push_place(out, key.column)?;
+    out.push(b' ')?;
+    out.extend_from_slice(direction_name(key.direction).as_bytes())
+}
