@@ -1,7 +1,6 @@
 -- Lists whose elements all differ.
-use Rattle.std.proofs.Common.{◌≡◌, ◌≢◌, ◌+◌, ◌<◌, ℕ, ℤ, suc, List, [], ◌∷◌, ◌&&◌, All, AllPairs, Bool, true, map, ap, arith, get_or, length}
+use Rattle.std.proofs.Common.{◌≡◌, ◌≢◌, ℤ, suc, List, [], ◌∷◌, AllPairs, map, ap, arith, get_or}
 use Rattle.std.specs.Bool.{Decides}
-use Rattle.std.specs.Cmp.Rules.{signed_items}
 use Rattle.std.specs.List.{IsDistinct}
 use Rattle.std.specs.Ordering.{int_eq}
 use Rattle.std.proofs.lemmas.Bool.{and_from, and_parts}

@@ -1,6 +1,6 @@
 -- The place of a number among different ones.
-use Rattle.std.proofs.Common.{◌≡◌, ◌<◌, ◌∷◌, ◌∙◌, ℕ, ℤ, List, [], All, Bool, true, false, Option, Some, None, get_or, length, map, pos, refl, sym, ap, subst, arith}
-use Rattle.std.specs.Prelude.{◌↔◌, nat_lt, position}
+use Rattle.std.proofs.Common.{◌≡◌, ◌∷◌, ◌∙◌, ℕ, ℤ, List, [], All, true, false, Option, Some, None, get_or, length, map, pos, refl, sym, ap, subst, arith}
+use Rattle.std.specs.Prelude.{◌↔◌, position}
 use Rattle.std.specs.List.{IsDistinct, slice_get}
 use Rattle.std.specs.Option.{option_map}
 use Rattle.std.specs.Ordering.{int_eq}

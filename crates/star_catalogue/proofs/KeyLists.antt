@@ -1,14 +1,11 @@
 -- The keys of a table as numbers and as pairs of numbers.
-use Rattle.std.proofs.Common.{◌≡◌, ◌≢◌, ◌&&◌, ◌∷◌, ◌∙◌, ℕ, ℤ, suc, List, [], All, AllPairs, Bool, true, false, None, Option, length, map, refl, sym, ap}
+use Rattle.std.proofs.Common.{◌≡◌, ◌≢◌, ◌&&◌, ◌∷◌, ◌∙◌, ℕ, ℤ, suc, List, [], All, AllPairs, Bool, true, false, None, length, map, refl, ap}
 use Rattle.std.specs.Cmp.Rules.{signed_items}
 use Rattle.std.specs.List.{zip}
 use Rattle.std.specs.Option.{option_map}
 use Rattle.std.specs.Ordering.{int_eq}
-use Rattle.std.proofs.lemmas.Bool.{cases_Bool}
-use Rattle.std.proofs.lemmas.List.{length-map}
 use Rattle.std.proofs.lemmas.List.Elements.{All-map}
 use Rattle.star_schema.specs.declared.column.ColumnId.{ColumnId}
-use Rattle.star_schema.specs.declared.table.Key.{Key}
 use Rattle.star_schema.specs.declared.table.Key.TheVariants.{One, Two}
 use Rattle.star_schema.specs.declared.table.TableId.{TableId}
 use Rattle.star_schema.specs.Bounds.{numbers_at}

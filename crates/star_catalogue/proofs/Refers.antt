@@ -1,21 +1,20 @@
 -- The foreign keys of lineorder: found, or the first that is absent.
-use Rattle.std.proofs.Common.{◌≡◌, ◌+◌, ◌<◌, ◌∷◌, ◌∙◌, ℕ, ℤ, List, [], All, Bool, true, false, Contains, Option, Some, None, drop, get_or, length, map, refl, sym, ap, inl, inr, arith, true≢false}
+use Rattle.std.proofs.Common.{◌≡◌, ◌+◌, ◌<◌, ◌∷◌, ◌∙◌, ℕ, ℤ, List, [], All, true, false, Contains, Option, Some, None, drop, get_or, length, map, refl, sym, ap, inl, inr, arith}
 use Rattle.std.specs.Cmp.{IsEquivalence}
-use Rattle.std.specs.Cmp.Lexicographic.{pointwise, lists_equiv}
+use Rattle.std.specs.Cmp.Lexicographic.{lists_equiv}
 use Rattle.std.specs.Cmp.Rules.{signed_items}
 use Rattle.std.specs.List.{enumerate_from, list_any, slice_get}
 use Rattle.std.specs.Option.{option_map}
-use Rattle.std.specs.Ordering.{int_eq}
 use Rattle.std.proofs.Math.ListN.{get_or-map}
 use Rattle.std.proofs.Math.Seq.{drop-length}
 use Rattle.std.proofs.lemmas.Bool.{cases_Bool}
 use Rattle.std.proofs.lemmas.List.{length-map}
 use Rattle.std.proofs.lemmas.Cmp.{int_eq_equiv}
-use Rattle.std.proofs.lemmas.List.Elements.{All-cons, All-get_or, All-map, All-nil}
+use Rattle.std.proofs.lemmas.List.Elements.{All-cons, All-map, All-nil}
 use Rattle.std.proofs.lemmas.List.FromFn.{get_or-enumerate_from, length-enumerate_from}
 use Rattle.std.proofs.lemmas.Map.Keys.{any_passes_from_place}
 use Rattle.std.proofs.lemmas.Map.Views.{list_any-from_Contains}
-use Rattle.std.proofs.lemmas.Option.{get_or_from_slice_get, slice_get-get_or, slice_get-map, slice_get_within}
+use Rattle.std.proofs.lemmas.Option.{slice_get-get_or, slice_get-map}
 use Rattle.indexmap.proofs.CallerLemmas.{Contains-list_any}
 use Rattle.star_schema.specs.declared.column.ColumnId.{ColumnId}
 use Rattle.star_schema.specs.declared.column.ColumnId.TheVariants.{LoCustkey, LoPartkey, LoSuppkey, LoOrderdate, LoCommitdate}
@@ -25,7 +24,7 @@ use Rattle.star_schema.specs.Bounds.{numbers_at, numbers_of}
 use Rattle.star_schema.specs.Database.{Database, rows_in}
 use Rattle.star_schema.specs.First.{first_answer}
 use Rattle.star_schema.specs.Loadable.{IsSound, RefersTo, foreign_keys, keys_of, number_at}
-use Rattle.star_schema.specs.Schema.{column_of, place_of, references, table_of}
+use Rattle.star_schema.specs.Schema.{column_of, references}
 use Rattle.star_schema.specs.Tables.{Value}
 use Rattle.star_schema.proofs.Firsts.{all_without_answer, enumerated_at, first_answer_here, first_answer_none, first_answer_on}
 use Rattle.star_schema.proofs.KeyColumns.{IsNumberOf, foreign_key, foreign_keys_are}

@@ -1,12 +1,11 @@
 -- The rows of a table have a value for each column, of the column's kind.
-use Rattle.std.proofs.Common.{◌≡◌, ◌+◌, ◌<◌, ◌≤◌, ◌∷◌, [], ◌∙◌, ℕ, ℤ, zero, suc, List, All, Some, length, map, pos, get_or, refl, sym, ap, arith}
+use Rattle.std.proofs.Common.{◌≡◌, ◌<◌, ◌≤◌, ◌∷◌, [], ◌∙◌, ℕ, zero, suc, List, All, length, map, pos, get_or, refl, ap, arith}
 use Rattle.std.proofs.Math.ListN.{get_or-map}
-use Rattle.std.proofs.lemmas.List.{get_or_default, length-map}
+use Rattle.std.proofs.lemmas.List.{get_or_default}
 use Rattle.std.proofs.lemmas.List.Elements.{All-append, All-cons, All-head, All-nil, All-tail}
-use Rattle.star_schema.specs.declared.column.Kind.{Kind}
 use Rattle.star_schema.specs.declared.table.TableId.{TableId}
 use Rattle.star_schema.specs.declared.table.TableId.TheVariants.{Date, Customer, Supplier, Part, Lineorder}
-use Rattle.star_schema.specs.Tables.{IsRowOf, Value, Number, Text, kind_of_value}
+use Rattle.star_schema.specs.Tables.{IsRowOf, Number, Text, kind_of_value}
 use Rattle.star_reader.specs.Columns.{first_rows, row_at}
 use Rattle.star_catalogue.specs.declared.columns.Column.{Column}
 use Rattle.star_catalogue.specs.declared.columns.Column.TheVariants.{Numbers, Texts}

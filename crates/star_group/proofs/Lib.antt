@@ -13,3 +13,4 @@ pub mod GivenRows
 pub mod GivenGroups
 pub mod OwnGroups
 pub mod SmallNumbers
+pub mod ContentByKeys

@@ -1,20 +1,19 @@
 -- Where the sums by key list add up within 64 bits, no put leaves them.
-use Rattle.std.proofs.Common.{◌≡◌, ℕ, suc, ◌<◌, ◌≤◌, ◌^◌, Bool, true, false, not, ℤ, pos, negsuc, ◌+ℤ◌, ◌≤ℤ◌, List, [], ◌∷◌, Option, Some, length, get_or, map, cond, ap, sym, ◌∙◌, refl, arith}
+use Rattle.std.proofs.Common.{◌≡◌, ℕ, suc, ◌<◌, ◌≤◌, ◌^◌, Bool, true, false, not, ℤ, pos, negsuc, ◌+ℤ◌, ◌≤ℤ◌, List, [], ◌∷◌, Option, Some, length, map, cond, ap, sym, ◌∙◌, refl, arith}
 use Rattle.std.proofs.lemmas.Int.{ints}
 use Rattle.std.proofs.lemmas.Bool.{lt-ltb}
-use Rattle.std.proofs.lemmas.Slice.Eq.{slice_eq-Decides}
 use Rattle.std.specs.List.{list_any, filter}
 use Rattle.star_schema.specs.declared.group.Aggregate.{Aggregate}
 use Rattle.star_schema.specs.declared.group.Aggregate.TheVariants.{Sum, Count, Min, Max}
-use Rattle.star_schema.specs.Groups.{numbers_for}
+use Rattle.star_schema.specs.Groups.{joined, numbers_for}
 use Rattle.star_interval.specs.Range.{is_i64}
 use Rattle.star_program.specs.declared.key.KeyValue.{KeyValue}
 use Rattle.star_group.specs.Cells.{held, step, leaves}
-use Rattle.star_program.specs.Keys.{same_keys}
 use Rattle.star_group.specs.OwnKeys.{key_eq, padded, own_keys}
-use Rattle.star_group.specs.Stores.{Put, Group, aggregate_at, add_to, sums_by_keys, above_zero, below_zero, AddUp, HasRoomAt, HasRoom}
+use Rattle.star_group.specs.Stores.{Put, Group, aggregate_at, number_at, sums_by_keys, above_zero, below_zero, AddUp, HasRoomAt, HasRoom}
 use Rattle.star_group.specs.Held.{changes, puts_at, PutStays}
-use Rattle.star_group.proofs.GroupKeys.{value_decides}
+use Rattle.star_group.proofs.ContentByKeys.{sums_passing, length-numbers}
+use Rattle.star_group.proofs.Totals.{held_joined}
 
 all_of : List ℤ → ℤ
 all_of [] = pos 0
@@ -32,55 +31,34 @@ some_count v (w ∷ ws) = ap (λ c. Some (step Count v c)) (some_count w ws) ∙
 
 -- ---- the sums of the key lists that pass a test
 
-module _ (p : List KeyValue → Bool) where
-  passed : List (List KeyValue × ℤ) → ℤ
-  passed [] = pos 0
-  passed (e ∷ es) = cond (p e.0) (e.1 +ℤ passed es) (passed es)
+bounded : (zs : List ℤ) → (all_of zs ≤ℤ pos (above_zero zs)) × (pos 0 ≤ℤ (all_of zs +ℤ pos (below_zero zs)))
+unfolding all_of above_zero below_zero
+bounded [] = (omega (arith, ints), omega (arith, ints))
+bounded (pos n ∷ zs) = let r = bounded zs in (omega (arith, ints, r.0), omega (arith, ints, r.1))
+bounded (negsuc n ∷ zs) = let r = bounded zs in (omega (arith, ints, r.0), omega (arith, ints, r.1))
 
-  add_passed : (ks : List KeyValue) (z : ℤ) (es : List (List KeyValue × ℤ)) → passed (add_to ks z es) ≡ cond (p ks) (z +ℤ passed es) (passed es)
-  unfolding add_to passed
-  add_passed ks z [] = refl
-  add_passed ks z (e ∷ es) = by (same_keys ks e.0) refl (add_passed ks z es)
-    where
-      here : (b : Bool) (x s : ℤ) → cond b ((z +ℤ x) +ℤ s) s ≡ cond b (z +ℤ cond b (x +ℤ s) s) (cond b (x +ℤ s) s)
-      here true x s = omega (arith, ints)
-      here false x s = refl
+-- fewer numbers add up to no more
+record Fewer (vs ws : List ℤ) : Type 0 where
+  pub above : above_zero vs ≤ above_zero ws
+  pub below : below_zero vs ≤ below_zero ws
 
-      later : (b c : Bool) (x s : ℤ) → cond b (x +ℤ cond c (z +ℤ s) s) (cond c (z +ℤ s) s) ≡ cond c (z +ℤ cond b (x +ℤ s) s) (cond b (x +ℤ s) s)
-      later true true x s = omega (arith, ints)
-      later true false x s = refl
-      later false true x s = refl
-      later false false x s = refl
+fewer_with : (v : ℤ) (vs ws : List ℤ) → Fewer vs ws → Fewer (v ∷ vs) (v ∷ ws)
+unfolding above_zero below_zero
+fewer_with (pos n) vs ws h = record { above = omega arith; below = h.below }
+fewer_with (negsuc n) vs ws h = record { above = h.above; below = omega arith }
 
-      by : (b : Bool) → same_keys ks e.0 ≡ b → passed (add_to ks z es) ≡ cond (p ks) (z +ℤ passed es) (passed es) → passed (cond b ((e.0, z +ℤ e.1) ∷ es) (e ∷ add_to ks z es)) ≡ cond (p ks) (z +ℤ passed (e ∷ es)) (passed (e ∷ es))
-      by true same rest =
-          let is : ks ≡ e.0 = (slice_eq-Decides value_decides ks e.0 (same_keys ks e.0) refl).0 same in
-          here (p e.0) e.1 (passed es) ∙ ap (λ b. cond b (z +ℤ passed (e ∷ es)) (passed (e ∷ es))) (ap p (sym is))
-      by false other rest = ap (λ r. cond (p e.0) (e.1 +ℤ r) r) rest ∙ later (p e.0) (p ks) e.1 (passed es)
+fewer_without : (v : ℤ) (vs ws : List ℤ) → Fewer vs ws → Fewer vs (v ∷ ws)
+unfolding above_zero below_zero
+fewer_without (pos n) vs ws h = record { above = omega arith; below = h.below }
+fewer_without (negsuc n) vs ws h = record { above = h.above; below = omega arith }
 
-  -- they are the sum of the numbers of the puts whose key lists pass
-  by_keys : (place : ℕ) (us : List Put) → passed (sums_by_keys place us) ≡ all_of (numbers_for place (filter (λ u. p u.keys) us))
-  unfolding sums_by_keys passed all_of
-  by_keys place [] = refl
-  by_keys place (u ∷ us) = add_passed u.keys (get_or u.values place (pos 0)) (sums_by_keys place us) ∙ by (p u.keys) ∙ ap (λ s. cond (p u.keys) (get_or u.values place (pos 0) +ℤ s) s) (by_keys place us) ∙ over (p u.keys)
-    where
-      by : (b : Bool) → cond b (get_or u.values place (pos 0) +ℤ passed (sums_by_keys place us)) (passed (sums_by_keys place us)) ≡ cond b (get_or u.values place (pos 0) +ℤ passed (sums_by_keys place us)) (passed (sums_by_keys place us))
-      by b = refl
-
-      over : (b : Bool) → cond b (get_or u.values place (pos 0) +ℤ all_of (numbers_for place (filter (λ w. p w.keys) us))) (all_of (numbers_for place (filter (λ w. p w.keys) us))) ≡ all_of (numbers_for place (cond b (u ∷ filter (λ w. p w.keys) us) (filter (λ w. p w.keys) us)))
-      over true = refl
-      over false = refl
-
-  bounded : (es : List (List KeyValue × ℤ)) → (passed es ≤ℤ pos (above_zero (map (λ e. e.1) es))) × (pos 0 ≤ℤ (passed es +ℤ pos (below_zero (map (λ e. e.1) es))))
-  unfolding passed above_zero below_zero
-  bounded [] = (omega (arith, ints), omega (arith, ints))
-  bounded (e ∷ es) = by (p e.0) e.1 (passed es) (map (λ f. f.1) es) (bounded es)
-    where
-      by : (b : Bool) (z s : ℤ) (zs : List ℤ) → (s ≤ℤ pos (above_zero zs)) × (pos 0 ≤ℤ (s +ℤ pos (below_zero zs))) → (cond b (z +ℤ s) s ≤ℤ pos (above_zero (z ∷ zs))) × (pos 0 ≤ℤ (cond b (z +ℤ s) s +ℤ pos (below_zero (z ∷ zs))))
-      by true (pos n) s zs r = (omega (arith, ints, r.0), omega (arith, ints, r.1))
-      by true (negsuc n) s zs r = (omega (arith, ints, r.0), omega (arith, ints, r.1))
-      by false (pos n) s zs r = (omega (arith, ints, r.0), omega (arith, ints, r.1))
-      by false (negsuc n) s zs r = (omega (arith, ints, r.0), omega (arith, ints, r.1))
+fewer_kept : (p : List KeyValue → Bool) (es : List (List KeyValue × ℤ)) → Fewer (map (λ e. e.1) (filter (λ e. p e.0) es)) (map (λ e. e.1) es)
+fewer_kept p [] = record { above = omega arith; below = omega arith }
+fewer_kept p (e ∷ es) = by (p e.0) (fewer_kept p es)
+  where
+    by : (b : Bool) → Fewer (map (λ f. f.1) (filter (λ f. p f.0) es)) (map (λ f. f.1) es) → Fewer (map (λ f. f.1) (cond b (e ∷ filter (λ f. p f.0) es) (filter (λ f. p f.0) es))) (e.1 ∷ map (λ f. f.1) es)
+    by true h = fewer_with e.1 _ _ h
+    by false h = fewer_without e.1 _ _ h
 
 fits_between : (z : ℤ) (m n : ℕ) → z ≤ℤ pos m → pos 0 ≤ℤ (z +ℤ pos n) → m < 2 ^ 63 → n ≤ 2 ^ 63 → is_i64 z ≡ true
 unfolding is_i64
@@ -97,10 +75,6 @@ fewer p (u ∷ us) = by (p u) (fewer p us)
     by true h = omega arith
     by false h = omega arith
 
-length-numbers : (place : ℕ) (us : List Put) → length (numbers_for place us) ≡ length us
-length-numbers place [] = refl
-length-numbers place (u ∷ us) = ap suc (length-numbers place us)
-
 nothing : (g : Aggregate) (z : ℤ) → held g [] ≡ Some z → ⊥
 unfolding held
 nothing g z e = cc e
@@ -109,15 +83,19 @@ count_small : (n : ℕ) → n < 2 ^ 63 → is_i64 (pos n) ≡ true
 unfolding is_i64
 count_small n h = lt-ltb n (2 ^ 63) h
 
+held_sum : (vs : List ℤ) → held Sum vs ≡ joined (λ x y. x +ℤ y) vs
+held_sum vs = held_joined Sum (λ x y. x +ℤ y) (λ x. refl) (λ x y. refl) vs
+
 -- ---- one more put
 
 sum_fits : (d : Group) (us : List Put) (q : List (Option KeyValue)) (place : ℕ) (z : ℤ) → AddUp (map (λ e. e.1) (sums_by_keys place us)) → held Sum (numbers_for place (puts_at d q us)) ≡ Some z → is_i64 z ≡ true
 sum_fits d us q place z room e =
     let p : List KeyValue → Bool = λ ks. list_any (key_eq q) (own_keys d.shape (length ks) (padded 6 ks)) in
-    let r = bounded p (sums_by_keys place us) in
-    let whole : all_of (numbers_for place (puts_at d q us)) ≡ passed p (sums_by_keys place us) = sym (by_keys p place us) in
-    let is : z ≡ passed p (sums_by_keys place us) = of_some (numbers_for place (puts_at d q us)) e ∙ whole in
-    ap is_i64 is ∙ fits_between (passed p (sums_by_keys place us)) _ _ r.0 r.1 room.above room.below
+    let zs : List ℤ = map (λ f. f.1) (filter (λ f. p f.0) (sums_by_keys place us)) in
+    let whole : held Sum zs ≡ Some z = held_sum zs ∙ sums_passing p (number_at place) us ∙ sym (held_sum (numbers_for place (puts_at d q us))) ∙ e in
+    let less = fewer_kept p (sums_by_keys place us) in
+    let r = bounded zs in
+    ap is_i64 (of_some zs whole) ∙ fits_between (all_of zs) _ _ r.0 r.1 (omega (arith, less.above, room.above)) (omega (arith, less.below, room.below))
   where
     of_some : (vs : List ℤ) → held Sum vs ≡ Some z → z ≡ all_of vs
     of_some [] e = absurd (nothing Sum z e)

@@ -6,7 +6,7 @@ use Rattle.star_schema.specs.declared.group.Aggregate.TheVariants.{Sum, Count, M
 use Rattle.star_schema.specs.Groups.{numbers_for}
 use Rattle.star_program.specs.declared.key.KeyValue.{KeyValue}
 use Rattle.star_program.specs.Keys.{same_keys}
-use Rattle.star_group.specs.Stores.{Put, Group, aggregate_at, add_to, sums_by_keys, above_zero, below_zero, AddUp, HasRoomAt, HasRoom}
+use Rattle.star_group.specs.Stores.{Put, Group, aggregate_at, add_to, by_keys, sums_by_keys, above_zero, below_zero, AddUp, HasRoomAt, HasRoom}
 
 above_cons : (z : ℤ) (zs : List ℤ) → above_zero (z ∷ zs) ≡ above_zero (z ∷ []) + above_zero zs
 unfolding above_zero
@@ -42,8 +42,8 @@ below_sum (negsuc a) (negsuc b) (pos c) e = omega arith
 
 -- one more number of a key list adds no more than itself
 record AddsAtMost (ks : List KeyValue) (z : ℤ) (es : List (List KeyValue × ℤ)) : Type 0 where
-  pub above : above_zero (map (λ e. e.1) (add_to ks z es)) ≤ above_zero (z ∷ []) + above_zero (map (λ e. e.1) es)
-  pub below : below_zero (map (λ e. e.1) (add_to ks z es)) ≤ below_zero (z ∷ []) + below_zero (map (λ e. e.1) es)
+  pub above : above_zero (map (λ e. e.1) (add_to (λ x y. x +ℤ y) ks z es)) ≤ above_zero (z ∷ []) + above_zero (map (λ e. e.1) es)
+  pub below : below_zero (map (λ e. e.1) (add_to (λ x y. x +ℤ y) ks z es)) ≤ below_zero (z ∷ []) + below_zero (map (λ e. e.1) es)
 
 adds_at_most : (ks : List KeyValue) (z : ℤ) (es : List (List KeyValue × ℤ)) → AddsAtMost ks z es
 unfolding add_to
@@ -53,21 +53,21 @@ adds_at_most ks z (e ∷ es) = record {
   below = by_below (same_keys ks e.0) (adds_at_most ks z es).below;
 }
   where
-    by_above : (b : Bool) → above_zero (map (λ f. f.1) (add_to ks z es)) ≤ above_zero (z ∷ []) + above_zero (map (λ f. f.1) es) → above_zero (map (λ f. f.1) (cond b ((e.0, z +ℤ e.1) ∷ es) (e ∷ add_to ks z es))) ≤ above_zero (z ∷ []) + above_zero (e.1 ∷ map (λ f. f.1) es)
+    by_above : (b : Bool) → above_zero (map (λ f. f.1) (add_to (λ x y. x +ℤ y) ks z es)) ≤ above_zero (z ∷ []) + above_zero (map (λ f. f.1) es) → above_zero (map (λ f. f.1) (cond b ((e.0, z +ℤ e.1) ∷ es) (e ∷ add_to (λ x y. x +ℤ y) ks z es))) ≤ above_zero (z ∷ []) + above_zero (e.1 ∷ map (λ f. f.1) es)
     by_above true h = omega (arith, above_cons (z +ℤ e.1) (map (λ f. f.1) es), above_cons e.1 (map (λ f. f.1) es), above_sum z e.1 (z +ℤ e.1) refl)
-    by_above false h = omega (arith, above_cons e.1 (map (λ f. f.1) (add_to ks z es)), above_cons e.1 (map (λ f. f.1) es), h)
+    by_above false h = omega (arith, above_cons e.1 (map (λ f. f.1) (add_to (λ x y. x +ℤ y) ks z es)), above_cons e.1 (map (λ f. f.1) es), h)
 
-    by_below : (b : Bool) → below_zero (map (λ f. f.1) (add_to ks z es)) ≤ below_zero (z ∷ []) + below_zero (map (λ f. f.1) es) → below_zero (map (λ f. f.1) (cond b ((e.0, z +ℤ e.1) ∷ es) (e ∷ add_to ks z es))) ≤ below_zero (z ∷ []) + below_zero (e.1 ∷ map (λ f. f.1) es)
+    by_below : (b : Bool) → below_zero (map (λ f. f.1) (add_to (λ x y. x +ℤ y) ks z es)) ≤ below_zero (z ∷ []) + below_zero (map (λ f. f.1) es) → below_zero (map (λ f. f.1) (cond b ((e.0, z +ℤ e.1) ∷ es) (e ∷ add_to (λ x y. x +ℤ y) ks z es))) ≤ below_zero (z ∷ []) + below_zero (e.1 ∷ map (λ f. f.1) es)
     by_below true h = omega (arith, below_cons (z +ℤ e.1) (map (λ f. f.1) es), below_cons e.1 (map (λ f. f.1) es), below_sum z e.1 (z +ℤ e.1) refl)
-    by_below false h = omega (arith, below_cons e.1 (map (λ f. f.1) (add_to ks z es)), below_cons e.1 (map (λ f. f.1) es), h)
+    by_below false h = omega (arith, below_cons e.1 (map (λ f. f.1) (add_to (λ x y. x +ℤ y) ks z es)), below_cons e.1 (map (λ f. f.1) es), h)
 
 above_by_keys : (place : ℕ) (us : List Put) → above_zero (map (λ e. e.1) (sums_by_keys place us)) ≤ above_zero (numbers_for place us)
-unfolding sums_by_keys
+unfolding by_keys
 above_by_keys place [] = omega arith
 above_by_keys place (u ∷ us) = omega (arith, (adds_at_most u.keys (get_or u.values place (pos 0)) (sums_by_keys place us)).above, above_by_keys place us, above_cons (get_or u.values place (pos 0)) (numbers_for place us))
 
 below_by_keys : (place : ℕ) (us : List Put) → below_zero (map (λ e. e.1) (sums_by_keys place us)) ≤ below_zero (numbers_for place us)
-unfolding sums_by_keys
+unfolding by_keys
 below_by_keys place [] = omega arith
 below_by_keys place (u ∷ us) = omega (arith, (adds_at_most u.keys (get_or u.values place (pos 0)) (sums_by_keys place us)).below, below_by_keys place us, below_cons (get_or u.values place (pos 0)) (numbers_for place us))
 

@@ -17,14 +17,14 @@ use Rattle.star_group.proofs.OwnKeyLemmas.{all_padded}
 use Rattle.star_group.proofs.PutSteps.{one_more, or_right}
 use Rattle.star_group.proofs.GroupKeys.{key_equiv}
 
-joined_none : (f : ℤ → ℤ → ℤ) (v : ℤ) (vs : List ℤ) → joined f vs ≡ None → joined f (v ∷ vs) ≡ Some v
+pub joined_none : (f : ℤ → ℤ → ℤ) (v : ℤ) (vs : List ℤ) → joined f vs ≡ None → joined f (v ∷ vs) ≡ Some v
 joined_none f v vs e = rw e refl
 
-joined_some : (f : ℤ → ℤ → ℤ) (v z : ℤ) (vs : List ℤ) → joined f vs ≡ Some z → joined f (v ∷ vs) ≡ Some (f v z)
+pub joined_some : (f : ℤ → ℤ → ℤ) (v z : ℤ) (vs : List ℤ) → joined f vs ≡ Some z → joined f (v ∷ vs) ≡ Some (f v z)
 joined_some f v z vs e = rw e refl
 
 -- an aggregate that joins its numbers by an operation
-held_joined : (g : Aggregate) (f : ℤ → ℤ → ℤ) → ((v : ℤ) → step g v None ≡ v) → ((v z : ℤ) → step g v (Some z) ≡ f v z) → (vs : List ℤ) → held g vs ≡ joined f vs
+pub held_joined : (g : Aggregate) (f : ℤ → ℤ → ℤ) → ((v : ℤ) → step g v None ≡ v) → ((v z : ℤ) → step g v (Some z) ≡ f v z) → (vs : List ℤ) → held g vs ≡ joined f vs
 unfolding held
 held_joined g f first more [] = refl
 held_joined g f first more (v ∷ vs) = by (joined f vs) refl (held_joined g f first more vs)

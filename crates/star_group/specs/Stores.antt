@@ -1,10 +1,12 @@
 -- What a store of groups promises, in puts: the newest put comes first.
-use Rattle.std.specs.Prelude.{ℕ, suc, ◌+◌, ◌<◌, ◌≤◌, ◌^◌, Bool, ℤ, pos, negsuc, ◌+ℤ◌, List, [], ◌∷◌, Option, length, map, slice_index_or, if◌then◌else◌}
+use Rattle.std.specs.Prelude.{◌≡◌, ℕ, suc, ◌+◌, ◌<◌, ◌≤◌, ◌^◌, Bool, ℤ, pos, negsuc, ◌+ℤ◌, List, [], ◌∷◌, Option, Some, filter, length, map, slice_index_or, if◌then◌else◌}
+use Rattle.std.specs.Int.{int_min, int_max}
 use Rattle.std.specs.List.{list_any}
+use Rattle.std.specs.Option.{unwrap_or}
 use Rattle.star_schema.specs.declared.group.Aggregate.{Aggregate}
 use Rattle.star_schema.specs.declared.group.Aggregate.TheVariants.{Sum, Count, Min, Max}
 use Rattle.star_schema.specs.declared.group.Shape.{Shape}
-use Rattle.star_schema.specs.Groups.{Entry, members, aggregate, numbers_for}
+use Rattle.star_schema.specs.Groups.{Entry, belongs, members, aggregate, numbers_for}
 use Rattle.star_program.specs.declared.group.GroupDecl.{GroupDecl}
 use Rattle.star_program.specs.declared.key.KeyValue.{KeyValue}
 use Rattle.star_program.specs.Keys.{value_cmp, same_keys}
@@ -34,17 +36,46 @@ total_of d puts place = aggregate (aggregate_at d place) (numbers_for place puts
 abbrev pub overflows : Group → List Put → Put → Bool
 overflows d puts put = list_any (λ keys. some_leaves d.aggregates 0 (members value_cmp keys (put ∷ puts))) (own_groups d.shape put.keys)
 
+-- ---- the content of puts, as a finite map from key lists
+
+-- one more number of a key list, joined with what it has by an operation
+unfoldable pub add_to : (ℤ → ℤ → ℤ) → List KeyValue → ℤ → List (List KeyValue × ℤ) → List (List KeyValue × ℤ)
+add_to f keys z [] = (keys, z) ∷ []
+add_to f keys z (e ∷ es) = if same_keys keys e.0 then (e.0, f z e.1) ∷ es else e ∷ add_to f keys z es
+
+-- each key list that was put, once, with its numbers for an aggregate joined
+unfoldable pub by_keys : (ℤ → ℤ → ℤ) → (Put → ℤ) → List Put → List (List KeyValue × ℤ)
+by_keys f number [] = []
+by_keys f number (put ∷ puts) = add_to f put.keys (number put) (by_keys f number puts)
+
+-- a put's number for an aggregate
+abbrev pub number_at : ℕ → Put → ℤ
+number_at place put = slice_index_or put.values place (pos 0)
+
+abbrev pub sums_by_keys : ℕ → List Put → List (List KeyValue × ℤ)
+sums_by_keys place puts = by_keys (λ x y. x +ℤ y) (number_at place) puts
+
+abbrev pub counts_by_keys : List Put → List (List KeyValue × ℤ)
+counts_by_keys puts = by_keys (λ x y. x +ℤ y) (λ put. pos 1) puts
+
+abbrev pub least_by_keys : ℕ → List Put → List (List KeyValue × ℤ)
+least_by_keys place puts = by_keys int_min (number_at place) puts
+
+abbrev pub greatest_by_keys : ℕ → List Put → List (List KeyValue × ℤ)
+greatest_by_keys place puts = by_keys int_max (number_at place) puts
+
+-- what the key lists that belong to a group have
+abbrev pub numbers_in : List (Option KeyValue) → List (List KeyValue × ℤ) → List ℤ
+numbers_in group content = map (λ e. e.1) (filter (λ e. belongs value_cmp group e.0) content)
+
+-- the aggregates of a group are functions of the content
+pub record AreOfContent (puts : List Put) (group : List (Option KeyValue)) (place : ℕ) : Type 0 where
+  pub sum : aggregate Sum (numbers_for place (members value_cmp group puts)) ≡ aggregate Sum (numbers_in group (sums_by_keys place puts))
+  pub least : aggregate Min (numbers_for place (members value_cmp group puts)) ≡ aggregate Min (numbers_in group (least_by_keys place puts))
+  pub greatest : aggregate Max (numbers_for place (members value_cmp group puts)) ≡ aggregate Max (numbers_in group (greatest_by_keys place puts))
+  pub count : aggregate Count (numbers_for place (members value_cmp group puts)) ≡ Some (unwrap_or (aggregate Sum (numbers_in group (counts_by_keys puts))) (pos 0))
+
 -- ---- the condition of a put
-
--- one more number of a key list
-unfoldable pub add_to : List KeyValue → ℤ → List (List KeyValue × ℤ) → List (List KeyValue × ℤ)
-add_to keys z [] = (keys, z) ∷ []
-add_to keys z (e ∷ es) = if same_keys keys e.0 then (e.0, z +ℤ e.1) ∷ es else e ∷ add_to keys z es
-
--- each key list that was put, once, with the sum of its numbers for an aggregate
-unfoldable pub sums_by_keys : ℕ → List Put → List (List KeyValue × ℤ)
-sums_by_keys place [] = []
-sums_by_keys place (put ∷ puts) = add_to put.keys (slice_index_or put.values place (pos 0)) (sums_by_keys place puts)
 
 -- how far numbers can add up above zero
 unfoldable pub above_zero : List ℤ → ℕ

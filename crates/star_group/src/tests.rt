@@ -1,7 +1,7 @@
 // Worked rows and each public call, with ample memory.
 
-ghost use Rattle.std.specs.Prelude.{◌≡◌, ◌≤◌, length, IfOk};
-ghost use Rattle.star_group.specs.Eager.{group_of};
+ghost use Rattle.std.specs.Prelude.{◌≡◌, ◌≤◌, ◌<◌, [], length, IfOk};
+ghost use Rattle.star_group.specs.Eager.{group_of, Has};
 
 use crate::{EagerStore, GroupRow, GroupStore, KeyValue, PutFault};
 use star_program::{Aggregates, GroupDecl, GroupKey, GroupKeys};
@@ -36,6 +36,7 @@ fn store(
     requires few { length aggregates.now ≤ 8 }
     ensures keys { IfOk result (λ s. (group_of s).count ≡ keys) }
     ensures aggregates { IfOk result (λ s. (group_of s).aggregates ≡ aggregates.now) }
+    ensures empty { IfOk result (λ s. Has s []) }
 {
     let declared = declared(alloc, shape, keys, aggregates)?;
     EagerStore::new(alloc, &declared)
@@ -198,5 +199,28 @@ fn six_keys_and_eight_aggregates(rt: HostRuntime) -> Result<(), Fail> {
             &one
         )
     );
+    Ok(())
+}
+
+// A store of one key and a sum, after a put of 7.
+fn seven(alloc: Global) -> Result<EagerStore, AllocError>
+    ensures { IfOk result (λ s. 0 < length (group_of s).aggregates) }
+{
+    let mut sums = store(alloc, Shape::Plain, 1, &[Aggregate::Sum])?;
+    sums.put(&[ONE], &[7])?;
+    Ok(sums)
+}
+
+fn first_total<S: GroupStore>(store: &S) -> Option<i64>
+    requires { 0 < length (S.group store.now).aggregates }
+{
+    store.total(0)
+}
+
+#[test]
+fn put_where_there_is_room(rt: HostRuntime) -> Result<(), Fail> {
+    let sums = seven(rt.alloc())?;
+    assert_eq!(rt; first_total(&sums), Some(7));
+    assert!(rt; has_row(sums.into_rows()?.as_slice(), &[Some(ONE)], &[Some(7)]));
     Ok(())
 }

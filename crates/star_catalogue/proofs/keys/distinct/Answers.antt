@@ -1,9 +1,8 @@
-use Rattle.std.proofs.Common.{◌≡◌, ◌<◌, Bool, true, false, not, Some, length, refl, ap, inr, arith}
-use Rattle.std.specs.List.{list_any, slice_get}
+use Rattle.std.proofs.Common.{◌≡◌, ◌<◌, Bool, true, false, not, length, refl, ap, inr, arith}
 use Rattle.std.specs.Option.{option_map}
 use Rattle.std.proofs.lemmas.Option.{slice_get_read}
 use Rattle.star_catalogue.specs.declared.fault.LoadFault.TheVariants.{DuplicateKey}
-use Rattle.star_catalogue.proofs.Repeats.{all_inserted, inserted_before, inserted_more, nothing_inserted}
+use Rattle.star_catalogue.proofs.Repeats.{inserted_before, inserted_more, nothing_inserted}
 use Rattle.star_catalogue.proofs.keys.distinct.Goals as goal
 
 was_absent : (is_new was_there : Bool) → is_new ≡ not was_there → is_new ≡ true → was_there ≡ false

@@ -1,4 +1,4 @@
-use Rattle.std.proofs.Common.{◌≡◌, ◌+◌, ◌∷◌, [], get_or, FitsSigned, Some, slice_get, sym, w64, to_z-of_z, refl, rules}
+use Rattle.std.proofs.Common.{◌≡◌, ◌+◌, [], get_or, FitsSigned, Some, slice_get, sym, w64, to_z-of_z, refl, rules}
 use Rattle.star_schema.specs.declared.table.TableId.TheVariants.{Lineorder}
 use Rattle.star_schema.specs.Bounds.{numbers_of}
 use Rattle.star_schema.specs.Database.{rows_in}

@@ -1,4 +1,3 @@
-use Rattle.std.proofs.Common.{◌∙◌, ap}
 use Rattle.star_catalogue.proofs.Placed.{columns_kept}
 use Rattle.star_catalogue.proofs.table.keep.Goals as goal
 

@@ -1,8 +1,6 @@
-use Rattle.std.proofs.Common.{◌≡◌, inl, inr}
+use Rattle.std.proofs.Common.{inl, inr}
 use Rattle.std.proofs.lemmas.Result.{err_from_is_err_and}
-use Rattle.star_schema.specs.Database.{rows_in}
-use Rattle.star_schema.specs.Loadable.{HasDistinctKeys, IsSound, database_of}
-use Rattle.star_catalogue.specs.Load.{absent_fault, text_of}
+use Rattle.star_catalogue.specs.Load.{text_of}
 use Rattle.star_catalogue.proofs.Loading.{loaded_sound, refused_key, refused_table}
 use Rattle.star_catalogue.proofs.catalogue.Catalogue.load.Goals as goal
 

@@ -1,4 +1,4 @@
-use Rattle.std.proofs.Common.{◌≡◌, ◌<◌, ◌∙◌, List, ap, inl, inr, length, map, sym, arith}
+use Rattle.std.proofs.Common.{◌≡◌, ◌∙◌, ap, inl, inr, length, map, sym}
 use Rattle.std.proofs.lemmas.Result.{err_from_is_err_and}
 use Rattle.star_schema.specs.declared.table.Key.TheVariants.{One, Two}
 use Rattle.star_schema.specs.Bounds.{numbers_at}

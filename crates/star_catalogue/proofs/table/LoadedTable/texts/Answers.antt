@@ -1,12 +1,10 @@
 use Rattle.std.proofs.Common.{◌≡◌, Some, length, map, slice_get, sym, ap, ◌∙◌}
 use Rattle.std.proofs.lemmas.List.{length-map}
 use Rattle.star_schema.specs.declared.column.Kind.TheVariants as kind
-use Rattle.star_schema.specs.Bounds.{numbers_at}
 use Rattle.star_schema.specs.Schema.{kinds_of, table_of}
-use Rattle.star_schema.specs.Tables.{Number, Text}
+use Rattle.star_schema.specs.Tables.{Text}
 use Rattle.star_schema.specs.Texts.{texts_at}
 use Rattle.star_reader.specs.Columns.{first_rows}
-use Rattle.star_reader.proofs.RowLemmas.{numbers_are}
 use Rattle.star_catalogue.specs.Columns.{values}
 use Rattle.star_catalogue.proofs.Placed.{column_at, kind_at, texts_are}
 use Rattle.star_catalogue.proofs.table.LoadedTable.texts.Goals as goal

@@ -1,6 +1,6 @@
-use Rattle.std.proofs.Common.{◌≡◌, ◌∙◌, None, inl, inr}
+use Rattle.std.proofs.Common.{inl, inr}
 use Rattle.std.proofs.lemmas.Result.{err_from_is_err_and}
-use Rattle.star_schema.specs.declared.table.TableId.TheVariants.{Date, Customer, Supplier, Part, Lineorder}
+use Rattle.star_schema.specs.declared.table.TableId.TheVariants.{Date, Customer, Supplier, Part}
 use Rattle.star_catalogue.specs.Load.{text_of}
 use Rattle.star_catalogue.proofs.Loading.{at_customer, at_date, at_lineorder, at_part, at_supplier, table_none}
 use Rattle.star_catalogue.proofs.tables.Tables.load.Goals as goal
