@@ -5,7 +5,9 @@ use Rattle.std.proofs.lemmas.Bool.{ltb-true, ltb-false}
 use Rattle.star_query.specs.declared.counts.Part.{Part}
 use Rattle.star_query.specs.declared.counts.Part.TheVariants.{Item, Aggregate, GroupColumn, SortKey, Comparison, Operand}
 use Rattle.star_query.specs.declared.counts.Counts.{Counts}
-use Rattle.star_query.specs.Symbols.{Symbol, name}
+use Rattle.std.specs.Char.{to_ascii_lowercase}
+use Rattle.std.proofs.lemmas.List.{length-map}
+use Rattle.star_query.specs.Symbols.{Symbol, name, lowered}
 use Rattle.star_query.specs.Derives.{limit, same_part, among, IsShort, IsLong}
 use Rattle.star_query.specs.Machine.{number_of, bump, plus, is_over, is_long}
 
@@ -68,3 +70,26 @@ long_name _ e = cc
 pub not_long : (x : Symbol) → IsShort x → is_long x ≡ false
 not_long (name t p) e = not_below 64 (length t) e
 not_long _ e = refl
+
+-- a word in lower case is as long
+pub long_word : (word : List ℕ) → 64 < length word → nat_lt 64 (length (lowered word)) ≡ true
+long_word word e = let same : length (lowered word) ≡ length word = length-map word to_ascii_lowercase in grind (arith, same)
+
+number-bump-self : (p : Part) (n : Counts) → number_of (bump p n) p ≡ number_of n p + 1
+number-bump-self Item n = refl
+number-bump-self Aggregate n = refl
+number-bump-self GroupColumn n = refl
+number-bump-self SortKey n = refl
+number-bump-self Comparison n = refl
+number-bump-self Operand n = refl
+
+pub one_too_many : (p : Part) (n : Counts) → limit p ≤ number_of n p → is_over (plus n (p ∷ [])) (p ∷ []) ≡ true
+one_too_many p n e =
+    let more : limit p < number_of (bump p n) p = omega (arith, number-bump-self p n) in
+    let over : nat_lt (limit p) (number_of (bump p n) p) ≡ true = grind (arith, more) in
+    rw over refl
+
+pub one_allowed : (p : Part) (n : Counts) → number_of n p < limit p → is_over (plus n (p ∷ [])) (p ∷ []) ≡ false
+one_allowed p n e =
+    let within : number_of (bump p n) p ≤ limit p = omega (arith, number-bump-self p n) in
+    rw (not_below (limit p) (number_of (bump p n) p) within) refl

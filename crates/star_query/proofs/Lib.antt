@@ -4,3 +4,9 @@ pub mod Passed
 pub mod Counting
 pub mod Verdicts
 pub mod WorkedRows
+pub mod Tokens
+pub mod Descent
+pub mod Conditions
+pub mod Queries
+pub mod Places
+pub mod Parsing

@@ -9,7 +9,7 @@ use Rattle.star_query.specs.declared.lexer.Ending.TheVariants as endings
 use Rattle.star_query.specs.declared.lexer.Piece.{Piece}
 use Rattle.star_query.specs.declared.lexer.Piece.TheVariants as pieces
 use Rattle.star_query.specs.declared.fault.QueryFault.{QueryFault}
-use Rattle.star_query.specs.declared.fault.QueryFault.TheVariants.{OutOfMemory}
+use Rattle.star_query.specs.declared.fault.QueryFault.TheVariants.{OutOfMemory, BadCharacter, BadNumber, OpenText}
 use Rattle.star_query.specs.Cut as spec
 use Rattle.star_query.specs.Symbols.{Symbol, Placed, keyword, fold, count, relation, sign, additive, name, number, text, lowered, unquoted}
 
@@ -51,6 +51,18 @@ piece_of place (pieces.Bad e) = spec.bad e
 abbrev pub width_of : Piece → ℕ
 width_of (pieces.Token kind width) = width
 width_of _ = 1
+
+-- a fault of the cut, or want of memory
+abbrev pub IsLexical : QueryFault → Type 0
+IsLexical OutOfMemory = Unit {0}
+IsLexical (BadCharacter place) = Unit {0}
+IsLexical (BadNumber place) = Unit {0}
+IsLexical (OpenText place) = Unit {0}
+IsLexical _ = ⊥
+
+abbrev pub BadLexically : Piece → Type 0
+BadLexically (pieces.Bad fault) = IsLexical fault
+BadLexically _ = Unit {0}
 
 -- the first fault of the cut, or want of memory
 abbrev pub IsCutFault : List ℕ → QueryFault → Type 0

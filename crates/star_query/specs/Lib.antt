@@ -5,3 +5,8 @@ pub mod Tree
 pub mod Grammar
 pub mod Derives
 pub mod Machine
+pub mod Views
+pub mod Reads
+pub mod Clauses
+pub mod TokenFaults
+pub mod Shown

@@ -1,5 +1,9 @@
 // What a query may have only so many of.
 
+ghost use Rattle.std.specs.Prelude.{◌≡◌, ◌≤◌, ◌<◌};
+ghost use Rattle.star_query.specs.Derives.{limit};
+ghost use Rattle.star_query.specs.Machine.{number_of, bump, nothing_counted};
+
 /// What is counted, each at its first token. An aggregate is an item too.
 #[derive(Clone, Copy, PartialEq, Eq)]
 pub(crate) enum Part {
@@ -22,4 +26,64 @@ pub(crate) struct Counts {
     pub(crate) keys: u16,
     pub(crate) comparisons: u16,
     pub(crate) operands: u16,
+}
+
+impl Part {
+    // The most of it that a query may have.
+    pub(crate) fn limit(self) -> u16
+        ensures limit { result ≡ limit self }
+        ensures small { result ≤ 512 }
+    {
+        match self {
+            Part::Item | Part::SortKey => 16,
+            Part::Aggregate => 8,
+            Part::GroupColumn => 6,
+            Part::Comparison => 256,
+            Part::Operand => 512,
+        }
+    }
+}
+
+impl Counts {
+    // Nothing was met yet.
+    pub(crate) fn new() -> Counts
+        ensures { result ≡ nothing_counted }
+    {
+        Counts {
+            items: 0,
+            aggregates: 0,
+            columns: 0,
+            keys: 0,
+            comparisons: 0,
+            operands: 0,
+        }
+    }
+
+    pub(crate) fn number(&self, part: Part) -> u16
+        ensures { result ≡ number_of self.now part }
+    {
+        match part {
+            Part::Item => self.items,
+            Part::Aggregate => self.aggregates,
+            Part::GroupColumn => self.columns,
+            Part::SortKey => self.keys,
+            Part::Comparison => self.comparisons,
+            Part::Operand => self.operands,
+        }
+    }
+
+    // One more of a part.
+    pub(crate) fn bump(&mut self, part: Part)
+        requires { number_of self.old part < 1000 }
+        ensures { self.new ≡ bump part self.old }
+    {
+        match part {
+            Part::Item => self.items += 1,
+            Part::Aggregate => self.aggregates += 1,
+            Part::GroupColumn => self.columns += 1,
+            Part::SortKey => self.keys += 1,
+            Part::Comparison => self.comparisons += 1,
+            Part::Operand => self.operands += 1,
+        }
+    }
 }

@@ -2,6 +2,7 @@
 
 ghost use Rattle.std.specs.Prelude.{◌≡◌};
 ghost use Rattle.star_query.specs.declared.fault.QueryFault.TheVariants.{OutOfMemory};
+ghost use Rattle.star_query.specs.declared.fault.ParseError.TheVariants as errors;
 
 use std::alloc::{AllocError, AllocFailed};
 
@@ -48,4 +49,27 @@ pub(crate) enum Fault {
     Unexpected,
     TooDeep,
     TooMany,
+}
+
+/// Why the parser stopped; the fault is at the next token.
+#[derive(Clone, Copy)]
+pub(crate) enum ParseError {
+    OutOfMemory,
+    Fault(Fault),
+}
+
+impl From<AllocError> for ParseError {
+    ghost from_gives = { λ _ error. error ≡ errors.OutOfMemory };
+
+    fn from(_refused: AllocError) -> ParseError {
+        ParseError::OutOfMemory
+    }
+}
+
+impl<T: Drop> From<AllocFailed<T>> for ParseError {
+    ghost from_gives = { λ _ error. error ≡ errors.OutOfMemory };
+
+    fn from(_refused: AllocFailed<T>) -> ParseError {
+        ParseError::OutOfMemory
+    }
 }

@@ -151,6 +151,7 @@ fn end_of_text(text: &[u8]) -> Ending
 // A sign, the longest that fits, and how many bytes it has.
 fn sign<'a>(byte: u8, next: Option<u8>, place: usize) -> Piece<'a>
     ensures piece { lexed.piece_of place result ≡ spec.sign_piece place byte next }
+    ensures bad { lexed.BadLexically result }
     ensures some { 1 ≤ lexed.width_of result }
     ensures within { lexed.width_of result ≤ 1 + length (option_to_list next) }
 {
@@ -190,6 +191,7 @@ fn begins_with_letter(text: &[u8]) -> bool
 fn number<'a>(text: &'a [u8], place: usize) -> Piece<'a>
     requires { lexed.begins_with_digit text.now ≡ true }
     ensures piece { lexed.piece_of place result ≡ spec.number_piece place text.now }
+    ensures bad { lexed.BadLexically result }
     ensures some { 1 ≤ lexed.width_of result }
     ensures within { lexed.width_of result ≤ max 1 (length text.now) }
 {
@@ -207,6 +209,7 @@ fn number<'a>(text: &'a [u8], place: usize) -> Piece<'a>
 fn word<'a>(text: &'a [u8], place: usize) -> Piece<'a>
     requires { spec.begins_with_letter text.now ≡ true }
     ensures piece { lexed.piece_of place result ≡ spec.word_piece place text.now }
+    ensures bad { lexed.BadLexically result }
     ensures some { 1 ≤ lexed.width_of result }
     ensures within { lexed.width_of result ≤ max 1 (length text.now) }
 {
@@ -225,6 +228,7 @@ fn word<'a>(text: &'a [u8], place: usize) -> Piece<'a>
 fn quoted<'a>(text: &'a [u8], place: usize) -> Piece<'a>
     requires { place + 1 + length text.now ≤ usize.MAX }
     ensures piece { lexed.piece_of place result ≡ spec.text_piece place text.now }
+    ensures bad { lexed.BadLexically result }
     ensures some { 1 ≤ lexed.width_of result }
     ensures within { lexed.width_of result ≤ 1 + length text.now }
 {
@@ -244,6 +248,7 @@ fn quoted<'a>(text: &'a [u8], place: usize) -> Piece<'a>
 fn next_piece<'a>(text: &'a [u8], place: usize) -> Piece<'a>
     requires { place + length text.now ≤ usize.MAX }
     ensures piece { lexed.piece_of place result ≡ spec.front_piece place text.now }
+    ensures bad { lexed.BadLexically result }
     ensures some { 1 ≤ lexed.width_of result }
     ensures within { lexed.width_of result ≤ max 1 (length text.now) }
 {
@@ -267,6 +272,7 @@ fn next_piece<'a>(text: &'a [u8], place: usize) -> Piece<'a>
 pub(crate) fn tokens_of(alloc: Global, text: &[u8]) -> Result<Vec<Token<'_>>, QueryFault>
     ensures found { IfOk result (λ tokens. spec.cut_of text.now ≡ Ok (map lexed.placed tokens.items)) }
     ensures fault { IfErr result (λ fault. lexed.IsCutFault text.now fault) }
+    ensures lexical { IfErr result lexed.IsLexical }
 {
     let mut tokens = Vec::new(alloc);
     let mut place = 0;

@@ -7,11 +7,14 @@ mod counts;
 mod fault;
 mod laws;
 mod lexer;
+mod parser;
+mod query;
 mod token;
 mod tree;
 
 pub use fault::QueryFault;
 pub use laws::{one_front, one_tree};
+pub use query::{MAX_TEXT, Query};
 pub use token::{Fold, Relation};
 pub use tree::{
     Aggregate, Condition, Direction, Expression, Grouping, Item, Literal, Measure, Name, Shape,

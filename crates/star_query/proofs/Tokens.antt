@@ -1,0 +1,104 @@
+-- The parser's readers of single tokens.
+use Rattle.std.proofs.Common.{◌≡◌, ◌∙◌, ℕ, ◌+◌, ◌<◌, ◌≤◌, Bool, true, false, List, [], ◌∷◌, ◌++◌, Result, Ok, Err, length, map, drop, get_or, refl, sym, ap, subst, arith, append_assoc}
+use Rattle.std.proofs.lemmas.List.{drop_more, length-map}
+use Rattle.star_query.specs.declared.parser.Parser.{Parser}
+use Rattle.star_query.specs.Lexed.{symbol_of}
+use Rattle.std.specs.Prelude.{◌==◌}
+use Rattle.star_query.specs.declared.counts.Part.{Part}
+use Rattle.star_query.specs.declared.counts.Counts.{Counts}
+use Rattle.star_query.specs.declared.fault.ParseError.{ParseError}
+use Rattle.star_query.specs.declared.fault.ParseError.TheVariants as errors
+use Rattle.star_query.specs.declared.fault.Fault.TheVariants.{Unexpected, TooDeep, TooMany}
+use Rattle.star_query.specs.declared.token.Digits.{Digits}
+use Rattle.star_query.specs.declared.tree.Name.{Name}
+use Rattle.star_query.specs.Symbols.{Symbol, name, number, unquoted, unquoted_after}
+use Rattle.star_query.specs.Derives.{limit}
+use Rattle.star_query.specs.Machine.{number_of, bump}
+use Rattle.star_query.specs.Reads.{Spot, spot_of, Takes, IsName, IsNumber, NoName, NoNumber, IsBeyond, ReadsName, ReadsNumber}
+use Rattle.star_query.proofs.Counting.{one_too_many, one_allowed}
+
+pub beyond_name : (p : Part) (n : Counts) (left : List Symbol) → IsName left → limit p ≤ number_of n p → IsBeyond (p ∷ []) n left
+beyond_name p n [] is e = is
+beyond_name p n (x ∷ xs) is e = rw (one_too_many p n e) refl
+
+pub beyond_number : (p : Part) (n : Counts) (left : List Symbol) → IsNumber left → limit p ≤ number_of n p → IsBeyond (p ∷ []) n left
+beyond_number p n [] is e = is
+beyond_number p n (x ∷ xs) is e = rw (one_too_many p n e) refl
+
+-- a doubled quote, or another byte of a text
+pub unquoted_doubled : (inside so_far after : List ℕ) (i : ℕ) (q p : Bool) → i < length inside → q ≡ true → after ≡ so_far → p ≡ false → unquoted inside ≡ so_far ++ unquoted_after q (drop i inside) → unquoted inside ≡ after ++ unquoted_after p (drop (i + 1) inside)
+unquoted_doubled inside so_far after i q p below was same now e =
+    rw (same, now) (rw (was, drop_more inside i 0 below) at e)
+
+pub unquoted_next : (inside so_far after : List ℕ) (i b : ℕ) (q p : Bool) → i < length inside → q ≡ false → after ≡ so_far ++ b ∷ [] → b ≡ get_or inside i 0 → p ≡ (b == 39) → unquoted inside ≡ so_far ++ unquoted_after q (drop i inside) → unquoted inside ≡ after ++ unquoted_after p (drop (i + 1) inside)
+unquoted_next inside so_far after i b q p below was same byte now e =
+    let next : unquoted inside ≡ so_far ++ get_or inside i 0 ∷ unquoted_after (get_or inside i 0 == 39) (drop (i + 1) inside) = rw (was, drop_more inside i 0 below) at e in
+    rw (same, now, byte) (next ∙ sym (append_assoc so_far (get_or inside i 0 ∷ []) (unquoted_after (get_or inside i 0 == 39) (drop (i + 1) inside))))
+
+pub no_name_there : (left : List Symbol) → IsName left → NoName left → ⊥
+no_name_there [] is none = is
+no_name_there (name t p ∷ xs) is none = none
+no_name_there (_ ∷ xs) is none = is
+
+pub no_number_there : (left : List Symbol) → IsNumber left → NoNumber left → ⊥
+no_number_there [] is none = is
+no_number_there (number n ∷ xs) is none = none
+no_number_there (_ ∷ xs) is none = is
+
+-- one more part was counted at the symbol
+abbrev pub HasCounted : Part → Spot → Spot → Type 0
+HasCounted p old mid = (number_of old.counts p < limit p) × (mid ≡ record old { counts = bump p old.counts })
+
+counted_takes : (p : Part) (old mid new : Spot) (x : Symbol) → HasCounted p old mid → Takes mid new x [] → Takes old new x (p ∷ [])
+counted_takes p old mid new x c t =
+    record {
+      next = ap (λ s. s.left) (sym c.1) ∙ t.next;
+      counts = t.counts ∙ ap (λ s. s.counts) c.1;
+      few = one_allowed p old.counts c.0;
+      short = t.short;
+    }
+
+counted_beyond : (p : Part) (old mid : Spot) → HasCounted p old mid → IsBeyond [] mid.counts mid.left → IsBeyond (p ∷ []) old.counts old.left
+counted_beyond p old mid c b = beyond_at old.left (subst (λ left. IsBeyond [] mid.counts left) (ap (λ s. s.left) c.1) b)
+  where
+    beyond_at : (left : List Symbol) → IsBeyond [] mid.counts left → IsBeyond (p ∷ []) old.counts left
+    beyond_at [] b = b
+    beyond_at (x ∷ xs) b = rw (one_allowed p old.counts c.0) b
+
+pub name_counted : (p : Part) (old mid new : Spot) (r : Result Name ParseError) → IsName old.left → HasCounted p old mid → ReadsName [] mid new r → ReadsName (p ∷ []) old new r
+name_counted p old mid new (Ok n) is c t = counted_takes p old mid new _ c t
+name_counted p old mid new (Err errors.OutOfMemory) is c t = tt
+name_counted p old mid new (Err (errors.Fault Unexpected)) is c t =
+    absurd (no_name_there old.left is (subst NoName (ap (λ s. s.left) c.1) t.0))
+name_counted p old mid new (Err (errors.Fault TooDeep)) is c t = t
+name_counted p old mid new (Err (errors.Fault TooMany)) is c t =
+    (counted_beyond p old mid c t.0, t.1 ∙ ap (λ s. s.left) c.1, is)
+
+pub number_counted : (p : Part) (old mid new : Spot) (r : Result Digits ParseError) → IsNumber old.left → HasCounted p old mid → ReadsNumber [] mid new r → ReadsNumber (p ∷ []) old new r
+number_counted p old mid new (Ok x) is c t = counted_takes p old mid new _ c t
+number_counted p old mid new (Err errors.OutOfMemory) is c t = t
+number_counted p old mid new (Err (errors.Fault Unexpected)) is c t =
+    absurd (no_number_there old.left is (subst NoNumber (ap (λ s. s.left) c.1) t.0))
+number_counted p old mid new (Err (errors.Fault TooDeep)) is c t = t
+number_counted p old mid new (Err (errors.Fault TooMany)) is c t =
+    (counted_beyond p old mid c t.0, t.1 ∙ ap (λ s. s.left) c.1, is)
+
+pub name_not_counted : (p : Part) (old new : Spot) (r : Result Name ParseError) (e : ParseError) → r ≡ Err e → IsName old.left → (e ≡ errors.Fault TooMany) × (limit p ≤ number_of old.counts p) × (new ≡ old) → ReadsName (p ∷ []) old new r
+name_not_counted p old new r e same is c =
+    subst (ReadsName (p ∷ []) old new) (sym (same ∙ ap Err c.0)) (beyond_name p old.counts old.left is c.1, ap (λ s. s.left) c.2, is)
+
+pub number_not_counted : (p : Part) (old new : Spot) (r : Result Digits ParseError) (e : ParseError) → r ≡ Err e → IsNumber old.left → (e ≡ errors.Fault TooMany) × (limit p ≤ number_of old.counts p) × (new ≡ old) → ReadsNumber (p ∷ []) old new r
+number_not_counted p old new r e same is c =
+    subst (ReadsNumber (p ∷ []) old new) (sym (same ∙ ap Err c.0)) (beyond_number p old.counts old.left is c.1, ap (λ s. s.left) c.2, is)
+
+f_length : {A B : Type 0} (f : A → B) (old new : List A) (x : B) → map f old ≡ x ∷ map f new → length new ≤ length old
+f_length f old new x e = omega (arith, ap length e, length-map old f, length-map new f)
+
+-- fewer tokens are left
+pub shorter : (old new : Parser) (x : Symbol) (ps : List Part) → Takes (spot_of old) (spot_of new) x ps → length new.left.now ≤ length old.left.now
+shorter old new x ps t = f_length (λ t. symbol_of t.kind t.place) old.left.now new.left.now x t.next
+
+pub as_short : (old new : Parser) → spot_of new ≡ spot_of old → length new.left.now ≤ length old.left.now
+as_short old new e =
+    let same : map (λ t. symbol_of t.kind t.place) new.left.now ≡ map (λ t. symbol_of t.kind t.place) old.left.now = ap (λ s. s.left) e in
+    omega (arith, ap length same, length-map new.left.now (λ t. symbol_of t.kind t.place), length-map old.left.now (λ t. symbol_of t.kind t.place))

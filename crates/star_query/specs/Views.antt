@@ -1,0 +1,67 @@
+-- The trees of the code, without where they lie in memory.
+use Rattle.std.specs.Prelude.{map, option_map}
+use Rattle.star_query.specs.declared.tree.Name.{Name}
+use Rattle.star_query.specs.declared.tree.Literal.{Literal}
+use Rattle.star_query.specs.declared.tree.Literal.TheVariants as literals
+use Rattle.star_query.specs.declared.tree.Expression.{Expression}
+use Rattle.star_query.specs.declared.tree.Expression.TheVariants.{Column, Number, Add', Sub', Mul'}
+use Rattle.star_query.specs.declared.tree.Condition.{Condition}
+use Rattle.star_query.specs.declared.tree.Condition.TheVariants.{Or', And', Not', Pair, Compare, Between}
+use Rattle.star_query.specs.declared.tree.Measure.{Measure}
+use Rattle.star_query.specs.declared.tree.Measure.TheVariants.{Fold, Count}
+use Rattle.star_query.specs.declared.tree.Aggregate.{Aggregate}
+use Rattle.star_query.specs.declared.tree.Item.{Item}
+use Rattle.star_query.specs.declared.tree.Item.TheVariants as items
+use Rattle.star_query.specs.declared.tree.Grouping.{Grouping}
+use Rattle.star_query.specs.declared.tree.SortKey.{SortKey}
+use Rattle.star_query.specs.declared.tree.Tree.{Tree}
+use Rattle.star_query.specs.Tree as tree
+
+abbrev pub name_view : Name → tree.Name
+name_view n = record { text = n.text.items; place = n.place }
+
+abbrev pub literal_view : Literal → tree.Literal
+literal_view (literals.Number x) = tree.number x
+literal_view (literals.Text t) = tree.text t.items
+
+abbrev pub expression_view : Expression → tree.Expression
+expression_view (Column n) = tree.column (name_view n)
+expression_view (Number x) = tree.constant x
+expression_view (Add' p a q b) = tree.add (expression_view a) (expression_view b)
+expression_view (Sub' p a q b) = tree.sub (expression_view a) (expression_view b)
+expression_view (Mul' p a q b) = tree.mul (expression_view a) (expression_view b)
+
+abbrev pub condition_view : Condition → tree.Condition
+condition_view (Or' p a q b) = tree.either (condition_view a) (condition_view b)
+condition_view (And' p a q b) = tree.both (condition_view a) (condition_view b)
+condition_view (Not' p a) = tree.negation (condition_view a)
+condition_view (Pair n m) = tree.pair (name_view n) (name_view m)
+condition_view (Compare n q l) = tree.compare (name_view n) q (literal_view l)
+condition_view (Between n l m) = tree.between (name_view n) (literal_view l) (literal_view m)
+
+abbrev pub measure_view : Measure → tree.Measure
+measure_view (Fold f e) = tree.fold f (expression_view e)
+measure_view Count = tree.count
+
+abbrev pub aggregate_view : Aggregate → tree.Aggregate
+aggregate_view a = record { measure = measure_view a.measure; place = a.place; name = option_map name_view a.name }
+
+abbrev pub item_view : Item → tree.Item
+item_view (items.Column n) = tree.plain (name_view n)
+item_view (items.Aggregate a) = tree.aggregate (aggregate_view a)
+
+abbrev pub grouping_view : Grouping → tree.Grouping
+grouping_view g = record { shape = g.shape; columns = map name_view g.columns.items }
+
+abbrev pub key_view : SortKey → tree.SortKey
+key_view k = record { name = name_view k.name; direction = k.direction }
+
+abbrev pub tree_view : Tree → tree.Tree
+tree_view t =
+    record {
+      items = map item_view t.items.items;
+      tables = map name_view t.tables.items;
+      condition = option_map condition_view t.condition;
+      grouping = grouping_view t.grouping;
+      keys = map key_view t.keys.items;
+    }
