@@ -324,3 +324,37 @@ fn lines_of_orders_come_in_any_order(rt: HostRuntime) -> Result<(), Fail> {
     }
     Ok(())
 }
+
+/// The key of a row of many customers.
+fn key_of_customer(row: u32) -> i64
+    requires { row < 2 ^ 17 }
+{
+    7 * i64::from(row) - 350_000
+}
+
+fn many_customers(alloc: Global) -> Result<String, AllocError> {
+    let mut text = String::new(alloc);
+    for row in 0..MANY {
+        let key = key_of_customer(row);
+        writeln!(text, "{key}|a|b|c|d|e|f|g")?;
+    }
+    Ok(text)
+}
+
+#[test]
+fn many_keys_are_found(rt: HostRuntime) -> Result<(), Fail> {
+    let customers = many_customers(rt.alloc())?;
+    let texts = Texts {
+        customer: customers.as_bytes(),
+        ..one_row_each(b"")
+    };
+    let catalogue = loaded(rt.alloc(), &texts)?;
+    for row in 0..MANY {
+        let key = key_of_customer(row);
+        assert_eq!(rt; catalogue.find(TableId::Customer, key), Some(row));
+    }
+    for key in [-350_001, -349_999, 1, 349_994] {
+        assert_eq!(rt; catalogue.find(TableId::Customer, key), None);
+    }
+    Ok(())
+}

@@ -21,3 +21,5 @@ pub mod Depths
 pub mod Quotes
 pub mod ListLemmas
 pub mod ByName
+mod OneProgram
+mod FaultLemmas

@@ -27,3 +27,5 @@ pub mod Numerals
 pub mod Statements
 pub mod Written
 pub mod Said
+pub mod Places
+pub mod Spelling

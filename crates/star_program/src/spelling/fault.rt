@@ -27,3 +27,18 @@ impl<T: Drop> From<AllocFailed<T>> for LineFault {
         LineFault::OutOfMemory
     }
 }
+
+/// Why a text is no program. Lines count from 1, blank ones too; a line that is missing at the end has the number after the last.
+#[derive(Clone, Copy, Debug, PartialEq, Eq, Hash)]
+pub enum TextFault {
+    /// Memory was refused.
+    OutOfMemory,
+    /// The text doesn't begin with the line `star program 1`.
+    BadHeader,
+    /// A line says nothing, or may not stand where it does, or is missing.
+    BadLine { line: usize },
+    /// A line in a scan begins with `report`, or the text ends in a scan.
+    OpenScan,
+    /// A line passes a limit.
+    TooLarge { line: usize },
+}

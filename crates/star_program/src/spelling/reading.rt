@@ -1,19 +1,26 @@
 // What a line of a program says, read word by word.
 
-ghost use Rattle.std.specs.Prelude.{◌≡◌, ◌∷◌, [], MatchResult};
-ghost use Rattle.std.specs.Option.{option_copied, option_map};
+ghost use Rattle.std.specs.Prelude.{◌≡◌, ◌∷◌, [], None, Some, MatchResult, codes, if◌then◌else◌};
+ghost use Rattle.std.specs.List.{list_all};
+ghost use Rattle.std.specs.Option.{option_and_then, option_copied, option_map};
+ghost use Rattle.star_schema.specs.Tables.{is_printable as printable};
 ghost use Rattle.star_program.specs.Keywords as words;
 ghost use Rattle.star_program.specs.Lines.{words_of};
 ghost use Rattle.star_program.specs.Numerals as numerals;
 ghost use Rattle.star_program.specs.Said as spec;
+ghost use Rattle.star_program.specs.declared.spelling.statement.Statement.TheVariants as says;
 
+use crate::group::GroupDecl;
+use crate::items::Items;
 use crate::op::{Op, Text};
+use crate::program::Show;
 use crate::spelling::fault::LineFault;
-use crate::spelling::keyword::Operator;
+use crate::spelling::keyword::{Keyword, Operator, read_direction, read_shape};
 use crate::spelling::lines::split_word;
-use crate::spelling::listed::{read_column, read_quoted, read_table};
-use crate::spelling::numerals::{read_constant, read_count, read_register};
-use star_schema::{ColumnId, TableId};
+use crate::spelling::listed::{read_column, read_lists, read_quoted, read_table};
+use crate::spelling::numerals::{is_name, read_constant, read_count, read_register};
+use crate::spelling::statement::Statement;
+use star_schema::{ColumnId, Direction, GroupColumn, Shape, SortKey, TableId};
 use std::alloc::Global;
 
 // The only word of a line.
@@ -279,5 +286,238 @@ fn operation(
             })
         }
         _ => readable(plain_operation(target, operator, operands)),
+    }
+}
+
+// What follows the register that an instruction writes.
+fn read_assigned(alloc: Global, target: u16, line: &[u8]) -> Result<Op, LineFault>
+    ensures { spec.Reads result (spec.assigned target (words_of line.now)) }
+{
+    let (sign, rest) = read_first(line)?;
+    let (name, operands) = read_first(rest)?;
+    if sign != "=".as_bytes() {
+        return Err(LineFault::Unreadable);
+    }
+    let operator = readable(Operator::read(name))?;
+    operation(alloc, target, operator, operands)
+}
+
+// The number of a group, its shape, and the line after them.
+fn group_head(line: &[u8]) -> Option<(u16, (Shape, &[u8]))>
+    ensures { option_map (λ head. (head.0, (head.1.0, words_of head.1.1.now))) result ≡ spec.group_head (words_of line.now) }
+{
+    let (place, rest) = split_word(line)?;
+    let (shape, rest) = split_word(rest)?;
+    Some((read_count(place)?, (read_shape(shape)?, rest)))
+}
+
+fn read_group(alloc: Global, line: &[u8]) -> Result<Statement, LineFault>
+    ensures { spec.Reads result (spec.group_of (words_of line.now)) }
+{
+    let (place, (shape, rest)) = readable(group_head(line))?;
+    let (keys, aggregates) = read_lists(alloc, rest)?;
+    let group = GroupDecl {
+        shape,
+        keys,
+        aggregates,
+    };
+    Ok(Statement::Group { place, group })
+}
+
+// The number of a group, and the line after it.
+fn put_head(line: &[u8]) -> Option<(u16, &[u8])>
+    ensures { option_map (λ head. (head.0, words_of head.1.now)) result ≡ spec.put_head (words_of line.now) }
+{
+    let (group, rest) = split_word(line)?;
+    Some((read_count(group)?, rest))
+}
+
+fn read_put(alloc: Global, line: &[u8]) -> Result<Op, LineFault>
+    ensures { spec.Reads result (spec.put_of (words_of line.now)) }
+{
+    let (group, rest) = readable(put_head(line))?;
+    let (keys, values) = read_lists(alloc, rest)?;
+    Ok(Op::Put {
+        group,
+        keys,
+        values,
+    })
+}
+
+// A column of a group.
+#[tactic(auto, unfolding(crate::specs::Said::group_column_of))]
+fn read_group_column(word: &[u8], place: &[u8]) -> Option<GroupColumn>
+    ensures { result ≡ spec.group_column_of word.now place.now }
+{
+    if word == "key".as_bytes() {
+        Some(GroupColumn::Key(read_count(place)?))
+    } else if word == "aggregate".as_bytes() {
+        Some(GroupColumn::Aggregate(read_count(place)?))
+    } else {
+        None
+    }
+}
+
+fn one_direction(line: &[u8]) -> Option<Direction>
+    ensures { result ≡ spec.one words.direction_of (words_of line.now) }
+{
+    read_direction(only_word(line)?)
+}
+
+fn read_sort(line: &[u8]) -> Option<SortKey>
+    ensures { result ≡ spec.sort_of (words_of line.now) }
+{
+    let (word, rest) = split_word(line)?;
+    let (place, rest) = split_word(rest)?;
+    let column = read_group_column(word, place)?;
+    let direction = one_direction(rest)?;
+    Some(SortKey { column, direction })
+}
+
+fn read_name(word: &[u8]) -> Option<&[u8]>
+    ensures { option_copied result ≡ spec.name_of word.now }
+{
+    if is_name(word) { Some(word) } else { None }
+}
+
+fn place_column(word: &[u8], line: &[u8]) -> Option<GroupColumn>
+    ensures { result ≡ option_and_then (spec.group_column_of word.now) (spec.only (words_of line.now)) }
+{
+    read_group_column(word, only_word(line)?)
+}
+
+// A name and what it shows.
+fn show_parts(line: &[u8]) -> Option<(&[u8], GroupColumn)>
+    ensures { option_map (λ parts. record { name = parts.0.now; column = parts.1 }) result ≡ spec.show_of (words_of line.now) }
+{
+    let (word, rest) = split_word(line)?;
+    let (kind, rest) = split_word(rest)?;
+    let name = read_name(word)?;
+    Some((name, place_column(kind, rest)?))
+}
+
+fn read_show(alloc: Global, line: &[u8]) -> Result<Show, LineFault>
+    ensures { spec.Reads result (spec.show_of (words_of line.now)) }
+{
+    let (word, column) = readable(show_parts(line))?;
+    let name = Items::from_vec(Vec::from_slice(alloc, word)?);
+    Ok(Show { name, column })
+}
+
+fn is_version(line: &[u8]) -> Option<Statement>
+    ensures { result ≡ option_and_then (λ version. if words.same version (codes "1") then Some says.Header else None) (spec.only (words_of line.now)) }
+{
+    if only_word(line)? == "1".as_bytes() {
+        Some(Statement::Header)
+    } else {
+        None
+    }
+}
+
+fn read_header(line: &[u8]) -> Option<Statement>
+    ensures { result ≡ spec.header_of (words_of line.now) }
+{
+    let (program, rest) = split_word(line)?;
+    if program == "program".as_bytes() {
+        is_version(rest)
+    } else {
+        None
+    }
+}
+
+fn read_end(line: &[u8]) -> Option<Statement>
+    ensures { result ≡ spec.end_of (words_of line.now) }
+{
+    match split_word(line) {
+        Some(_) => None,
+        None => Some(Statement::End),
+    }
+}
+
+fn read_registers(line: &[u8]) -> Option<Statement>
+    ensures { result ≡ option_map says.Registers (spec.one numerals.count_of (words_of line.now)) }
+{
+    Some(Statement::Registers(one_count(line)?))
+}
+
+fn read_report(line: &[u8]) -> Option<Statement>
+    ensures { result ≡ option_map says.Report (spec.one numerals.count_of (words_of line.now)) }
+{
+    Some(Statement::Report(one_count(line)?))
+}
+
+fn read_keep(line: &[u8]) -> Option<Statement>
+    ensures { result ≡ option_map (λ f. says.Act (Op.Keep f)) (spec.one numerals.register_of (words_of line.now)) }
+{
+    let flag = one_register(line)?;
+    Some(Statement::Act(Op::Keep { flag }))
+}
+
+fn read_scan(line: &[u8]) -> Option<Statement>
+    ensures { result ≡ option_map (λ (table, t). says.Scan table t) (spec.two words.table_of numerals.register_of (words_of line.now)) }
+{
+    let (table, target) = table_and_register(line)?;
+    Some(Statement::Scan { table, target })
+}
+
+fn read_sort_line(line: &[u8]) -> Option<Statement>
+    ensures { result ≡ option_map says.Sort (spec.sort_of (words_of line.now)) }
+{
+    Some(Statement::Sort(read_sort(line)?))
+}
+
+// What follows a keyword.
+#[tactic(auto, unfolding(crate::specs::Said::by_keyword))]
+fn by_keyword(alloc: Global, keyword: Keyword, line: &[u8]) -> Result<Statement, LineFault>
+    ensures { spec.Reads result (spec.by_keyword keyword (words_of line.now)) }
+{
+    match keyword {
+        Keyword::Star => readable(read_header(line)),
+        Keyword::Registers => readable(read_registers(line)),
+        Keyword::Group => read_group(alloc, line),
+        Keyword::Keep => readable(read_keep(line)),
+        Keyword::Put => Ok(Statement::Act(read_put(alloc, line)?)),
+        Keyword::Scan => readable(read_scan(line)),
+        Keyword::End => readable(read_end(line)),
+        Keyword::Report => readable(read_report(line)),
+        Keyword::Show => Ok(Statement::Show(read_show(alloc, line)?)),
+        Keyword::Sort => readable(read_sort_line(line)),
+    }
+}
+
+// What an instruction that writes a register says, by its first word and what follows it.
+fn read_instruction(alloc: Global, word: &[u8], line: &[u8]) -> Result<Statement, LineFault>
+    ensures { spec.Reads result (spec.by_first None word.now (words_of line.now)) }
+{
+    let target = readable(read_register(word))?;
+    Ok(Statement::Act(read_assigned(alloc, target, line)?))
+}
+
+#[tactic(auto, unfolding(crate::specs::Said::by_words))]
+fn read_words(alloc: Global, line: &[u8]) -> Result<Statement, LineFault>
+    ensures { spec.Reads result (spec.by_words (words_of line.now)) }
+{
+    let (word, rest) = read_first(line)?;
+    match Keyword::read(word) {
+        Some(keyword) => by_keyword(alloc, keyword, rest),
+        None => read_instruction(alloc, word, rest),
+    }
+}
+
+fn is_printable(line: &[u8]) -> bool
+    ensures { result ≡ list_all printable line.now }
+{
+    line.iter().all(|&b| b >= b' ' && b <= b'~')
+}
+
+/// What a line says, if it says something.
+#[tactic(auto, unfolding(crate::specs::Said::said))]
+pub(crate) fn read_line(alloc: Global, line: &[u8]) -> Result<Statement, LineFault>
+    ensures { spec.Reads result (spec.said line.now) }
+{
+    if is_printable(line) {
+        read_words(alloc, line)
+    } else {
+        Err(LineFault::Unreadable)
     }
 }

@@ -1,0 +1,19 @@
+-- Which programs a text spells.
+use Rattle.std.specs.Prelude.{◌≡◌, not, ℕ, List, Some, filter, map}
+use Rattle.star_program.specs.Lines.{is_blank, lines_of}
+use Rattle.star_program.specs.Said.{said}
+use Rattle.star_program.specs.Statements.{lines_of_program}
+use Rattle.star_program.specs.declared.program.Parts.{Parts}
+use Rattle.star_program.specs.declared.spelling.statement.Statement.{Statement}
+
+-- what the lines of a program say, one after another
+abbrev pub statements_of : Parts → List Statement
+statements_of p = map (λ line. line.says) (lines_of_program p)
+
+-- a text spells a program: its lines that aren't blank say the program's statements, one after another
+unfoldable pub Spells : List ℕ → Parts → Type 0
+Spells text p = map said (filter (λ line. not (is_blank line)) (lines_of text)) ≡ map Some (statements_of p)
+
+-- no text spells two programs
+abbrev pub OneProgram : Type 0
+OneProgram = (text : List ℕ) (p q : Parts) → Spells text p → Spells text q → p ≡ q
