@@ -10,3 +10,4 @@ pub mod Reads
 pub mod Clauses
 pub mod TokenFaults
 pub mod Shown
+pub mod Meant

@@ -1,5 +1,8 @@
 // A query from its text.
 
+ghost use Rattle.star_query.specs.Views.{tree_view};
+ghost use Rattle.star_query.specs.Meant.{IsMeant};
+
 use crate::fault::QueryFault;
 use crate::lexer::tokens_of;
 use crate::parser::parse_tokens;
@@ -9,16 +12,16 @@ use std::alloc::Global;
 /// The most bytes of a query text.
 pub const MAX_TEXT: usize = 65_536;
 
-/// A query. It is made by parsing a text, and in no other way.
+/// A query: its tree is what some text means, so it is within all limits. It is made by parsing a text alone.
 #[derive(Debug, Drop)]
 pub struct Query {
     tree: Tree,
+    ghost meant: { ∥ IsMeant (tree_view tree) ∥₁ },
 }
 
 impl Query {
-    ghost use Rattle.std.specs.Prelude.{◌≡◌, ℕ, IfOk, IfErr};
+    ghost use Rattle.std.specs.Prelude.{◌≡◌, IfOk, IfErr};
     ghost use Rattle.star_query.specs.Tree as spec;
-    ghost use Rattle.star_query.specs.Views.{tree_view};
     ghost use Rattle.star_query.specs.Derives.{Means, IsFirstFault};
     ghost use Rattle.star_query.specs.Shown.{shown, IsRead};
 
@@ -172,6 +175,52 @@ mod tests {
             parses(
                 a,
                 b"SELECT d_year,\ts_region , Sum(lo_revenue)\r\nAS Revenue, count(*) as n FROM lineorder, date, supplier where lo_orderdate = d_datekey and lo_suppkey = s_suppkey group by CUBE(d_year, s_region) order by revenue desc"
+            )
+        );
+    }
+
+    #[test]
+    fn the_other_second_and_third_queries_parse(rt: HostRuntime) {
+        let a = rt.alloc();
+        assert!(rt;
+            parses(
+                a,
+                b"select sum(lo_revenue), d_year, p_brand1 from lineorder, date, part, supplier where lo_orderdate = d_datekey and lo_partkey = p_partkey and lo_suppkey = s_suppkey and p_brand1 = 'MFGR#2221' and s_region = 'EUROPE' group by d_year, p_brand1 order by d_year, p_brand1;"
+            )
+        );
+        assert!(rt;
+            parses(
+                a,
+                b"select c_nation, s_nation, d_year, sum(lo_revenue) as revenue from customer, lineorder, supplier, date where lo_custkey = c_custkey and lo_suppkey = s_suppkey and lo_orderdate = d_datekey and c_region = 'ASIA' and s_region = 'ASIA' and d_year >= 1992 and d_year <= 1997 group by c_nation, s_nation, d_year order by d_year asc, revenue desc;"
+            )
+        );
+        assert!(rt;
+            parses(
+                a,
+                b"select c_city, s_city, d_year, sum(lo_revenue) as revenue from customer, lineorder, supplier, date where lo_custkey = c_custkey and lo_suppkey = s_suppkey and lo_orderdate = d_datekey and c_nation = 'UNITED STATES' and s_nation = 'UNITED STATES' and d_year >= 1992 and d_year <= 1997 group by c_city, s_city, d_year order by d_year asc, revenue desc;"
+            )
+        );
+    }
+
+    #[test]
+    fn the_other_fourth_queries_parse(rt: HostRuntime) {
+        let a = rt.alloc();
+        assert!(rt;
+            parses(
+                a,
+                b"select c_city, s_city, d_year, sum(lo_revenue) as revenue from customer, lineorder, supplier, date where lo_custkey = c_custkey and lo_suppkey = s_suppkey and lo_orderdate = d_datekey and (c_city = 'UNITED KI1' or c_city = 'UNITED KI5') and (s_city = 'UNITED KI1' or s_city = 'UNITED KI5') and d_yearmonth = 'Dec1997' group by c_city, s_city, d_year order by d_year asc, revenue desc;"
+            )
+        );
+        assert!(rt;
+            parses(
+                a,
+                b"select d_year, c_nation, sum(lo_revenue - lo_supplycost) as profit from date, customer, supplier, part, lineorder where lo_custkey = c_custkey and lo_suppkey = s_suppkey and lo_partkey = p_partkey and lo_orderdate = d_datekey and c_region = 'AMERICA' and s_region = 'AMERICA' and (p_mfgr = 'MFGR#1' or p_mfgr = 'MFGR#2') group by d_year, c_nation order by d_year, c_nation;"
+            )
+        );
+        assert!(rt;
+            parses(
+                a,
+                b"select d_year, s_nation, p_category, sum(lo_revenue - lo_supplycost) as profit from date, customer, supplier, part, lineorder where lo_custkey = c_custkey and lo_suppkey = s_suppkey and lo_partkey = p_partkey and lo_orderdate = d_datekey and c_region = 'AMERICA' and s_region = 'AMERICA' and (d_year = 1997 or d_year = 1998) and (p_mfgr = 'MFGR#1' or p_mfgr = 'MFGR#2') group by d_year, s_nation, p_category order by d_year, s_nation, p_category;"
             )
         );
     }

@@ -7,3 +7,4 @@ pub mod Quotes
 pub mod Cells
 pub mod Lines
 pub mod Worked
+pub mod TableTexts

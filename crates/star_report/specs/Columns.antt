@@ -3,6 +3,7 @@ use Rattle.std.specs.Prelude.{◌||◌, Bool, not, IsTrue, FitsSigned, ℕ, List
 use Rattle.std.specs.Int.{w64}
 use Rattle.std.specs.List.{AllZip, list_all}
 use Rattle.star_schema.specs.Records.{ends_line, is_bar}
+use Rattle.star_schema.specs.Tables as table
 use Rattle.star_program.specs.declared.outcome.Cell.{Cell}
 use Rattle.star_program.specs.declared.outcome.Cell.TheVariants.{Number, Text, All, Null}
 
@@ -29,3 +30,8 @@ IsCellOf _ _ = ⊥
 -- rows with a cell for each column, of the column's kind
 abbrev pub AreRowsOf : List ColumnKind → List (List Cell) → Type 0
 AreRowsOf kinds rows = Each (AllZip IsCellOf kinds) rows
+
+-- a value whose text stands in one field
+abbrev pub IsFieldValue : table.Value → Type 0
+IsFieldValue (table.Number n) = Unit {0}
+IsFieldValue (table.Text text) = IsTrue (is_field text)

@@ -1,13 +1,20 @@
-//! The law of the printed rows: a function with no body, whose clause is the law.
+//! Laws of the printed rows: functions with no body, whose clauses are the laws.
 
-ghost use Rattle.std.specs.Prelude.{◌≡◌, ℕ, List};
+ghost use Rattle.std.specs.Prelude.{◌≡◌, ℕ, List, All};
+ghost use Rattle.star_schema.specs.declared.table.TableId.{TableId};
+ghost use Rattle.star_schema.specs.Tables.{rows_of};
 ghost use Rattle.star_program.specs.declared.outcome.Cell.{Cell};
 ghost use Rattle.star_report.specs.Report.{report_text};
-ghost use Rattle.star_report.specs.Columns.{ColumnKind, AreRowsOf};
+ghost use Rattle.star_report.specs.Columns.{ColumnKind, AreRowsOf, IsFieldValue};
 
 /// One text has one meaning: rows of the same columns with the same text are the same rows.
 pub fn one_text_has_one_meaning()
     ensures { (names : List (List ℕ)) (kinds : List ColumnKind) (rows others : List (List Cell))
         → AreRowsOf kinds rows → AreRowsOf kinds others
         → report_text names rows ≡ report_text names others → rows ≡ others }
+{}
+
+/// No text of a table has a bar or an end of a line, so the law above speaks of every report over tables.
+pub fn texts_of_tables_are_fields()
+    ensures { (t : TableId) (text : List ℕ) → All (All IsFieldValue) (rows_of t text) }
 {}

@@ -8,5 +8,5 @@ mod report;
 mod tests;
 
 pub use deliver::{WriteFault, write_whole};
-pub use law::one_text_has_one_meaning;
+pub use law::{one_text_has_one_meaning, texts_of_tables_are_fields};
 pub use report::report_text;

@@ -1,9 +1,9 @@
 // The text of an outcome: a line of names and a line for each row.
 
 ghost use Rattle.std.specs.Prelude.{◌≡◌, ◌++◌, ◌∷◌, ℕ, List, IfOk, OnOk, map};
+ghost use Rattle.std.specs.Fmt.{signed_decimal};
 ghost use Rattle.std.specs.List.{flat_map, join_with_byte};
 ghost use Rattle.star_report.specs.Report.{cell_text, field_of_text, is_ambiguous, line_text, quoted, quoted_byte, report_text};
-ghost use Rattle.std.specs.Fmt.{signed_decimal};
 
 use itoa::Buffer;
 use star_program::{Cell, Items, Outcome};
@@ -121,7 +121,9 @@ fn push_line<F: Field>(text: &mut Vec<u8>, fields: &[F]) -> Result<(), AllocErro
     Ok(())
 }
 
-/// The line of names and the lines of the rows.
+/// What is printed of an outcome: a line of its names and a line for each row, in their order. Bars part the fields, and
+/// a line feed ends each line. Keys print ALL as `ALL` and aggregates NULL as `NULL`; a text that is `ALL` or begins with
+/// a quote stands in single quotes, with each quote inside doubled. Want of memory is its only error.
 pub fn report_text(alloc: Global, outcome: &Outcome) -> Result<Vec<u8>, AllocError>
     ensures { IfOk result (λ text. text.items ≡ report_text outcome.now.names outcome.now.rows) }
 {

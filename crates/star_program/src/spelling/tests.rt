@@ -21,126 +21,239 @@ const REVENUE: &str = concat!(
     "  r5 = eq r3 r4\n",
     "  keep r5\n",
     "  r6 = load lo_discount r0\n",
+    "  r7 = const 1\n",
+    "  r8 = const 4\n",
     "  r9 = within r6 r7 r8\n",
+    "  keep r9\n",
+    "  r10 = load lo_quantity r0\n",
+    "  r11 = const 25\n",
+    "  r12 = lt r10 r11\n",
+    "  keep r12\n",
+    "  r13 = load lo_extendedprice r0\n",
+    "  r14 = mul r13 r6\n",
     "  put 0 : r14\n",
     "end\n",
     "report 0\n",
     "show revenue aggregate 0\n",
 );
 
-fn listed<T: Copy + Drop>(alloc: Global, items: &[T]) -> Result<Items<T>, AllocError> {
-    Ok(Items::from_vec(Vec::from_slice(alloc, items)?))
+const ABOVE_AVERAGE: &str = concat!(
+    "star program 1\n",
+    "registers 8\n",
+    "group 0 plain : sum count\n",
+    "group 1 plain : count\n",
+    "scan lineorder r0\n",
+    "  r1 = load lo_extendedprice r0\n",
+    "  put 0 : r1\n",
+    "end\n",
+    "r2 = read 0 0 0\n",
+    "r3 = read 0 1 0\n",
+    "scan lineorder r4\n",
+    "  r5 = load lo_extendedprice r4\n",
+    "  r6 = mul r5 r3\n",
+    "  r7 = lt r2 r6\n",
+    "  keep r7\n",
+    "  put 1 :\n",
+    "end\n",
+    "report 1\n",
+    "show n aggregate 0\n",
+);
+
+fn load(target: u16, column: ColumnId, row: u16) -> Step {
+    Step::Act(Op::Load {
+        target,
+        column,
+        row,
+    })
 }
 
-fn no_registers(alloc: Global) -> RegisterList {
-    Items::from_vec(Vec::new(alloc))
+fn number(target: u16, number: i64) -> Step {
+    Step::Act(Op::Const { target, number })
 }
 
-fn loads(steps: &mut Vec<Step>) -> Result<(), AllocError> {
-    steps.push(Step::Act(Op::Load {
-        target: 1,
-        column: ColumnId::LoOrderdate,
-        row: 0,
-    }))?;
+fn keep(flag: u16) -> Step {
+    Step::Act(Op::Keep { flag })
+}
+
+fn less(target: u16, left: u16, right: u16) -> Step {
+    Step::Act(Op::Less {
+        target,
+        left,
+        right,
+    })
+}
+
+fn product(target: u16, left: u16, right: u16) -> Step {
+    Step::Act(Op::Mul {
+        target,
+        left,
+        right,
+    })
+}
+
+fn total(target: u16, aggregate: u16) -> Step {
+    Step::Act(Op::Read {
+        target,
+        group: 0,
+        aggregate,
+        default: 0,
+    })
+}
+
+fn put(alloc: Global, group: u16, values: &[u16]) -> Result<Step, AllocError> {
+    Ok(Step::Act(Op::Put {
+        group,
+        keys: Items::from_vec(Vec::new(alloc)),
+        values: Items::from_vec(Vec::from_slice(alloc, values)?),
+    }))
+}
+
+// A scan over the lines of steps and a last one.
+fn scan(target: u16, mut steps: Vec<Step>, last: Step) -> Result<Step, AllocError> {
+    steps.push(last)?;
+    Ok(Step::Scan {
+        table: TableId::Lineorder,
+        target,
+        body: Body::from_vec(steps),
+    })
+}
+
+fn dates(steps: &mut Vec<Step>) -> Result<(), AllocError> {
+    steps.push(load(1, ColumnId::LoOrderdate, 0))?;
     steps.push(Step::Act(Op::Find {
         target: 2,
         table: TableId::Date,
         key: 1,
     }))?;
-    steps.push(Step::Act(Op::Load {
-        target: 3,
-        column: ColumnId::DYear,
-        row: 2,
-    }))?;
-    Ok(())
-}
-
-fn keeps(steps: &mut Vec<Step>) -> Result<(), AllocError> {
-    steps.push(Step::Act(Op::Const {
-        target: 4,
-        number: 1993,
-    }))?;
+    steps.push(load(3, ColumnId::DYear, 2))?;
+    steps.push(number(4, 1993))?;
     steps.push(Step::Act(Op::Equal {
         target: 5,
         left: 3,
         right: 4,
     }))?;
-    steps.push(Step::Act(Op::Keep { flag: 5 }))?;
+    steps.push(keep(5))?;
     Ok(())
 }
 
-fn turn(alloc: Global) -> Result<Body, AllocError> {
-    let mut steps = Vec::new(alloc);
-    loads(&mut steps)?;
-    keeps(&mut steps)?;
-    steps.push(Step::Act(Op::Load {
-        target: 6,
-        column: ColumnId::LoDiscount,
-        row: 0,
-    }))?;
+fn discounts(steps: &mut Vec<Step>) -> Result<(), AllocError> {
+    steps.push(load(6, ColumnId::LoDiscount, 0))?;
+    steps.push(number(7, 1))?;
+    steps.push(number(8, 4))?;
     steps.push(Step::Act(Op::Within {
         target: 9,
         value: 6,
         from: 7,
         below: 8,
     }))?;
-    steps.push(Step::Act(Op::Put {
-        group: 0,
-        keys: no_registers(alloc),
-        values: listed(alloc, &[14])?,
-    }))?;
+    steps.push(keep(9))?;
+    Ok(())
+}
+
+fn quantities(steps: &mut Vec<Step>) -> Result<(), AllocError> {
+    steps.push(load(10, ColumnId::LoQuantity, 0))?;
+    steps.push(number(11, 25))?;
+    steps.push(less(12, 10, 11))?;
+    steps.push(keep(12))?;
+    steps.push(load(13, ColumnId::LoExtendedprice, 0))?;
+    steps.push(product(14, 13, 6))?;
+    Ok(())
+}
+
+fn revenue_body(alloc: Global) -> Result<Body, AllocError> {
+    let mut turn = Vec::new(alloc);
+    dates(&mut turn)?;
+    discounts(&mut turn)?;
+    quantities(&mut turn)?;
+    let mut steps = Vec::new(alloc);
+    steps.push(scan(0, turn, put(alloc, 0, &[14])?)?)?;
     Ok(Body::from_vec(steps))
 }
 
-fn one_group(alloc: Global) -> Result<Groups, AllocError> {
-    let mut groups = Vec::new(alloc);
+fn above_average_body(alloc: Global) -> Result<Body, AllocError> {
+    let mut first = Vec::new(alloc);
+    first.push(load(1, ColumnId::LoExtendedprice, 0))?;
+    let mut second = Vec::new(alloc);
+    second.push(load(5, ColumnId::LoExtendedprice, 4))?;
+    second.push(product(6, 5, 3))?;
+    second.push(less(7, 2, 6))?;
+    second.push(keep(7))?;
+    let mut steps = Vec::new(alloc);
+    steps.push(scan(0, first, put(alloc, 0, &[1])?)?)?;
+    steps.push(total(2, 0))?;
+    steps.push(total(3, 1))?;
+    steps.push(scan(4, second, put(alloc, 1, &[])?)?)?;
+    Ok(Body::from_vec(steps))
+}
+
+fn add_group(
+    groups: &mut Vec<GroupDecl>,
+    alloc: Global,
+    of: &[Aggregate],
+) -> Result<(), AllocError> {
     groups.push(GroupDecl {
         shape: Shape::Plain,
         keys: Items::from_vec(Vec::new(alloc)),
-        aggregates: listed(alloc, &[Aggregate::Sum])?,
+        aggregates: Items::from_vec(Vec::from_slice(alloc, of)?),
     })?;
-    Ok(Items::from_vec(groups))
+    Ok(())
 }
 
-fn one_show(alloc: Global) -> Result<Shows, AllocError> {
+fn shown(alloc: Global, name: &[u8]) -> Result<Shows, AllocError> {
     let mut shows = Vec::new(alloc);
     shows.push(Show {
-        name: listed(alloc, b"revenue")?,
+        name: Items::from_vec(Vec::from_slice(alloc, name)?),
         column: GroupColumn::Aggregate(0),
     })?;
     Ok(Items::from_vec(shows))
 }
 
-fn revenue(alloc: Global) -> Result<Option<Program>, AllocError> {
-    let mut steps = Vec::new(alloc);
-    steps.push(Step::Scan {
-        table: TableId::Lineorder,
-        target: 0,
-        body: turn(alloc)?,
-    })?;
-    Ok(Program::new(Parts {
+fn revenue(alloc: Global) -> Result<Parts, AllocError> {
+    let mut groups = Vec::new(alloc);
+    add_group(&mut groups, alloc, &[Aggregate::Sum])?;
+    Ok(Parts {
         registers: 15,
-        groups: one_group(alloc)?,
-        body: Body::from_vec(steps),
+        groups: Items::from_vec(groups),
+        body: revenue_body(alloc)?,
         report: 0,
-        shows: one_show(alloc)?,
+        shows: shown(alloc, b"revenue")?,
         sorts: Items::from_vec(Vec::new(alloc)),
-    }))
+    })
 }
 
-fn revenue_text(alloc: Global) -> Result<Option<Vec<u8>>, AllocError> {
-    match revenue(alloc)? {
+fn above_average(alloc: Global) -> Result<Parts, AllocError> {
+    let mut groups = Vec::new(alloc);
+    add_group(&mut groups, alloc, &[Aggregate::Sum, Aggregate::Count])?;
+    add_group(&mut groups, alloc, &[Aggregate::Count])?;
+    Ok(Parts {
+        registers: 8,
+        groups: Items::from_vec(groups),
+        body: above_average_body(alloc)?,
+        report: 1,
+        shows: shown(alloc, b"n")?,
+        sorts: Items::from_vec(Vec::new(alloc)),
+    })
+}
+
+fn text_of(parts: Result<Parts, AllocError>) -> Result<Option<Vec<u8>>, AllocError> {
+    match Program::new(parts?) {
         Some(program) => Ok(Some(program.to_text()?)),
         None => Ok(None),
     }
 }
 
 #[test]
-fn writes_a_program(rt: HostRuntime) {
-    match revenue_text(rt.alloc()) {
-        Ok(Some(text)) => assert!(rt; text.as_slice() == REVENUE.as_bytes()),
-        Ok(None) => assert!(rt; false, "within the limits"),
-        Err(_) => {}
+fn writes_programs(rt: HostRuntime) {
+    let cases = [
+        (revenue(rt.alloc()), REVENUE),
+        (above_average(rt.alloc()), ABOVE_AVERAGE),
+    ];
+    for (parts, expected) in cases {
+        match text_of(parts) {
+            Ok(Some(text)) => assert!(rt; text.as_slice() == expected.as_bytes()),
+            Ok(None) => assert!(rt; false, "within the limits"),
+            Err(_) => {}
+        }
     }
 }
 
@@ -158,7 +271,8 @@ fn lines_read(alloc: Global, text: &str) -> Result<usize, LineFault> {
 #[test]
 fn reads_each_line(rt: HostRuntime) {
     let texts = [
-        (REVENUE, 16),
+        (REVENUE, 25),
+        (ABOVE_AVERAGE, 19),
         ("  star   program  1  ", 1),
         ("group 0 cube number c_region : sum count min max", 1),
         ("group 00 plain :", 1),
@@ -271,6 +385,7 @@ fn tells_the_first_fault(rt: HostRuntime) {
     let large = |line| Err(TextFault::TooLarge { line });
     let cases = [
         (REVENUE, Ok(())),
+        (ABOVE_AVERAGE, Ok(())),
         ("star program 1\nregisters 4096\n\n  report 9999", Ok(())),
         ("", Err(TextFault::BadHeader)),
         ("\nregisters 1", Err(TextFault::BadHeader)),

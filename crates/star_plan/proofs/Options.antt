@@ -1,0 +1,67 @@
+-- Both values of two options, or none.
+use Rattle.std.proofs.Common.{◌≡◌, ◌∙◌, sym, ap, ◌+◌, ◌<◌, ◌≤◌, ℕ, zero, suc, List, [], ◌∷◌, ◌++◌, Option, Some, None, drop, get_or, length, map, option_map, arith, append_assoc, append-nil, refl}
+use Rattle.star_plan.specs.declared.tree.Condition.{Condition}
+use Rattle.star_plan.specs.Resolved.{option_all, option_both}
+use Rattle.star_plan.specs.Shown.{condition_shown}
+
+pub left_missing : {A B C : Type 0} (f : A → B → C) (a : Option A) (b : Option B) → None ≡ a → None ≡ option_both f a b
+left_missing f None b e = refl
+left_missing f (Some a) b e = cc
+
+pub right_missing : {A B C : Type 0} (f : A → B → C) (a : Option A) (b : Option B) → None ≡ b → None ≡ option_both f a b
+right_missing f None b e = refl
+right_missing f (Some a) None e = refl
+right_missing f (Some a) (Some b) e = cc
+
+pub both_there : {A B C : Type 0} (f : A → B → C) (a : Option A) (b : Option B) (x : A) (y : B) (z : C) → Some x ≡ a → Some y ≡ b → z ≡ f x y → Some z ≡ option_both f a b
+both_there f None b x y z e g h = cc
+both_there f (Some a) None x y z e g h = cc
+both_there f (Some a) (Some b) x y z e g h = cc
+
+pub conditions_join : (xs ys : List Condition) → map condition_shown (xs ++ ys) ≡ map condition_shown xs ++ map condition_shown ys
+conditions_join [] ys = refl
+conditions_join (x ∷ xs) ys = ap (λ rest. condition_shown x ∷ rest) (conditions_join xs ys)
+
+-- ---- what each element gives, or none
+
+drop_here : {X : Type 0} (xs : List X) (i : ℕ) (x : X) → i < length xs → x ≡ get_or xs i x → drop i xs ≡ x ∷ drop (i + 1) xs
+drop_here [] i x within at = absurd (omega arith)
+drop_here (y ∷ ys) zero x within at = ap (λ z. z ∷ ys) (sym at)
+drop_here (y ∷ ys) (suc i) x within at = let next : suc i + 1 ≡ suc (i + 1) = omega arith in rw next (drop_here ys i x (omega arith) at)
+
+drop_past : {X : Type 0} (xs : List X) (i : ℕ) → length xs ≤ i → drop i xs ≡ []
+drop_past [] zero past = refl
+drop_past [] (suc i) past = refl
+drop_past (y ∷ ys) zero past = absurd (omega arith)
+drop_past (y ∷ ys) (suc i) past = drop_past ys i (omega arith)
+
+-- so many results, and those of the elements that are left
+abbrev pub with_rest : {B : Type 0} → List B → Option (List B) → Option (List B)
+with_rest done rest = option_map (λ ys. done ++ ys) rest
+
+none_with : {B : Type 0} (done : List B) (f : Option B) (rest : Option (List B)) → None ≡ f → None ≡ with_rest done (option_both (λ y ys. y ∷ ys) f rest)
+none_with done None rest e = refl
+none_with done (Some y) rest e = cc
+
+some_with : {B : Type 0} (done : List B) (y : B) (rest : Option (List B)) → with_rest done (option_both (λ z zs. z ∷ zs) (Some y) rest) ≡ with_rest (done ++ y ∷ []) rest
+some_with done y None = refl
+some_with done y (Some ys) = ap Some (sym (append_assoc done (y ∷ []) ys))
+
+pub all_missing : {A B : Type 0} (f : A → Option B) (xs : List A) (i : ℕ) (x : A) (done : List B) → i < length xs → x ≡ get_or xs i x
+    → with_rest done (option_all f (drop i xs)) ≡ option_all f xs → None ≡ f x → None ≡ option_all f xs
+all_missing f xs i x done within at so_far missing = none_with done (f x) (option_all f (drop (i + 1) xs)) missing ∙ (rw (drop_here xs i x within at) at so_far)
+
+pub all_more : {A B : Type 0} (f : A → Option B) (xs : List A) (i : ℕ) (x : A) (done : List B) (y : B) → i < length xs → x ≡ get_or xs i x
+    → with_rest done (option_all f (drop i xs)) ≡ option_all f xs → Some y ≡ f x → with_rest (done ++ y ∷ []) (option_all f (drop (i + 1) xs)) ≡ option_all f xs
+all_more f xs i x done y within at so_far found = sym (some_with done y (option_all f (drop (i + 1) xs))) ∙ (rw (drop_here xs i x within at, ← found) at so_far)
+
+pub all_whole : {A B : Type 0} (f : A → Option B) (xs : List A) (i : ℕ) (done : List B) → length xs ≤ i
+    → with_rest done (option_all f (drop i xs)) ≡ option_all f xs → Some done ≡ option_all f xs
+all_whole f xs i done past so_far = ap Some (sym (append-nil done)) ∙ (rw (drop_past xs i past) at so_far)
+
+pub all_first : {A B : Type 0} (f : A → Option B) (xs : List A) → with_rest [] (option_all f xs) ≡ option_all f xs
+all_first f xs = go (option_all f xs)
+  where
+    go : {B : Type 0} (o : Option (List B)) → with_rest [] o ≡ o
+    go None = refl
+    go (Some ys) = refl

@@ -1,0 +1,82 @@
+-- A well named query has each part of its plan.
+use Rattle.std.proofs.Common.{◌≡◌, true, List, [], ◌++◌, Option, Some, None, option_map}
+use Rattle.std.specs.List.{AllByRecursion, list_all}
+use Rattle.std.specs.Option.{option_or}
+use Rattle.star_schema.specs.declared.column.ColumnId.{ColumnId}
+use Rattle.star_schema.specs.declared.group.GroupColumn.{GroupColumn}
+use Rattle.star_schema.specs.declared.group.SortKey.{SortKey}
+use Rattle.star_schema.specs.First.{first_answer}
+use Rattle.star_schema.specs.Schema.{table_of}
+use Rattle.star_query.specs.declared.tree.Tree.{Tree}
+use Rattle.star_plan.specs.declared.tree.Join.{Join}
+use Rattle.star_plan.specs.First.{first_beside}
+use Rattle.star_plan.specs.Meaning.{Condition, Measure}
+use Rattle.star_plan.specs.Names.{column_at}
+use Rattle.star_plan.specs.Uses.{groups_uses, items_uses, uses_of, where_uses}
+use Rattle.star_plan.specs.Joins.{joins_of, where_pairs}
+use Rattle.star_plan.specs.Naming.{aggregate_names}
+use Rattle.star_plan.specs.Faults.{aggregates_fault, from_fault, group_fault, grouping_fault, item_fault, join_fault, key_fault, kind_fault, missing_fault, naming_fault, order_fault, pair_fault, plan_fault, scope_fault, select_fault}
+use Rattle.star_plan.specs.Resolved.{items_from, measures_of, option_all, resolved_key, where_conjuncts}
+use Rattle.star_plan.specs.Sound.{condition_is_sound, in_scope, measure_is_sound}
+use Rattle.star_plan.proofs.Known.{Reaches, each_left, each_none, each_right, groups_known, grouped, items_known, joined_each, measures_known, or_none, order_known, reaches, where_known, IsGrouped}
+
+-- what well named says of each part
+pub record Parts (t : Tree) : Type 0 where
+  pub scoped : AllByRecursion (λ u. scope_fault t.tables.items u ≡ None) (uses_of t)
+  pub fit : AllByRecursion (λ u. kind_fault u ≡ None) (uses_of t)
+  pub pairs : AllByRecursion (λ p. (j : Join) × (p.join ≡ Some j)) (where_pairs t.condition)
+  pub reach : Reaches t.tables.items (joins_of (where_pairs t.condition))
+  pub items : AllByRecursion (IsGrouped t.grouping.columns.items) t.items.items
+  pub order : AllByRecursion (λ k. key_fault t.grouping.columns.items (aggregate_names t.items.items) k ≡ None) t.keys.items
+
+pub parts : (t : Tree) → plan_fault t ≡ None → Parts t
+parts t none =
+    let tables = t.tables.items in
+    let groups = t.grouping.columns.items in
+    let items = t.items.items in
+    let keys = t.keys.items in
+    let ps = where_pairs t.condition in
+    let halves = or_none (naming_fault tables (uses_of t) ps) (grouping_fault groups items keys) none in
+    let names = or_none (from_fault tables) (option_or (first_answer (scope_fault tables) (uses_of t)) (option_or (join_fault tables ps) (first_answer kind_fault (uses_of t)))) halves.0 in
+    let columns = or_none (first_answer (scope_fault tables) (uses_of t)) (option_or (join_fault tables ps) (first_answer kind_fault (uses_of t))) names.1 in
+    let rest = or_none (join_fault tables ps) (first_answer kind_fault (uses_of t)) columns.1 in
+    let joined = or_none (first_beside pair_fault ps) (first_answer (missing_fault ps) tables) rest.0 in
+    let grouping = or_none (first_beside group_fault groups) (option_or (select_fault groups items) (order_fault groups items keys)) halves.1 in
+    let select = or_none (select_fault groups items) (order_fault groups items keys) grouping.1 in
+    let shown = or_none (first_beside (item_fault groups) items) (aggregates_fault (aggregate_names items)) select.0 in
+    record {
+      scoped = each_none (scope_fault tables) (uses_of t) columns.0;
+      fit = each_none kind_fault (uses_of t) rest.1;
+      pairs = joined_each [] ps joined.0;
+      reach = reaches tables ps joined.1;
+      items = grouped groups [] items shown.0;
+      order = each_none (key_fault groups (aggregate_names items)) keys select.1;
+    }
+
+pub conjuncts_there : (t : Tree) → Parts t → (xs : List Condition) × (where_conjuncts t.condition ≡ Some xs) × (list_all (condition_is_sound (joins_of (where_pairs t.condition))) xs ≡ true)
+conjuncts_there t p =
+    where_known t.tables.items (joins_of (where_pairs t.condition)) p.reach t.condition p.pairs
+    (each_left _ (where_uses t.condition) (groups_uses t.grouping.columns.items) (each_right _ (items_uses t.items.items) (where_uses t.condition ++ groups_uses t.grouping.columns.items) p.scoped))
+    (each_left _ (where_uses t.condition) (groups_uses t.grouping.columns.items) (each_right _ (items_uses t.items.items) (where_uses t.condition ++ groups_uses t.grouping.columns.items) p.fit))
+
+pub keys_there : (t : Tree) → Parts t → (cs : List ColumnId) × (option_all column_at t.grouping.columns.items ≡ Some cs) × (list_all (λ c. in_scope (joins_of (where_pairs t.condition)) (table_of c)) cs ≡ true)
+keys_there t p =
+    groups_known t.tables.items (joins_of (where_pairs t.condition)) p.reach t.grouping.columns.items
+    (each_right _ (where_uses t.condition) (groups_uses t.grouping.columns.items) (each_right _ (items_uses t.items.items) (where_uses t.condition ++ groups_uses t.grouping.columns.items) p.scoped))
+
+pub measures_there : (t : Tree) → Parts t → (ms : List Measure) × (measures_of t.items.items ≡ Some ms) × (list_all (measure_is_sound (joins_of (where_pairs t.condition))) ms ≡ true)
+measures_there t p =
+    measures_known t.tables.items (joins_of (where_pairs t.condition)) p.reach t.items.items
+    (each_left _ (items_uses t.items.items) (where_uses t.condition ++ groups_uses t.grouping.columns.items) p.scoped)
+    (each_left _ (items_uses t.items.items) (where_uses t.condition ++ groups_uses t.grouping.columns.items) p.fit)
+
+pub items_there : (t : Tree) → Parts t → (cs : List GroupColumn) × (items_from t.grouping.columns.items 0 t.items.items ≡ Some cs)
+items_there t p = items_known t.grouping.columns.items 0 t.items.items p.items
+
+pub order_there : (t : Tree) → Parts t → (ss : List SortKey) × (option_all (resolved_key t.grouping.columns.items (aggregate_names t.items.items)) t.keys.items ≡ Some ss)
+order_there t p = order_known t.grouping.columns.items (aggregate_names t.items.items) t.keys.items p.order
+
+-- what is there isn't missing
+pub impossible : {A B : Type 0} (f : A → B) (o : Option A) (wanted : Option B) (b : B) → option_map f o ≡ wanted → o ≡ None → wanted ≡ Some b → ⊥
+impossible f None wanted b e n there = cc
+impossible f (Some a) wanted b e n there = cc

@@ -1,0 +1,13 @@
+use Rattle.std.proofs.Common.{◌≡◌, ◌++◌, ◌+◌, ◌≤◌, drop, length}
+use Rattle.star_plan.specs.Naming.{aggregate_names, names_from}
+use Rattle.star_plan.specs.Resolved.{measures_of}
+use Rattle.star_plan.specs.Shown.{measures_shown, names_shown}
+use Rattle.star_plan.proofs.Options.{with_rest}
+use Rattle.star_plan.proofs.resolve.resolve_aggregates.Given as goal
+
+abbrev pub invariant-loop-item : goal.invariant-loop-item
+invariant-loop-item l = record {
+  few : length l.aggregates.items ≤ l.item-index;
+  measures : with_rest (measures_shown l.aggregates.items) (measures_of (drop l.item-index l.items)) ≡ measures_of l.items;
+  names : names_shown l.aggregates.items ++ names_from (length l.aggregates.items + 1) (drop l.item-index l.items) ≡ aggregate_names l.items;
+}

@@ -1,0 +1,10 @@
+use Rattle.std.proofs.Common.{◌≡◌, drop}
+use Rattle.star_plan.specs.Resolved.{option_all, resolved_key}
+use Rattle.star_plan.specs.Shown.{names_shown}
+use Rattle.star_plan.proofs.Options.{with_rest}
+use Rattle.star_plan.proofs.resolve.resolve_order.Given as goal
+
+abbrev pub invariant-loop-key : goal.invariant-loop-key
+invariant-loop-key l =
+    with_rest l.sorts.items (option_all (resolved_key l.groups (names_shown l.aggregates)) (drop l.key-index l.keys))
+    ≡ option_all (resolved_key l.groups (names_shown l.aggregates)) l.keys

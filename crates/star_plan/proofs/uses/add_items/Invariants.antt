@@ -1,0 +1,6 @@
+use Rattle.std.proofs.Common.{◌≡◌, ◌++◌, drop}
+use Rattle.star_plan.specs.Uses.{items_uses}
+use Rattle.star_plan.proofs.uses.add_items.Given as goal
+
+abbrev pub invariant-loop-item : goal.invariant-loop-item
+invariant-loop-item l = l.uses.items ++ items_uses (drop l.item-index l.items) ≡ l.initial.uses.items ++ items_uses l.items

@@ -1,0 +1,135 @@
+-- What is wrong with a query's names, and which fault comes first.
+use Rattle.std.specs.Prelude.{ℕ, ◌+◌, Bool, ◌||◌, List, [], ◌∷◌, length, Option, Some, None, if◌then◌else◌}
+use Rattle.std.specs.Option.{option_or}
+use Rattle.star_schema.specs.declared.table.TableId.{TableId}
+use Rattle.star_schema.specs.declared.table.TableId.TheVariants.{Lineorder}
+use Rattle.star_schema.specs.declared.column.ColumnId.{ColumnId}
+use Rattle.star_schema.specs.First.{first_answer}
+use Rattle.star_schema.specs.Schema.{is_table, table_name, table_of}
+use Rattle.star_query.specs.declared.tree.Name.{Name}
+use Rattle.star_query.specs.declared.tree.Aggregate.{Aggregate}
+use Rattle.star_query.specs.declared.tree.Item.{Item}
+use Rattle.star_query.specs.declared.tree.Item.TheVariants as item
+use Rattle.star_query.specs.declared.tree.SortKey.{SortKey}
+use Rattle.star_query.specs.declared.tree.Tree.{Tree}
+use Rattle.star_plan.specs.declared.fault.PlanFault.{PlanFault}
+use Rattle.star_plan.specs.declared.fault.PlanFault.TheVariants.{UnknownName, NoFactTable, TableTwice, TableNotNamed, JoinMissing, JoinTwice, NotAKeyPair, WrongKind, NotGrouped, DuplicateGroup, UnknownOrderKey, DuplicateAlias, NoAggregate}
+use Rattle.star_plan.specs.declared.tree.Join.{Join}
+use Rattle.star_plan.specs.declared.uses.Use.{Use}
+use Rattle.star_plan.specs.declared.joins.Pair.{Pair}
+use Rattle.star_plan.specs.First.{first_beside}
+use Rattle.star_plan.specs.Names.{has_name, table_at}
+use Rattle.star_plan.specs.Uses.{uses_of}
+use Rattle.star_plan.specs.Joins.{is_joined, where_pairs}
+use Rattle.star_plan.specs.Naming.{aggregate_name, aggregate_names, has_text, name_place}
+
+-- ---- the names of FROM
+
+abbrev pub of_table : (at : ℕ) → (is_repeated : Bool) → Option TableId → Option PlanFault
+of_table at repeated None = Some (UnknownName at)
+of_table at repeated (Some t) = if repeated then Some (TableTwice at) else None
+
+-- a name is no table's, or stands there before
+abbrev pub table_fault : List Name → Name → Option PlanFault
+table_fault before n = of_table n.place (has_name before n.text.items) (table_at n)
+
+abbrev pub fact_fault : List Name → Option PlanFault
+fact_fault tables = if has_name tables (table_name Lineorder) then None else Some NoFactTable
+
+-- ---- the names of columns
+
+abbrev pub of_column : List Name → (at : ℕ) → Option ColumnId → Option PlanFault
+of_column tables at None = Some (UnknownName at)
+of_column tables at (Some c) = if has_name tables (table_name (table_of c)) then None else Some (TableNotNamed at)
+
+-- a name is no column's, or its table isn't in FROM
+abbrev pub scope_fault : List Name → Use → Option PlanFault
+scope_fault tables u = of_column tables u.at u.column
+
+-- a column isn't of the kind that is asked of it: a number inside an aggregate, beside a literal the literal's
+abbrev pub kind_fault : Use → Option PlanFault
+kind_fault u = if u.fits then None else Some (WrongKind u.at)
+
+-- ---- comparisons of two columns
+
+abbrev pub of_pair : List Pair → (at : ℕ) → Option Join → Option PlanFault
+of_pair before at None = Some (NotAKeyPair at)
+of_pair before at (Some j) = if is_joined before (table_of j.key) then Some (JoinTwice at) else None
+
+-- two columns don't join, or their dimension has a join before
+abbrev pub pair_fault : List Pair → Pair → Option PlanFault
+pair_fault before p = of_pair before p.at p.join
+
+abbrev pub of_missing : List Pair → (at : ℕ) → Option TableId → Option PlanFault
+of_missing pairs at None = None
+of_missing pairs at (Some t) = if is_table t Lineorder || is_joined pairs t then None else Some (JoinMissing at)
+
+-- a dimension of FROM has no join
+abbrev pub missing_fault : List Pair → Name → Option PlanFault
+missing_fault pairs n = of_missing pairs n.place (table_at n)
+
+-- ---- groups, items and the order
+
+abbrev pub group_fault : List Name → Name → Option PlanFault
+group_fault before n = if has_name before n.text.items then Some (DuplicateGroup n.place) else None
+
+-- an aggregate's name is that of one before it, or a group column's
+abbrev pub alias_fault : List Name → List (List ℕ) → Aggregate → Option PlanFault
+alias_fault groups names a =
+    if has_text names (aggregate_name (length names + 1) a) || has_name groups (aggregate_name (length names + 1) a)
+    then Some (DuplicateAlias (name_place a)) else None
+
+-- a plain column isn't in GROUP BY
+abbrev pub column_fault : List Name → Name → Option PlanFault
+column_fault groups n = if has_name groups n.text.items then None else Some (NotGrouped n.place)
+
+-- an item after aggregates of these names
+abbrev pub item_fault_after : List Name → List (List ℕ) → Item → Option PlanFault
+item_fault_after groups names (item.Column n) = column_fault groups n
+item_fault_after groups names (item.Aggregate a) = alias_fault groups names a
+
+-- an item after others
+abbrev pub item_fault : List Name → List Item → Item → Option PlanFault
+item_fault groups before i = item_fault_after groups (aggregate_names before) i
+
+abbrev pub aggregates_fault : List (List ℕ) → Option PlanFault
+aggregates_fault [] = Some NoAggregate
+aggregates_fault (name ∷ names) = None
+
+-- a sort key is neither a group column nor an aggregate's name
+abbrev pub key_fault : List Name → List (List ℕ) → SortKey → Option PlanFault
+key_fault groups names k =
+    if has_name groups k.name.text.items || has_text names k.name.text.items then None else Some (UnknownOrderKey k.name.place)
+
+-- ---- the first fault of a query
+
+abbrev pub from_fault : List Name → Option PlanFault
+from_fault tables = option_or (first_beside table_fault tables) (fact_fault tables)
+
+abbrev pub join_fault : List Name → List Pair → Option PlanFault
+join_fault tables pairs = option_or (first_beside pair_fault pairs) (first_answer (missing_fault pairs) tables)
+
+abbrev pub select_fault : List Name → List Item → Option PlanFault
+select_fault groups items = option_or (first_beside (item_fault groups) items) (aggregates_fault (aggregate_names items))
+
+-- of the names of tables and columns
+abbrev pub naming_fault : List Name → List Use → List Pair → Option PlanFault
+naming_fault tables uses pairs =
+    option_or (from_fault tables)
+    (option_or (first_answer (scope_fault tables) uses)
+    (option_or (join_fault tables pairs) (first_answer kind_fault uses)))
+
+abbrev pub order_fault : List Name → List Item → List SortKey → Option PlanFault
+order_fault groups items keys = first_answer (key_fault groups (aggregate_names items)) keys
+
+-- of the groups, the items and the order
+abbrev pub grouping_fault : List Name → List Item → List SortKey → Option PlanFault
+grouping_fault groups items keys =
+    option_or (first_beside group_fault groups)
+    (option_or (select_fault groups items) (order_fault groups items keys))
+
+-- the first fault in: FROM, the names of columns, the joins, the kinds of columns, GROUP BY, the items, ORDER BY
+abbrev pub plan_fault : Tree → Option PlanFault
+plan_fault t =
+    option_or (naming_fault t.tables.items (uses_of t) (where_pairs t.condition))
+    (grouping_fault t.grouping.columns.items t.items.items t.keys.items)

@@ -1,0 +1,42 @@
+-- Which queries fit: by the bounds of the columns and the number of the fact's rows alone.
+use Rattle.std.specs.Prelude.{ℕ, ◌≤◌, pos, ◌+ℤ◌, ◌-ℤ◌, ◌*ℤ◌, Bool, true, ◌&&◌, IsTrue}
+use Rattle.std.specs.List.{list_all}
+use Rattle.star_schema.specs.declared.column.ColumnId.{ColumnId}
+use Rattle.star_interval.specs.Range.{Range, only, hull, corner_range, multiple_range, fits_i64}
+use Rattle.star_plan.specs.Meaning.{Expression, column, constant, add, sub, mul, Measure, counted, summed, least, greatest, Plan}
+
+-- the range of an expression: the least and greatest result over the corners of its parts' ranges
+abbrev pub range_of : (ColumnId → Range) → Expression → Range
+range_of bounds (column c) = bounds c
+range_of bounds (constant z) = only z
+range_of bounds (add a b) = corner_range ◌+ℤ◌ (range_of bounds a) (range_of bounds b)
+range_of bounds (sub a b) = corner_range ◌-ℤ◌ (range_of bounds a) (range_of bounds b)
+range_of bounds (mul a b) = corner_range ◌*ℤ◌ (range_of bounds a) (range_of bounds b)
+
+-- each node of an expression has its range in 64 bits
+abbrev pub nodes_fit : (ColumnId → Range) → Expression → Bool
+nodes_fit bounds (column c) = fits_i64 (bounds c)
+nodes_fit bounds (constant z) = fits_i64 (only z)
+nodes_fit bounds (add a b) = nodes_fit bounds a && (nodes_fit bounds b && fits_i64 (range_of bounds (add a b)))
+nodes_fit bounds (sub a b) = nodes_fit bounds a && (nodes_fit bounds b && fits_i64 (range_of bounds (sub a b)))
+nodes_fit bounds (mul a b) = nodes_fit bounds a && (nodes_fit bounds b && fits_i64 (range_of bounds (mul a b)))
+
+abbrev pub measure_fits : (ColumnId → Range) → Measure → Bool
+measure_fits bounds counted = true
+measure_fits bounds (summed e) = nodes_fit bounds e
+measure_fits bounds (least e) = nodes_fit bounds e
+measure_fits bounds (greatest e) = nodes_fit bounds e
+
+-- so many rows times the range, widened to hold 0, lies in 64 bits
+abbrev pub times_fits : ℕ → Range → Bool
+times_fits rows r = fits_i64 (multiple_range rows (hull r (only (pos 0))))
+
+abbrev pub sum_fits : ℕ → (ColumnId → Range) → Measure → Bool
+sum_fits rows bounds (summed e) = times_fits rows (range_of bounds e)
+sum_fits rows bounds _ = true
+
+-- a query fits the fact's rows within a limit
+pub record Fits (rows most : ℕ) (bounds : ColumnId → Range) (p : Plan) : Type 0 where
+  pub visits : rows ≤ most
+  pub nodes : IsTrue (list_all (measure_fits bounds) p.measures)
+  pub sums : IsTrue (list_all (sum_fits rows bounds) p.measures)

@@ -1,0 +1,59 @@
+-- The joins of a query: comparisons of a foreign key with the key that it references.
+use Rattle.std.specs.Prelude.{Bool, true, false, ◌&&◌, ◌==◌, List, [], ◌∷◌, ◌++◌, Option, Some, None, if◌then◌else◌}
+use Rattle.std.specs.List.{flat_map, list_any}
+use Rattle.std.specs.Option.{option_or, option_to_list}
+use Rattle.star_schema.specs.declared.table.TableId.{TableId}
+use Rattle.star_schema.specs.declared.table.Key.{Key}
+use Rattle.star_schema.specs.declared.table.Key.TheVariants.{One, Two}
+use Rattle.star_schema.specs.declared.column.ColumnId.{ColumnId}
+use Rattle.star_schema.specs.Schema.{index_of, is_table, key_of, references, table_of}
+use Rattle.star_query.specs.declared.tree.Condition.{Condition}
+use Rattle.star_query.specs.declared.tree.Condition.TheVariants.{Or', And', Not', Pair as Compared, Compare, Between}
+use Rattle.star_plan.specs.declared.tree.Join.{Join}
+use Rattle.star_plan.specs.declared.joins.Pair.{Pair}
+use Rattle.star_plan.specs.Names.{column_at}
+
+abbrev pub is_lone_key : ColumnId → Key → Bool
+is_lone_key c (One k) = index_of c == index_of k
+is_lone_key c (Two j k) = false
+
+abbrev pub refers : Option TableId → TableId → Bool
+refers None t = false
+refers (Some referred) t = is_table referred t
+
+-- the first column is a foreign key, and the second the key that it references
+abbrev pub is_foreign : ColumnId → ColumnId → Bool
+is_foreign f k = refers (references f) (table_of k) && is_lone_key k (key_of (table_of k))
+
+abbrev pub join_by : ColumnId → ColumnId → Option Join
+join_by f k = if is_foreign f k then Some (record { foreign = f; key = k }) else None
+
+-- the join that two columns make, in either order
+abbrev pub join_of : Option ColumnId → Option ColumnId → Option Join
+join_of (Some a) (Some b) = option_or (join_by a b) (join_by b a)
+join_of _ _ = None
+
+-- the comparisons of two columns, from the left; they join where they are reached through AND alone
+abbrev pub pairs_of : (is_conjunct : Bool) → Condition → List Pair
+pairs_of b (And' p c q d) = pairs_of b c ++ pairs_of b d
+pairs_of b (Or' p c q d) = pairs_of false c ++ pairs_of false d
+pairs_of b (Not' p c) = pairs_of false c
+pairs_of b (Compared m n) = record { join = (if b then join_of (column_at m) (column_at n) else None); at = m.place } ∷ []
+pairs_of b (Compare n s l) = []
+pairs_of b (Between n from upto) = []
+
+abbrev pub where_pairs : Option Condition → List Pair
+where_pairs None = []
+where_pairs (Some c) = pairs_of true c
+
+-- the joins among the comparisons
+abbrev pub joins_of : List Pair → List Join
+joins_of pairs = flat_map (λ p. option_to_list p.join) pairs
+
+abbrev pub joins : TableId → Option Join → Bool
+joins t None = false
+joins t (Some j) = is_table t (table_of j.key)
+
+-- one of the comparisons joins the table
+abbrev pub is_joined : List Pair → TableId → Bool
+is_joined pairs t = list_any (λ p. joins t p.join) pairs

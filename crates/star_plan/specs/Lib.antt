@@ -1,0 +1,13 @@
+pub mod Meaning
+pub mod Fits
+pub mod First
+pub mod Names
+pub mod Uses
+pub mod Joins
+pub mod Naming
+pub mod Faults
+pub mod Shown
+pub mod Sound
+pub mod Resolved
+pub mod Answers
+pub mod PlanTrees

@@ -1,0 +1,142 @@
+-- What a resolved query means over the rows of the tables (Star Schema Benchmark, revision 3, section 3; Gray et al. 1997).
+use Rattle.std.specs.Prelude.{ℕ, ℤ, pos, ◌+ℤ◌, ◌-ℤ◌, ◌*ℤ◌, Bool, ◌&&◌, ◌||◌, not, List, [], ◌∷◌, filter, map, slice_index_or, if◌then◌else◌}
+use Rattle.std.specs.List.{flat_map, list_all}
+use Rattle.std.specs.declared.cmp.Ordering.{Ordering}
+use Rattle.std.specs.Ordering.{is_eq, is_ne, is_lt, is_le, is_gt, is_ge}
+use Rattle.star_schema.specs.declared.table.TableId.{TableId}
+use Rattle.star_schema.specs.declared.table.TableId.TheVariants.{Lineorder}
+use Rattle.star_schema.specs.declared.column.ColumnId.{ColumnId}
+use Rattle.star_schema.specs.declared.group.Shape.{Shape}
+use Rattle.star_schema.specs.declared.group.Aggregate.{Aggregate}
+use Rattle.star_schema.specs.declared.group.Aggregate.TheVariants as aggregate
+use Rattle.star_schema.specs.declared.group.GroupColumn.{GroupColumn}
+use Rattle.star_schema.specs.declared.group.SortKey.{SortKey}
+use Rattle.star_schema.specs.Groups.{Entry}
+use Rattle.star_schema.specs.Order.{value_cmp}
+use Rattle.star_schema.specs.Schema.{is_table, place_of, table_of}
+use Rattle.star_schema.specs.Tables.{Value, Number, Text}
+use Rattle.star_query.specs.declared.token.Relation.{Relation}
+use Rattle.star_query.specs.declared.token.Relation.TheVariants as sign
+use Rattle.star_plan.specs.declared.tree.Join.{Join}
+
+-- ---- a query whose names are resolved
+
+pub data Condition : Type 0 where
+  either both : (a b : Condition) → Condition
+  negation : (a : Condition) → Condition
+  compare : ColumnId → Relation → Value → Condition
+  between : ColumnId → (from upto : Value) → Condition
+
+pub data Expression : Type 0 where
+  column : ColumnId → Expression
+  constant : ℤ → Expression
+  add sub mul : (a b : Expression) → Expression
+
+pub data Measure : Type 0 where
+  counted : Measure
+  summed least greatest : Expression → Measure
+
+-- its joins, the other conjuncts of its condition, its groups, its aggregates with their names, what it selects and its order
+pub record Plan : Type 0 where
+  pub joins : List Join
+  pub conjuncts : List Condition
+  pub shape : Shape
+  pub keys : List ColumnId
+  pub measures : List Measure
+  pub names : List (List ℕ)
+  pub items : List GroupColumn
+  pub sorts : List SortKey
+
+-- ---- joined rows
+
+abbrev pub Row : Type 0
+Row = List Value
+
+abbrev pub Tables : Type 0
+Tables = TableId → List Row
+
+-- a row of each table that is joined
+abbrev pub Joined : Type 0
+Joined = TableId → Row
+
+-- the value of a column of a row of its table
+abbrev pub value_in : ColumnId → Row → Value
+value_in c row = slice_index_or row (place_of c) (Number (pos 0))
+
+abbrev pub value_of : ColumnId → Joined → Value
+value_of c row = value_in c (row (table_of c))
+
+abbrev pub with_row : Joined → TableId → Row → Joined
+with_row row t d s = if is_table s t then d else row s
+
+-- the row of a table alone
+abbrev pub only_row : TableId → Row → Joined
+only_row t l = with_row (λ s. []) t l
+
+-- the row of the dimension has the key that the joined row refers to
+abbrev pub matches : Joined → Join → Row → Bool
+matches row j d = is_eq (value_cmp (value_of j.foreign row) (value_in j.key d))
+
+-- [ row, d1, .., dm | d1 in T1, .., dm in Tm, row.f1 = d1.key, .., row.fm = dm.key ]
+abbrev pub partners : Tables → List Join → Joined → List Joined
+partners ts [] row = row ∷ []
+partners ts (j ∷ js) row = flat_map (λ d. partners ts js (with_row row (table_of j.key) d)) (filter (matches row j) (ts (table_of j.key)))
+
+-- [ l, d1, .., dm | l in lineorder, .. ]
+abbrev pub joined : Tables → List Join → List Joined
+joined ts js = flat_map (λ l. partners ts js (only_row Lineorder l)) (ts Lineorder)
+
+-- ---- selected rows
+
+abbrev pub tests : Relation → Ordering → Bool
+tests sign.Equal o = is_eq o
+tests sign.Unequal o = is_ne o
+tests sign.Less o = is_lt o
+tests sign.AtMost o = is_le o
+tests sign.Greater o = is_gt o
+tests sign.AtLeast o = is_ge o
+
+-- numbers compare by value, texts by their bytes
+abbrev pub holds : Condition → Joined → Bool
+holds (either a b) row = holds a row || holds b row
+holds (both a b) row = holds a row && holds b row
+holds (negation a) row = not (holds a row)
+holds (compare c s v) row = tests s (value_cmp (value_of c row) v)
+holds (between c from upto) row = is_le (value_cmp from (value_of c row)) && is_le (value_cmp (value_of c row) upto)
+
+abbrev pub all_hold : List Condition → Joined → Bool
+all_hold cs row = list_all (λ c. holds c row) cs
+
+-- the rows that a query selects: the joined rows for which every conjunct holds
+abbrev pub rows_of : Tables → Plan → List Joined
+rows_of ts p = filter (all_hold p.conjuncts) (joined ts p.joins)
+
+-- ---- what a selected row adds to its groups
+
+abbrev pub number_of : Value → ℤ
+number_of (Number x) = x
+number_of (Text bytes) = pos 0
+
+abbrev pub number_at : Expression → Joined → ℤ
+number_at (column c) row = number_of (value_of c row)
+number_at (constant x) row = x
+number_at (add a b) row = number_at a row +ℤ number_at b row
+number_at (sub a b) row = number_at a row -ℤ number_at b row
+number_at (mul a b) row = number_at a row *ℤ number_at b row
+
+-- 1 to a count
+abbrev pub measured : Measure → Joined → ℤ
+measured counted row = pos 1
+measured (summed e) row = number_at e row
+measured (least e) row = number_at e row
+measured (greatest e) row = number_at e row
+
+abbrev pub aggregate_of : Measure → Aggregate
+aggregate_of counted = aggregate.Count
+aggregate_of (summed e) = aggregate.Sum
+aggregate_of (least e) = aggregate.Min
+aggregate_of (greatest e) = aggregate.Max
+
+-- the values of the group columns, and a number for each aggregate
+abbrev pub entry_of : Plan → Joined → Entry Value
+entry_of p row = record { keys = map (λ c. value_of c row) p.keys; values = map (λ m. measured m row) p.measures }

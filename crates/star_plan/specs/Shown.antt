@@ -1,0 +1,62 @@
+-- The trees of plans as the resolved queries that they hold.
+use Rattle.std.specs.Prelude.{ℕ, List, map}
+use Rattle.star_schema.specs.Tables.{Value, Number, Text}
+use Rattle.star_query.specs.declared.tree.Literal.{Literal}
+use Rattle.star_query.specs.declared.tree.Literal.TheVariants as literal
+use Rattle.star_query.specs.declared.token.Fold.{Fold}
+use Rattle.star_query.specs.declared.token.Fold.TheVariants as fold
+use Rattle.star_plan.specs.declared.tree.Condition as of_condition
+use Rattle.star_plan.specs.declared.tree.Condition.TheVariants as condition
+use Rattle.star_plan.specs.declared.tree.Expression as of_expression
+use Rattle.star_plan.specs.declared.tree.Expression.TheVariants as expression
+use Rattle.star_plan.specs.declared.tree.Measure as of_measure
+use Rattle.star_plan.specs.declared.tree.Measure.TheVariants as measure
+use Rattle.star_plan.specs.declared.tree.Aggregate.{Aggregate}
+use Rattle.star_plan.specs.declared.tree.PlanTree.{PlanTree}
+use Rattle.star_plan.specs.Meaning.{Condition, either, both, negation, compare, between, Expression, column, constant, add, sub, mul, Measure, counted, summed, least, greatest, Plan}
+
+abbrev pub literal_value : Literal → Value
+literal_value (literal.Number z) = Number z
+literal_value (literal.Text bytes) = Text bytes.items
+
+abbrev pub condition_shown : of_condition.Condition → Condition
+condition_shown (condition.Or' p a q b) = either (condition_shown a) (condition_shown b)
+condition_shown (condition.And' p a q b) = both (condition_shown a) (condition_shown b)
+condition_shown (condition.Not' p a) = negation (condition_shown a)
+condition_shown (condition.Compare c s l) = compare c s (literal_value l)
+condition_shown (condition.Between c from upto) = between c (literal_value from) (literal_value upto)
+
+abbrev pub expression_shown : of_expression.Expression → Expression
+expression_shown (expression.Column c) = column c
+expression_shown (expression.Number z) = constant z
+expression_shown (expression.Add' p a q b) = add (expression_shown a) (expression_shown b)
+expression_shown (expression.Sub' p a q b) = sub (expression_shown a) (expression_shown b)
+expression_shown (expression.Mul' p a q b) = mul (expression_shown a) (expression_shown b)
+
+abbrev pub folded : Fold → Expression → Measure
+folded fold.Sum e = summed e
+folded fold.Min e = least e
+folded fold.Max e = greatest e
+
+abbrev pub measure_shown : of_measure.Measure → Measure
+measure_shown measure.Count = counted
+measure_shown (measure.Fold f e) = folded f (expression_shown e)
+
+abbrev pub measures_shown : List Aggregate → List Measure
+measures_shown as' = map (λ a. measure_shown a.measure) as'
+
+abbrev pub names_shown : List Aggregate → List (List ℕ)
+names_shown as' = map (λ a. a.name.items) as'
+
+-- the resolved query that the tree of a plan holds
+abbrev pub shown : PlanTree → Plan
+shown t = record {
+  joins = t.joins.items;
+  conjuncts = map condition_shown t.conjuncts.items;
+  shape = t.shape;
+  keys = t.keys.items;
+  measures = measures_shown t.aggregates.items;
+  names = names_shown t.aggregates.items;
+  items = t.items.items;
+  sorts = t.sorts.items;
+}

@@ -1,0 +1,55 @@
+-- What every plan keeps.
+use Rattle.std.specs.Prelude.{◌≡◌, Bool, true, ◌&&◌, ◌||◌, not, List, [], ◌∷◌}
+use Rattle.std.specs.List.{list_all, list_any}
+use Rattle.star_schema.specs.declared.table.TableId.{TableId}
+use Rattle.star_schema.specs.declared.table.TableId.TheVariants.{Lineorder}
+use Rattle.star_schema.specs.declared.column.Kind.TheVariants as kind
+use Rattle.star_schema.specs.Schema.{is_table, kind_of, table_of}
+use Rattle.star_schema.specs.Tables.{kind_of_value}
+use Rattle.star_plan.specs.declared.tree.Join.{Join}
+use Rattle.star_plan.specs.Joins.{is_foreign}
+use Rattle.star_plan.specs.Meaning.{Condition, either, both, negation, compare, between, Expression, column, constant, add, sub, mul, Measure, counted, summed, least, greatest, Plan}
+use Rattle.star_plan.specs.Names.{same_kind}
+
+abbrev pub joins_table : List Join → TableId → Bool
+joins_table js t = list_any (λ j. is_table t (table_of j.key)) js
+
+-- the table is the fact's or that of a join
+abbrev pub in_scope : List Join → TableId → Bool
+in_scope js t = is_table t Lineorder || joins_table js t
+
+-- the columns of a condition are in scope, and stand beside values of their kind
+abbrev pub condition_is_sound : List Join → Condition → Bool
+condition_is_sound js (either a b) = condition_is_sound js a && condition_is_sound js b
+condition_is_sound js (both a b) = condition_is_sound js a && condition_is_sound js b
+condition_is_sound js (negation a) = condition_is_sound js a
+condition_is_sound js (compare c s v) = in_scope js (table_of c) && same_kind (kind_of c) (kind_of_value v)
+condition_is_sound js (between c from upto) =
+    in_scope js (table_of c) && (same_kind (kind_of c) (kind_of_value from) && same_kind (kind_of c) (kind_of_value upto))
+
+-- the columns of an expression are in scope, and numbers
+abbrev pub expression_is_sound : List Join → Expression → Bool
+expression_is_sound js (column c) = in_scope js (table_of c) && same_kind (kind_of c) kind.Number
+expression_is_sound js (constant z) = true
+expression_is_sound js (add a b) = expression_is_sound js a && expression_is_sound js b
+expression_is_sound js (sub a b) = expression_is_sound js a && expression_is_sound js b
+expression_is_sound js (mul a b) = expression_is_sound js a && expression_is_sound js b
+
+abbrev pub measure_is_sound : List Join → Measure → Bool
+measure_is_sound js counted = true
+measure_is_sound js (summed e) = expression_is_sound js e
+measure_is_sound js (least e) = expression_is_sound js e
+measure_is_sound js (greatest e) = expression_is_sound js e
+
+-- no table is joined twice
+abbrev pub are_distinct : List Join → Bool
+are_distinct [] = true
+are_distinct (j ∷ js) = list_all (λ q. not (is_table (table_of q.key) (table_of j.key))) js && are_distinct js
+
+-- what every plan keeps
+pub record IsSound (p : Plan) : Type 0 where
+  pub joins : list_all (λ j. is_foreign j.foreign j.key) p.joins ≡ true
+  pub distinct : are_distinct p.joins ≡ true
+  pub conjuncts : list_all (condition_is_sound p.joins) p.conjuncts ≡ true
+  pub keys : list_all (λ c. in_scope p.joins (table_of c)) p.keys ≡ true
+  pub measures : list_all (measure_is_sound p.joins) p.measures ≡ true

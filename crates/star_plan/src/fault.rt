@@ -1,0 +1,56 @@
+// What is wrong with the names of a query.
+
+ghost use Rattle.std.specs.Prelude.{◌≡◌};
+ghost use Rattle.star_plan.specs.declared.fault.PlanFault.TheVariants.{OutOfMemory};
+
+use std::alloc::{AllocError, AllocFailed};
+
+/// Why a query has no plan. `at` is the place of a name in the query's text, in bytes from 0.
+#[derive(Clone, Copy, Debug, PartialEq, Eq, Hash)]
+pub enum PlanFault {
+    /// Memory was refused.
+    OutOfMemory,
+    /// No table or column has this name.
+    UnknownName { at: usize },
+    /// FROM doesn't name lineorder.
+    NoFactTable,
+    /// FROM names a table again.
+    TableTwice { at: usize },
+    /// A column's table isn't in FROM.
+    TableNotNamed { at: usize },
+    /// A dimension of FROM has no join.
+    JoinMissing { at: usize },
+    /// A dimension is joined again.
+    JoinTwice { at: usize },
+    /// Two columns are compared that aren't a foreign key and the key that it references, or not by a conjunct of the
+    /// whole condition.
+    NotAKeyPair { at: usize },
+    /// A column of texts stands inside an aggregate, or a column beside a literal of the other kind.
+    WrongKind { at: usize },
+    /// A plain column isn't in GROUP BY.
+    NotGrouped { at: usize },
+    /// GROUP BY names a column again.
+    DuplicateGroup { at: usize },
+    /// ORDER BY names neither a group column nor an aggregate.
+    UnknownOrderKey { at: usize },
+    /// An aggregate's name is that of an earlier one or of a group column.
+    DuplicateAlias { at: usize },
+    /// SELECT has no aggregate.
+    NoAggregate,
+}
+
+impl From<AllocError> for PlanFault {
+    ghost from_gives = { λ _ fault. fault ≡ OutOfMemory };
+
+    fn from(_error: AllocError) -> PlanFault {
+        PlanFault::OutOfMemory
+    }
+}
+
+impl<T: Drop> From<AllocFailed<T>> for PlanFault {
+    ghost from_gives = { λ _ fault. fault ≡ OutOfMemory };
+
+    fn from(_error: AllocFailed<T>) -> PlanFault {
+        PlanFault::OutOfMemory
+    }
+}

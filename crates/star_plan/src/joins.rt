@@ -1,0 +1,213 @@
+// The comparisons of two columns in a query's condition.
+
+ghost use Rattle.std.specs.Prelude.{◌≡◌, ◌++◌, OnOk, IfOk};
+ghost use Rattle.std.specs.Result.{result_err};
+ghost use Rattle.star_schema.specs.Schema as schema;
+ghost use Rattle.star_schema.specs.First.{first_answer};
+ghost use Rattle.star_plan.specs.First.{first_beside};
+ghost use Rattle.star_plan.specs.Joins as spec;
+ghost use Rattle.star_plan.specs.Faults.{join_fault, missing_fault, pair_fault};
+
+use crate::fault::PlanFault;
+use crate::names::{column_at, table_at};
+use crate::tree::Join;
+use star_query::{Condition, Name};
+use star_schema::{ColumnId, Key, TableId, key_of, references, table_of};
+use std::alloc::{AllocError, Global};
+
+/// Two columns that are compared.
+#[derive(Clone, Copy, Debug, PartialEq, Eq)]
+pub struct Pair {
+    /// The join that they make, if they make one and the comparison is a conjunct of the whole condition.
+    pub join: Option<Join>,
+    /// Where the first of them stands.
+    pub at: usize,
+}
+
+// Whether the column alone is the key.
+fn is_lone_key(column: ColumnId, key: Key) -> bool
+    ensures { result ≡ spec.is_lone_key column key }
+{
+    match key {
+        Key::One(lone) => column as usize == lone as usize,
+        Key::Two(_, _) => false,
+    }
+}
+
+// Whether the column refers to the table.
+fn refers(foreign: ColumnId, table: TableId) -> bool
+    ensures { result ≡ spec.refers (schema.references foreign) table }
+{
+    match references(foreign) {
+        None => false,
+        Some(referred) => is_table(referred, table),
+    }
+}
+
+// Whether the first column is a foreign key, and the second the key that it references.
+fn is_foreign(foreign: ColumnId, key: ColumnId) -> bool
+    ensures { result ≡ spec.is_foreign foreign key }
+{
+    let table = table_of(key);
+    refers(foreign, table) && is_lone_key(key, key_of(table))
+}
+
+fn join_by(foreign: ColumnId, key: ColumnId) -> Option<Join>
+    ensures { result ≡ spec.join_by foreign key }
+{
+    if is_foreign(foreign, key) {
+        Some(Join { foreign, key })
+    } else {
+        None
+    }
+}
+
+// The join that two columns make, in either order.
+fn join_of(first: Option<ColumnId>, second: Option<ColumnId>) -> Option<Join>
+    ensures { result ≡ spec.join_of first second }
+{
+    match (first, second) {
+        (Some(first), Some(second)) => match join_by(first, second) {
+            Some(join) => Some(join),
+            None => join_by(second, first),
+        },
+        _ => None,
+    }
+}
+
+fn add_pairs(
+    pairs: &mut Vec<Pair>,
+    is_conjunct: bool,
+    condition: &Condition,
+) -> Result<(), AllocError>
+    ensures { OnOk result (pairs.new.items ≡ pairs.old.items ++ spec.pairs_of is_conjunct condition.now) }
+{
+    match condition {
+        Condition::And(left, right) => {
+            add_pairs(pairs, is_conjunct, left)?;
+            add_pairs(pairs, is_conjunct, right)?;
+        }
+        Condition::Or(left, right) => {
+            add_pairs(pairs, false, left)?;
+            add_pairs(pairs, false, right)?;
+        }
+        Condition::Not(negated) => add_pairs(pairs, false, negated)?,
+        Condition::Pair(first, second) => {
+            let join = if is_conjunct {
+                join_of(column_at(first), column_at(second))
+            } else {
+                None
+            };
+            let at = first.place;
+            pairs.push(Pair { join, at })?;
+        }
+        Condition::Compare(_, _, _) | Condition::Between(_, _, _) => {}
+    }
+    Ok(())
+}
+
+/// The comparisons of two columns, from the left.
+pub(crate) fn pairs_of(
+    alloc: Global,
+    condition: &Option<Condition>,
+) -> Result<Vec<Pair>, AllocError>
+    ensures { IfOk result (λ pairs. pairs.items ≡ spec.where_pairs condition.now) }
+{
+    let mut pairs = Vec::new(alloc);
+    if let Some(condition) = condition {
+        add_pairs(&mut pairs, true, condition)?;
+    }
+    Ok(pairs)
+}
+
+/// The joins among the comparisons.
+pub(crate) fn joins_of(alloc: Global, pairs: &[Pair]) -> Result<Vec<Join>, AllocError>
+    ensures { IfOk result (λ joins. joins.items ≡ spec.joins_of pairs.now) }
+{
+    let mut joins = Vec::new(alloc);
+    for pair in pairs {
+        if let Some(join) = pair.join {
+            joins.push(join)?;
+        }
+    }
+    Ok(joins)
+}
+
+// Whether one of the comparisons joins the table.
+fn is_joined(pairs: &[Pair], table: TableId) -> bool
+    ensures { result ≡ spec.is_joined pairs.now table }
+{
+    pairs.iter().any(|pair| joins(table, pair.join))
+}
+
+fn joins(table: TableId, join: Option<Join>) -> bool
+    ensures { result ≡ spec.joins table join }
+{
+    match join {
+        None => false,
+        Some(join) => is_table(table, table_of(join.key)),
+    }
+}
+
+fn is_table(table: TableId, other: TableId) -> bool
+    ensures { result ≡ schema.is_table table other }
+{
+    table == other
+}
+
+impl Pair {
+    // Whether the columns join, and their dimension has no join before.
+    fn check(&self, before: &[Pair]) -> Result<(), PlanFault>
+        ensures { result_err result ≡ pair_fault before.now self.now }
+    {
+        match self.join {
+            None => Err(PlanFault::NotAKeyPair { at: self.at }),
+            Some(join) if is_joined(before, table_of(join.key)) => {
+                Err(PlanFault::JoinTwice { at: self.at })
+            }
+            Some(_) => Ok(()),
+        }
+    }
+}
+
+#[tactic(auto, using(crate::proofs::Firsts::beside_passed, crate::proofs::Firsts::beside_whole))]
+// Whether each comparison joins a dimension that has no join before.
+fn check_pairs(pairs: &[Pair]) -> Result<(), PlanFault>
+    ensures { result_err result ≡ first_beside pair_fault pairs.now }
+{
+    for place in 0..pairs.len() {
+        pairs[place].check(&pairs[..place])?;
+    }
+    Ok(())
+}
+
+// Whether a name of FROM is lineorder's, or a dimension's that is joined.
+fn check_dimension(pairs: &[Pair], name: &Name) -> Result<(), PlanFault>
+    ensures { result_err result ≡ missing_fault pairs.now name.now }
+{
+    match table_at(name) {
+        Some(table) if table != TableId::Lineorder && !is_joined(pairs, table) => {
+            Err(PlanFault::JoinMissing { at: name.place })
+        }
+        _ => Ok(()),
+    }
+}
+
+#[tactic(auto, using(crate::proofs::Firsts::answer_passed, crate::proofs::Firsts::answer_whole))]
+// Whether each dimension of FROM is joined.
+fn check_dimensions(pairs: &[Pair], tables: &[Name]) -> Result<(), PlanFault>
+    ensures { result_err result ≡ first_answer (missing_fault pairs.now) tables.now }
+{
+    for name in tables {
+        check_dimension(pairs, name)?;
+    }
+    Ok(())
+}
+
+/// Whether each comparison of two columns joins a dimension, and each dimension of FROM is joined once.
+pub(crate) fn check_joins(tables: &[Name], pairs: &[Pair]) -> Result<(), PlanFault>
+    ensures { result_err result ≡ join_fault tables.now pairs.now }
+{
+    check_pairs(pairs)?;
+    check_dimensions(pairs, tables)
+}

@@ -1,0 +1,42 @@
+// What the names of a query stand for.
+
+ghost use Rattle.std.specs.Prelude.{◌≡◌};
+ghost use Rattle.star_plan.specs.Names as spec;
+
+use star_query::Name;
+use star_schema::{ColumnId, Kind, TableId, column_named, kind_of, table_named};
+
+/// The table that a name stands for, if there is one.
+pub(crate) fn table_at(name: &Name) -> Option<TableId>
+    ensures { result ≡ spec.table_at name.now }
+{
+    table_named(&name.text)
+}
+
+/// The column that a name stands for, if there is one.
+pub(crate) fn column_at(name: &Name) -> Option<ColumnId>
+    ensures { result ≡ spec.column_at name.now }
+{
+    column_named(&name.text)
+}
+
+/// Whether one of the names reads so.
+#[tactic(auto, unfolding(crate::specs::Names::has_name))]
+pub(crate) fn has_name(names: &[Name], text: &[u8]) -> bool
+    ensures { result ≡ spec.has_name names.now text.now }
+{
+    names.iter().any(|name| name.text.as_slice() == text)
+}
+
+/// Whether a column, if there is one, holds this kind of value.
+pub(crate) fn is_of(kind: Kind, column: Option<ColumnId>) -> bool
+    ensures { result ≡ spec.is_of kind column }
+{
+    match column {
+        None => true,
+        Some(column) => match (kind_of(column), kind) {
+            (Kind::Number, Kind::Number) | (Kind::Text, Kind::Text) => true,
+            _ => false,
+        },
+    }
+}

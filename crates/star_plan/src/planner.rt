@@ -1,0 +1,104 @@
+// How a plan is made: the faults in their order, and then the names resolved.
+
+ghost use Rattle.std.specs.Prelude.{◌≡◌, ◌⊎◌, ◌≤◌, None, Some, IfOk, MatchResult, length};
+ghost use Rattle.star_plan.specs.declared.fault.PlanFault.TheVariants.{OutOfMemory};
+ghost use Rattle.star_plan.specs.Answers.{Tells};
+ghost use Rattle.star_plan.specs.Faults.{grouping_fault, naming_fault, plan_fault};
+ghost use Rattle.star_plan.specs.Resolved.{IsResolved};
+ghost use Rattle.star_plan.specs.PlanTrees.{plan_tree};
+ghost use Rattle.star_plan.specs.Shown.{shown};
+
+use crate::fault::PlanFault;
+use crate::joins::{Pair, check_joins, joins_of, pairs_of};
+use crate::plans::Plan;
+use crate::resolve::{
+    resolve_aggregates, resolve_groups, resolve_items, resolve_order, resolve_where, shape_of,
+};
+use crate::select::{check_from, check_groups, check_order, check_select};
+use crate::tree::PlanTree;
+use crate::uses::{Use, check_kinds, check_scope, uses_of};
+use star_query::{Item, Name, SortKey, Tree};
+use std::alloc::{AllocError, Global};
+
+fn check_naming(tables: &[Name], uses: &[Use], pairs: &[Pair]) -> Result<(), PlanFault>
+    ensures { Tells (naming_fault tables.now uses.now pairs.now) result }
+{
+    check_from(tables)?;
+    check_scope(tables, uses)?;
+    check_joins(tables, pairs)?;
+    check_kinds(uses)
+}
+
+fn check_grouping(
+    alloc: Global,
+    groups: &[Name],
+    items: &[Item],
+    keys: &[SortKey],
+) -> Result<(), PlanFault>
+    requires { length items.now ≤ 16 }
+    ensures { Tells (grouping_fault groups.now items.now keys.now) result }
+{
+    check_groups(groups)?;
+    let names = check_select(alloc, groups, items)?;
+    check_order(groups, &names, keys)
+}
+
+// Whether the query is well named.
+fn check(alloc: Global, tree: &Tree) -> Result<(), PlanFault>
+    requires { length tree.now.items.items ≤ 16 }
+    ensures { Tells (plan_fault tree.now) result }
+{
+    let uses = uses_of(alloc, tree)?;
+    let pairs = pairs_of(alloc, &tree.condition)?;
+    check_naming(&tree.tables, &uses, &pairs)?;
+    check_grouping(alloc, &tree.grouping.columns, &tree.items, &tree.keys)
+}
+
+// The query with its names resolved: each stands for something.
+fn resolve(alloc: Global, tree: &Tree) -> Result<PlanTree, AllocError>
+    requires items { length tree.now.items.items ≤ 16 }
+    requires groups { length tree.now.grouping.columns.items ≤ 6 }
+    requires named { plan_fault tree.now ≡ None }
+    ensures { IfOk result (λ plan. IsResolved tree.now (shown plan)) }
+{
+    let groups = &tree.grouping.columns;
+    let Some(conjuncts) = resolve_where(alloc, &tree.condition)? else {
+        unreachable!()
+    };
+    let Some(keys) = resolve_groups(alloc, groups)? else {
+        unreachable!()
+    };
+    let Some(aggregates) = resolve_aggregates(alloc, &tree.items)? else {
+        unreachable!()
+    };
+    let Some(items) = resolve_items(alloc, groups, &tree.items)? else {
+        unreachable!()
+    };
+    let Some(sorts) = resolve_order(alloc, groups, &aggregates, &tree.keys)? else {
+        unreachable!()
+    };
+    let pairs = pairs_of(alloc, &tree.condition)?;
+    Ok(PlanTree {
+        joins: joins_of(alloc, &pairs)?,
+        conjuncts,
+        shape: shape_of(tree.grouping.shape),
+        keys,
+        aggregates,
+        items,
+        sorts,
+    })
+}
+
+// The plan of a query, exactly where the query is well named; else the first fault. It has at most 16 items and 6 group
+// columns, as the grammar allows: the public call takes a `Query`, once that lends its tree with these limits.
+pub(crate) fn plan(alloc: Global, query: &Tree) -> Result<Plan, PlanFault>
+    requires items { length query.now.items.items ≤ 16 }
+    requires groups { length query.now.grouping.columns.items ≤ 6 }
+    ensures { MatchResult result
+        (λ plan. (plan_fault query.now ≡ None) × IsResolved query.now (shown (plan_tree plan)))
+        (λ fault. (fault ≡ OutOfMemory) ⊎ (plan_fault query.now ≡ Some fault)) }
+{
+    check(alloc, query)?;
+    let tree = resolve(alloc, query)?;
+    Ok(Plan { tree })
+}

@@ -1,0 +1,63 @@
+// The tree of a plan: a query's tree with its names resolved.
+
+use star_query::{Fold, Literal, Relation};
+use star_schema::{ColumnId, GroupColumn, Shape, SortKey};
+
+/// A dimension is joined: the foreign key of lineorder, and the key that it references.
+#[derive(Clone, Copy, Debug, PartialEq, Eq, Hash)]
+pub struct Join {
+    pub foreign: ColumnId,
+    pub key: ColumnId,
+}
+
+/// A condition on a joined row. No two columns are compared in it.
+#[derive(Debug, Drop)]
+pub enum Condition {
+    Or(Box<Condition>, Box<Condition>),
+    And(Box<Condition>, Box<Condition>),
+    Not(Box<Condition>),
+    Compare(ColumnId, Relation, Literal),
+    /// From the first literal to the second, both among them.
+    Between(ColumnId, Literal, Literal),
+}
+
+/// A whole number of a joined row.
+#[derive(Debug, Drop)]
+pub enum Expression {
+    Column(ColumnId),
+    Number(i64),
+    Add(Box<Expression>, Box<Expression>),
+    Sub(Box<Expression>, Box<Expression>),
+    Mul(Box<Expression>, Box<Expression>),
+}
+
+/// What is computed over the rows of a group.
+#[derive(Debug, Drop)]
+pub enum Measure {
+    Fold(Fold, Expression),
+    /// The number of rows.
+    Count,
+}
+
+/// An aggregate, with the name under which it is shown.
+#[derive(Debug, Drop)]
+pub struct Aggregate {
+    pub measure: Measure,
+    pub name: Vec<u8>,
+}
+
+/// What a plan says: which rows of lineorder are joined and selected, how they are grouped, what is computed over each
+/// group, what is shown of it and in which order.
+#[derive(Debug, Drop)]
+pub struct PlanTree {
+    pub joins: Vec<Join>,
+    /// All of these hold of a selected row.
+    pub conjuncts: Vec<Condition>,
+    pub shape: Shape,
+    pub keys: Vec<ColumnId>,
+    /// In the order of SELECT.
+    pub aggregates: Vec<Aggregate>,
+    /// What is shown of a group, in the order of SELECT.
+    pub items: Vec<GroupColumn>,
+    pub sorts: Vec<SortKey>,
+}

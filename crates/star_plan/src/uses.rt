@@ -1,0 +1,202 @@
+// The columns that a query names, from the left.
+
+ghost use Rattle.std.specs.Prelude.{◌≡◌, ◌++◌, OnOk, IfOk};
+ghost use Rattle.std.specs.Result.{result_err};
+ghost use Rattle.star_schema.specs.First.{first_answer};
+ghost use Rattle.star_plan.specs.Uses as spec;
+ghost use Rattle.star_plan.specs.Faults.{kind_fault, scope_fault};
+
+use crate::fault::PlanFault;
+use crate::names::{column_at, has_name, is_of};
+use star_query::{Condition, Expression, Item, Literal, Measure, Name, Tree};
+use star_schema::{ColumnId, Kind, name_of, table_of};
+use std::alloc::{AllocError, Global};
+
+/// A column where a query names it.
+#[derive(Clone, Copy, Debug, PartialEq, Eq)]
+pub struct Use {
+    /// The column, if there is one of this name.
+    pub column: Option<ColumnId>,
+    /// Whether it is of the kind that is asked of it there.
+    pub fits: bool,
+    pub at: usize,
+}
+
+impl Use {
+    // A column of any kind.
+    fn any(name: &Name) -> Use
+        ensures { result ≡ spec.any_use name.now }
+    {
+        Use {
+            column: column_at(name),
+            fits: true,
+            at: name.place,
+        }
+    }
+
+    fn of_kind(kind: Kind, name: &Name) -> Use
+        ensures { result ≡ spec.use_as kind name.now }
+    {
+        let column = column_at(name);
+        Use {
+            column,
+            fits: is_of(kind, column),
+            at: name.place,
+        }
+    }
+
+    fn between(from: &Literal, upto: &Literal, name: &Name) -> Use
+        ensures { result ≡ spec.use_between from.now upto.now name.now }
+    {
+        let column = column_at(name);
+        Use {
+            column,
+            fits: is_of(kind_of_literal(from), column) && is_of(kind_of_literal(upto), column),
+            at: name.place,
+        }
+    }
+
+    fn scope_fault(&self, tables: &[Name]) -> Result<(), PlanFault>
+        ensures { result_err result ≡ scope_fault tables.now self.now }
+    {
+        match self.column {
+            None => Err(PlanFault::UnknownName { at: self.at }),
+            Some(column) if !has_name(tables, name_of(table_of(column)).as_bytes()) => {
+                Err(PlanFault::TableNotNamed { at: self.at })
+            }
+            Some(_) => Ok(()),
+        }
+    }
+
+    fn kind_fault(&self) -> Result<(), PlanFault>
+        ensures { result_err result ≡ kind_fault self.now }
+    {
+        if self.fits {
+            Ok(())
+        } else {
+            Err(PlanFault::WrongKind { at: self.at })
+        }
+    }
+}
+
+fn kind_of_literal(literal: &Literal) -> Kind
+    ensures { result ≡ spec.kind_of_literal literal.now }
+{
+    match literal {
+        Literal::Number(_) => Kind::Number,
+        Literal::Text(_) => Kind::Text,
+    }
+}
+
+fn add_expression(uses: &mut Vec<Use>, expression: &Expression) -> Result<(), AllocError>
+    ensures { OnOk result (uses.new.items ≡ uses.old.items ++ spec.expression_uses expression.now) }
+{
+    match expression {
+        Expression::Column(name) => {
+            uses.push(Use::of_kind(Kind::Number, name))?;
+            Ok(())
+        }
+        Expression::Number(_) => Ok(()),
+        Expression::Add(left, right)
+        | Expression::Sub(left, right)
+        | Expression::Mul(left, right) => {
+            add_expression(uses, left)?;
+            add_expression(uses, right)
+        }
+    }
+}
+
+fn add_measure(uses: &mut Vec<Use>, measure: &Measure) -> Result<(), AllocError>
+    ensures { OnOk result (uses.new.items ≡ uses.old.items ++ spec.measure_uses measure.now) }
+{
+    match measure {
+        Measure::Count => Ok(()),
+        Measure::Fold(_, expression) => add_expression(uses, expression),
+    }
+}
+
+fn add_item(uses: &mut Vec<Use>, item: &Item) -> Result<(), AllocError>
+    ensures { OnOk result (uses.new.items ≡ uses.old.items ++ spec.item_uses item.now) }
+{
+    match item {
+        Item::Column(name) => {
+            uses.push(Use::any(name))?;
+            Ok(())
+        }
+        Item::Aggregate(aggregate) => add_measure(uses, &aggregate.measure),
+    }
+}
+
+fn add_condition(uses: &mut Vec<Use>, condition: &Condition) -> Result<(), AllocError>
+    ensures { OnOk result (uses.new.items ≡ uses.old.items ++ spec.condition_uses condition.now) }
+{
+    match condition {
+        Condition::Or(left, right) | Condition::And(left, right) => {
+            add_condition(uses, left)?;
+            add_condition(uses, right)?;
+        }
+        Condition::Not(negated) => add_condition(uses, negated)?,
+        Condition::Pair(left, right) => {
+            uses.push(Use::any(left))?;
+            uses.push(Use::any(right))?;
+        }
+        Condition::Compare(name, _, literal) => {
+            uses.push(Use::of_kind(kind_of_literal(literal), name))?;
+        }
+        Condition::Between(name, from, upto) => uses.push(Use::between(from, upto, name))?,
+    }
+    Ok(())
+}
+
+fn add_items(uses: &mut Vec<Use>, items: &[Item]) -> Result<(), AllocError>
+    ensures { OnOk result (uses.new.items ≡ uses.old.items ++ spec.items_uses items.now) }
+{
+    for item in items {
+        add_item(uses, item)?;
+    }
+    Ok(())
+}
+
+fn add_groups(uses: &mut Vec<Use>, names: &[Name]) -> Result<(), AllocError>
+    ensures { OnOk result (uses.new.items ≡ uses.old.items ++ spec.groups_uses names.now) }
+{
+    for name in names {
+        uses.push(Use::any(name))?;
+    }
+    Ok(())
+}
+
+/// The columns that a query names: in SELECT, in WHERE and in GROUP BY.
+pub(crate) fn uses_of(alloc: Global, tree: &Tree) -> Result<Vec<Use>, AllocError>
+    ensures { IfOk result (λ uses. uses.items ≡ spec.uses_of tree.now) }
+{
+    let mut uses = Vec::new(alloc);
+    add_items(&mut uses, &tree.items)?;
+    if let Some(condition) = &tree.condition {
+        add_condition(&mut uses, condition)?;
+    }
+    add_groups(&mut uses, &tree.grouping.columns)?;
+    Ok(uses)
+}
+
+#[tactic(auto, using(crate::proofs::Firsts::answer_passed, crate::proofs::Firsts::answer_whole))]
+/// Whether each name is a column's whose table is named.
+pub(crate) fn check_scope(tables: &[Name], uses: &[Use]) -> Result<(), PlanFault>
+    ensures { result_err result ≡ first_answer (scope_fault tables.now) uses.now }
+{
+    for named in uses {
+        named.scope_fault(tables)?;
+    }
+    Ok(())
+}
+
+#[tactic(auto, using(crate::proofs::Firsts::answer_passed, crate::proofs::Firsts::answer_whole))]
+/// Whether each column is of the kind that is asked of it.
+pub(crate) fn check_kinds(uses: &[Use]) -> Result<(), PlanFault>
+    ensures { result_err result ≡ first_answer kind_fault uses.now }
+{
+    for named in uses {
+        named.kind_fault()?;
+    }
+    Ok(())
+}
