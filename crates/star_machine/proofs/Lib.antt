@@ -1,0 +1,9 @@
+pub mod Loaded
+pub mod Operands
+pub mod Registers
+pub mod Found
+pub mod Stored
+pub mod Filled
+pub mod Fine
+pub mod Performed
+pub mod Turned

@@ -1,0 +1,46 @@
+use Rattle.std.proofs.Common.{◌≡◌, ◌≤◌, ◌+◌, ◌-◌, ◌*◌, length, drop}
+use Rattle.std.specs.Prelude.{nat_lt, true}
+use Rattle.star_schema.specs.Database.{rows_in}
+use Rattle.star_program.specs.Code.{code_size, scan_depth}
+use Rattle.star_program.specs.CodeOfSteps.{code_of_steps}
+use Rattle.star_program.specs.Effects.{Store}
+use Rattle.star_program.specs.Run.{meaning, turns}
+use Rattle.star_program.specs.Values.{Row, with_entry}
+use Rattle.star_machine.specs.Runs.{HasDone}
+use Rattle.star_machine.specs.Shown.{held}
+use Rattle.star_machine.specs.Sound.{AreSound}
+use Rattle.star_machine.specs.Walks.{HasWorked}
+use Rattle.star_machine.specs.WorldOf.{world_of}
+use Rattle.star_machine.proofs.walk.+walk.Given as goal
+
+abbrev pub decreases-walk : goal.decreases-walk
+decreases-walk l = 4 * code_size l.body.now
+
+abbrev pub decreases-turn : goal.decreases-turn
+decreases-turn l = 4 * code_size l.body.now + 1
+
+abbrev pub decreases-turns : goal.decreases-turns
+decreases-turns l = 4 * code_size l.body.now + 2
+
+abbrev pub decreases-scan : goal.decreases-scan
+decreases-scan l = 4 * code_size l.body.now + 3
+
+abbrev pub invariant-turns-loop-row : goal.invariant-turns-loop-row
+invariant-turns-loop-row l = record {
+  ends : (s : Store) → HasDone l.catalogue l.parts l.initial.run s → (now : Store) × HasDone l.catalogue l.parts l.run now
+      × (turns (λ visits. nat_lt visits l.most) (length (rows_in l.catalogue l.table) - l.row) l.row (λ row. meaning (world_of l.catalogue) l.parts (λ visits. nat_lt visits l.most) l.body l.at true (with_entry (held l.before) l.target (Row l.table row))) now
+      ≡ turns (λ visits. nat_lt visits l.most) (length (rows_in l.catalogue l.table)) 0 (λ row. meaning (world_of l.catalogue) l.parts (λ visits. nat_lt visits l.most) l.body l.at true (with_entry (held l.before) l.target (Row l.table row))) s);
+  worked : HasWorked l.most l.initial.run l.run 0;
+}
+
+abbrev pub invariant-walk-loop-step : goal.invariant-walk-loop-step
+invariant-walk-loop-step l = record {
+  ends : (s : Store) → HasDone l.catalogue l.parts l.initial.run s → (now : Store) × HasDone l.catalogue l.parts l.run now
+      × (meaning (world_of l.catalogue) l.parts (λ visits. nat_lt visits l.most) (code_of_steps (drop l.step-index l.step-items)) l.place l.inside (held l.registers) now
+      ≡ meaning (world_of l.catalogue) l.parts (λ visits. nat_lt visits l.most) (code_of_steps l.step-items) l.at l.inside (held l.initial.registers) s);
+  sound : AreSound l.catalogue (held l.registers);
+  worked : HasWorked l.most l.initial.run l.run (l.place - l.at);
+  placed : l.place + code_size (code_of_steps (drop l.step-index l.step-items)) ≡ l.at + code_size (code_of_steps l.step-items);
+  after : l.at ≤ l.place;
+  deep : scan_depth (code_of_steps (drop l.step-index l.step-items)) * l.parts.registers ≤ length l.frames;
+}
