@@ -77,12 +77,12 @@ only_row t l = with_row (λ s. []) t l
 abbrev pub matches : Joined → Join → Row → Bool
 matches row j d = is_eq (value_cmp (value_of j.foreign row) (value_in j.key d))
 
--- [ row, d1, .., dm | d1 in T1, .., dm in Tm, row.f1 = d1.key, .., row.fm = dm.key ]
+-- the row with each choice of a row of every dimension to be joined, where the keys of these are the foreign keys: a comprehension over the product of the dimensions
 abbrev pub partners : Tables → List Join → Joined → List Joined
 partners ts [] row = row ∷ []
 partners ts (j ∷ js) row = flat_map (λ d. partners ts js (with_row row (table_of j.key) d)) (filter (matches row j) (ts (table_of j.key)))
 
--- [ l, d1, .., dm | l in lineorder, .. ]
+-- each row of lineorder with its partners
 abbrev pub joined : Tables → List Join → List Joined
 joined ts js = flat_map (λ l. partners ts js (only_row Lineorder l)) (ts Lineorder)
 
