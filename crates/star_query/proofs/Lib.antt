@@ -10,3 +10,4 @@ pub mod Conditions
 pub mod Queries
 pub mod Places
 pub mod Parsing
+pub mod Within

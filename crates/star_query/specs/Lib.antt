@@ -11,3 +11,4 @@ pub mod Clauses
 pub mod TokenFaults
 pub mod Shown
 pub mod Meant
+pub mod Limits

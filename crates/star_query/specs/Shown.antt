@@ -3,10 +3,14 @@ use Rattle.std.specs.Prelude.{◌≡◌, Result, Ok, Err}
 use Rattle.star_query.specs.declared.fault.QueryFault.{QueryFault}
 use Rattle.star_query.specs.declared.fault.QueryFault.TheVariants as faults
 use Rattle.star_query.specs.declared.query.Query.{Query}
+use Rattle.star_query.specs.declared.tree.Tree as declared
 use Rattle.star_query.specs.Tree.{Tree}
 use Rattle.star_query.specs.Views.{tree_view}
 
--- the tree of a query
+-- the tree that a query lends, and what it is without where it lies in memory
+abbrev pub tree_of : Query → declared.Tree
+tree_of query = query.tree
+
 abbrev pub shown : Query → Tree
 shown query = tree_view query.tree
 

@@ -9,6 +9,8 @@ mod laws;
 mod lexer;
 mod parser;
 mod query;
+#[cfg(test)]
+mod tests;
 mod token;
 mod tree;
 

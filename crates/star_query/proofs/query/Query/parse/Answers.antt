@@ -7,7 +7,11 @@ use Rattle.star_query.specs.Derives.{Derives}
 use Rattle.star_query.specs.Views.{tree_view}
 use Rattle.star_query.specs.Shown.{IsRead}
 use Rattle.star_query.proofs.Parsing.{means_tokens, meant, not_read}
+use Rattle.star_query.proofs.Within.{derived_within}
 use Rattle.star_query.proofs.query.Query.parse.Goals as goal
+
+pub invariant_of-result-clause-within : goal.invariant_of-result-clause-within
+invariant_of-result-clause-within c = derived_within _ _ c.in_ok-tree.ensures.found
 
 pub returns-clause-found : goal.returns-clause-found
 returns-clause-found c =

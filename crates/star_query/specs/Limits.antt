@@ -1,0 +1,45 @@
+-- How much the tree of a query holds at most.
+use Rattle.std.specs.Prelude.{ℕ, ◌+◌, ◌≤◌, length, Option, Some, None}
+use Rattle.std.specs.List.{sum_by}
+use Rattle.star_query.specs.Tree.{Expression, column, constant, add, sub, mul, Condition, either, both, negation, pair, compare, between, Measure, fold, count, Item, plain, aggregate, Tree}
+
+-- the columns and numbers of an expression
+abbrev pub operands_of : Expression → ℕ
+operands_of (column n) = 1
+operands_of (constant z) = 1
+operands_of (add a b) = operands_of a + operands_of b
+operands_of (sub a b) = operands_of a + operands_of b
+operands_of (mul a b) = operands_of a + operands_of b
+
+abbrev pub measure_operands : Measure → ℕ
+measure_operands (fold f e) = operands_of e
+measure_operands count = 0
+
+abbrev pub item_operands : Item → ℕ
+item_operands (plain n) = 0
+item_operands (aggregate a) = measure_operands a.measure
+
+abbrev pub aggregates_in : Item → ℕ
+aggregates_in (plain n) = 0
+aggregates_in (aggregate a) = 1
+
+-- the comparisons and negations of a condition
+abbrev pub comparisons_of : Condition → ℕ
+comparisons_of (either a b) = comparisons_of a + comparisons_of b
+comparisons_of (both a b) = comparisons_of a + comparisons_of b
+comparisons_of (negation a) = comparisons_of a + 1
+comparisons_of (pair n m) = 1
+comparisons_of (compare n q l) = 1
+comparisons_of (between n l h) = 1
+
+abbrev pub where_comparisons : Option Condition → ℕ
+where_comparisons None = 0
+where_comparisons (Some c) = comparisons_of c
+
+pub record IsWithinLimits (t : Tree) : Type 0 where
+  pub items : length t.items ≤ 16
+  pub aggregates : sum_by aggregates_in t.items ≤ 8
+  pub operands : sum_by item_operands t.items ≤ 512
+  pub comparisons : where_comparisons t.condition ≤ 256
+  pub columns : length t.grouping.columns ≤ 6
+  pub keys : length t.keys ≤ 16
