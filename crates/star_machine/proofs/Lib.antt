@@ -7,3 +7,9 @@ pub mod Filled
 pub mod Fine
 pub mod Performed
 pub mod Turned
+pub mod RowOrders
+pub mod SortedRows
+pub mod GroupRows
+pub mod DecodedRows
+pub mod Shows
+pub mod Reported

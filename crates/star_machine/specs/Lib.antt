@@ -6,3 +6,5 @@ pub mod Stops
 pub mod Runs
 pub mod Acts
 pub mod Walks
+pub mod RowOrder
+pub mod Decoded

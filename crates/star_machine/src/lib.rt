@@ -7,6 +7,7 @@ mod compute;
 mod fault;
 pub mod law;
 mod lookups;
+mod outcome;
 mod run;
 mod value;
 mod walk;

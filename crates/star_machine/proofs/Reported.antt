@@ -1,0 +1,76 @@
+-- The outcome of a run, from the sorted groups of a store.
+use Rattle.std.proofs.Common.{◌≡◌, List, Some, get_or, slice_get, map, ap, sym, subst, refl, ◌∙◌}
+use Rattle.std.specs.List.{All, AllByRecursion, Contains}
+use Rattle.std.proofs.lemmas.List.Elements.{Contains-get_or}
+use Rattle.std.proofs.lemmas.Simd.{map-map}
+use Rattle.star_schema.specs.Database.{Database}
+use Rattle.star_schema.specs.declared.group.SortKey.{SortKey}
+use Rattle.star_schema.specs.Groups.{GroupRow as Row}
+use Rattle.star_schema.specs.Order.{AreInOrder, value_cmp}
+use Rattle.star_program.specs.declared.group.GroupDecl.{GroupDecl}
+use Rattle.star_program.specs.declared.outcome.Outcome.{Outcome}
+use Rattle.star_program.specs.declared.program.Parts.{Parts}
+use Rattle.star_program.specs.declared.program.Show.{Show}
+use Rattle.star_program.specs.declared.key.KeyValue.{KeyValue}
+use Rattle.star_program.specs.Effects.{Store}
+use Rattle.star_program.specs.Faults.{group_at}
+use Rattle.star_program.specs.Outcome.{AreRows, IsOutcome, decoded_row, shown_cells}
+use Rattle.star_program.specs.Puts.{Update}
+use Rattle.star_group.specs.declared.eager.EagerStore.{EagerStore}
+use Rattle.star_group.specs.declared.group_row.GroupRow.{GroupRow}
+use Rattle.star_group.specs.Eager.{Has, group_of}
+use Rattle.star_group.specs.Shown.{row_shown}
+use Rattle.star_group.specs.Stores.{group_declared}
+use Rattle.star_machine.specs.Decoded.{AreDecodable, AreSortedGroups, row_cells}
+use Rattle.star_machine.specs.Runs.{AreSoundKeys, HasDone}
+use Rattle.star_machine.specs.WorldOf.{world_of}
+use Rattle.star_machine.specs.declared.run.Run.{Run}
+use Rattle.star_machine.proofs.DecodedRows.{decoded_in_order, group_decodable}
+use Rattle.star_machine.proofs.GroupRows.{contains_mapped}
+
+-- ---- the rows have keys as declared
+
+groups_decodable : (db : Database) (d : GroupDecl) (sorts : List SortKey) (updates : List Update) (rows : List GroupRow) → AllByRecursion (λ u. AreSoundKeys db d.keys u.keys) updates → AreSortedGroups (group_declared d) sorts updates rows
+    → (group : Row KeyValue) → Contains (map row_shown rows) group → AreDecodable db d.keys group.keys
+groups_decodable db d sorts updates rows sound are group c = group_decodable db d.shape d.keys updates group.keys sound (are.groups.each group c).0
+
+pub rows_decodable : (db : Database) (d : GroupDecl) (sorts : List SortKey) (updates : List Update) (rows : List GroupRow) → AllByRecursion (λ u. AreSoundKeys db d.keys u.keys) updates → AreSortedGroups (group_declared d) sorts updates rows
+    → All (λ row. AreDecodable db d.keys row.keys) rows
+rows_decodable db d sorts updates rows sound are = λ k row within.
+    groups_decodable db d sorts updates rows sound are (row_shown (get_or rows k row)) (contains_mapped row_shown rows (get_or rows k row) (Contains-get_or rows k row within))
+
+-- ---- the outcome
+
+-- the groups of the reported store, in the words of its declaration
+module _ (db : Database) (parts : Parts) (run : Run) (s : Store) (store : EagerStore) (d : GroupDecl) (sorts : List SortKey) (rows : List GroupRow) (done : HasDone db parts run s) (at : slice_get run.stores.items parts.report ≡ Some store) (is_group : d ≡ group_at parts parts.report)
+    (are : (updates : List Update) → Has store updates → AreSortedGroups (group_of store) sorts updates rows) where
+  sound : AllByRecursion (λ u. AreSoundKeys db d.keys u.keys) (s.updates_of parts.report)
+  sound = subst (λ e. AllByRecursion (λ u. AreSoundKeys db e.keys u.keys) (s.updates_of parts.report)) (sym is_group) (done.sound.each parts.report)
+
+  groups : AreSortedGroups (group_declared d) sorts (s.updates_of parts.report) rows
+  groups =
+      let is = done.stores.each parts.report store at in
+      subst (λ e. AreSortedGroups e sorts (s.updates_of parts.report) rows) (is.group ∙ ap group_declared (sym is_group)) (are (s.updates_of parts.report) is.has)
+
+  pub keys_as_declared : (xs : List GroupRow) → xs ≡ rows → All (λ row. AreDecodable db d.keys row.keys) xs
+  keys_as_declared xs e = subst (λ ys. All (λ row. AreDecodable db d.keys row.keys) ys) (sym e) (rows_decodable db d sorts (s.updates_of parts.report) rows sound groups)
+
+  pub is_outcome : (xs : List GroupRow) (shows : List Show) (outcome : Outcome) → xs ≡ rows → sorts ≡ parts.sorts → shows ≡ parts.shows → outcome.names ≡ map (λ show. show.name) shows
+      → outcome.rows ≡ map (row_cells (world_of db) d shows) xs
+      → outcome.visits ≡ run.visits → outcome.lookups ≡ run.lookups → outcome.updates ≡ run.updates → IsOutcome (world_of db) parts s outcome
+  is_outcome xs shows outcome is_rows is_sorts is_shows names cells visits lookups updates = record {
+    names = names ∙ ap (map (λ show. show.name)) is_shows;
+    rows = map (decoded_row (world_of db) d) (map row_shown rows);
+    reported = subst (λ e. AreRows (world_of db) parts e (s.updates_of parts.report) (map (decoded_row (world_of db) d) (map row_shown rows))) is_group (record {
+      groups = map row_shown rows;
+      each_group = groups.groups;
+      decoded = refl;
+      in_order = subst (λ keys. AreInOrder value_cmp keys (map (decoded_row (world_of db) d) (map row_shown rows))) is_sorts
+          (decoded_in_order db d sorts (map row_shown rows) (groups_decodable db d sorts (s.updates_of parts.report) rows sound groups) groups.in_order);
+    });
+    cells = cells ∙ (λ i. map (row_cells (world_of db) d (is_shows i)) (is_rows i))
+        ∙ sym (map-map (shown_cells parts) (decoded_row (world_of db) d) (map row_shown rows) ∙ map-map (λ row. shown_cells parts (decoded_row (world_of db) d row)) row_shown rows);
+    visits = visits ∙ done.visits;
+    lookups = lookups ∙ done.lookups;
+    updates = updates ∙ done.updates;
+  }

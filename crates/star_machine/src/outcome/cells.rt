@@ -1,0 +1,143 @@
+// The cells of a report: rows with texts for codes, cut to the show lines.
+
+ghost use Rattle.std.specs.Prelude.{◌≡◌, ◌<◌, IfOk, All, length, map, slice_get, true};
+ghost use Rattle.std.specs.Option.{option_map};
+ghost use Rattle.star_schema.specs.declared.column.Kind.TheVariants as kind;
+ghost use Rattle.star_schema.specs.Schema.{kind_of};
+ghost use Rattle.star_group.specs.Shown.{row_shown};
+ghost use Rattle.star_program.specs.Outcome as outcome;
+ghost use Rattle.star_program.specs.Outcome.{cell_of, decoded, decoded_row};
+ghost use Rattle.star_program.specs.Shown.{has_column};
+ghost use Rattle.star_machine.specs.Decoded.{AreDecodable, IsDecodable, row_cells};
+ghost use Rattle.star_machine.specs.WorldOf.{column_dictionary, world_of};
+
+use super::order::{key_at, total_at};
+use star_catalogue::Catalogue;
+use star_group::{GroupRow, KeyValue};
+use star_program::{Cell, GroupDecl, GroupKey, Items, Name, Show};
+use star_schema::{ColumnId, GroupColumn};
+use std::alloc::{AllocError, Global};
+
+/// The text that a code stands for.
+fn text_cell(
+    alloc: Global,
+    catalogue: &Catalogue,
+    column: ColumnId,
+    code: u32,
+) -> Result<Cell, AllocError>
+    requires kind { kind_of column ≡ kind.Text }
+    requires code { code < length (column_dictionary catalogue.now column) }
+    ensures { IfOk result (λ cell. cell ≡ Cell.Text ((world_of catalogue.now).text column code)) }
+{
+    let text = catalogue.text(column, code).to_vec(alloc)?;
+    Ok(Cell::Text(Items::from_vec(text)))
+}
+
+/// A key, as a report shows it.
+fn key_cell(
+    alloc: Global,
+    catalogue: &Catalogue,
+    declared: GroupKey,
+    key: Option<KeyValue>,
+) -> Result<Cell, AllocError>
+    requires { IsDecodable catalogue.now declared key }
+    ensures { IfOk result (λ cell. cell ≡ outcome.key_cell (option_map (decoded (world_of catalogue.now) declared) key)) }
+{
+    match (key, declared) {
+        (None, _) => Ok(Cell::All),
+        (Some(KeyValue::Number(number)), _) => Ok(Cell::Number(number)),
+        (Some(KeyValue::Code(code)), GroupKey::Text(column)) => {
+            text_cell(alloc, catalogue, column, code)
+        }
+        (Some(KeyValue::Code(_)), GroupKey::Number) => unreachable!(),
+    }
+}
+
+/// An aggregate, as a report shows it.
+fn total_cell(total: Option<i64>) -> Cell
+    ensures { result ≡ outcome.total_cell total }
+{
+    match total {
+        Some(number) => Cell::Number(number),
+        None => Cell::Null,
+    }
+}
+
+fn declared_at(declared: &[GroupKey], place: u16) -> GroupKey
+    requires { place < length declared.now }
+    ensures { slice_get declared.now place ≡ Some result }
+{
+    declared[place as usize]
+}
+
+/// The cell of a row in a column.
+fn cell(
+    alloc: Global,
+    catalogue: &Catalogue,
+    declared: &GroupDecl,
+    row: &GroupRow,
+    column: GroupColumn,
+) -> Result<Cell, AllocError>
+    requires keys { AreDecodable catalogue.now declared.now.keys row.now.keys }
+    requires column { has_column declared.now column ≡ true }
+    ensures { IfOk result (λ cell. cell ≡ cell_of (decoded_row (world_of catalogue.now) declared.now (row_shown row.now)) column) }
+{
+    match column {
+        GroupColumn::Key(place) => key_cell(
+            alloc,
+            catalogue,
+            declared_at(declared.keys.as_slice(), place),
+            key_at(row.keys.as_slice(), place),
+        ),
+        GroupColumn::Aggregate(place) => Ok(total_cell(total_at(row.aggregates.as_slice(), place))),
+    }
+}
+
+/// The cells of a row, one for each show line.
+fn cells(
+    alloc: Global,
+    catalogue: &Catalogue,
+    declared: &GroupDecl,
+    row: &GroupRow,
+    shows: &[Show],
+) -> Result<Items<Cell>, AllocError>
+    requires keys { AreDecodable catalogue.now declared.now.keys row.now.keys }
+    requires columns { All (λ show. has_column declared.now show.column ≡ true) shows.now }
+    ensures { IfOk result (λ cells. cells ≡ row_cells (world_of catalogue.now) declared.now shows.now row.now) }
+{
+    let mut cells = Vec::with_capacity(alloc, shows.len())?;
+    for show in shows {
+        cells.push(cell(alloc, catalogue, declared, row, show.column)?)?;
+    }
+    Ok(Items::from_vec(cells))
+}
+
+/// The cells of each row.
+pub(super) fn cell_rows(
+    alloc: Global,
+    catalogue: &Catalogue,
+    declared: &GroupDecl,
+    rows: &[GroupRow],
+    shows: &[Show],
+) -> Result<Items<Items<Cell>>, AllocError>
+    requires keys { All (λ row. AreDecodable catalogue.now declared.now.keys row.keys) rows.now }
+    requires columns { All (λ show. has_column declared.now show.column ≡ true) shows.now }
+    ensures { IfOk result (λ table. table ≡ map (row_cells (world_of catalogue.now) declared.now shows.now) rows.now) }
+{
+    let mut table = Vec::with_capacity(alloc, rows.len())?;
+    for row in rows {
+        table.push(cells(alloc, catalogue, declared, row, shows)?)?;
+    }
+    Ok(Items::from_vec(table))
+}
+
+/// The names of the show lines.
+pub(super) fn names(alloc: Global, shows: &[Show]) -> Result<Items<Name>, AllocError>
+    ensures { IfOk result (λ names. names ≡ map (λ show. show.name) shows.now) }
+{
+    let mut names = Vec::with_capacity(alloc, shows.len())?;
+    for show in shows {
+        names.push(Items::from_vec(show.name.as_slice().to_vec(alloc)?))?;
+    }
+    Ok(Items::from_vec(names))
+}
