@@ -149,7 +149,7 @@ measures_known tables js reach (item.Aggregate a ∷ is') scoped fit =
 abbrev AreJoins : List Pair → Type 0
 AreJoins ps = AllByRecursion (λ p. (j : Join) × (p.join ≡ Some j)) ps
 
-and_both : (a b : Bool) → (a && b) ≡ true → (a ≡ true) × (b ≡ true)
+pub and_both : (a b : Bool) → (a && b) ≡ true → (a ≡ true) × (b ≡ true)
 and_both true b e = (refl, e)
 and_both false b e = absurd (cc)
 

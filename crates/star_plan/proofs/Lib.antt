@@ -6,3 +6,6 @@ pub mod Known
 pub mod Options
 pub mod Texts
 pub mod Whole
+pub mod KeptJoins
+pub mod KeptCounts
+pub mod Kept

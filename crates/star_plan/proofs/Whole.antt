@@ -17,8 +17,9 @@ use Rattle.star_plan.specs.Joins.{joins_of, where_pairs}
 use Rattle.star_plan.specs.Naming.{aggregate_names}
 use Rattle.star_plan.specs.Faults.{aggregates_fault, from_fault, group_fault, grouping_fault, item_fault, join_fault, key_fault, kind_fault, missing_fault, naming_fault, order_fault, pair_fault, plan_fault, scope_fault, select_fault}
 use Rattle.star_plan.specs.Resolved.{items_from, measures_of, option_all, resolved_key, where_conjuncts}
-use Rattle.star_plan.specs.Sound.{condition_is_sound, in_scope, measure_is_sound}
+use Rattle.star_plan.specs.Sound.{are_distinct, condition_is_sound, in_scope, measure_is_sound}
 use Rattle.star_plan.proofs.Known.{Reaches, each_left, each_none, each_right, groups_known, grouped, items_known, joined_each, measures_known, or_none, order_known, reaches, where_known, IsGrouped}
+use Rattle.star_plan.proofs.KeptJoins.{distinct}
 
 -- what well named says of each part
 pub record Parts (t : Tree) : Type 0 where
@@ -27,6 +28,8 @@ pub record Parts (t : Tree) : Type 0 where
   pub pairs : AllByRecursion (λ p. (j : Join) × (p.join ≡ Some j)) (where_pairs t.condition)
   pub reach : Reaches t.tables.items (joins_of (where_pairs t.condition))
   pub items : AllByRecursion (IsGrouped t.grouping.columns.items) t.items.items
+  pub apart : are_distinct (joins_of (where_pairs t.condition)) ≡ true
+  pub some : aggregates_fault (aggregate_names t.items.items) ≡ None
   pub order : AllByRecursion (λ k. key_fault t.grouping.columns.items (aggregate_names t.items.items) k ≡ None) t.keys.items
 
 pub parts : (t : Tree) → plan_fault t ≡ None → Parts t
@@ -50,6 +53,8 @@ parts t none =
       pairs = joined_each [] ps joined.0;
       reach = reaches tables ps joined.1;
       items = grouped groups [] items shown.0;
+      apart = distinct [] ps joined.0;
+      some = shown.1;
       order = each_none (key_fault groups (aggregate_names items)) keys select.1;
     }
 

@@ -8,6 +8,7 @@ pub mod Naming
 pub mod Faults
 pub mod Shown
 pub mod Sound
+pub mod Limits
 pub mod Resolved
 pub mod Answers
 pub mod PlanTrees

@@ -1,9 +1,11 @@
 -- What every plan keeps.
-use Rattle.std.specs.Prelude.{◌≡◌, Bool, true, ◌&&◌, ◌||◌, not, List, [], ◌∷◌}
+use Rattle.std.specs.Prelude.{◌≡◌, ℕ, ◌≤◌, nat_lt, Bool, true, ◌&&◌, ◌||◌, not, List, [], ◌∷◌, length}
 use Rattle.std.specs.List.{list_all, list_any}
 use Rattle.star_schema.specs.declared.table.TableId.{TableId}
 use Rattle.star_schema.specs.declared.table.TableId.TheVariants.{Lineorder}
 use Rattle.star_schema.specs.declared.column.Kind.TheVariants as kind
+use Rattle.star_schema.specs.declared.group.GroupColumn.{GroupColumn}
+use Rattle.star_schema.specs.declared.group.GroupColumn.TheVariants as group
 use Rattle.star_schema.specs.Schema.{is_table, kind_of, table_of}
 use Rattle.star_schema.specs.Tables.{kind_of_value}
 use Rattle.star_plan.specs.declared.tree.Join.{Join}
@@ -46,6 +48,11 @@ abbrev pub are_distinct : List Join → Bool
 are_distinct [] = true
 are_distinct (j ∷ js) = list_all (λ q. not (is_table (table_of q.key) (table_of j.key))) js && are_distinct js
 
+-- a group with so many keys and aggregates has this column
+abbrev pub is_column : (keys aggregates : ℕ) → GroupColumn → Bool
+is_column keys aggregates (group.Key n) = nat_lt n keys
+is_column keys aggregates (group.Aggregate n) = nat_lt n aggregates
+
 -- what every plan keeps
 pub record IsSound (p : Plan) : Type 0 where
   pub joins : list_all (λ j. is_foreign j.foreign j.key) p.joins ≡ true
@@ -53,3 +60,7 @@ pub record IsSound (p : Plan) : Type 0 where
   pub conjuncts : list_all (condition_is_sound p.joins) p.conjuncts ≡ true
   pub keys : list_all (λ c. in_scope p.joins (table_of c)) p.keys ≡ true
   pub measures : list_all (measure_is_sound p.joins) p.measures ≡ true
+  pub names : length p.names ≡ length p.measures
+  pub items : list_all (is_column (length p.keys) (length p.measures)) p.items ≡ true
+  pub shown : 1 ≤ length p.items
+  pub sorts : list_all (λ s. is_column (length p.keys) (length p.measures) s.column) p.sorts ≡ true

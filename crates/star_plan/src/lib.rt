@@ -12,9 +12,12 @@ mod planner;
 mod plans;
 mod resolve;
 mod select;
+#[cfg(test)]
+mod tests;
 mod tree;
 mod uses;
 
 pub use fault::PlanFault;
+pub use planner::plan;
 pub use plans::Plan;
 pub use tree::{Aggregate, Condition, Expression, Join, Measure, PlanTree};

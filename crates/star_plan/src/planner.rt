@@ -1,6 +1,7 @@
 // How a plan is made: the faults in their order, and then the names resolved.
 
 ghost use Rattle.std.specs.Prelude.{◌≡◌, ◌⊎◌, ◌≤◌, None, Some, IfOk, MatchResult, length};
+ghost use Rattle.star_query.specs.Shown.{tree_of};
 ghost use Rattle.star_plan.specs.declared.fault.PlanFault.TheVariants.{OutOfMemory};
 ghost use Rattle.star_plan.specs.Answers.{Tells};
 ghost use Rattle.star_plan.specs.Faults.{grouping_fault, naming_fault, plan_fault};
@@ -17,7 +18,7 @@ use crate::resolve::{
 use crate::select::{check_from, check_groups, check_order, check_select};
 use crate::tree::PlanTree;
 use crate::uses::{Use, check_kinds, check_scope, uses_of};
-use star_query::{Item, Name, SortKey, Tree};
+use star_query::{Item, Name, Query, SortKey, Tree};
 use std::alloc::{AllocError, Global};
 
 fn check_naming(tables: &[Name], uses: &[Use], pairs: &[Pair]) -> Result<(), PlanFault>
@@ -89,15 +90,13 @@ fn resolve(alloc: Global, tree: &Tree) -> Result<PlanTree, AllocError>
     })
 }
 
-// The plan of a query, exactly where the query is well named; else the first fault. It has at most 16 items and 6 group
-// columns, as the grammar allows: the public call takes a `Query`, once that lends its tree with these limits.
-pub(crate) fn plan(alloc: Global, query: &Tree) -> Result<Plan, PlanFault>
-    requires items { length query.now.items.items ≤ 16 }
-    requires groups { length query.now.grouping.columns.items ≤ 6 }
+/// The plan of a query, exactly where the query is well named; else the first fault. Want of memory may come before it.
+pub fn plan(alloc: Global, query: &Query) -> Result<Plan, PlanFault>
     ensures { MatchResult result
-        (λ plan. (plan_fault query.now ≡ None) × IsResolved query.now (shown (plan_tree plan)))
-        (λ fault. (fault ≡ OutOfMemory) ⊎ (plan_fault query.now ≡ Some fault)) }
+        (λ plan. (plan_fault (tree_of query.now) ≡ None) × IsResolved (tree_of query.now) (shown (plan_tree plan)))
+        (λ fault. (fault ≡ OutOfMemory) ⊎ (plan_fault (tree_of query.now) ≡ Some fault)) }
 {
+    let query = query.tree();
     check(alloc, query)?;
     let tree = resolve(alloc, query)?;
     Ok(Plan { tree })

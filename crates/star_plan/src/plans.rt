@@ -1,11 +1,17 @@
 // Plans.
 
+ghost use Rattle.star_plan.specs.Shown.{shown};
+ghost use Rattle.star_plan.specs.Sound.{IsSound};
+ghost use Rattle.star_plan.specs.Limits.{IsWithinLimits};
+
 use crate::tree::PlanTree;
 
 /// A query whose names are resolved. It is made by `plan` alone.
 #[derive(Drop)]
 pub struct Plan {
     pub(crate) tree: PlanTree,
+    ghost sound: { IsSound (shown tree) },
+    ghost within: { IsWithinLimits (shown tree) },
 }
 
 impl Plan {
@@ -14,7 +20,12 @@ impl Plan {
 
     /// What was resolved.
     pub fn tree(&self) -> &PlanTree
-        ensures { result.now ≡ plan_tree self.now }
+        ensures same { result.now ≡ plan_tree self.now }
+        // Each dimension is joined once by a foreign key, columns are of joined tables and of the kind that is asked of
+        // them, and items and sort keys are columns of the groups.
+        ensures sound { IsSound (shown result.now) }
+        // At most 4 joins, 256 comparisons, 6 keys, 8 aggregates with 512 operands, 16 items and 16 sort keys.
+        ensures limits { IsWithinLimits (shown result.now) }
     {
         &self.tree
     }

@@ -1,0 +1,88 @@
+-- The plan of a well named query within the limits is sound and within the limits.
+use Rattle.std.proofs.Common.{◌≡◌, ◌∙◌, sym, ap, subst, ℕ, ◌≤◌, true, List, [], ◌∷◌, Option, Some, None, length, map, arith}
+use Rattle.std.specs.List.{list_all, sum_by}
+use Rattle.std.proofs.lemmas.List.{length-map}
+use Rattle.std.proofs.lemmas.List.Sums.{sum_by-cons}
+use Rattle.star_schema.specs.Schema.{table_of}
+use Rattle.star_query.specs.declared.tree.Tree.{Tree}
+use Rattle.star_query.specs.Views.{item_view, key_view, name_view, tree_view}
+use Rattle.star_query.specs.Limits as asked
+use Rattle.star_query.specs.Tree as tree
+use Rattle.star_plan.specs.Joins.{is_foreign, joins_of, where_pairs}
+use Rattle.star_plan.specs.Meaning.{Plan}
+use Rattle.star_plan.specs.Names.{column_at}
+use Rattle.star_plan.specs.Naming.{aggregate_names}
+use Rattle.star_plan.specs.Faults.{aggregates_fault, plan_fault}
+use Rattle.star_plan.specs.Resolved.{IsResolved, resolved_key}
+use Rattle.star_plan.specs.Sound.{are_distinct, condition_is_sound, in_scope, is_column, measure_is_sound, IsSound}
+use Rattle.star_plan.specs.Limits.{IsWithinLimits}
+use Rattle.star_plan.proofs.Whole.{conjuncts_there, keys_there, measures_there, parts}
+use Rattle.star_plan.proofs.KeptJoins.{at_most_four, where_foreign}
+use Rattle.star_plan.proofs.KeptCounts.{all_counted, items_counted, items_there, measures_counted, names_counted, operands_counted, sorts_there, where_comparisons}
+
+same_some : {A : Type 0} (o : Option A) (x y : A) → o ≡ Some x → o ≡ Some y → x ≡ y
+same_some o x y e f = cc
+
+some_named : (names : List (List ℕ)) → aggregates_fault names ≡ None → 1 ≤ length names
+some_named [] e = absurd (cc)
+some_named (n ∷ ns) e = omega arith
+
+-- each item has at most one aggregate
+few_aggregates : (is' : List tree.Item) → sum_by asked.aggregates_in is' ≤ length is'
+few_aggregates [] = omega arith
+few_aggregates (tree.plain n ∷ is') = omega (arith, few_aggregates is', sum_by-cons asked.aggregates_in (tree.plain n) is')
+few_aggregates (tree.aggregate a ∷ is') = omega (arith, few_aggregates is', sum_by-cons asked.aggregates_in (tree.aggregate a) is')
+
+pub kept_within : (t : Tree) (p : Plan) → asked.IsWithinLimits (tree_view t) → plan_fault t ≡ None → IsResolved t p → IsWithinLimits p
+kept_within t p few named resolved =
+    let there = parts t named in
+    let conditions = where_comparisons t.condition p.conjuncts resolved.conjuncts in
+    let groups = all_counted column_at t.grouping.columns.items p.keys resolved.keys in
+    let measures = measures_counted t.items.items p.measures resolved.measures in
+    let operands = operands_counted t.items.items p.measures resolved.measures in
+    let items = items_counted t.grouping.columns.items 0 t.items.items p.items resolved.items in
+    let sorts = all_counted (resolved_key t.grouping.columns.items (aggregate_names t.items.items)) t.keys.items p.sorts resolved.sorts in
+    record {
+      joins = subst (λ js. length js ≤ 4) (sym resolved.joins) (at_most_four (joins_of (where_pairs t.condition)) (where_foreign t.condition) there.apart);
+      comparisons = omega (arith, conditions, few.comparisons);
+      keys = omega (arith, groups, few.columns, length-map t.grouping.columns.items name_view);
+      measures = omega (arith, measures, few.aggregates);
+      operands = omega (arith, operands, few.operands);
+      items = omega (arith, items, few.items, length-map t.items.items item_view);
+      sorts = omega (arith, sorts, few.keys, length-map t.keys.items key_view);
+    }
+
+pub kept_sound : (t : Tree) (p : Plan) → plan_fault t ≡ None → IsResolved t p → IsSound p
+kept_sound t p named resolved =
+    let there = parts t named in
+    let js = joins_of (where_pairs t.condition) in
+    let conjuncts = conjuncts_there t there in
+    let keys = keys_there t there in
+    let measures = measures_there t there in
+    let keys_many : length p.keys ≡ length t.grouping.columns.items = all_counted column_at t.grouping.columns.items p.keys resolved.keys in
+    let measures_many : length p.measures ≡ sum_by asked.aggregates_in (map item_view t.items.items) = measures_counted t.items.items p.measures resolved.measures in
+    let names_many : length (aggregate_names t.items.items) ≡ sum_by asked.aggregates_in (map item_view t.items.items) = names_counted 1 t.items.items in
+    let names_same : length (aggregate_names t.items.items) ≡ length p.measures = names_many ∙ sym measures_many in
+    record {
+      joins = subst (λ qs. list_all (λ j. is_foreign j.foreign j.key) qs ≡ true) (sym resolved.joins) (where_foreign t.condition);
+      distinct = subst (λ qs. are_distinct qs ≡ true) (sym resolved.joins) there.apart;
+      conjuncts =
+          subst (λ qs. list_all (condition_is_sound qs) p.conjuncts ≡ true) (sym resolved.joins)
+          (subst (λ cs. list_all (condition_is_sound js) cs ≡ true) (same_some _ conjuncts.0 p.conjuncts conjuncts.1 resolved.conjuncts) conjuncts.2);
+      keys =
+          subst (λ qs. list_all (λ c. in_scope qs (table_of c)) p.keys ≡ true) (sym resolved.joins)
+          (subst (λ cs. list_all (λ c. in_scope js (table_of c)) cs ≡ true) (same_some _ keys.0 p.keys keys.1 resolved.keys) keys.2);
+      measures =
+          subst (λ qs. list_all (measure_is_sound qs) p.measures ≡ true) (sym resolved.joins)
+          (subst (λ ms. list_all (measure_is_sound js) ms ≡ true) (same_some _ measures.0 p.measures measures.1 resolved.measures) measures.2);
+      names = ap length resolved.names ∙ names_same;
+      items =
+          subst (λ n. list_all (is_column n (length p.measures)) p.items ≡ true) (sym keys_many)
+          (items_there t.grouping.columns.items 0 (length p.measures) t.items.items p.items (omega arith) resolved.items);
+      shown =
+          omega (arith, some_named (aggregate_names t.items.items) there.some, few_aggregates (map item_view t.items.items), length-map t.items.items item_view, items_counted t.grouping.columns.items 0 t.items.items p.items resolved.items);
+      sorts =
+          subst (λ n. list_all (λ s. is_column n (length p.measures) s.column) p.sorts ≡ true) (sym keys_many)
+          (subst (λ n. list_all (λ s. is_column (length t.grouping.columns.items) n s.column) p.sorts ≡ true) names_same
+          (sorts_there t.grouping.columns.items (aggregate_names t.items.items) t.keys.items p.sorts resolved.sorts));
+    }

@@ -1,0 +1,10 @@
+use Rattle.star_plan.specs.Shown.{shown}
+use Rattle.star_plan.proofs.Kept.{kept_sound, kept_within}
+use Rattle.star_plan.proofs.planner.plan.Goals as goal
+
+pub invariant_of-result-clause-sound : goal.invariant_of-result-clause-sound
+invariant_of-result-clause-sound c = kept_sound c.tree-query.result.now (shown c.in_ok-tree.tree) c.in_ok-check.ensures c.in_ok-tree.ensures
+
+pub invariant_of-result-clause-within : goal.invariant_of-result-clause-within
+invariant_of-result-clause-within c =
+    kept_within c.tree-query.result.now (shown c.in_ok-tree.tree) c.tree-query.ensures.limits c.in_ok-check.ensures c.in_ok-tree.ensures

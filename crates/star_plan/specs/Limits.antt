@@ -1,0 +1,36 @@
+-- How much a plan holds at most: what the size of a compiled program follows from.
+use Rattle.std.specs.Prelude.{ℕ, ◌+◌, ◌≤◌, length}
+use Rattle.std.specs.List.{sum_by}
+use Rattle.star_plan.specs.Meaning.{Condition, either, both, negation, compare, between, Expression, column, constant, add, sub, mul, Measure, counted, summed, least, greatest, Plan}
+
+-- the comparisons and negations of a condition
+abbrev pub comparisons_of : Condition → ℕ
+comparisons_of (either a b) = comparisons_of a + comparisons_of b
+comparisons_of (both a b) = comparisons_of a + comparisons_of b
+comparisons_of (negation a) = comparisons_of a + 1
+comparisons_of (compare c s v) = 1
+comparisons_of (between c from upto) = 1
+
+-- the columns and numbers of an expression
+abbrev pub operands_of : Expression → ℕ
+operands_of (column c) = 1
+operands_of (constant z) = 1
+operands_of (add a b) = operands_of a + operands_of b
+operands_of (sub a b) = operands_of a + operands_of b
+operands_of (mul a b) = operands_of a + operands_of b
+
+abbrev pub measure_operands : Measure → ℕ
+measure_operands counted = 0
+measure_operands (summed e) = operands_of e
+measure_operands (least e) = operands_of e
+measure_operands (greatest e) = operands_of e
+
+-- at most one join for each dimension; the rest as the grammar of queries limits it
+pub record IsWithinLimits (p : Plan) : Type 0 where
+  pub joins : length p.joins ≤ 4
+  pub comparisons : sum_by comparisons_of p.conjuncts ≤ 256
+  pub keys : length p.keys ≤ 6
+  pub measures : length p.measures ≤ 8
+  pub operands : sum_by measure_operands p.measures ≤ 512
+  pub items : length p.items ≤ 16
+  pub sorts : length p.sorts ≤ 16
