@@ -7,3 +7,5 @@ pub mod Filled
 pub mod Fine
 pub mod Performed
 pub mod Turned
+pub mod Started
+pub mod NamedColumns
