@@ -13,3 +13,5 @@ pub mod GroupRows
 pub mod DecodedRows
 pub mod Shows
 pub mod Reported
+pub mod Started
+pub mod NamedColumns

@@ -1,5 +1,6 @@
 pub mod WorldOf
 pub mod Shown
+pub mod Trials
 pub mod Checked
 pub mod Sound
 pub mod Stops

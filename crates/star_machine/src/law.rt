@@ -1,11 +1,34 @@
-//! The law of the world that programs see: a function with no body, whose clause is the law.
+//! Laws of the world that programs see, and of trials: functions that do nothing, whose clauses are the laws.
 
+ghost use Rattle.std.specs.Prelude.{◌≡◌, ◌≤◌, ◌^◌, ℕ, MatchResult, Result};
 ghost use Rattle.star_schema.specs.Database.{Database};
 ghost use Rattle.star_schema.specs.Loadable.{IsSound};
+ghost use Rattle.star_program.specs.declared.outcome.Outcome.{Outcome};
+ghost use Rattle.star_program.specs.declared.program.Parts.{Parts};
+ghost use Rattle.star_program.specs.Admissible.{IsAdmissible};
+ghost use Rattle.star_program.specs.Limits.{IsWithinLimits};
+ghost use Rattle.star_program.specs.Quote.{quote};
 ghost use Rattle.star_program.specs.World.{IsLoaded};
+ghost use Rattle.star_machine.specs.declared.fault.TrialFault.{TrialFault};
+ghost use Rattle.star_machine.specs.declared.fault.TrialFault.TheVariants.{OutOfMemory};
+ghost use Rattle.star_machine.specs.Trials.{IsTrial};
 ghost use Rattle.star_machine.specs.WorldOf.{world_of};
+
+use star_program::law::admissible_programs_never_trap;
 
 /// In the world of sound rows each column's bounds hold its numbers, and each foreign key is found.
 pub fn sound_rows_are_loaded()
     ensures { (database : Database) → IsSound database → IsLoaded (world_of database) }
 {}
+
+/// Over sound rows a trial of an admissible program, with no fewer visits than it is quoted, is neither trapped nor limited: it answers an outcome of at most as many visits, or that memory was refused.
+pub fn admissible_programs_end()
+    ensures { (database : Database) (parts : Parts) (visits : ℕ) (result : Result Outcome TrialFault)
+        → IsSound database → IsWithinLimits parts → IsAdmissible (world_of database) parts
+        → quote (world_of database).size parts ≤ visits → visits ≤ 10 ^ 15
+        → IsTrial (world_of database) parts visits result
+        → MatchResult result (λ outcome. outcome.visits ≤ quote (world_of database).size parts) (λ fault. fault ≡ OutOfMemory) }
+{
+    sound_rows_are_loaded();
+    admissible_programs_never_trap();
+}

@@ -8,9 +8,13 @@ mod fault;
 pub mod law;
 mod lookups;
 mod outcome;
+mod report;
 mod run;
+mod start;
+mod trials;
 mod value;
 mod walk;
 
 pub use fault::{TrapKind, TrialFault};
 pub use star_program::{Cell, Outcome};
+pub use trials::trial;

@@ -9,7 +9,8 @@ use Rattle.star_program.specs.Run.{meaning, visited}
 use Rattle.star_program.specs.Values.{Row, with_entry}
 use Rattle.star_machine.specs.Shown.{held, value_shown}
 use Rattle.star_machine.specs.Sound.{AreSound}
-use Rattle.star_machine.specs.Walks.{HasWorked, IsFaultOf}
+use Rattle.star_machine.specs.Trials.{IsFaultOf}
+use Rattle.star_machine.specs.Walks.{HasWorked}
 use Rattle.star_machine.specs.Runs.{HasDone}
 use Rattle.star_machine.specs.WorldOf.{world_of}
 use Rattle.star_machine.proofs.Registers.{sound_set}

@@ -1,0 +1,37 @@
+use Rattle.std.proofs.Common.{◌≡◌, ◌∙◌, ap, arith, subst, false}
+use Rattle.std.specs.Prelude.{nat_lt}
+use Rattle.std.proofs.lemmas.Result.{err_from_is_err_and}
+use Rattle.star_program.specs.Effects.{empty_store}
+use Rattle.star_program.specs.Run.{meaning}
+use Rattle.star_program.specs.Values.{no_registers}
+use Rattle.star_machine.specs.Shown.{held}
+use Rattle.star_machine.specs.Trials.{IsFaultOf}
+use Rattle.star_machine.specs.Walks.{Finishes}
+use Rattle.star_machine.specs.WorldOf.{world_of}
+use Rattle.star_machine.proofs.Started.{sound_nothing}
+use Rattle.star_machine.proofs.trials.run_through.Goals as goal
+
+pub walk-requires-clause-few : goal.walk-requires-clause-few
+walk-requires-clause-few c =
+    let done = c.in_ok-run.ensures c.args.catalogue.now in
+    record { visits = omega (arith, done.visits); work = omega (arith, done.visits, done.lookups, done.updates, c.requires.limits.instructions) }
+
+pub walk-requires-clause-sound : goal.walk-requires-clause-sound
+walk-requires-clause-sound c = sound_nothing c.args.catalogue.now (held c.as_mut_slice.result.now) (ap held c.as_mut_slice.ensures.value ∙ c.in_ok-registers.ensures.empty)
+
+pub walk-requires-clause-done : goal.walk-requires-clause-done
+walk-requires-clause-done c = (empty_store, c.in_ok-run.ensures c.args.catalogue.now)
+
+pub returns-in_err-walk : goal.returns-in_err-walk
+returns-in_err-walk c =
+    let p = err_from_is_err_and c.from_residual-in_err-walk.result c.from_residual-in_err-walk.ensures.1 in
+    let nothing : held c.as_mut_slice.result.now ≡ no_registers = ap held c.as_mut_slice.ensures.value ∙ c.in_ok-registers.ensures.empty in
+    rw (p.1, p.2)
+    (subst (λ registers. IsFaultOf (meaning (world_of c.args.catalogue.now) c.args.parts.now (λ visits. nat_lt visits c.args.most) c.args.parts.now.body 1 false registers empty_store) c.in_err-walk.field-0.0) nothing
+    (c.in_err-walk.ensures.ends empty_store (c.in_ok-run.ensures c.args.catalogue.now)))
+
+pub returns : goal.returns
+returns c =
+    let nothing : held c.as_mut_slice.result.now ≡ no_registers = ap held c.as_mut_slice.ensures.value ∙ c.in_ok-registers.ensures.empty in
+    subst (λ registers. Finishes c.args.catalogue.now c.args.parts.now c.walk.new.run (meaning (world_of c.args.catalogue.now) c.args.parts.now (λ visits. nat_lt visits c.args.most) c.args.parts.now.body 1 false registers empty_store)) nothing
+    (c.in_ok-walk.ensures.ends empty_store (c.in_ok-run.ensures c.args.catalogue.now))
