@@ -23,3 +23,5 @@ pub mod ListLemmas
 pub mod ByName
 mod OneProgram
 mod FaultLemmas
+pub mod DraftLemmas
+mod NoFault

@@ -7,6 +7,7 @@ use Rattle.std.proofs.lemmas.List.{map-append}
 use Rattle.star_schema.specs.declared.group.SortKey.{SortKey}
 use Rattle.star_schema.specs.declared.table.TableId.{TableId}
 use Rattle.star_program.specs.Code.{Code, Stop, Then, Each}
+use Rattle.star_program.specs.Drafts.{code_says, groups_say}
 use Rattle.star_program.specs.Spelling.{OneProgram, Spells, statements_of}
 use Rattle.star_program.specs.Statements.{Line, group_lines, line, lines_of_code, lines_of_program, show_line, sort_line}
 use Rattle.star_program.specs.declared.group.GroupDecl.{GroupDecl}
@@ -21,11 +22,6 @@ abbrev said_by : List Line → List Statement
 said_by lines = map (λ l. l.says) lines
 
 -- ---- the statements of a body
-
-abbrev code_says : Code → List Statement
-code_says Stop = []
-code_says (Then op rest) = says.Act op ∷ code_says rest
-code_says (Each t r body rest) = says.Scan t r ∷ (code_says body ++ says.End ∷ code_says rest)
 
 code_said : (depth : ℕ) (c : Code) → said_by (lines_of_code depth c) ≡ code_says c
 unfolding lines_of_code
@@ -76,10 +72,6 @@ unfolding begins_step
 report_ends g ss = refl
 
 -- ---- the statements of the groups
-
-abbrev groups_say : ℕ → List GroupDecl → List Statement
-groups_say n [] = []
-groups_say n (g ∷ gs) = says.Group n g ∷ groups_say (n + 1) gs
 
 groups_said : (n : ℕ) (gs : List GroupDecl) → said_by (group_lines n gs) ≡ groups_say n gs
 groups_said n [] = refl
@@ -138,10 +130,10 @@ sorts_said (k ∷ ks) = ap (λ ss. says.Sort k ∷ ss) (sorts_said ks)
 
 -- ---- the whole program
 
-abbrev tail_of : Parts → List Statement
+abbrev pub tail_of : Parts → List Statement
 tail_of p = map says.Show p.shows ++ map says.Sort p.sorts
 
-program_said : (p : Parts) → statements_of p ≡ says.Header ∷ says.Registers p.registers ∷ (groups_say 0 p.groups ++ (code_says p.body ++ says.Report p.report ∷ tail_of p))
+pub program_said : (p : Parts) → statements_of p ≡ says.Header ∷ says.Registers p.registers ∷ (groups_say 0 p.groups ++ (code_says p.body ++ says.Report p.report ∷ tail_of p))
 program_said p =
     let last : said_by (map show_line p.shows ++ map sort_line p.sorts) ≡ tail_of p =
     map-append (λ (l : Line). l.says) (map show_line p.shows) (map sort_line p.sorts)

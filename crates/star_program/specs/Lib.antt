@@ -29,3 +29,5 @@ pub mod Written
 pub mod Said
 pub mod Places
 pub mod Spelling
+pub mod Followed
+pub mod Drafts

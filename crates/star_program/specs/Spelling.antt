@@ -1,9 +1,13 @@
 -- Which programs a text spells.
-use Rattle.std.specs.Prelude.{◌≡◌, not, ℕ, List, Some, filter, map}
+use Rattle.std.specs.Prelude.{◌≡◌, ◌⊎◌, not, ℕ, List, None, Some, Result, MatchResult, filter, map}
 use Rattle.star_program.specs.Lines.{is_blank, lines_of}
+use Rattle.star_program.specs.Limits.{IsWithinLimits}
+use Rattle.star_program.specs.Places.{text_fault}
 use Rattle.star_program.specs.Said.{said}
 use Rattle.star_program.specs.Statements.{lines_of_program}
 use Rattle.star_program.specs.declared.program.Parts.{Parts}
+use Rattle.star_program.specs.declared.spelling.fault.TextFault.{TextFault}
+use Rattle.star_program.specs.declared.spelling.fault.TextFault.TheVariants as fault
 use Rattle.star_program.specs.declared.spelling.statement.Statement.{Statement}
 
 -- what the lines of a program say, one after another
@@ -17,3 +21,15 @@ Spells text p = map said (filter (λ line. not (is_blank line)) (lines_of text))
 -- no text spells two programs
 abbrev pub OneProgram : Type 0
 OneProgram = (text : List ℕ) (p q : Parts) → Spells text p → Spells text q → p ≡ q
+
+-- there was no memory, or this is the first fault of the text
+abbrev pub IsFirstFault : List ℕ → TextFault → Type 0
+IsFirstFault text f = (f ≡ fault.OutOfMemory) ⊎ (text_fault text ≡ Some f)
+
+-- a program is read, unless memory runs out
+abbrev pub IsRead : Parts → Result Parts TextFault → Type 0
+IsRead p result = MatchResult result (λ q. q ≡ p) (λ f. f ≡ fault.OutOfMemory)
+
+-- a text that spells a program within the limits has no fault
+abbrev pub NoFault : Type 0
+NoFault = (text : List ℕ) (p : Parts) → Spells text p → IsWithinLimits p → text_fault text ≡ None

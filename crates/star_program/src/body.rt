@@ -3,6 +3,7 @@
 ghost use Rattle.std.specs.Prelude.{◌≡◌, ◌≤◌, ◌<◌, ◌+◌, ◌++◌, ◌↔◌, IsTrue, IfSome, IfNone, OnOk};
 ghost use Rattle.star_program.specs.Code.{code_size, scan_depth};
 ghost use Rattle.star_program.specs.CodeOfSteps.{code_of_step, code_of_steps};
+ghost use Rattle.star_program.specs.Followed.{followed};
 ghost use Rattle.star_program.specs.Statements.{lines_of_code};
 ghost use Rattle.star_program.specs.Written.{line_text};
 ghost use Rattle.std.specs.List.{flat_map};
@@ -64,7 +65,16 @@ impl Body {
     pub fn into_vec(self) -> Vec<Step>
         ensures { code_of_steps result.items ≡ self }
     {
-        self.steps
+        let Body { steps } = self;
+        steps
+    }
+
+    // Adds a step behind the others.
+    pub(crate) fn push(&mut self, step: Step) -> Result<(), AllocError>
+        ensures { OnOk result (self.new ≡ followed self.old (code_of_step step)) }
+    {
+        self.steps.push(step)?;
+        Ok(())
     }
 
     /// The steps, in order.

@@ -1,8 +1,8 @@
 // Lists that clauses see as lists.
 
-ghost use Rattle.std.specs.Prelude.{◌≡◌};
+ghost use Rattle.std.specs.Prelude.{◌≡◌, ◌<◌, ◌↔◌, ◌++◌, ◌∷◌, [], IsSome, OnOk, length, option_to_list};
 
-use std::alloc::Global;
+use std::alloc::{AllocError, Global};
 use std::marker::Model;
 
 /// A list, in clauses just its items. It is made from a `Vec` and gives it back without taking memory.
@@ -31,7 +31,8 @@ impl<T> Items<T> {
     pub fn into_vec(self) -> Vec<T>
         ensures { result.items ≡ self }
     {
-        self.items
+        let Items { items } = self;
+        items
     }
 
     /// The items, in order.
@@ -44,5 +45,23 @@ impl<T> Items<T> {
     // What the list takes its memory from.
     pub(crate) fn allocator(&self) -> Global {
         *self.items.allocator()
+    }
+}
+
+impl<T: Drop> Items<T> {
+    // Adds an item behind the others.
+    pub(crate) fn push(&mut self, item: T) -> Result<(), AllocError>
+        ensures { OnOk result (self.new ≡ self.old ++ item ∷ []) }
+    {
+        self.items.push(item)?;
+        Ok(())
+    }
+
+    // Takes the last item, if there is one.
+    pub(crate) fn pop(&mut self) -> Option<T>
+        ensures last { self.old ≡ self.new ++ option_to_list result }
+        ensures some { IsSome result ↔ (0 < length self.old) }
+    {
+        self.items.pop()
     }
 }

@@ -25,4 +25,4 @@ pub use program::{
     Groups, MOST_AGGREGATES, MOST_GROUPS, MOST_INSTRUCTIONS, MOST_KEYS, MOST_REGISTERS, MOST_SCANS,
     MOST_SHOWS, MOST_SORTS, Name, Parts, Program, Show, Shows, Sorts,
 };
-pub use spelling::no_text_spells_two_programs;
+pub use spelling::{TextFault, no_text_spells_two_programs, texts_of_programs_have_no_fault};

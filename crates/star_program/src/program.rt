@@ -1,15 +1,18 @@
 // Programs and their parts.
 
-ghost use Rattle.std.specs.Prelude.{◌≡◌, ◌≤◌, ◌↔◌, All, length, IsSome, IfOk, IfSome, IsTrue};
+ghost use Rattle.std.specs.Prelude.{◌≡◌, ◌≤◌, ◌↔◌, All, length, IsSome, IfErr, IfOk, IfSome, IsTrue};
 ghost use Rattle.star_program.specs.Written.{text_of};
 ghost use Rattle.star_program.specs.Limits.{IsSmall, IsWithinLimits};
+ghost use Rattle.star_program.specs.Spelling.{IsFirstFault, IsRead, Spells};
 
 use crate::body::Body;
 use crate::group::GroupDecl;
 use crate::items::Items;
+use crate::spelling::TextFault;
+use crate::spelling::parsing::read_parts;
 use crate::spelling::program_lines::write_parts;
 use star_schema::{GroupColumn, SortKey};
-use std::alloc::AllocError;
+use std::alloc::{AllocError, Global};
 use std::marker::Model;
 
 /// How many instructions a program has at most.
@@ -106,6 +109,19 @@ impl Program {
         ensures limits { IsWithinLimits self.now }
     {
         &self.parts
+    }
+
+    /// The program that a text spells, or its first fault: the first line that is refused decides, at one line an open scan before a bad line and that before a limit. Want of memory may come before any fault.
+    pub fn parse(alloc: Global, text: &[u8]) -> Result<Program, TextFault>
+        // What is read is what the text spells.
+        ensures spelled { IfOk result (λ program. Spells text.now program) }
+        // A text that spells a program within the limits is read as it, unless memory runs out.
+        ensures only { (parts : Parts) → Spells text.now parts → IsWithinLimits parts → IsRead parts result }
+        // A refusal is the first fault.
+        ensures fault { IfErr result (λ fault. IsFirstFault text.now fault) }
+    {
+        let parts = read_parts(alloc, text)?;
+        Ok(Program { parts })
     }
 
     /// The program's text: a line for each statement, one space between words, two before a line for each scan round it, numbers without zeros in front, a line feed after each line.

@@ -1,11 +1,13 @@
 // The text of a program.
 
+mod draft;
 mod fault;
 mod keyword;
 mod law;
 mod lines;
 mod listed;
 mod numerals;
+pub(crate) mod parsing;
 mod place;
 pub(crate) mod program_lines;
 mod reading;
@@ -14,4 +16,5 @@ mod statement;
 mod tests;
 mod writing;
 
-pub use law::no_text_spells_two_programs;
+pub use fault::TextFault;
+pub use law::{no_text_spells_two_programs, texts_of_programs_have_no_fault};

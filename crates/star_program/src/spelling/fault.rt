@@ -2,8 +2,10 @@
 
 ghost use Rattle.std.specs.Prelude.{◌≡◌};
 ghost use Rattle.star_program.specs.declared.spelling.fault.LineFault.TheVariants.{OutOfMemory};
+ghost use Rattle.star_program.specs.declared.spelling.fault.TextFault.TheVariants as text;
 
 use std::alloc::{AllocError, AllocFailed};
+use std::fmt;
 
 /// Why a line was not read: memory was refused, or it says nothing.
 #[derive(Clone, Copy, Debug, PartialEq, Eq)]
@@ -41,4 +43,24 @@ pub enum TextFault {
     OpenScan,
     /// A line passes a limit.
     TooLarge { line: usize },
+}
+
+impl From<AllocError> for TextFault {
+    ghost from_gives = { λ _ fault. fault ≡ text.OutOfMemory };
+
+    fn from(_error: AllocError) -> TextFault {
+        TextFault::OutOfMemory
+    }
+}
+
+impl fmt::Display for TextFault {
+    fn fmt<W: fmt::Write>(&self, f: &mut fmt::Formatter<W>) -> fmt::Result {
+        match self {
+            TextFault::OutOfMemory => write!(f, "1 OutOfMemory"),
+            TextFault::BadHeader => write!(f, "50 BadHeader"),
+            TextFault::BadLine { line } => write!(f, "51 BadLine line {line}"),
+            TextFault::OpenScan => write!(f, "52 OpenScan"),
+            TextFault::TooLarge { line } => write!(f, "53 TooLarge line {line}"),
+        }
+    }
 }

@@ -1,8 +1,13 @@
 // What holds of all texts.
 
-ghost use Rattle.star_program.specs.Spelling.{OneProgram};
+ghost use Rattle.star_program.specs.Spelling.{NoFault, OneProgram};
 
 /// No text spells two programs.
 pub fn no_text_spells_two_programs()
     ensures { OneProgram }
+{}
+
+/// A text that spells a program within the limits has no fault.
+pub fn texts_of_programs_have_no_fault()
+    ensures { NoFault }
 {}

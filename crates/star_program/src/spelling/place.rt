@@ -1,7 +1,8 @@
 // Where a text stands, and what may follow there.
 
-ghost use Rattle.std.specs.Prelude.{◌≡◌, ◌⊎◌, ◌+◌, ◌∷◌, ℕ, List, Ok, Err, None, Some, IfOk, MatchResult};
+ghost use Rattle.std.specs.Prelude.{◌≡◌, ◌⊎◌, Ok, Err, None, Some, MatchResult};
 ghost use Rattle.star_program.specs.Lines.{words_of};
+ghost use Rattle.star_program.specs.Said.{said};
 ghost use Rattle.star_program.specs.Places as spec;
 ghost use Rattle.star_program.specs.declared.spelling.fault.TextFault.TheVariants as faults;
 
@@ -10,7 +11,7 @@ use crate::program::{
     MOST_SHOWS, MOST_SORTS,
 };
 use crate::spelling::fault::{LineFault, TextFault};
-use crate::spelling::lines::{is_blank, split_line, split_word};
+use crate::spelling::lines::split_word;
 use crate::spelling::reading::read_line;
 use crate::spelling::statement::Statement;
 use std::alloc::Global;
@@ -38,9 +39,9 @@ pub struct Place {
 }
 
 impl Place {
-    // Before the first line.
+    /// Before the first line.
     #[tactic(auto, unfolding(crate::specs::Places::start))]
-    fn start() -> Place
+    pub(crate) fn start() -> Place
         ensures { result ≡ spec.start }
     {
         Place {
@@ -207,8 +208,8 @@ impl Place {
         }
     }
 
-    // The fault of a text that ends here, before a line of this number.
-    fn end_fault(self, line: usize) -> Option<TextFault>
+    /// The fault of a text that ends here, before a line of this number.
+    pub(crate) fn end_fault(self, line: usize) -> Option<TextFault>
         ensures { result ≡ spec.end_in self.stage self.depth line }
     {
         match self.stage {
@@ -252,11 +253,9 @@ fn begins_report(line: &[u8]) -> bool
 }
 
 // The place after a statement, or its fault.
-#[tactic(auto, using(crate::proofs::FaultLemmas::within_from))]
 fn reach(place: Place, line: usize, statement: &Statement) -> Result<Place, TextFault>
     requires { spec.IsWithin place }
-    ensures reached { result ≡ spec.reached place line statement.now (spec.after place statement.now) }
-    ensures within { IfOk result spec.IsWithin }
+    ensures { result ≡ spec.reached place line statement.now (spec.after place statement.now) }
 {
     match place.after(statement) {
         Some(next) => {
@@ -270,52 +269,28 @@ fn reach(place: Place, line: usize, statement: &Statement) -> Result<Place, Text
     }
 }
 
-// The place after a line that isn't blank, or its fault.
+/// The place after a line that isn't blank, and what it says; or its fault.
 #[tactic(auto, unfolding(crate::specs::Places::advance))]
-fn advance(alloc: Global, place: Place, line: usize, text: &[u8]) -> Result<Place, TextFault>
+pub(crate) fn advance(
+    alloc: Global,
+    place: Place,
+    line: usize,
+    text: &[u8],
+) -> Result<(Place, Statement), TextFault>
     requires { spec.IsWithin place }
-    ensures reached { MatchResult result (λ next. spec.advance place line text.now ≡ Ok next) (λ fault. (fault ≡ faults.OutOfMemory) ⊎ (spec.advance place line text.now ≡ Err fault)) }
-    ensures within { IfOk result spec.IsWithin }
+    ensures { MatchResult result
+        (λ (next, statement). (said text.now ≡ Some statement) × (spec.advance place line text.now ≡ Ok next))
+        (λ fault. (fault ≡ faults.OutOfMemory) ⊎ (spec.advance place line text.now ≡ Err fault)) }
 {
     if place.depth > 0 && begins_report(text) {
         return Err(TextFault::OpenScan);
     }
     match read_line(alloc, text) {
-        Ok(statement) => reach(place, line, &statement),
+        Ok(statement) => match reach(place, line, &statement) {
+            Ok(next) => Ok((next, statement)),
+            Err(fault) => Err(fault),
+        },
         Err(LineFault::OutOfMemory) => Err(TextFault::OutOfMemory),
         Err(LineFault::Unreadable) => Err(place.bad_line(line)),
-    }
-}
-
-// The place after a line, or its fault. A blank line changes no place.
-fn pass(alloc: Global, place: Place, line: usize, text: &[u8]) -> Result<Place, TextFault>
-    requires { spec.IsWithin place }
-    ensures passed { MatchResult result
-        (λ next. (texts : List (List ℕ)) → spec.fault_from place line (text.now ∷ texts) ≡ spec.fault_from next (line + 1) texts)
-        (λ fault. (fault ≡ faults.OutOfMemory) ⊎ ((texts : List (List ℕ)) → spec.fault_from place line (text.now ∷ texts) ≡ Some fault)) }
-    ensures within { IfOk result spec.IsWithin }
-{
-    if is_blank(text) {
-        Ok(place)
-    } else {
-        advance(alloc, place, line, text)
-    }
-}
-
-/// The first fault of a text, if it has one.
-pub(crate) fn find_fault(alloc: Global, text: &[u8]) -> Result<(), TextFault>
-    ensures { MatchResult result (λ _. spec.text_fault text.now ≡ None) (λ fault. (fault ≡ faults.OutOfMemory) ⊎ (spec.text_fault text.now ≡ Some fault)) }
-{
-    let mut place = Place::start();
-    let mut line = 1;
-    let mut rest = text;
-    while let Some((first, after)) = split_line(rest) {
-        place = pass(alloc, place, line, first)?;
-        rest = after;
-        line += 1;
-    }
-    match place.end_fault(line) {
-        Some(fault) => Err(fault),
-        None => Ok(()),
     }
 }

@@ -1,9 +1,8 @@
 // Lines at their limits, and two programs written byte for byte.
 
-use crate::spelling::fault::{LineFault, TextFault};
+use crate::spelling::fault::LineFault;
 use crate::spelling::lines::{is_blank, split_line, split_word};
 use crate::spelling::numerals::{is_name, read_constant, read_count, read_register};
-use crate::spelling::place::find_fault;
 use crate::spelling::reading::read_line;
 use crate::*;
 use star_schema::{Aggregate, ColumnId, GroupColumn, Shape, TableId};
@@ -257,6 +256,21 @@ fn writes_programs(rt: HostRuntime) {
     }
 }
 
+// The text that a program has after it was read from one.
+fn text_again(alloc: Global, text: &str) -> Result<Vec<u8>, TextFault> {
+    Ok(Program::parse(alloc, text.as_bytes())?.to_text()?)
+}
+
+#[test]
+fn reads_programs_back(rt: HostRuntime) {
+    for text in [REVENUE, ABOVE_AVERAGE] {
+        match text_again(rt.alloc(), text) {
+            Ok(again) => assert!(rt; again.as_slice() == text.as_bytes()),
+            Err(fault) => assert_eq!(rt; fault, TextFault::OutOfMemory),
+        }
+    }
+}
+
 fn lines_read(alloc: Global, text: &str) -> Result<usize, LineFault> {
     let mut rest = text.as_bytes();
     let mut count = 0usize;
@@ -379,6 +393,13 @@ fn reads_words_at_their_limits(rt: HostRuntime) {
     assert!(rt; is_name(b"Rev_9"));
 }
 
+fn fault_of(alloc: Global, text: &[u8]) -> Result<(), TextFault> {
+    match Program::parse(alloc, text) {
+        Ok(_) => Ok(()),
+        Err(fault) => Err(fault),
+    }
+}
+
 #[test]
 fn tells_the_first_fault(rt: HostRuntime) {
     let bad = |line| Err(TextFault::BadLine { line });
@@ -427,7 +448,7 @@ fn tells_the_first_fault(rt: HostRuntime) {
         ),
     ];
     for (text, expected) in cases {
-        let got = find_fault(rt.alloc(), text.as_bytes());
+        let got = fault_of(rt.alloc(), text.as_bytes());
         if got != Err(TextFault::OutOfMemory) {
             assert_eq!(rt; got, expected, "{text}");
         }

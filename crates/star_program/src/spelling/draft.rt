@@ -1,0 +1,118 @@
+// A program as far as its text was read.
+
+ghost use Rattle.std.specs.Prelude.{◌≡◌, ◌<◌, OnOk, length};
+ghost use Rattle.star_program.specs.Drafts as spec;
+ghost use Rattle.star_program.specs.declared.spelling.statement.Statement.TheVariants as says;
+
+use crate::body::{Body, Step};
+use crate::items::Items;
+use crate::program::{Groups, Parts, Shows, Sorts};
+use crate::spelling::statement::Statement;
+use star_schema::TableId;
+use std::alloc::{AllocError, Global};
+use std::mem::replace;
+
+/// A scan whose end is still to come, and the steps before it.
+#[derive(Drop)]
+pub struct OpenScan {
+    pub before: Body,
+    pub table: TableId,
+    pub target: u16,
+}
+
+/// What was read of a program. `scans` are the open scans, the outermost first, and `body` the steps after the line of the innermost.
+#[derive(Drop)]
+pub struct Draft {
+    pub registers: u16,
+    pub groups: Groups,
+    pub scans: Items<OpenScan>,
+    pub body: Body,
+    pub report: u16,
+    pub shows: Shows,
+    pub sorts: Sorts,
+}
+
+impl Draft {
+    /// The draft before the first line.
+    #[tactic(auto, unfolding(crate::specs::Drafts::nothing_read))]
+    pub(crate) fn new(alloc: Global) -> Draft
+        ensures { result ≡ spec.nothing_read }
+    {
+        Draft {
+            registers: 0,
+            groups: Items::from_vec(Vec::new(alloc)),
+            scans: Items::from_vec(Vec::new(alloc)),
+            body: Body::from_vec(Vec::new(alloc)),
+            report: 0,
+            shows: Items::from_vec(Vec::new(alloc)),
+            sorts: Items::from_vec(Vec::new(alloc)),
+        }
+    }
+
+    fn open_scan(&mut self, table: TableId, target: u16) -> Result<(), AllocError>
+        ensures { OnOk result (spec.IsAdded self.old (says.Scan table target) self.new) }
+    {
+        let inner = Body::from_vec(Vec::new(self.groups.allocator()));
+        let before = replace(&mut self.body, inner);
+        self.scans.push(OpenScan {
+            before,
+            table,
+            target,
+        })
+    }
+
+    fn close_scan(&mut self) -> Result<(), AllocError>
+        requires { 0 < length self.old.scans }
+        ensures { OnOk result (spec.IsClosed self.old self.new) }
+    {
+        if let Some(
+            OpenScan {
+                before,
+                table,
+                target,
+            },
+        ) = self.scans.pop()
+        {
+            let body = replace(&mut self.body, before);
+            self.body.push(Step::Scan {
+                table,
+                target,
+                body,
+            })?;
+        }
+        Ok(())
+    }
+
+    /// Adds a statement. Where it ends a scan, one is open.
+    pub(crate) fn add(&mut self, statement: Statement) -> Result<(), AllocError>
+        requires { statement ≡ says.End → 0 < length self.old.scans }
+        ensures { OnOk result (spec.IsAdded self.old statement self.new) }
+    {
+        match statement {
+            Statement::Header => {}
+            Statement::Registers(registers) => self.registers = registers,
+            Statement::Group { group, .. } => self.groups.push(group)?,
+            Statement::Act(op) => self.body.push(Step::Act(op))?,
+            Statement::Scan { table, target } => self.open_scan(table, target)?,
+            Statement::End => self.close_scan()?,
+            Statement::Report(group) => self.report = group,
+            Statement::Show(show) => self.shows.push(show)?,
+            Statement::Sort(key) => self.sorts.push(key)?,
+        }
+        Ok(())
+    }
+
+    /// The program, at the end of its text.
+    pub(crate) fn finish(self) -> Parts
+        ensures { result ≡ spec.finished self }
+    {
+        Parts {
+            registers: self.registers,
+            groups: self.groups,
+            body: self.body,
+            report: self.report,
+            shows: self.shows,
+            sorts: self.sorts,
+        }
+    }
+}

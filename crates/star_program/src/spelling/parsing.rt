@@ -1,0 +1,72 @@
+// Programs read from their texts.
+
+ghost use Rattle.std.specs.Prelude.{◌≡◌, None, MatchResult, false};
+ghost use Rattle.star_program.specs.Drafts as spec;
+ghost use Rattle.star_program.specs.Limits.{IsWithinLimits};
+ghost use Rattle.star_program.specs.Lines.{is_blank as blank};
+ghost use Rattle.star_program.specs.Spelling.{IsFirstFault, Spells};
+
+use crate::program::Parts;
+use crate::spelling::draft::Draft;
+use crate::spelling::fault::TextFault;
+use crate::spelling::lines::{is_blank, split_line};
+use crate::spelling::place::{Place, advance};
+use std::alloc::Global;
+
+// The place after a line that isn't blank, whose statement the draft takes.
+fn take_statement(
+    alloc: Global,
+    place: Place,
+    draft: &mut Draft,
+    line: usize,
+    text: &[u8],
+) -> Result<Place, TextFault>
+    requires at { spec.IsAt place draft.old }
+    requires filled { blank text.now ≡ false }
+    ensures { MatchResult result (λ next. spec.IsPassed place draft.old line text.now next draft.new) (λ fault. spec.IsRefused fault place line text.now) }
+{
+    match advance(alloc, place, line, text) {
+        Ok((next, statement)) => {
+            draft.add(statement)?;
+            Ok(next)
+        }
+        Err(fault) => Err(fault),
+    }
+}
+
+// The place after a line. A blank one changes nothing.
+fn take_line(
+    alloc: Global,
+    place: Place,
+    draft: &mut Draft,
+    line: usize,
+    text: &[u8],
+) -> Result<Place, TextFault>
+    requires { spec.IsAt place draft.old }
+    ensures { MatchResult result (λ next. spec.IsPassed place draft.old line text.now next draft.new) (λ fault. spec.IsRefused fault place line text.now) }
+{
+    if is_blank(text) {
+        Ok(place)
+    } else {
+        take_statement(alloc, place, draft, line, text)
+    }
+}
+
+/// What a text spells, or its first fault.
+pub(crate) fn read_parts(alloc: Global, text: &[u8]) -> Result<Parts, TextFault>
+    ensures { MatchResult result (λ parts. Spells text.now parts × IsWithinLimits parts) (λ fault. IsFirstFault text.now fault) }
+{
+    let mut place = Place::start();
+    let mut draft = Draft::new(alloc);
+    let mut line = 1;
+    let mut rest = text;
+    while let Some((first, after)) = split_line(rest) {
+        place = take_line(alloc, place, &mut draft, line, first)?;
+        rest = after;
+        line += 1;
+    }
+    match place.end_fault(line) {
+        Some(fault) => Err(fault),
+        None => Ok(draft.finish()),
+    }
+}
