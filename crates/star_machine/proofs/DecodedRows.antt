@@ -1,10 +1,10 @@
 -- Rows with texts for codes: they are in the order of the codes.
-use Rattle.std.proofs.Common.{◌≡◌, inl, inr, ℕ, zero, suc, List, [], ◌∷◌, Option, Some, None, length, get_or, slice_get, map, replicate, ap, sym, subst, refl, ◌∙◌}
+use Rattle.std.proofs.Common.{◌≡◌, inl, inr, ℕ, zero, suc, List, [], ◌∷◌, Option, Some, None, length, get_or, map, replicate, sym, subst, refl, ◌∙◌}
 use Rattle.std.specs.List.{AllByRecursion, Contains}
 use Rattle.std.specs.Cmp.Lexicographic.{slice_cmp}
 use Rattle.std.specs.Option.{option_map}
 use Rattle.std.specs.Ordering.{ordering_then}
-use Rattle.std.proofs.lemmas.Option.{get_or_from_slice_get, slice_get-get_or}
+use Rattle.std.proofs.lemmas.Option.{slice_get-get_or}
 use Rattle.star_schema.specs.Database.{Database}
 use Rattle.star_schema.specs.declared.group.GroupColumn.{GroupColumn}
 use Rattle.star_schema.specs.declared.group.GroupColumn.TheVariants as column
@@ -61,7 +61,7 @@ group_decodable db s ds us keys sound (inr is) = subst (AreDecodable db ds) (sym
 
 -- ---- a key at a place
 
-decoded_at : (db : Database) (ds : List GroupKey) (ks : List (Option KeyValue)) (place : ℕ) → AreDecodable db ds ks
+pub decoded_at : (db : Database) (ds : List GroupKey) (ks : List (Option KeyValue)) (place : ℕ) → AreDecodable db ds ks
     → get_or (decoded_keys (world_of db) ds ks) place None ≡ option_map (decoded (world_of db) (get_or ds place declared.Number)) (get_or ks place None)
 decoded_at db [] [] place h = refl
 decoded_at db [] (k ∷ ks) place h = absurd h
@@ -69,23 +69,12 @@ decoded_at db (d ∷ ds) [] place h = absurd h
 decoded_at db (d ∷ ds) (k ∷ ks) zero h = refl
 decoded_at db (d ∷ ds) (k ∷ ks) (suc place) h = decoded_at db ds ks place h.1
 
-decodable_at : (db : Database) (ds : List GroupKey) (ks : List (Option KeyValue)) (place : ℕ) → AreDecodable db ds ks → IsDecodable db (get_or ds place declared.Number) (get_or ks place None)
+pub decodable_at : (db : Database) (ds : List GroupKey) (ks : List (Option KeyValue)) (place : ℕ) → AreDecodable db ds ks → IsDecodable db (get_or ds place declared.Number) (get_or ks place None)
 decodable_at db [] [] place h = tt
 decodable_at db [] (k ∷ ks) place h = absurd h
 decodable_at db (d ∷ ds) [] place h = absurd h
 decodable_at db (d ∷ ds) (k ∷ ks) zero h = h.0
 decodable_at db (d ∷ ds) (k ∷ ks) (suc place) h = decodable_at db ds ks place h.1
-
-pub decodable_here : (db : Database) (ds es : List GroupKey) (ks ms : List (Option KeyValue)) (place : ℕ) (d : GroupKey) (k : Option KeyValue) → AreDecodable db ds ks → es ≡ ds → ms ≡ ks → slice_get es place ≡ Some d → k ≡ get_or ms place None → IsDecodable db d k
-decodable_here db ds es ks ms place d k h is_ds is_ks at is =
-    let here : get_or ds place declared.Number ≡ d = get_or_from_slice_get ds place d declared.Number (ap (λ xs. slice_get xs place) (sym is_ds) ∙ at) in
-    rw (is, is_ks, ← here) (decodable_at db ds ks place h)
-
-pub decoded_here : (db : Database) (ds es : List GroupKey) (ks ms : List (Option KeyValue)) (place : ℕ) (d : GroupKey) (k : Option KeyValue) → AreDecodable db ds ks → es ≡ ds → ms ≡ ks → slice_get es place ≡ Some d → k ≡ get_or ms place None
-    → option_map (decoded (world_of db) d) k ≡ get_or (decoded_keys (world_of db) ds ks) place None
-decoded_here db ds es ks ms place d k h is_ds is_ks at is =
-    let here : get_or ds place declared.Number ≡ d = get_or_from_slice_get ds place d declared.Number (ap (λ xs. slice_get xs place) (sym is_ds) ∙ at) in
-    rw (is, is_ks, ← here) (sym (decoded_at db ds ks place h))
 
 -- ---- the order of codes is the order of their texts
 

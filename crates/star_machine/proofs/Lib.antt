@@ -7,11 +7,11 @@ pub mod Filled
 pub mod Fine
 pub mod Performed
 pub mod Turned
+pub mod Started
+pub mod NamedColumns
 pub mod RowOrders
 pub mod SortedRows
 pub mod GroupRows
 pub mod DecodedRows
 pub mod Shows
 pub mod Reported
-pub mod Started
-pub mod NamedColumns

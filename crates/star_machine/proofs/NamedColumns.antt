@@ -1,4 +1,4 @@
--- A report that names what is there.
+-- What the show and sort lines name, and a group that has it.
 use Rattle.std.proofs.Common.{◌≡◌, ◌+◌, ◌↔◌, ℕ, Bool, true, false, true≢false, List, [], ◌∷◌, Some, None, Option, map, sym, ◌∙◌, refl}
 use Rattle.std.specs.Prelude.{◌&&◌, if◌then◌else◌}
 use Rattle.std.specs.List.{list_all}

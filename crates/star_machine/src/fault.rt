@@ -7,6 +7,7 @@ ghost use Rattle.star_machine.specs.Stops.{kind_of_fault, stop_of_put};
 
 use star_group::PutFault;
 use std::alloc::AllocError;
+use std::fmt;
 
 /// What an instruction can be trapped by.
 #[derive(Clone, Copy, Debug, PartialEq, Eq)]
@@ -29,6 +30,21 @@ pub enum TrapKind {
     Misplaced,
 }
 
+impl fmt::Display for TrapKind {
+    fn fmt<W: fmt::Write>(&self, f: &mut fmt::Formatter<W>) -> fmt::Result {
+        f.write_str(match self {
+            TrapKind::BadRegister => "BadRegister",
+            TrapKind::Unset => "Unset",
+            TrapKind::WrongKind => "WrongKind",
+            TrapKind::BadColumn => "BadColumn",
+            TrapKind::AbsentKey => "AbsentKey",
+            TrapKind::Overflow => "Overflow",
+            TrapKind::BadGroup => "BadGroup",
+            TrapKind::Misplaced => "Misplaced",
+        })
+    }
+}
+
 /// Why a run does not come to its end.
 #[derive(Clone, Copy, Debug, PartialEq, Eq)]
 pub enum TrialFault {
@@ -45,6 +61,16 @@ impl From<AllocError> for TrialFault {
 
     fn from(_error: AllocError) -> TrialFault {
         TrialFault::OutOfMemory
+    }
+}
+
+impl fmt::Display for TrialFault {
+    fn fmt<W: fmt::Write>(&self, f: &mut fmt::Formatter<W>) -> fmt::Result {
+        match self {
+            TrialFault::OutOfMemory => write!(f, "memory"),
+            TrialFault::Trap { at, kind } => write!(f, "trap {kind} at {at}"),
+            TrialFault::Limit => write!(f, "limit"),
+        }
     }
 }
 

@@ -11,6 +11,8 @@ mod outcome;
 mod report;
 mod run;
 mod start;
+#[cfg(test)]
+mod tests;
 mod trials;
 mod value;
 mod walk;

@@ -1,6 +1,6 @@
 // The cells of a report: rows with texts for codes, cut to the show lines.
 
-ghost use Rattle.std.specs.Prelude.{◌≡◌, ◌<◌, IfOk, All, length, map, slice_get, true};
+ghost use Rattle.std.specs.Prelude.{◌≡◌, ◌<◌, IfOk, All, length, map, true};
 ghost use Rattle.std.specs.Option.{option_map};
 ghost use Rattle.star_schema.specs.declared.column.Kind.TheVariants as kind;
 ghost use Rattle.star_schema.specs.Schema.{kind_of};
@@ -11,7 +11,7 @@ ghost use Rattle.star_program.specs.Shown.{has_column};
 ghost use Rattle.star_machine.specs.Decoded.{AreDecodable, IsDecodable, row_cells};
 ghost use Rattle.star_machine.specs.WorldOf.{column_dictionary, world_of};
 
-use super::order::{key_at, total_at};
+use super::order::part_at;
 use star_catalogue::Catalogue;
 use star_group::{GroupRow, KeyValue};
 use star_program::{Cell, GroupDecl, GroupKey, Items, Name, Show};
@@ -63,13 +63,6 @@ fn total_cell(total: Option<i64>) -> Cell
     }
 }
 
-fn declared_at(declared: &[GroupKey], place: u16) -> GroupKey
-    requires { place < length declared.now }
-    ensures { slice_get declared.now place ≡ Some result }
-{
-    declared[place as usize]
-}
-
 /// The cell of a row in a column.
 fn cell(
     alloc: Global,
@@ -86,10 +79,10 @@ fn cell(
         GroupColumn::Key(place) => key_cell(
             alloc,
             catalogue,
-            declared_at(declared.keys.as_slice(), place),
-            key_at(row.keys.as_slice(), place),
+            declared.keys.as_slice()[place as usize],
+            part_at(row.keys.as_slice(), place),
         ),
-        GroupColumn::Aggregate(place) => Ok(total_cell(total_at(row.aggregates.as_slice(), place))),
+        GroupColumn::Aggregate(place) => Ok(total_cell(part_at(row.aggregates.as_slice(), place))),
     }
 }
 

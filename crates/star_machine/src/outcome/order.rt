@@ -50,22 +50,12 @@ fn compare_key_lists(a: &[Option<KeyValue>], b: &[Option<KeyValue>]) -> Ordering
     }
 }
 
-/// The key of a row at a place.
-pub(super) fn key_at(keys: &[Option<KeyValue>], place: u16) -> Option<KeyValue>
-    ensures { result ≡ slice_index_or keys.now place None }
+/// What a row has at a place: a key or an aggregate.
+pub(super) fn part_at<T: Copy>(parts: &[Option<T>], place: u16) -> Option<T>
+    ensures { result ≡ slice_index_or parts.now place None }
 {
-    match keys.get(place as usize) {
-        Some(key) => *key,
-        None => None,
-    }
-}
-
-/// The aggregate of a row at a place.
-pub(super) fn total_at(totals: &[Option<i64>], place: u16) -> Option<i64>
-    ensures { result ≡ slice_index_or totals.now place None }
-{
-    match totals.get(place as usize) {
-        Some(total) => *total,
+    match parts.get(place as usize) {
+        Some(part) => *part,
         None => None,
     }
 }
@@ -75,11 +65,11 @@ fn compare_at(column: GroupColumn, a: &GroupRow, b: &GroupRow) -> Ordering
 {
     match column {
         GroupColumn::Key(place) => compare_keys(
-            key_at(a.keys.as_slice(), place),
-            key_at(b.keys.as_slice(), place),
+            part_at(a.keys.as_slice(), place),
+            part_at(b.keys.as_slice(), place),
         ),
         GroupColumn::Aggregate(place) => {
-            total_at(a.aggregates.as_slice(), place).cmp(&total_at(b.aggregates.as_slice(), place))
+            part_at(a.aggregates.as_slice(), place).cmp(&part_at(b.aggregates.as_slice(), place))
         }
     }
 }
