@@ -8,29 +8,29 @@ use std::io::Write;
 
 /// Why a command ended without its whole answer.
 #[derive(Drop)]
-pub(crate) enum Failure {
+pub(crate) enum Failure<'a> {
     /// The words are no command, or ask for help or the version.
     Words(Error),
     /// A file could not be read, or is too large.
-    File(&'static str),
+    File(&'a str),
     /// The engine gave no answer.
     Engine(EngineFault),
 }
 
-impl From<AllocError> for Failure {
-    fn from(_error: AllocError) -> Failure {
+impl<'a> From<AllocError> for Failure<'a> {
+    fn from(_error: AllocError) -> Failure<'a> {
         Failure::Engine(EngineFault::OutOfMemory)
     }
 }
 
-impl From<EngineFault> for Failure {
-    fn from(fault: EngineFault) -> Failure {
+impl<'a> From<EngineFault> for Failure<'a> {
+    fn from(fault: EngineFault) -> Failure<'a> {
         Failure::Engine(fault)
     }
 }
 
-impl From<Error> for Failure {
-    fn from(error: Error) -> Failure {
+impl<'a> From<Error> for Failure<'a> {
+    fn from(error: Error) -> Failure<'a> {
         if error.kind() == ErrorKind::OutOfMemory {
             Failure::Engine(EngineFault::OutOfMemory)
         } else {
@@ -39,14 +39,16 @@ impl From<Error> for Failure {
     }
 }
 
-impl Failure {
+impl<'a> Failure<'a> {
     /// The exit status.
     pub(crate) fn status(&self) -> u8 {
         match self {
             Failure::Words(error) if error.use_stderr() => 2,
             Failure::Words(_) => 0,
             Failure::File(_) => 6,
+            Failure::Engine(EngineFault::Trial(_)) => 1,
             Failure::Engine(EngineFault::Load(_)) => 3,
+            Failure::Engine(EngineFault::Program(_)) => 5,
             Failure::Engine(EngineFault::Write { .. }) => 6,
             Failure::Engine(EngineFault::OutOfMemory) => 7,
         }

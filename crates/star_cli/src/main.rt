@@ -3,7 +3,7 @@
 
 mod command;
 mod failure;
-mod folder;
+mod files;
 #[cfg(test)]
 mod tests;
 mod words;

@@ -41,6 +41,10 @@ fn asks_for_words(rt: HostRuntime) -> Result<(), Fail> {
         ["no"].as_slice(),
         ["check"].as_slice(),
         ["check", "a", "b"].as_slice(),
+        ["trial", "a", "b"].as_slice(),
+        ["trial", "a", "b", "1000000000000001"].as_slice(),
+        ["trial", "a", "b", "-1"].as_slice(),
+        ["trial", "a", "b", "x"].as_slice(),
         ["--no"].as_slice(),
     ] {
         let ran = run(&rt, words)?;
@@ -149,5 +153,98 @@ fn tells_output_that_fails(rt: HostRuntime) -> Result<(), Fail> {
     assert_eq!(rt; status, 6);
     assert_eq!(rt; room.as_slice(), b"table date".as_slice());
     assert_eq!(rt; text(err.as_slice()), "write 10\n");
+    Ok(())
+}
+
+/// Counts the lines that are priced above the average.
+const ABOVE_AVERAGE: &str = concat!(
+    "star program 1\n",
+    "registers 8\n",
+    "group 0 plain : sum count\n",
+    "group 1 plain : count\n",
+    "scan lineorder r0\n",
+    "  r1 = load lo_extendedprice r0\n",
+    "  put 0 : r1\n",
+    "end\n",
+    "r2 = read 0 0 0\n",
+    "r3 = read 0 1 0\n",
+    "scan lineorder r4\n",
+    "  r5 = load lo_extendedprice r4\n",
+    "  r6 = mul r5 r3\n",
+    "  r7 = lt r2 r6\n",
+    "  keep r7\n",
+    "  put 1 :\n",
+    "end\n",
+    "report 1\n",
+    "show n aggregate 0\n",
+);
+
+/// Finds a date by a quantity.
+const ASTRAY: &str = concat!(
+    "star program 1\n",
+    "registers 3\n",
+    "group 0 plain : count\n",
+    "scan lineorder r0\n",
+    "r1 = load lo_quantity r0\n",
+    "r2 = find date r1\n",
+    "put 0 :\n",
+    "end\n",
+    "report 0\n",
+    "show n aggregate 0\n",
+);
+
+#[test]
+fn runs_trials(rt: HostRuntime) -> Result<(), Fail> {
+    write_sample(&rt, "tables")?;
+    fs::write(&rt, "above.star", ABOVE_AVERAGE.as_bytes())?;
+    for limit in ["10", "+010", "1000000000000000"] {
+        let ran = run(&rt, ["trial", "tables", "above.star", limit].as_slice())?;
+        assert_eq!(rt; text(ran.out.as_slice()), "n\n2\n");
+        assert_eq!(rt; (ran.status, ran.err.len()), (0, 0), "{limit}");
+    }
+    Ok(())
+}
+
+#[test]
+fn tells_faults_of_trials(rt: HostRuntime) -> Result<(), Fail> {
+    write_sample(&rt, "tables")?;
+    fs::write(&rt, "above.star", ABOVE_AVERAGE.as_bytes())?;
+    fs::write(&rt, "astray.star", ASTRAY.as_bytes())?;
+    fs::write(&rt, "open.star", b"star program 1\nregisters 1\nscan date r0\n")?;
+    for (folder, file, limit, line, status) in [
+        ("tables", "above.star", "9", "limit\n", 1),
+        ("tables", "above.star", "0", "limit\n", 1),
+        ("tables", "astray.star", "10", "trap AbsentKey at 3\n", 1),
+        ("none", "open.star", "10", "file date.tbl\n", 6),
+        ("tables", "open.star", "10", "program 52 OpenScan\n", 5),
+        ("none", "no.star", "10", "file no.star\n", 6),
+        ("tables", "tables", "10", "file tables\n", 6),
+    ] {
+        assert_fault(
+            &rt,
+            ["trial", folder, file, limit].as_slice(),
+            line,
+            status,
+        )?;
+    }
+    Ok(())
+}
+
+#[test]
+fn tells_a_file_that_is_too_large(rt: HostRuntime) -> Result<(), Fail> {
+    write_sample(&rt, "tables")?;
+    let bytes = vec![in rt.alloc(); b' '; 16_777_217]?;
+    for (count, line, status) in [
+        (16_777_216, "program 50 BadHeader\n", 5),
+        (16_777_217, "file spaces.star\n", 6),
+    ] {
+        fs::write(&rt, "spaces.star", &bytes[..count])?;
+        assert_fault(
+            &rt,
+            ["trial", "tables", "spaces.star", "10"].as_slice(),
+            line,
+            status,
+        )?;
+    }
     Ok(())
 }

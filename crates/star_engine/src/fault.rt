@@ -1,9 +1,12 @@
 // Why an answer was not given.
 
 ghost use Rattle.std.specs.Prelude.{◌≡◌};
-ghost use Rattle.star_engine.specs.declared.fault.EngineFault.TheVariants.{OutOfMemory};
+ghost use Rattle.star_engine.specs.declared.fault.EngineFault.TheVariants.{OutOfMemory, Write};
 
 use star_catalogue::LoadFault;
+use star_machine::TrialFault;
+use star_program::TextFault;
+use star_report::WriteFault;
 use std::alloc::AllocError;
 use thiserror::Error;
 
@@ -13,9 +16,15 @@ pub enum EngineFault {
     /// Memory was refused.
     #[error("memory")]
     OutOfMemory,
+    /// The file is no program.
+    #[error("program {0}")]
+    Program(TextFault),
     /// The texts were not loaded.
     #[error("load {0}")]
     Load(LoadFault),
+    /// The program did not come to its end.
+    #[error("{0}")]
+    Trial(TrialFault),
     /// A write did not go through, after so many bytes of the answer.
     #[error("write {sent}")]
     Write { sent: u64 },
@@ -29,6 +38,19 @@ impl From<AllocError> for EngineFault {
     }
 }
 
+impl From<TextFault> for EngineFault {
+    ghost use Rattle.star_engine.specs.Faults.{fault_of_text};
+
+    ghost from_gives = { λ fault shown. shown ≡ fault_of_text fault };
+
+    fn from(fault: TextFault) -> EngineFault {
+        match fault {
+            TextFault::OutOfMemory => EngineFault::OutOfMemory,
+            fault => EngineFault::Program(fault),
+        }
+    }
+}
+
 impl From<LoadFault> for EngineFault {
     ghost use Rattle.star_engine.specs.Faults.{fault_of_load};
 
@@ -39,5 +61,26 @@ impl From<LoadFault> for EngineFault {
             LoadFault::OutOfMemory => EngineFault::OutOfMemory,
             fault => EngineFault::Load(fault),
         }
+    }
+}
+
+impl From<TrialFault> for EngineFault {
+    ghost use Rattle.star_engine.specs.Faults.{fault_of_trial};
+
+    ghost from_gives = { λ fault shown. shown ≡ fault_of_trial fault };
+
+    fn from(fault: TrialFault) -> EngineFault {
+        match fault {
+            TrialFault::OutOfMemory => EngineFault::OutOfMemory,
+            fault => EngineFault::Trial(fault),
+        }
+    }
+}
+
+impl From<WriteFault> for EngineFault {
+    ghost from_gives = { λ fault shown. shown ≡ Write fault.sent };
+
+    fn from(fault: WriteFault) -> EngineFault {
+        EngineFault::Write { sent: fault.sent }
     }
 }

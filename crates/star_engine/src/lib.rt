@@ -4,9 +4,12 @@
 mod answers;
 mod fault;
 mod listing;
+mod reports;
 #[cfg(test)]
 mod tests;
 
-pub use answers::check;
+pub use answers::{check, trial_program};
 pub use fault::EngineFault;
 pub use star_catalogue::{LoadFault, Texts, sample};
+pub use star_machine::{TrapKind, TrialFault};
+pub use star_program::TextFault;

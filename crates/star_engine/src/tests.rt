@@ -1,7 +1,7 @@
 // The worked listing, the fault lines of changed samples, and output that fails.
 
-use crate::{EngineFault, Texts, check, sample};
-use star_schema::{Limits, Out};
+use crate::{EngineFault, Texts, check, sample, trial_program};
+use star_schema::{Limits, MOST_VISITS, Out};
 use std::alloc::{AllocError, Global};
 use std::io;
 use std::io::Write;
@@ -244,6 +244,177 @@ fn tells_what_was_sent(rt: HostRuntime) -> Result<(), Fail> {
         if answer != Err(EngineFault::OutOfMemory) {
             assert_eq!(rt; answer, expected);
             assert_eq!(rt; short.taken.as_slice(), &LISTING.as_bytes()[..left]);
+        }
+    }
+    Ok(())
+}
+
+/// Counts the lines that are priced above the average: two of the sample.
+const ABOVE_AVERAGE: &str = concat!(
+    "star program 1\n",
+    "registers 8\n",
+    "group 0 plain : sum count\n",
+    "group 1 plain : count\n",
+    "scan lineorder r0\n",
+    "  r1 = load lo_extendedprice r0\n",
+    "  put 0 : r1\n",
+    "end\n",
+    "r2 = read 0 0 0\n",
+    "r3 = read 0 1 0\n",
+    "scan lineorder r4\n",
+    "  r5 = load lo_extendedprice r4\n",
+    "  r6 = mul r5 r3\n",
+    "  r7 = lt r2 r6\n",
+    "  keep r7\n",
+    "  put 1 :\n",
+    "end\n",
+    "report 1\n",
+    "show n aggregate 0\n",
+);
+
+/// Revenue by year and region of the supplier, the greatest first, and each group of a cube.
+const REVENUE: &str = concat!(
+    "star program 1\n",
+    "registers 8\n",
+    "group 0 cube number s_region : sum count\n",
+    "scan lineorder r0\n",
+    "r1 = load lo_orderdate r0\n",
+    "r2 = find date r1\n",
+    "r3 = load lo_suppkey r0\n",
+    "r4 = find supplier r3\n",
+    "r5 = load d_year r2\n",
+    "r6 = load s_region r4\n",
+    "r7 = load lo_revenue r0\n",
+    "put 0 r5 r6 : r7\n",
+    "end\n",
+    "report 0\n",
+    "show d_year key 0\n",
+    "show s_region key 1\n",
+    "show revenue aggregate 0\n",
+    "show n aggregate 1\n",
+    "sort aggregate 0 descending\n",
+);
+
+const REVENUES: &str = concat!(
+    "d_year|s_region|revenue|n\n",
+    "ALL|ALL|7045|5\n",
+    "ALL|AMERICA|4475|3\n",
+    "1997|ALL|3630|2\n",
+    "1997|AMERICA|3000|1\n",
+    "1993|ALL|2920|2\n",
+    "ALL|EUROPE|2570|2\n",
+    "1993|EUROPE|1940|1\n",
+    "1993|AMERICA|980|1\n",
+    "1997|EUROPE|630|1\n",
+    "1994|AMERICA|495|1\n",
+    "1994|ALL|495|1\n",
+);
+
+const HEAD: &str = "star program 1\nregisters 3\ngroup 0 plain : count\n";
+const TAIL: &str = "report 0\nshow n aggregate 0\n";
+
+// What a trial prints, or its fault line.
+fn tried(
+    alloc: Global,
+    texts: &Texts<'_>,
+    program: &str,
+    visits: u64,
+) -> Result<String, AllocError> {
+    let mut printed = Vec::with_capacity(alloc, LISTING.len())?;
+    let visits = visits.min(MOST_VISITS);
+    let limits = Limits::widest();
+    let mut out = Out::new(&mut printed);
+    match trial_program(alloc, texts, program.as_bytes(), visits, limits, &mut out) {
+        Ok(()) => Ok(String::from_utf8(printed).unwrap_or_else(|_| String::new(alloc))),
+        Err(EngineFault::OutOfMemory) => Err(AllocError),
+        Err(fault) => format!(in alloc; "{fault}"),
+    }
+}
+
+#[test]
+fn tries_programs(rt: HostRuntime) -> Result<(), Fail> {
+    let whole = sample();
+    let empty = Texts {
+        date: b"",
+        customer: b"",
+        supplier: b"",
+        part: b"",
+        lineorder: b"",
+    };
+    let none = "d_year|s_region|revenue|n\nALL|ALL|NULL|0\n";
+    for (texts, program, visits, expected) in [
+        (&whole, ABOVE_AVERAGE, 10, "n\n2\n"),
+        (&whole, ABOVE_AVERAGE, 9, "limit"),
+        (&whole, REVENUE, 5, REVENUES),
+        (&whole, REVENUE, 4, "limit"),
+        (&empty, REVENUE, 0, none),
+        (&empty, ABOVE_AVERAGE, 0, "n\n0\n"),
+    ] {
+        assert_eq!(rt; tried(rt.alloc(), texts, program, visits)?.as_str(), expected);
+    }
+    Ok(())
+}
+
+#[test]
+fn tries_bodies(rt: HostRuntime) -> Result<(), Fail> {
+    for (body, visits, expected) in [
+        (
+            "scan lineorder r0\nr1 = load lo_quantity r0\nr2 = find date r1\nput 0 :\nend\n",
+            5,
+            "trap AbsentKey at 3",
+        ),
+        (
+            "scan lineorder r0\nput 0 :\nr1 = read 0 0 0\nend\n",
+            5,
+            "n\n5\n",
+        ),
+        (
+            "scan date r0\nscan supplier r1\nput 0 :\nend\nend\n",
+            9,
+            "n\n6\n",
+        ),
+        (
+            "scan date r0\nr1 = load d_year r0\nend\nr2 = eq r1 r1\n",
+            3,
+            "trap Unset at 3",
+        ),
+        ("r0 = const 1\nr1 = eq r0 r0\nkeep r1\n", 0, "trap Misplaced at 3"),
+        ("scan date r0\n", 0, "program 52 OpenScan"),
+        ("r0 = const\n", 0, "program 51 BadLine line 4"),
+    ] {
+        let program = format!(in rt.alloc(); "{HEAD}{body}{TAIL}")?;
+        assert_eq!(rt;
+            tried(rt.alloc(), &sample(), program.as_str(), visits)?.as_str(),
+            expected
+        );
+    }
+    Ok(())
+}
+
+#[test]
+fn tells_what_was_sent_of_a_trial(rt: HostRuntime) -> Result<(), Fail> {
+    let report = "n\n2\n";
+    for left in 0..report.len() + 1 {
+        let mut short = Short {
+            taken: Vec::with_capacity(rt.alloc(), report.len())?,
+            left,
+        };
+        let answer = trial_program(
+            rt.alloc(),
+            &sample(),
+            ABOVE_AVERAGE.as_bytes(),
+            10,
+            Limits::widest(),
+            &mut Out::new(&mut short),
+        );
+        let expected = if left < report.len() {
+            Err(EngineFault::Write { sent: left as u64 })
+        } else {
+            Ok(())
+        };
+        if answer != Err(EngineFault::OutOfMemory) {
+            assert_eq!(rt; answer, expected);
+            assert_eq!(rt; short.taken.as_slice(), &report.as_bytes()[..left]);
         }
     }
     Ok(())

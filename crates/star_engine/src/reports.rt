@@ -1,0 +1,54 @@
+// The reports of programs.
+
+ghost use Rattle.std.specs.Prelude.{◌≤◌, ◌^◌, MatchResult};
+ghost use Rattle.star_schema.specs.Loadable.{IsLoadable, database_of};
+ghost use Rattle.star_catalogue.specs.Load.{text_of};
+ghost use Rattle.star_machine.specs.Trials.{Yields};
+ghost use Rattle.star_machine.specs.WorldOf.{world_of};
+ghost use Rattle.star_program.specs.Run.{bounded_run_of};
+ghost use Rattle.star_engine.specs.Trials.{IsNoOutcome, IsNoReport, IsReport};
+
+use crate::fault::EngineFault;
+use star_catalogue::{Catalogue, Texts};
+use star_machine::{Outcome, trial};
+use star_program::Program;
+use star_report::report_text;
+use star_schema::Limits;
+use std::alloc::Global;
+
+// What a program gives over the tables of five texts.
+fn outcome_of(
+    alloc: Global,
+    texts: &Texts<'_>,
+    program: &Program,
+    visits: u64,
+    limits: Limits,
+) -> Result<Outcome, EngineFault>
+    requires { visits ≤ 10 ^ 15 }
+    ensures { MatchResult result
+        (λ outcome. IsLoadable limits.rows (text_of texts.now) × Yields (world_of (database_of (text_of texts.now))) program.now (bounded_run_of (world_of (database_of (text_of texts.now))) visits program.now) outcome)
+        (IsNoOutcome limits.rows (text_of texts.now) program.now visits) }
+{
+    let catalogue = Catalogue::load(alloc, texts, limits)?;
+    let outcome = trial(alloc, &catalogue, program, visits)?;
+    Ok(outcome)
+}
+
+// The report of the program that a file holds, over the tables of five texts.
+pub(crate) fn report_of(
+    alloc: Global,
+    texts: &Texts<'_>,
+    file: &[u8],
+    visits: u64,
+    limits: Limits,
+) -> Result<Vec<u8>, EngineFault>
+    requires { visits ≤ 10 ^ 15 }
+    ensures { MatchResult result
+        (λ report. IsLoadable limits.rows (text_of texts.now) × IsReport (database_of (text_of texts.now)) file.now visits report.items)
+        (IsNoReport limits.rows (text_of texts.now) file.now visits) }
+{
+    let program = Program::parse(alloc, file)?;
+    let outcome = outcome_of(alloc, texts, &program, visits, limits)?;
+    let report = report_text(alloc, &outcome)?;
+    Ok(report)
+}
