@@ -1,6 +1,6 @@
 -- A draft, statement by statement.
 use Rattle.std.specs.Prelude.{if◌then◌else◌, nat_le, nat_lt}
-use Rattle.std.proofs.Common.{◌≡◌, ◌⊎◌, ◌==◌, ◌&&◌, ◌<◌, ◌≤◌, ◌+◌, ◌-◌, ◌∙◌, ◌∷◌, ◌++◌, [], ℕ, Bool, true, false, List, Option, Some, None, Result, Ok, Err, All, append_assoc, append-nil, length, map, arith, ap, refl, sym, subst, inl, inr, lit≤}
+use Rattle.std.proofs.Common.{◌≡◌, ◌⊎◌, ◌==◌, ◌&&◌, ◌<◌, ◌≤◌, ◌+◌, ◌-◌, ◌∙◌, ◌∷◌, ◌++◌, [], ℕ, Bool, true, false, List, Option, Some, None, Ok, Err, append_assoc, append-nil, length, map, arith, ap, refl, sym, subst, inl, inr, lit≤}
 use Rattle.std.proofs.lemmas.Bool.{and_parts, cases_Bool, eqb-false, eqb-true, leb-true}
 use Rattle.std.proofs.lemmas.List.{length_push, map_push}
 use Rattle.std.proofs.lemmas.List.Elements.{All-push}
@@ -11,7 +11,7 @@ use Rattle.star_program.specs.Limits.{IsSmall, IsWithinLimits}
 use Rattle.star_program.specs.Lines.{is_blank, lines_of, words_of}
 use Rattle.star_program.specs.Places.{IsWithin, advance, after, after_in, after_step, begins_report, end_in, is_small, is_within, reached, start}
 use Rattle.star_program.specs.Said.{said}
-use Rattle.star_program.specs.Spelling.{Spells, statements_of}
+use Rattle.star_program.specs.Spelling.{Spells}
 use Rattle.star_program.specs.declared.group.GroupDecl.{GroupDecl}
 use Rattle.star_program.specs.declared.op.Op.{Op}
 use Rattle.star_program.specs.declared.program.Show.{Show}
@@ -26,7 +26,7 @@ use Rattle.star_program.specs.declared.spelling.statement.Statement.{Statement}
 use Rattle.star_program.specs.declared.spelling.statement.Statement.TheVariants as says
 use Rattle.star_schema.specs.declared.group.SortKey.{SortKey}
 use Rattle.star_schema.specs.declared.table.TableId.{TableId}
-use Rattle.star_program.proofs.FaultLemmas.{advanced, blank_line, refused, within_from}
+use Rattle.star_program.proofs.FaultLemmas.{advanced, blank_line, refused, start_within, within_from}
 use Rattle.star_program.proofs.OneProgram.{program_said}
 
 -- ---- a code and another after it
@@ -509,7 +509,7 @@ end_opened p d line text s q at is goes_there end =
 pub nothing_at_start : IsAt start nothing_read
 unfolding start nothing_read
 nothing_at_start = record {
-  within = record { groups = lit≤ tt; instructions = lit≤ tt; depth = lit≤ tt; shows = lit≤ tt; sorts = lit≤ tt };
+  within = start_within;
   counts = record {
     registers = lit≤ tt;
     groups_are = refl;

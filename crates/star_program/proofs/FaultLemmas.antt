@@ -1,6 +1,6 @@
 -- The first fault, line by line.
-use Rattle.std.specs.Prelude.{nat_le, if◌then◌else◌}
-use Rattle.std.proofs.Common.{◌≡◌, ◌∙◌, ◌+◌, ◌≤◌, ◌&&◌, ◌∷◌, [], ℕ, Bool, true, false, List, Option, Some, None, Ok, Err, refl, ap, lit≤}
+use Rattle.std.specs.Prelude.{nat_le}
+use Rattle.std.proofs.Common.{◌≡◌, ◌+◌, ◌&&◌, ◌∷◌, [], ℕ, true, false, List, Some, Ok, Err, refl, lit≤}
 use Rattle.std.proofs.lemmas.Bool.{and_parts, leb-true}
 use Rattle.star_program.specs.Lines.{is_blank, lines_of}
 use Rattle.star_program.specs.Places.{IsWithin, advance, end_in, fault_from, is_within, start, text_fault}

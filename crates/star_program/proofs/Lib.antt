@@ -25,3 +25,6 @@ mod OneProgram
 mod FaultLemmas
 pub mod DraftLemmas
 mod NoFault
+mod SpelledWords
+mod Spelled
+mod Sayable

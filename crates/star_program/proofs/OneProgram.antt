@@ -1,17 +1,14 @@
 -- No text spells two programs: its statements tell the parts of the program.
-use Rattle.std.specs.Prelude.{Option, Some}
+use Rattle.std.specs.Prelude.{Some}
 use Rattle.std.proofs.Common.{◌≡◌, ◌+◌, ◌∙◌, ◌∷◌, ◌++◌, [], ℕ, Bool, true, false, List, map, append_assoc, refl, sym, ap}
-use Rattle.std.specs.List.{enumerate_from}
 use Rattle.std.proofs.lemmas.Bool.{both_ways}
 use Rattle.std.proofs.lemmas.List.{map-append}
 use Rattle.star_schema.specs.declared.group.SortKey.{SortKey}
-use Rattle.star_schema.specs.declared.table.TableId.{TableId}
 use Rattle.star_program.specs.Code.{Code, Stop, Then, Each}
 use Rattle.star_program.specs.Drafts.{code_says, groups_say}
 use Rattle.star_program.specs.Spelling.{OneProgram, Spells, statements_of}
-use Rattle.star_program.specs.Statements.{Line, group_lines, line, lines_of_code, lines_of_program, show_line, sort_line}
+use Rattle.star_program.specs.Statements.{Line, group_lines, line, lines_of_code, show_line, sort_line}
 use Rattle.star_program.specs.declared.group.GroupDecl.{GroupDecl}
-use Rattle.star_program.specs.declared.op.Op.{Op}
 use Rattle.star_program.specs.declared.program.Parts.{Parts}
 use Rattle.star_program.specs.declared.program.Show.{Show}
 use Rattle.star_program.specs.declared.spelling.statement.Statement.{Statement}

@@ -19,7 +19,7 @@ unfolding unquoted
 plain_byte b [] other = let no : (b == 39) ≡ false = ne_eqb b 39 other in rw no refl
 plain_byte b (c ∷ rest) other = let no : (b == 39) ≡ false = ne_eqb b 39 other in rw no refl
 
-two_quotes : (after : List ℕ) → unquoted (39 ∷ 39 ∷ after) ≡ option_map (λ text. 39 ∷ text) (unquoted after)
+pub two_quotes : (after : List ℕ) → unquoted (39 ∷ 39 ∷ after) ≡ option_map (λ text. 39 ∷ text) (unquoted after)
 unfolding unquoted
 two_quotes after = refl
 

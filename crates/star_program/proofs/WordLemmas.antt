@@ -10,7 +10,7 @@ use Rattle.star_program.proofs.Positions.{position-None}
 use Rattle.star_schema.specs.Records.{is_filled, with_first}
 use Rattle.star_program.specs.Lines.{pieces_of, words_of}
 
-words_are : (line : List ℕ) → words_of line ≡ filter is_filled (pieces_of line)
+pub words_are : (line : List ℕ) → words_of line ≡ filter is_filled (pieces_of line)
 unfolding words_of
 words_are line = refl
 
@@ -18,7 +18,7 @@ pub no_words : words_of [] ≡ []
 unfolding words_of pieces_of
 no_words = refl
 
-space_first : (line : List ℕ) → words_of (32 ∷ line) ≡ words_of line
+pub space_first : (line : List ℕ) → words_of (32 ∷ line) ≡ words_of line
 unfolding words_of pieces_of
 space_first line = refl
 
@@ -37,15 +37,15 @@ after_spaces (b ∷ line) (suc k) within spaces =
     let space : b ≡ 32 = eqb-true b 32 (not-false (b == 32) (spaces 0 (omega arith))) in
     rw space (space_first line ∙ after_spaces line k (omega arith) (λ j h. spaces (suc j) (omega arith)))
 
-no_pieces : pieces_of [] ≡ [] ∷ []
+pub no_pieces : pieces_of [] ≡ [] ∷ []
 unfolding pieces_of
 no_pieces = refl
 
-piece_ends : (line : List ℕ) → pieces_of (32 ∷ line) ≡ [] ∷ pieces_of line
+pub piece_ends : (line : List ℕ) → pieces_of (32 ∷ line) ≡ [] ∷ pieces_of line
 unfolding pieces_of
 piece_ends line = refl
 
-piece_quoted : (line : List ℕ) → pieces_of (39 ∷ line) ≡ (39 ∷ line) ∷ []
+pub piece_quoted : (line : List ℕ) → pieces_of (39 ∷ line) ≡ (39 ∷ line) ∷ []
 unfolding pieces_of
 piece_quoted line = refl
 
@@ -57,7 +57,7 @@ second : (x y : Bool) → x ≡ false → (x || y) ≡ true → y ≡ true
 second true y h either = let bad : true ≡ false = h in cc
 second false y h either = either
 
-piece_on : (b : ℕ) (line : List ℕ) → ((b == 32) || (b == 39)) ≡ false → pieces_of (b ∷ line) ≡ with_first b (pieces_of line)
+pub piece_on : (b : ℕ) (line : List ℕ) → ((b == 32) || (b == 39)) ≡ false → pieces_of (b ∷ line) ≡ with_first b (pieces_of line)
 unfolding pieces_of
 piece_on b line plain =
     let both = neither (b == 32) (b == 39) plain in
@@ -90,7 +90,7 @@ filled_whole : (line : List ℕ) → 0 < length line → is_filled line ≡ true
 filled_whole [] some = absurd (omega arith)
 filled_whole (b ∷ line) some = refl
 
-filtered_first : (word : List ℕ) (others : List (List ℕ)) → is_filled word ≡ true → filter is_filled (word ∷ others) ≡ word ∷ filter is_filled others
+pub filtered_first : (word : List ℕ) (others : List (List ℕ)) → is_filled word ≡ true → filter is_filled (word ∷ others) ≡ word ∷ filter is_filled others
 filtered_first word others filled = rw filled refl
 
 -- a word that a space ends

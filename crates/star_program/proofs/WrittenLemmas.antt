@@ -61,7 +61,7 @@ scan_text depth table target body old =
     ∙ append_assoc old (line_text (line depth (says.Scan table target))) (code_text (depth + 1) body ++ line_text (line depth says.End))
     ∙ ap (λ t. old ++ (line_text (line depth (says.Scan table target)) ++ t)) (sym end)
 
-flat_map_map : {X Y : Type 0} (f : Y → List ℕ) (g : X → Y) (xs : List X) → flat_map f (map g xs) ≡ flat_map (λ x. f (g x)) xs
+pub flat_map_map : {X Y : Type 0} (f : Y → List ℕ) (g : X → Y) (xs : List X) → flat_map f (map g xs) ≡ flat_map (λ x. f (g x)) xs
 flat_map_map f g [] = refl
 flat_map_map f g (x ∷ xs) = ap (λ t. f (g x) ++ t) (flat_map_map f g xs)
 

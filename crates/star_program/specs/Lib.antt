@@ -31,3 +31,4 @@ pub mod Places
 pub mod Spelling
 pub mod Followed
 pub mod Drafts
+pub mod Spellable

@@ -25,4 +25,7 @@ pub use program::{
     Groups, MOST_AGGREGATES, MOST_GROUPS, MOST_INSTRUCTIONS, MOST_KEYS, MOST_REGISTERS, MOST_SCANS,
     MOST_SHOWS, MOST_SORTS, Name, Parts, Program, Show, Shows, Sorts,
 };
-pub use spelling::{TextFault, no_text_spells_two_programs, texts_of_programs_have_no_fault};
+pub use spelling::{
+    TextFault, no_text_spells_two_programs, spelled_programs_are_written_back,
+    texts_of_programs_have_no_fault,
+};

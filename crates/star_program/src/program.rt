@@ -3,6 +3,7 @@
 ghost use Rattle.std.specs.Prelude.{◌≡◌, ◌≤◌, ◌↔◌, All, length, IsSome, IfErr, IfOk, IfSome, IsTrue};
 ghost use Rattle.star_program.specs.Written.{text_of};
 ghost use Rattle.star_program.specs.Limits.{IsSmall, IsWithinLimits};
+ghost use Rattle.star_program.specs.Spellable.{IsSpellable};
 ghost use Rattle.star_program.specs.Spelling.{IsFirstFault, IsRead, Spells};
 
 use crate::body::Body;
@@ -126,7 +127,9 @@ impl Program {
 
     /// The program's text: a line for each statement, one space between words, two before a line for each scan round it, numbers without zeros in front, a line feed after each line.
     pub fn to_text(&self) -> Result<Vec<u8>, AllocError>
-        ensures { IfOk result (λ text. text.items ≡ text_of self.now) }
+        ensures written { IfOk result (λ text. text.items ≡ text_of self.now) }
+        // Where some text spells the program, this one does, and is read back as it.
+        ensures spells { IfOk result (λ text. IsSpellable self.now → Spells text.items self.now) }
     {
         write_parts(self.parts.groups.allocator(), &self.parts)
     }

@@ -17,4 +17,6 @@ mod tests;
 mod writing;
 
 pub use fault::TextFault;
-pub use law::{no_text_spells_two_programs, texts_of_programs_have_no_fault};
+pub use law::{
+    no_text_spells_two_programs, spelled_programs_are_written_back, texts_of_programs_have_no_fault,
+};

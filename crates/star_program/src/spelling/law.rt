@@ -1,5 +1,6 @@
 // What holds of all texts.
 
+ghost use Rattle.star_program.specs.Spellable.{OnlySpellable, Written, WrittenBack};
 ghost use Rattle.star_program.specs.Spelling.{NoFault, OneProgram};
 
 /// No text spells two programs.
@@ -10,4 +11,11 @@ pub fn no_text_spells_two_programs()
 /// A text that spells a program within the limits has no fault.
 pub fn texts_of_programs_have_no_fault()
     ensures { NoFault }
+{}
+
+/// The text of a program spells it where some text does: where each of its statements can be said.
+pub fn spelled_programs_are_written_back()
+    ensures written { Written }
+    ensures only { OnlySpellable }
+    ensures back { WrittenBack }
 {}

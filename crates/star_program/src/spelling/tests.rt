@@ -58,6 +58,49 @@ const ABOVE_AVERAGE: &str = concat!(
     "show n aggregate 0\n",
 );
 
+// Each instruction, and lists and texts of each kind.
+const EVERY_LINE: &str = concat!(
+    "star program 1\n",
+    "registers 20\n",
+    "group 0 cube c_region number : sum count min max\n",
+    "group 1 plain :\n",
+    "r0 = const -9223372036854775808\n",
+    "r1 = low c_region 'it''s  '\n",
+    "r2 = high c_region ''\n",
+    "scan customer r3\n",
+    "  r4 = load c_region r3\n",
+    "  scan lineorder r5\n",
+    "    r6 = load lo_orderdate r5\n",
+    "    r7 = find date r6\n",
+    "    r8 = add r6 r6\n",
+    "    r9 = sub r8 r6\n",
+    "    r10 = mul r9 r6\n",
+    "    r11 = lt r9 r10\n",
+    "    r12 = le r9 r10\n",
+    "    r13 = eq r9 r10\n",
+    "    r14 = within r4 r1 r2\n",
+    "    r15 = and r11 r12\n",
+    "    r16 = or r13 r14\n",
+    "    r17 = not r16\n",
+    "    keep r15\n",
+    "    put 0 r4 r6 : r8 r9 r10\n",
+    "  end\n",
+    "  put 1 :\n",
+    "end\n",
+    "r18 = read 0 3 9223372036854775807\n",
+    "report 0\n",
+    "show Region_1 key 0\n",
+    "show n aggregate 1\n",
+    "sort key 0 descending\n",
+    "sort aggregate 1 ascending\n",
+);
+
+// The smallest program, with more spaces, zeros and blank lines than its text has.
+const LOOSE: &str =
+    "\r\n  star   program 1  \r\nregisters 0008\n   \nreport 00\n\nshow n  key 0000";
+
+const LOOSE_AGAIN: &str = "star program 1\nregisters 8\nreport 0\nshow n key 0\n";
+
 fn load(target: u16, column: ColumnId, row: u16) -> Step {
     Step::Act(Op::Load {
         target,
@@ -263,10 +306,16 @@ fn text_again(alloc: Global, text: &str) -> Result<Vec<u8>, TextFault> {
 
 #[test]
 fn reads_programs_back(rt: HostRuntime) {
-    for text in [REVENUE, ABOVE_AVERAGE] {
+    let cases = [
+        (REVENUE, REVENUE),
+        (ABOVE_AVERAGE, ABOVE_AVERAGE),
+        (EVERY_LINE, EVERY_LINE),
+        (LOOSE, LOOSE_AGAIN),
+    ];
+    for (text, expected) in cases {
         match text_again(rt.alloc(), text) {
-            Ok(again) => assert!(rt; again.as_slice() == text.as_bytes()),
-            Err(fault) => assert_eq!(rt; fault, TextFault::OutOfMemory),
+            Ok(again) => assert!(rt; again.as_slice() == expected.as_bytes(), "{text}"),
+            Err(fault) => assert_eq!(rt; fault, TextFault::OutOfMemory, "{text}"),
         }
     }
 }
@@ -438,19 +487,118 @@ fn tells_the_first_fault(rt: HostRuntime) {
             "star program 1\nregisters 1\nscan date r0\nreport\t0",
             bad(4),
         ),
-        (
-            "star program 1\nregisters 1\nscan date r0\nscan date r1\nscan date r2\nscan date r3",
-            large(6),
-        ),
-        (
-            "star program 1\nregisters 1\ngroup 0 cube number number number number number number number :",
-            large(3),
-        ),
+        ("star program 1\nregisters 1\nregisters 1\nreport 0", bad(3)),
+        ("star program 1\nregisters 1\nreport 0\nreport 0", bad(4)),
     ];
     for (text, expected) in cases {
         let got = fault_of(rt.alloc(), text.as_bytes());
         if got != Err(TextFault::OutOfMemory) {
             assert_eq!(rt; got, expected, "{text}");
+        }
+    }
+}
+
+// The front, so many times the middle, and the end.
+fn repeated(
+    alloc: Global,
+    front: &str,
+    middle: &str,
+    count: u16,
+    end: &str,
+) -> Result<Vec<u8>, AllocError> {
+    let mut text = Vec::new(alloc);
+    text.extend_from_slice(front.as_bytes())?;
+    for _ in 0..count {
+        text.extend_from_slice(middle.as_bytes())?;
+    }
+    text.extend_from_slice(end.as_bytes())?;
+    Ok(text)
+}
+
+// The fault of a text with so many middles.
+fn fault_at(
+    alloc: Global,
+    front: &str,
+    middle: &str,
+    count: u16,
+    end: &str,
+) -> Result<(), TextFault> {
+    let text = repeated(alloc, front, middle, count, end)?;
+    fault_of(alloc, text.as_slice())
+}
+
+const HEAD: &str = "star program 1\nregisters 1\n";
+
+#[test]
+fn texts_are_limited(rt: HostRuntime) {
+    let cases = [
+        (HEAD, "r0 = const 7\n", 4096, "report 0", 4099),
+        (HEAD, "scan date r0\nend\n", 4096, "report 0", 8195),
+        (
+            "star program 1\nregisters 1\ngroup 0 plain",
+            " number",
+            6,
+            " :\nreport 0",
+            3,
+        ),
+        (
+            "star program 1\nregisters 1\ngroup 0 plain :",
+            " sum",
+            8,
+            "\nreport 0",
+            3,
+        ),
+        (
+            "star program 1\nregisters 1\nreport 0\n",
+            "show n key 0\n",
+            16,
+            "",
+            20,
+        ),
+        (
+            "star program 1\nregisters 1\nreport 0\n",
+            "sort key 0 ascending\n",
+            16,
+            "",
+            20,
+        ),
+    ];
+    for (front, middle, most, end, line) in cases {
+        let at = fault_at(rt.alloc(), front, middle, most, end);
+        if at != Err(TextFault::OutOfMemory) {
+            assert_eq!(rt; at, Ok(()), "{most} {middle}");
+        }
+        let past = fault_at(rt.alloc(), front, middle, most + 1, end);
+        if past != Err(TextFault::OutOfMemory) {
+            assert_eq!(rt; past, Err(TextFault::TooLarge { line }), "{most} {middle}");
+        }
+    }
+}
+
+#[test]
+fn texts_have_few_groups_and_scans(rt: HostRuntime) {
+    let cases = [
+        (
+            "group 0 plain :\ngroup 1 plain :\ngroup 2 plain :\ngroup 3 plain :\ngroup 4 plain :\ngroup 5 plain :\ngroup 6 plain :\ngroup 7 plain :\nreport 0",
+            Ok(()),
+        ),
+        (
+            "group 0 plain :\ngroup 1 plain :\ngroup 2 plain :\ngroup 3 plain :\ngroup 4 plain :\ngroup 5 plain :\ngroup 6 plain :\ngroup 7 plain :\ngroup 8 plain :\nreport 0",
+            Err(TextFault::TooLarge { line: 11 }),
+        ),
+        (
+            "scan date r0\nscan date r0\nscan date r0\nend\nend\nend\nreport 0",
+            Ok(()),
+        ),
+        (
+            "scan date r0\nscan date r0\nscan date r0\nscan date r0\nend\nend\nend\nend\nreport 0",
+            Err(TextFault::TooLarge { line: 6 }),
+        ),
+    ];
+    for (body, expected) in cases {
+        let got = fault_at(rt.alloc(), HEAD, body, 1, "");
+        if got != Err(TextFault::OutOfMemory) {
+            assert_eq!(rt; got, expected, "{body}");
         }
     }
 }

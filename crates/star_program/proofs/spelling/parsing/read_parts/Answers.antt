@@ -1,4 +1,4 @@
-use Rattle.std.proofs.Common.{◌≡◌, ◌∙◌, ◌++◌, Some, ap, append-nil, arith, inl, inr, map, refl, sym}
+use Rattle.std.proofs.Common.{◌∙◌, ◌++◌, Some, ap, append-nil, arith, inl, inr, map, refl, sym}
 use Rattle.std.proofs.lemmas.Result.{err_from_is_err_and}
 use Rattle.star_program.specs.Drafts.{lines_say, told}
 use Rattle.star_program.specs.Lines.{lines_of}

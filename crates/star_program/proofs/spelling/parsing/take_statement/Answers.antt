@@ -1,4 +1,3 @@
-use Rattle.std.proofs.Common.{inl, inr}
 use Rattle.star_program.proofs.DraftLemmas.{end_opened, line_passed, line_refused}
 use Rattle.star_program.proofs.spelling.parsing.take_statement.Goals as goal
 

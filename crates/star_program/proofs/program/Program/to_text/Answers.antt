@@ -1,0 +1,10 @@
+use Rattle.std.proofs.Common.{ℕ, List, subst, sym}
+use Rattle.std.proofs.lemmas.Result.{IfOk-weaker}
+use Rattle.star_program.specs.Spelling.{Spells}
+use Rattle.star_program.proofs.Spelled.{written}
+use Rattle.star_program.proofs.program.Program.to_text.Goals as goal
+
+pub returns-clause-spells : goal.returns-clause-spells
+returns-clause-spells c =
+    IfOk-weaker c.write_parts.result _ _
+    (λ text is sayable. subst (λ (t : List ℕ). Spells t c.args.self.now) (sym (rw c.self.view_is at is)) (written c.args.self.now sayable)) c.write_parts.ensures
