@@ -12,7 +12,7 @@ use crate::outcome::outcome;
 use crate::report::names_what_is_there;
 use crate::run::Run;
 use crate::start::{empty_registers, start};
-use crate::walk::walk;
+use crate::walk::{Machine, walk};
 use star_catalogue::Catalogue;
 use star_program::{MOST_SCANS, Outcome, Parts, Program};
 use std::alloc::Global;
@@ -34,10 +34,13 @@ fn run_through(
     let mut registers = empty_registers(alloc, wide)?;
     let mut frames = empty_registers(alloc, MOST_SCANS as usize * wide)?;
     let mut run = start(alloc, parts)?;
-    walk(
+    let machine = Machine {
         catalogue,
         parts,
         most,
+    };
+    walk(
+        &machine,
         &parts.body,
         1,
         false,

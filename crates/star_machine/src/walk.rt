@@ -22,6 +22,23 @@ use star_catalogue::Catalogue;
 use star_program::{Body, Parts, Step};
 use star_schema::TableId;
 
+/// What a walk reads and never changes: the tables, the program, and how many turns may begin in all.
+#[derive(Clone, Copy)]
+pub(crate) struct Machine<'a> {
+    pub(crate) catalogue: &'a Catalogue,
+    pub(crate) parts: &'a Parts,
+    pub(crate) most: u64,
+}
+
+/// A scan: of a table, into a register; its body, and its number.
+#[derive(Clone, Copy)]
+struct Scanned<'a> {
+    table: TableId,
+    target: u16,
+    body: &'a Body,
+    at: u16,
+}
+
 /// How many instructions a body has.
 fn size(body: &Body) -> u16
     requires { code_size body.now < 2 ^ 16 }
@@ -50,82 +67,77 @@ fn stopped(stop: Stop, at: u16) -> TrialFault
 /// A turn of a scan: at a row, with the registers before the scan.
 #[cycle(walk)]
 fn turn(
-    catalogue: &Catalogue,
-    parts: &Parts,
-    most: u64,
-    body: &Body,
-    at: u16,
-    target: u16,
+    machine: &Machine<'_>,
+    scanned: &Scanned<'_>,
     row: Value,
     before: &[Register],
     registers: &mut [Register],
     frames: &mut [Register],
     run: &mut Run,
 ) -> Result<(), TrialFault>
-    requires size { code_size body.now ≤ 4096 }
-    requires at { at + code_size body.now < 2 ^ 16 }
-    requires target { target < parts.now.registers }
-    requires before { length before.now ≡ parts.now.registers }
-    requires wide { length registers.old ≡ parts.now.registers }
-    requires deep { scan_depth body.now * parts.now.registers ≤ length frames.old }
-    requires groups { All IsSmall parts.now.groups }
-    requires most { most ≤ 10 ^ 15 }
-    requires few { IsFew most run.old 0 }
-    requires sound { AreSound catalogue.now (held before.now) }
-    requires done { (s : Store) × HasDone catalogue.now parts.now run.old s }
-    requires row { IsSoundValue catalogue.now (value_shown row) }
-    ensures ends { (s : Store) → HasDone catalogue.now parts.now run.old s
-        → IsEnd catalogue.now parts.now run.new (begin (nat_lt s.visits most) s (meaning (world_of catalogue.now) parts.now (λ visits. nat_lt visits most) body.now at true (with_entry (held before.now) target (value_shown row)))) result }
-    ensures worked { OnOk result (HasWorked most run.old run.new 0) }
+    requires size { code_size scanned.now.body.now ≤ 4096 }
+    requires at { scanned.now.at + 1 + code_size scanned.now.body.now < 2 ^ 16 }
+    requires target { scanned.now.target < machine.now.parts.now.registers }
+    requires before { length before.now ≡ machine.now.parts.now.registers }
+    requires wide { length registers.old ≡ machine.now.parts.now.registers }
+    requires deep { scan_depth scanned.now.body.now * machine.now.parts.now.registers ≤ length frames.old }
+    requires groups { All IsSmall machine.now.parts.now.groups }
+    requires most { machine.now.most ≤ 10 ^ 15 }
+    requires few { IsFew machine.now.most run.old 0 }
+    requires sound { AreSound machine.now.catalogue.now (held before.now) }
+    requires done { (s : Store) × HasDone machine.now.catalogue.now machine.now.parts.now run.old s }
+    requires row { IsSoundValue machine.now.catalogue.now (value_shown row) }
+    ensures ends { (s : Store) → HasDone machine.now.catalogue.now machine.now.parts.now run.old s
+        → IsEnd machine.now.catalogue.now machine.now.parts.now run.new (begin (nat_lt s.visits machine.now.most) s (meaning (world_of machine.now.catalogue.now) machine.now.parts.now (λ visits. nat_lt visits machine.now.most) scanned.now.body.now (scanned.now.at + 1) true (with_entry (held before.now) scanned.now.target (value_shown row)))) result }
+    ensures worked { OnOk result (HasWorked machine.now.most run.old run.new 0) }
     ensures len { length registers.new ≡ length registers.old }
     ensures frames { length frames.new ≡ length frames.old }
 {
-    if run.visits >= most {
+    if run.visits >= machine.most {
         return Err(TrialFault::Limit);
     }
     run.visits += 1;
     registers.copy_from_slice(before);
-    set(registers, target, row);
+    set(registers, scanned.target, row);
     walk(
-        catalogue, parts, most, body, at, true, registers, frames, run,
+        machine,
+        scanned.body,
+        scanned.at + 1,
+        true,
+        registers,
+        frames,
+        run,
     )
 }
 
 /// The turns of a scan, one for each row of the table in order.
 #[cycle(walk)]
 fn turns(
-    catalogue: &Catalogue,
-    parts: &Parts,
-    most: u64,
-    table: TableId,
-    body: &Body,
-    at: u16,
-    target: u16,
+    machine: &Machine<'_>,
+    scanned: &Scanned<'_>,
     before: &[Register],
     registers: &mut [Register],
     frames: &mut [Register],
     run: &mut Run,
 ) -> Result<(), TrialFault>
-    requires size { code_size body.now ≤ 4096 }
-    requires at { at + code_size body.now < 2 ^ 16 }
-    requires target { target < parts.now.registers }
-    requires before { length before.now ≡ parts.now.registers }
-    requires wide { length registers.old ≡ parts.now.registers }
-    requires deep { scan_depth body.now * parts.now.registers ≤ length frames.old }
-    requires groups { All IsSmall parts.now.groups }
-    requires most { most ≤ 10 ^ 15 }
-    requires few { IsFew most run.old 0 }
-    requires sound { AreSound catalogue.now (held before.now) }
-    requires done { (s : Store) × HasDone catalogue.now parts.now run.old s }
-    ensures ends { (s : Store) → HasDone catalogue.now parts.now run.old s
-        → IsEnd catalogue.now parts.now run.new (all_turns (λ visits. nat_lt visits most) (length (rows_in catalogue.now table)) 0 (λ row. meaning (world_of catalogue.now) parts.now (λ visits. nat_lt visits most) body.now at true (with_entry (held before.now) target (Row table row))) s) result }
-    ensures worked { OnOk result (HasWorked most run.old run.new 0) }
+    requires size { code_size scanned.now.body.now ≤ 4096 }
+    requires at { scanned.now.at + 1 + code_size scanned.now.body.now < 2 ^ 16 }
+    requires target { scanned.now.target < machine.now.parts.now.registers }
+    requires before { length before.now ≡ machine.now.parts.now.registers }
+    requires wide { length registers.old ≡ machine.now.parts.now.registers }
+    requires deep { scan_depth scanned.now.body.now * machine.now.parts.now.registers ≤ length frames.old }
+    requires groups { All IsSmall machine.now.parts.now.groups }
+    requires most { machine.now.most ≤ 10 ^ 15 }
+    requires few { IsFew machine.now.most run.old 0 }
+    requires sound { AreSound machine.now.catalogue.now (held before.now) }
+    requires done { (s : Store) × HasDone machine.now.catalogue.now machine.now.parts.now run.old s }
+    ensures ends { (s : Store) → HasDone machine.now.catalogue.now machine.now.parts.now run.old s
+        → IsEnd machine.now.catalogue.now machine.now.parts.now run.new (all_turns (λ visits. nat_lt visits machine.now.most) (length (rows_in machine.now.catalogue.now scanned.now.table)) 0 (λ row. meaning (world_of machine.now.catalogue.now) machine.now.parts.now (λ visits. nat_lt visits machine.now.most) scanned.now.body.now (scanned.now.at + 1) true (with_entry (held before.now) scanned.now.target (Row scanned.now.table row))) s) result }
+    ensures worked { OnOk result (HasWorked machine.now.most run.old run.new 0) }
 {
-    for row in 0..catalogue.rows(table) {
-        let value = Value::Row(table, row);
-        turn(
-            catalogue, parts, most, body, at, target, value, before, registers, frames, run,
-        )?;
+    for row in 0..machine.catalogue.rows(scanned.table) {
+        let value = Value::Row(scanned.table, row);
+        turn(machine, scanned, value, before, registers, frames, run)?;
     }
     Ok(())
 }
@@ -133,60 +145,41 @@ fn turns(
 /// A scan of a table, whose own number stands before that of its body.
 #[cycle(walk)]
 fn scan(
-    catalogue: &Catalogue,
-    parts: &Parts,
-    most: u64,
-    table: TableId,
-    target: u16,
-    body: &Body,
-    at: u16,
+    machine: &Machine<'_>,
+    scanned: &Scanned<'_>,
     before: &[Register],
     frames: &mut [Register],
     run: &mut Run,
 ) -> Result<(), TrialFault>
-    requires size { code_size body.now < 4096 }
-    requires at { at + 1 + code_size body.now < 2 ^ 16 }
-    requires before { length before.now ≡ parts.now.registers }
-    requires deep { (1 + scan_depth body.now) * parts.now.registers ≤ length frames.old }
-    requires groups { All IsSmall parts.now.groups }
-    requires most { most ≤ 10 ^ 15 }
-    requires few { IsFew most run.old 0 }
-    requires sound { AreSound catalogue.now (held before.now) }
-    requires done { (s : Store) × HasDone catalogue.now parts.now run.old s }
-    ensures ends { (s : Store) → HasDone catalogue.now parts.now run.old s
-        → IsEnd catalogue.now parts.now run.new (scans at (nat_lt target parts.now.registers) (λ _. all_turns (λ visits. nat_lt visits most) (length (rows_in catalogue.now table)) 0 (λ row. meaning (world_of catalogue.now) parts.now (λ visits. nat_lt visits most) body.now (at + 1) true (with_entry (held before.now) target (Row table row))) s)) result }
-    ensures worked { OnOk result (HasWorked most run.old run.new 0) }
+    requires size { code_size scanned.now.body.now < 4096 }
+    requires at { scanned.now.at + 1 + code_size scanned.now.body.now < 2 ^ 16 }
+    requires before { length before.now ≡ machine.now.parts.now.registers }
+    requires deep { (1 + scan_depth scanned.now.body.now) * machine.now.parts.now.registers ≤ length frames.old }
+    requires groups { All IsSmall machine.now.parts.now.groups }
+    requires most { machine.now.most ≤ 10 ^ 15 }
+    requires few { IsFew machine.now.most run.old 0 }
+    requires sound { AreSound machine.now.catalogue.now (held before.now) }
+    requires done { (s : Store) × HasDone machine.now.catalogue.now machine.now.parts.now run.old s }
+    ensures ends { (s : Store) → HasDone machine.now.catalogue.now machine.now.parts.now run.old s
+        → IsEnd machine.now.catalogue.now machine.now.parts.now run.new (scans scanned.now.at (nat_lt scanned.now.target machine.now.parts.now.registers) (λ _. all_turns (λ visits. nat_lt visits machine.now.most) (length (rows_in machine.now.catalogue.now scanned.now.table)) 0 (λ row. meaning (world_of machine.now.catalogue.now) machine.now.parts.now (λ visits. nat_lt visits machine.now.most) scanned.now.body.now (scanned.now.at + 1) true (with_entry (held before.now) scanned.now.target (Row scanned.now.table row))) s)) result }
+    ensures worked { OnOk result (HasWorked machine.now.most run.old run.new 0) }
     ensures frames { length frames.new ≡ length frames.old }
 {
-    if target as usize >= before.len() {
+    if scanned.target as usize >= before.len() {
         return Err(TrialFault::Trap {
-            at,
+            at: scanned.at,
             kind: TrapKind::BadRegister,
         });
     }
     let (registers, deeper) = frames.split_at_mut(before.len());
-    turns(
-        catalogue,
-        parts,
-        most,
-        table,
-        body,
-        at + 1,
-        target,
-        before,
-        registers,
-        deeper,
-        run,
-    )
+    turns(machine, scanned, before, registers, deeper, run)
 }
 
 /// A walk over a body from an instruction on, inside scans or not: to its end or to the end of the turn. The frames hold
 /// the registers of the scans in it.
 #[cycle(walk)]
 pub(crate) fn walk(
-    catalogue: &Catalogue,
-    parts: &Parts,
-    most: u64,
+    machine: &Machine<'_>,
     body: &Body,
     at: u16,
     inside: bool,
@@ -196,16 +189,16 @@ pub(crate) fn walk(
 ) -> Result<(), TrialFault>
     requires size { code_size body.now ≤ 4096 }
     requires at { at + code_size body.now < 2 ^ 16 }
-    requires wide { length registers.old ≡ parts.now.registers }
-    requires deep { scan_depth body.now * parts.now.registers ≤ length frames.old }
-    requires groups { All IsSmall parts.now.groups }
-    requires most { most ≤ 10 ^ 15 }
-    requires few { IsFew most run.old (code_size body.now) }
-    requires sound { AreSound catalogue.now (held registers.old) }
-    requires done { (s : Store) × HasDone catalogue.now parts.now run.old s }
-    ensures ends { (s : Store) → HasDone catalogue.now parts.now run.old s
-        → IsEnd catalogue.now parts.now run.new (meaning (world_of catalogue.now) parts.now (λ visits. nat_lt visits most) body.now at inside (held registers.old) s) result }
-    ensures worked { OnOk result (HasWorked most run.old run.new (code_size body.now)) }
+    requires wide { length registers.old ≡ machine.now.parts.now.registers }
+    requires deep { scan_depth body.now * machine.now.parts.now.registers ≤ length frames.old }
+    requires groups { All IsSmall machine.now.parts.now.groups }
+    requires most { machine.now.most ≤ 10 ^ 15 }
+    requires few { IsFew machine.now.most run.old (code_size body.now) }
+    requires sound { AreSound machine.now.catalogue.now (held registers.old) }
+    requires done { (s : Store) × HasDone machine.now.catalogue.now machine.now.parts.now run.old s }
+    ensures ends { (s : Store) → HasDone machine.now.catalogue.now machine.now.parts.now run.old s
+        → IsEnd machine.now.catalogue.now machine.now.parts.now run.new (meaning (world_of machine.now.catalogue.now) machine.now.parts.now (λ visits. nat_lt visits machine.now.most) body.now at inside (held registers.old) s) result }
+    ensures worked { OnOk result (HasWorked machine.now.most run.old run.new (code_size body.now)) }
     ensures len { length registers.new ≡ length registers.old }
     ensures frames { length frames.new ≡ length frames.old }
 {
@@ -213,7 +206,7 @@ pub(crate) fn walk(
     for step in body.as_slice() {
         match step {
             Step::Act(op) => {
-                match act(catalogue, parts, inside, registers, run, op) {
+                match act(machine.catalogue, machine.parts, inside, registers, run, op) {
                     Ok(Flow::GoesOn) => place += 1,
                     Ok(Flow::EndsTurn) => return Ok(()),
                     Err(stop) => return Err(stopped(stop, place)),
@@ -224,9 +217,13 @@ pub(crate) fn walk(
                 target,
                 body,
             } => {
-                scan(
-                    catalogue, parts, most, *table, *target, body, place, registers, frames, run,
-                )?;
+                let scanned = Scanned {
+                    table: *table,
+                    target: *target,
+                    body,
+                    at: place,
+                };
+                scan(machine, &scanned, registers, frames, run)?;
                 place += 1 + size(body);
             }
         }

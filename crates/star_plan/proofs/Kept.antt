@@ -1,5 +1,5 @@
 -- The plan of a well named query within the limits is sound and within the limits.
-use Rattle.std.proofs.Common.{◌≡◌, ◌∙◌, sym, ap, subst, ℕ, ◌≤◌, true, List, [], ◌∷◌, Option, Some, None, length, map, arith}
+use Rattle.std.proofs.Common.{◌≡◌, ◌∙◌, sym, ap, subst, ℕ, ◌+◌, ◌<◌, ◌≤◌, ◌^◌, true, List, [], ◌∷◌, Option, Some, None, length, map, arith}
 use Rattle.std.specs.List.{list_all, sum_by}
 use Rattle.std.proofs.lemmas.List.{length-map}
 use Rattle.std.proofs.lemmas.List.Sums.{sum_by-cons}
@@ -7,6 +7,8 @@ use Rattle.star_schema.specs.Schema.{table_of}
 use Rattle.star_query.specs.declared.tree.Tree.{Tree}
 use Rattle.star_query.specs.Views.{item_view, key_view, name_view, tree_view}
 use Rattle.star_query.specs.Limits as asked
+use Rattle.star_query.specs.Spelled as spelled
+use Rattle.star_query.specs.Spelled.{is_name}
 use Rattle.star_query.specs.Tree as tree
 use Rattle.star_plan.specs.Joins.{is_foreign, joins_of, where_pairs}
 use Rattle.star_plan.specs.Meaning.{Plan}
@@ -16,9 +18,11 @@ use Rattle.star_plan.specs.Faults.{aggregates_fault, plan_fault}
 use Rattle.star_plan.specs.Resolved.{IsResolved, resolved_key}
 use Rattle.star_plan.specs.Sound.{are_distinct, condition_is_sound, in_scope, is_column, measure_is_sound, IsSound}
 use Rattle.star_plan.specs.Limits.{IsWithinLimits}
+use Rattle.star_plan.specs.Spelled.{IsSpelled}
 use Rattle.star_plan.proofs.Whole.{conjuncts_there, keys_there, measures_there, parts}
 use Rattle.star_plan.proofs.KeptJoins.{at_most_four, where_foreign}
 use Rattle.star_plan.proofs.KeptCounts.{all_counted, items_counted, items_there, measures_counted, names_counted, operands_counted, sorts_there, where_comparisons}
+use Rattle.star_plan.proofs.KeptSpelling.{measures_spelled, names_spelled, where_spelled}
 
 same_some : {A : Type 0} (o : Option A) (x y : A) → o ≡ Some x → o ≡ Some y → x ≡ y
 same_some o x y e f = cc
@@ -85,4 +89,13 @@ kept_sound t p named resolved =
           subst (λ n. list_all (λ s. is_column n (length p.measures) s.column) p.sorts ≡ true) (sym keys_many)
           (subst (λ n. list_all (λ s. is_column (length t.grouping.columns.items) n s.column) p.sorts ≡ true) names_same
           (sorts_there t.grouping.columns.items (aggregate_names t.items.items) t.keys.items p.sorts resolved.sorts));
+    }
+
+pub kept_spelled : (t : Tree) (p : Plan) → asked.IsWithinLimits (tree_view t) → spelled.IsSpelled (tree_view t) → IsResolved t p → IsSpelled p
+kept_spelled t p few good resolved =
+    let short : 1 + length t.items.items < 2 ^ 64 = omega (arith, few.items, length-map t.items.items item_view) in
+    record {
+      names = ap (list_all is_name) resolved.names ∙ names_spelled 1 t.items.items short good.items;
+      conjuncts = where_spelled t.condition p.conjuncts resolved.conjuncts good.condition;
+      measures = measures_spelled t.items.items p.measures resolved.measures good.items;
     }

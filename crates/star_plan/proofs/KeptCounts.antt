@@ -1,5 +1,5 @@
 -- The counts of a plan are those of its query.
-use Rattle.std.proofs.Common.{◌≡◌, ◌∙◌, sym, ap, subst, ℕ, ◌+◌, ◌<◌, ◌≤◌, true, ◌⊎◌, inl, inr, List, [], ◌∷◌, ◌++◌, Option, Some, None, length, map, nat_eq, option_map, arith, refl}
+use Rattle.std.proofs.Common.{◌≡◌, ◌∙◌, sym, ap, subst, ℕ, ◌+◌, ◌<◌, ◌≤◌, true, inl, inr, List, [], ◌∷◌, ◌++◌, Option, Some, None, length, map, nat_eq, option_map, arith, refl}
 use Rattle.std.specs.Cmp.Lexicographic.{pointwise}
 use Rattle.std.specs.List.{list_all, position, sum_by}
 use Rattle.std.specs.Option.{option_or}
@@ -27,27 +27,10 @@ use Rattle.star_plan.specs.Meaning.{Condition, either, both, negation, compare, 
 use Rattle.star_plan.specs.Names.{column_at}
 use Rattle.star_plan.specs.Naming.{names_from}
 use Rattle.star_plan.specs.Shown.{folded, literal_value}
-use Rattle.star_plan.specs.Resolved.{aggregate_column, conjuncts_of, item_column, items_from, key_column, measures_of, option_all, option_both, resolved_condition, resolved_direction, resolved_expression, resolved_key, resolved_measure, where_conjuncts}
+use Rattle.star_plan.specs.Resolved.{aggregate_column, conjuncts_of, item_column, items_from, key_column, measures_of, option_all, resolved_condition, resolved_direction, resolved_expression, resolved_key, resolved_measure, where_conjuncts}
 use Rattle.star_plan.specs.Limits.{comparisons_of, measure_operands, operands_of}
 use Rattle.star_plan.specs.Sound.{is_column}
-
--- ---- what gave an answer
-
-pub record Both {A B C : Type 0} (f : A → B → C) (a : Option A) (b : Option B) (c : C) : Type 0 where
-  pub left : A
-  pub right : B
-  pub first : a ≡ Some left
-  pub second : b ≡ Some right
-  pub made : f left right ≡ c
-
-both_gave : {A B C : Type 0} (f : A → B → C) (a : Option A) (b : Option B) (c : C) → option_both f a b ≡ Some c → Both f a b c
-both_gave f None b c e = absurd (cc)
-both_gave f (Some x) None c e = absurd (cc)
-both_gave f (Some x) (Some y) c e = record { left = x; right = y; first = refl; second = refl; made = cc }
-
-mapped_gave : {A B : Type 0} (f : A → B) (o : Option A) (b : B) → option_map f o ≡ Some b → (a : A) × (o ≡ Some a) × (f a ≡ b)
-mapped_gave f None b e = absurd (cc)
-mapped_gave f (Some a) b e = (a, refl, cc)
+use Rattle.star_plan.proofs.Options.{both_gave, first_or_second, mapped_gave}
 
 abbrev sorted_by : GroupColumn → SortKey → sorted.SortKey
 sorted_by c k = record { column = c; direction = resolved_direction k.direction }
@@ -191,14 +174,10 @@ items_there groups before most (item.Aggregate a ∷ is') cs few e =
     (and_from _ _ (subst (λ d. is_column (length groups) most d ≡ true) here (lt-ltb _ _ below))
     (items_there groups (before + 1) most is' g.right (omega (arith, few, sum_by-cons asked.aggregates_in (item_view (item.Aggregate a)) (map item_view is'))) g.second))
 
-one_of : {A : Type 0} (o q : Option A) (x : A) → option_or o q ≡ Some x → (o ≡ Some x) ⊎ (q ≡ Some x)
-one_of None q x e = inr e
-one_of (Some y) q x e = inl e
-
 sort_there : (groups : List Name) (names : List (List ℕ)) (text : List ℕ) (c : GroupColumn) → option_or (key_column groups text) (aggregate_column names text) ≡ Some c
     → is_column (length groups) (length names) c ≡ true
 sort_there groups names text c e =
-    elim (one_of (key_column groups text) (aggregate_column names text) c e) [ inl key ↦ key_there groups text c (length names) key | inr other ↦ aggregate_there (length groups) names text c other ]
+    elim (first_or_second (key_column groups text) (aggregate_column names text) c e) [ inl key ↦ key_there groups text c (length names) key | inr other ↦ aggregate_there (length groups) names text c other ]
 
 pub sorts_there : (groups : List Name) (names : List (List ℕ)) (ks : List SortKey) (ss : List sorted.SortKey) → option_all (resolved_key groups names) ks ≡ Some ss
     → list_all (λ s. is_column (length groups) (length names) s.column) ss ≡ true

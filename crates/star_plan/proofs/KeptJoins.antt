@@ -1,8 +1,7 @@
 -- The joins of a well named query: each by a foreign key, and each of another dimension.
-use Rattle.std.proofs.Common.{◌≡◌, ◌∙◌, ap, subst, ℕ, ◌+◌, ◌≤◌, Bool, true, false, ◌||◌, not, if◌then◌else◌, ◌⊎◌, inl, inr, List, [], ◌∷◌, ◌++◌, Option, Some, None, length, arith, refl}
+use Rattle.std.proofs.Common.{◌≡◌, ◌∙◌, ap, subst, ℕ, ◌+◌, ◌≤◌, Bool, true, false, not, if◌then◌else◌, inl, inr, List, [], ◌∷◌, ◌++◌, Option, Some, None, length, arith, refl}
 use Rattle.std.specs.List.{AllByRecursion, list_all}
-use Rattle.std.specs.Option.{option_or}
-use Rattle.std.proofs.lemmas.Bool.{and_from}
+use Rattle.std.proofs.lemmas.Bool.{and_from, and_parts, or_left, or_right}
 use Rattle.std.proofs.lemmas.List.Folds.{list_any-append}
 use Rattle.star_schema.specs.declared.table.TableId.{TableId}
 use Rattle.star_schema.specs.declared.table.TableId.TheVariants.{Date, Customer, Supplier, Part, Lineorder}
@@ -17,7 +16,8 @@ use Rattle.star_plan.specs.Names.{column_at}
 use Rattle.star_plan.specs.Joins.{is_foreign, is_joined, is_lone_key, join_by, join_of, joins, joins_of, pairs_of, refers, where_pairs}
 use Rattle.star_plan.specs.Faults.{of_pair, pair_fault}
 use Rattle.star_plan.specs.Sound.{are_distinct}
-use Rattle.star_plan.proofs.Known.{and_both, or_none}
+use Rattle.star_plan.proofs.Known.{or_none}
+use Rattle.star_plan.proofs.Options.{first_or_second}
 
 -- ---- each by a foreign key
 
@@ -29,10 +29,6 @@ join_by_foreign f k j e = go (is_foreign f k) refl e
         let found : Some (record { foreign = f; key = k }) ≡ Some j = rw h at e in
         let same : record { foreign = f; key = k } ≡ j = cc in subst (λ (q : Join). is_foreign q.foreign q.key ≡ true) same h
     go false h e = absurd (let none : None ≡ Some j = rw h at e in cc)
-
-first_or_second : {A : Type 0} (o q : Option A) (x : A) → option_or o q ≡ Some x → (o ≡ Some x) ⊎ (q ≡ Some x)
-first_or_second None q x e = inr e
-first_or_second (Some y) q x e = inl e
 
 join_of_foreign : (m n : Option ColumnId) (j : Join) → join_of m n ≡ Some j → is_foreign j.foreign j.key ≡ true
 join_of_foreign None n j e = absurd (cc)
@@ -70,14 +66,6 @@ where_foreign None = refl
 where_foreign (Some c) = joins_foreign (pairs_of true c) (pairs_foreign true c)
 
 -- ---- each of another dimension
-
-or_left : (a b : Bool) → a ≡ true → (a || b) ≡ true
-or_left true b e = refl
-or_left false b e = absurd (cc)
-
-or_right : (a b : Bool) → b ≡ true → (a || b) ≡ true
-or_right true b e = refl
-or_right false b e = e
 
 joined_before : (before : List Pair) (p : Pair) (t : TableId) → is_joined before t ≡ true → is_joined (before ++ p ∷ []) t ≡ true
 joined_before before p t e = list_any-append (λ q. joins t q.join) before (p ∷ []) ∙ or_left _ _ e
@@ -132,7 +120,7 @@ joins_to t (j ∷ js) = (if is_table (table_of j.key) t then 1 else 0) + joins_t
 none_to : (t : TableId) (js : List Join) → list_all (λ q. not (is_table (table_of q.key) t)) js ≡ true → joins_to t js ≡ 0
 unfolding joins_to
 none_to t [] e = refl
-none_to t (j ∷ js) e = let both = and_both _ _ e in go (is_table (table_of j.key) t) refl both.0 (none_to t js both.1)
+none_to t (j ∷ js) e = let both = and_parts _ _ e in go (is_table (table_of j.key) t) refl both.0 (none_to t js both.1)
   where
     go : (b : Bool) → is_table (table_of j.key) t ≡ b → not (is_table (table_of j.key) t) ≡ true → joins_to t js ≡ 0 → joins_to t (j ∷ js) ≡ 0
     go true h e rest = absurd (let wrong = rw h at e in cc)
@@ -149,7 +137,7 @@ same_table _ _ e = cc
 once : (t : TableId) (js : List Join) → are_distinct js ≡ true → joins_to t js ≤ 1
 unfolding joins_to
 once t [] e = omega arith
-once t (j ∷ js) e = let both = and_both _ _ e in go (is_table (table_of j.key) t) refl both.0 (once t js both.1)
+once t (j ∷ js) e = let both = and_parts _ _ e in go (is_table (table_of j.key) t) refl both.0 (once t js both.1)
   where
     go : (b : Bool) → is_table (table_of j.key) t ≡ b → list_all (λ q. not (is_table (table_of q.key) (table_of j.key))) js ≡ true → joins_to t js ≤ 1 → joins_to t (j ∷ js) ≤ 1
     go true h e rest = let none : joins_to t js ≡ 0 = none_to t js (rw (same_table (table_of j.key) t h) at e) in rw h (omega arith)
@@ -158,13 +146,13 @@ once t (j ∷ js) e = let both = and_both _ _ e in go (is_table (table_of j.key)
 -- lineorder has no lone key
 not_the_fact : (j : Join) → is_foreign j.foreign j.key ≡ true → table_of j.key ≡ Lineorder → ⊥
 not_the_fact j e fact =
-    let both = and_both (refers (references j.foreign) (table_of j.key)) (is_lone_key j.key (key_of (table_of j.key))) e in
+    let both = and_parts (refers (references j.foreign) (table_of j.key)) (is_lone_key j.key (key_of (table_of j.key))) e in
     let wrong = rw fact at both.1 in cc
 
 all_counted : (js : List Join) → list_all (λ j. is_foreign j.foreign j.key) js ≡ true → length js ≡ joins_to Date js + joins_to Customer js + joins_to Supplier js + joins_to Part js
 unfolding joins_to
 all_counted [] e = refl
-all_counted (j ∷ js) e = let both = and_both _ _ e in go (table_of j.key) refl both.0 (all_counted js both.1)
+all_counted (j ∷ js) e = let both = and_parts _ _ e in go (table_of j.key) refl both.0 (all_counted js both.1)
   where
     go : (t : TableId) → table_of j.key ≡ t → is_foreign j.foreign j.key ≡ true → length js ≡ joins_to Date js + joins_to Customer js + joins_to Supplier js + joins_to Part js
         → length (j ∷ js) ≡ joins_to Date (j ∷ js) + joins_to Customer (j ∷ js) + joins_to Supplier (j ∷ js) + joins_to Part (j ∷ js)

@@ -3,7 +3,7 @@ use Rattle.std.proofs.Common.{◌≡◌, ◌∙◌, sym, ap, ◌+◌, ◌<◌, �
 use Rattle.std.specs.Cmp.Lexicographic.{pointwise, same_text}
 use Rattle.std.specs.List.{AllByRecursion, list_all, list_any, position, prefix_len}
 use Rattle.std.specs.Option.{option_or}
-use Rattle.std.proofs.lemmas.Bool.{and_from, lt-ltb}
+use Rattle.std.proofs.lemmas.Bool.{and_from, and_parts, lt-ltb, or_cases}
 use Rattle.std.proofs.lemmas.List.Folds.{list_all-append}
 use Rattle.star_schema.specs.declared.table.TableId.{TableId}
 use Rattle.star_schema.specs.declared.table.TableId.TheVariants.{Lineorder}
@@ -149,10 +149,6 @@ measures_known tables js reach (item.Aggregate a ∷ is') scoped fit =
 abbrev AreJoins : List Pair → Type 0
 AreJoins ps = AllByRecursion (λ p. (j : Join) × (p.join ≡ Some j)) ps
 
-pub and_both : (a b : Bool) → (a && b) ≡ true → (a ≡ true) × (b ≡ true)
-and_both true b e = (refl, e)
-and_both false b e = absurd (cc)
-
 value_kind : (l : Literal) (c : ColumnId) → is_of (kind_of_literal l) (Some c) ≡ true → same_kind (kind_of c) (kind_of_value (literal_value l)) ≡ true
 value_kind (literal.Number z) c e = e
 value_kind (literal.Text bs) c e = e
@@ -180,7 +176,7 @@ condition_known tables js reach (condition.Between n from upto) pairs scoped fit
     let c = scope_known tables n.place (column_at n) scoped.0 in
     let k : (is_of (kind_of_literal from) (column_at n) && is_of (kind_of_literal upto) (column_at n)) ≡ true =
     kind_known (record { column = column_at n; fits = is_of (kind_of_literal from) (column_at n) && is_of (kind_of_literal upto) (column_at n); at = n.place }) fit.0 in
-    let ks = and_both _ _ (rw c.1 at k) in (
+    let ks = and_parts _ _ (rw c.1 at k) in (
       between c.0 (literal_value from) (literal_value upto),
       ap (option_map (λ d. between d (literal_value from) (literal_value upto))) c.1,
       and_from _ _ (reach c.0 c.2) (and_from _ _ (value_kind from c.0 ks.0) (value_kind upto c.0 ks.1)),
@@ -269,10 +265,6 @@ items_known groups before (item.Aggregate a ∷ is') all =
     let cs = items_known groups (before + 1) is' all.1 in
     (group.Aggregate before ∷ cs.0, λ i. option_both (λ x xs. x ∷ xs) (Some (group.Aggregate before)) (cs.1 i))
 
-or_both : (a b : Bool) → (a || b) ≡ true → (a ≡ true) ⊎ (b ≡ true)
-or_both true b e = inl refl
-or_both false b e = inr e
-
 or_second : {A : Type 0} (o q : Option A) → (y : A) × (q ≡ Some y) → (x : A) × (option_or o q ≡ Some x)
 or_second None q found = found
 or_second (Some z) q found = (z, refl)
@@ -289,7 +281,7 @@ pub order_known : (groups : List Name) (names : List (List ℕ)) (ks : List Sort
     → (ss : List sorted.SortKey) × (option_all (resolved_key groups names) ks ≡ Some ss)
 order_known groups names [] all = ([], refl)
 order_known groups names (k ∷ ks) all =
-    let b = or_both (has_name groups k.name.text.items) (has_text names k.name.text.items) (named_of _ _ all.0) in
+    let b = or_cases (has_name groups k.name.text.items) (has_text names k.name.text.items) (named_of _ _ all.0) in
     let c = order_column groups names k.name.text.items b in
     let ss = order_known groups names ks all.1 in (
       record { column = c.0; direction = resolved_direction k.direction } ∷ ss.0,

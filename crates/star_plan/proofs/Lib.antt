@@ -8,4 +8,5 @@ pub mod Texts
 pub mod Whole
 pub mod KeptJoins
 pub mod KeptCounts
+pub mod KeptSpelling
 pub mod Kept

@@ -1,5 +1,6 @@
 -- Both values of two options, or none.
-use Rattle.std.proofs.Common.{◌≡◌, ◌∙◌, sym, ap, ◌+◌, ◌<◌, ◌≤◌, ℕ, zero, suc, List, [], ◌∷◌, ◌++◌, Option, Some, None, drop, get_or, length, map, option_map, arith, append_assoc, append-nil, refl}
+use Rattle.std.proofs.Common.{◌≡◌, ◌∙◌, sym, ap, ◌+◌, ◌<◌, ◌≤◌, ◌⊎◌, inl, inr, ℕ, zero, suc, List, [], ◌∷◌, ◌++◌, Option, Some, None, drop, get_or, length, map, option_map, arith, append_assoc, append-nil, refl}
+use Rattle.std.specs.Option.{option_or}
 use Rattle.star_plan.specs.declared.tree.Condition.{Condition}
 use Rattle.star_plan.specs.Resolved.{option_all, option_both}
 use Rattle.star_plan.specs.Shown.{condition_shown}
@@ -65,3 +66,25 @@ all_first f xs = go (option_all f xs)
     go : {B : Type 0} (o : Option (List B)) → with_rest [] o ≡ o
     go None = refl
     go (Some ys) = refl
+
+-- ---- what gave an answer
+
+pub record Both {A B C : Type 0} (f : A → B → C) (a : Option A) (b : Option B) (c : C) : Type 0 where
+  pub left : A
+  pub right : B
+  pub first : a ≡ Some left
+  pub second : b ≡ Some right
+  pub made : f left right ≡ c
+
+pub both_gave : {A B C : Type 0} (f : A → B → C) (a : Option A) (b : Option B) (c : C) → option_both f a b ≡ Some c → Both f a b c
+both_gave f None b c e = absurd (cc)
+both_gave f (Some x) None c e = absurd (cc)
+both_gave f (Some x) (Some y) c e = record { left = x; right = y; first = refl; second = refl; made = cc }
+
+pub mapped_gave : {A B : Type 0} (f : A → B) (o : Option A) (b : B) → option_map f o ≡ Some b → (a : A) × (o ≡ Some a) × (f a ≡ b)
+mapped_gave f None b e = absurd (cc)
+mapped_gave f (Some a) b e = (a, refl, cc)
+
+pub first_or_second : {A : Type 0} (o q : Option A) (x : A) → option_or o q ≡ Some x → (o ≡ Some x) ⊎ (q ≡ Some x)
+first_or_second None q x e = inr e
+first_or_second (Some y) q x e = inl e

@@ -9,6 +9,7 @@ pub mod Faults
 pub mod Shown
 pub mod Sound
 pub mod Limits
+pub mod Spelled
 pub mod Resolved
 pub mod Answers
 pub mod PlanTrees

@@ -3,6 +3,7 @@
 ghost use Rattle.star_plan.specs.Shown.{shown};
 ghost use Rattle.star_plan.specs.Sound.{IsSound};
 ghost use Rattle.star_plan.specs.Limits.{IsWithinLimits};
+ghost use Rattle.star_plan.specs.Spelled.{IsSpelled};
 
 use crate::tree::PlanTree;
 
@@ -12,6 +13,7 @@ pub struct Plan {
     pub(crate) tree: PlanTree,
     ghost sound: { IsSound (shown tree) },
     ghost within: { IsWithinLimits (shown tree) },
+    ghost spelled: { IsSpelled (shown tree) },
 }
 
 impl Plan {
@@ -26,6 +28,8 @@ impl Plan {
         ensures sound { IsSound (shown result.now) }
         // At most 4 joins, 256 comparisons, 6 keys, 8 aggregates with 512 operands, 16 items and 16 sort keys.
         ensures limits { IsWithinLimits (shown result.now) }
+        // Names have 1 to 64 letters, digits and `_`, numbers at most 18 digits, and texts bytes from 0x20 to 0x7E.
+        ensures spelled { IsSpelled (shown result.now) }
     {
         &self.tree
     }

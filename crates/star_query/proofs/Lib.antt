@@ -11,3 +11,5 @@ pub mod Queries
 pub mod Places
 pub mod Parsing
 pub mod Within
+pub mod Spelling
+pub mod Spelled

@@ -12,3 +12,4 @@ pub mod TokenFaults
 pub mod Shown
 pub mod Meant
 pub mod Limits
+pub mod Spelled

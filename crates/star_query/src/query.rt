@@ -3,6 +3,7 @@
 ghost use Rattle.star_query.specs.Views.{tree_view};
 ghost use Rattle.star_query.specs.Meant.{IsMeant};
 ghost use Rattle.star_query.specs.Limits.{IsWithinLimits};
+ghost use Rattle.star_query.specs.Spelled.{IsSpelled};
 
 use crate::fault::QueryFault;
 use crate::lexer::tokens_of;
@@ -19,6 +20,7 @@ pub struct Query {
     tree: Tree,
     ghost meant: { ∥ IsMeant (tree_view tree) ∥₁ },
     ghost within: { IsWithinLimits (tree_view tree) },
+    ghost spelled: { IsSpelled (tree_view tree) },
 }
 
 impl Query {
@@ -51,6 +53,8 @@ impl Query {
         ensures same { tree_view result.now ≡ shown self.now }
         // It has at most 16 items, 8 aggregates, 512 operands in them, 256 comparisons, 6 group columns and 16 sort keys.
         ensures limits { IsWithinLimits (tree_view result.now) }
+        // Names have 1 to 64 letters, digits and `_`, numbers at most 18 digits, and texts bytes from 0x20 to 0x7E.
+        ensures spelled { IsSpelled (tree_view result.now) }
     {
         &self.tree
     }

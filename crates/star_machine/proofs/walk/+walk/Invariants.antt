@@ -17,30 +17,30 @@ abbrev pub decreases-walk : goal.decreases-walk
 decreases-walk l = 4 * code_size l.body.now
 
 abbrev pub decreases-turn : goal.decreases-turn
-decreases-turn l = 4 * code_size l.body.now + 1
+decreases-turn l = 4 * code_size l.scanned.now.body.now + 1
 
 abbrev pub decreases-turns : goal.decreases-turns
-decreases-turns l = 4 * code_size l.body.now + 2
+decreases-turns l = 4 * code_size l.scanned.now.body.now + 2
 
 abbrev pub decreases-scan : goal.decreases-scan
-decreases-scan l = 4 * code_size l.body.now + 3
+decreases-scan l = 4 * code_size l.scanned.now.body.now + 3
 
 abbrev pub invariant-turns-loop-row : goal.invariant-turns-loop-row
 invariant-turns-loop-row l = record {
-  ends : (s : Store) → HasDone l.catalogue l.parts l.initial.run s → (now : Store) × HasDone l.catalogue l.parts l.run now
-      × (turns (λ visits. nat_lt visits l.most) (length (rows_in l.catalogue l.table) - l.row) l.row (λ row. meaning (world_of l.catalogue) l.parts (λ visits. nat_lt visits l.most) l.body l.at true (with_entry (held l.before) l.target (Row l.table row))) now
-      ≡ turns (λ visits. nat_lt visits l.most) (length (rows_in l.catalogue l.table)) 0 (λ row. meaning (world_of l.catalogue) l.parts (λ visits. nat_lt visits l.most) l.body l.at true (with_entry (held l.before) l.target (Row l.table row))) s);
-  worked : HasWorked l.most l.initial.run l.run 0;
+  ends : (s : Store) → HasDone l.machine.catalogue.now l.machine.parts.now l.initial.run s → (now : Store) × HasDone l.machine.catalogue.now l.machine.parts.now l.run now
+      × (turns (λ visits. nat_lt visits l.machine.most) (length (rows_in l.machine.catalogue.now l.scanned.table) - l.row) l.row (λ row. meaning (world_of l.machine.catalogue.now) l.machine.parts.now (λ visits. nat_lt visits l.machine.most) l.scanned.body.now (l.scanned.at + 1) true (with_entry (held l.before) l.scanned.target (Row l.scanned.table row))) now
+      ≡ turns (λ visits. nat_lt visits l.machine.most) (length (rows_in l.machine.catalogue.now l.scanned.table)) 0 (λ row. meaning (world_of l.machine.catalogue.now) l.machine.parts.now (λ visits. nat_lt visits l.machine.most) l.scanned.body.now (l.scanned.at + 1) true (with_entry (held l.before) l.scanned.target (Row l.scanned.table row))) s);
+  worked : HasWorked l.machine.most l.initial.run l.run 0;
 }
 
 abbrev pub invariant-walk-loop-step : goal.invariant-walk-loop-step
 invariant-walk-loop-step l = record {
-  ends : (s : Store) → HasDone l.catalogue l.parts l.initial.run s → (now : Store) × HasDone l.catalogue l.parts l.run now
-      × (meaning (world_of l.catalogue) l.parts (λ visits. nat_lt visits l.most) (code_of_steps (drop l.step-index l.step-items)) l.place l.inside (held l.registers) now
-      ≡ meaning (world_of l.catalogue) l.parts (λ visits. nat_lt visits l.most) (code_of_steps l.step-items) l.at l.inside (held l.initial.registers) s);
-  sound : AreSound l.catalogue (held l.registers);
-  worked : HasWorked l.most l.initial.run l.run (l.place - l.at);
+  ends : (s : Store) → HasDone l.machine.catalogue.now l.machine.parts.now l.initial.run s → (now : Store) × HasDone l.machine.catalogue.now l.machine.parts.now l.run now
+      × (meaning (world_of l.machine.catalogue.now) l.machine.parts.now (λ visits. nat_lt visits l.machine.most) (code_of_steps (drop l.step-index l.step-items)) l.place l.inside (held l.registers) now
+      ≡ meaning (world_of l.machine.catalogue.now) l.machine.parts.now (λ visits. nat_lt visits l.machine.most) (code_of_steps l.step-items) l.at l.inside (held l.initial.registers) s);
+  sound : AreSound l.machine.catalogue.now (held l.registers);
+  worked : HasWorked l.machine.most l.initial.run l.run (l.place - l.at);
   placed : l.place + code_size (code_of_steps (drop l.step-index l.step-items)) ≡ l.at + code_size (code_of_steps l.step-items);
   after : l.at ≤ l.place;
-  deep : scan_depth (code_of_steps (drop l.step-index l.step-items)) * l.parts.registers ≤ length l.frames;
+  deep : scan_depth (code_of_steps (drop l.step-index l.step-items)) * l.machine.parts.now.registers ≤ length l.frames;
 }

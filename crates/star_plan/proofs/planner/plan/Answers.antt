@@ -1,5 +1,5 @@
 use Rattle.star_plan.specs.Shown.{shown}
-use Rattle.star_plan.proofs.Kept.{kept_sound, kept_within}
+use Rattle.star_plan.proofs.Kept.{kept_sound, kept_spelled, kept_within}
 use Rattle.star_plan.proofs.planner.plan.Goals as goal
 
 pub invariant_of-result-clause-sound : goal.invariant_of-result-clause-sound
@@ -8,3 +8,7 @@ invariant_of-result-clause-sound c = kept_sound c.tree-query.result.now (shown c
 pub invariant_of-result-clause-within : goal.invariant_of-result-clause-within
 invariant_of-result-clause-within c =
     kept_within c.tree-query.result.now (shown c.in_ok-tree.tree) c.tree-query.ensures.limits c.in_ok-check.ensures c.in_ok-tree.ensures
+
+pub invariant_of-result-clause-spelled : goal.invariant_of-result-clause-spelled
+invariant_of-result-clause-spelled c =
+    kept_spelled c.tree-query.result.now (shown c.in_ok-tree.tree) c.tree-query.ensures.limits c.tree-query.ensures.spelled c.in_ok-tree.ensures

@@ -8,10 +8,16 @@ use Rattle.star_query.specs.Views.{tree_view}
 use Rattle.star_query.specs.Shown.{IsRead}
 use Rattle.star_query.proofs.Parsing.{means_tokens, meant, not_read}
 use Rattle.star_query.proofs.Within.{derived_within}
+use Rattle.star_query.proofs.Spelled.{meant_spelled}
 use Rattle.star_query.proofs.query.Query.parse.Goals as goal
 
 pub invariant_of-result-clause-within : goal.invariant_of-result-clause-within
 invariant_of-result-clause-within c = derived_within _ _ c.in_ok-tree.ensures.found
+
+pub invariant_of-result-clause-spelled : goal.invariant_of-result-clause-spelled
+invariant_of-result-clause-spelled c =
+    let derives = subst (λ (ts : List Token). Derives (symbols (map placed ts)) (tree_view c.in_ok-tree.tree)) c.as_slice.ensures.value c.in_ok-tree.ensures.found in
+    meant_spelled c.args.text.now (tree_view c.in_ok-tree.tree) (means_tokens c.args.text.now (map placed c.in_ok-tokens.tokens.items) (tree_view c.in_ok-tree.tree) c.if-text-gt-MAX_TEXT.false c.in_ok-tokens.ensures.found derives)
 
 pub returns-clause-found : goal.returns-clause-found
 returns-clause-found c =
