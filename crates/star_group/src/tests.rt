@@ -63,7 +63,7 @@ fn cube_of_one_put_has_four_rows(rt: HostRuntime) -> Result<(), Fail> {
         2,
         &[Aggregate::Sum, Aggregate::Count],
     )?;
-    assert_eq!(rt; cube.try_put(&[ONE, TWO], &[7, 1]), Ok(()));
+    cube.try_put(&[ONE, TWO], &[7, 1])?;
     assert_eq!(rt; cube.total(0), Some(7));
     assert_eq!(rt; cube.total(1), Some(1));
     let rows = cube.into_rows()?;
@@ -108,11 +108,11 @@ fn rows_of_no_puts(rt: HostRuntime) -> Result<(), Fail> {
 fn total_over_two_keys_leaves_64_bits(rt: HostRuntime) -> Result<(), Fail> {
     let big = 9000000000000000000;
     let mut plain = store(rt.alloc(), Shape::Plain, 1, &[Aggregate::Sum])?;
-    assert_eq!(rt; plain.try_put(&[ONE], &[big]), Ok(()));
+    plain.try_put(&[ONE], &[big])?;
     assert_eq!(rt; plain.try_put(&[TWO], &[big]), Err(PutFault::Overflow));
     // As if it had never been tried.
     assert_eq!(rt; plain.total(0), Some(big));
-    assert_eq!(rt; plain.try_put(&[TWO], &[-big]), Ok(()));
+    plain.try_put(&[TWO], &[-big])?;
     assert_eq!(rt; plain.total(0), Some(0));
     let rows = plain.into_rows()?;
     assert_eq!(rt; rows.len(), 2);
@@ -125,7 +125,7 @@ fn total_over_two_keys_leaves_64_bits(rt: HostRuntime) -> Result<(), Fail> {
 fn refused_put_leaves_no_row(rt: HostRuntime) -> Result<(), Fail> {
     let big = 9000000000000000000;
     let mut cube = store(rt.alloc(), Shape::Cube, 2, &[Aggregate::Sum])?;
-    assert_eq!(rt; cube.try_put(&[ONE, TWO], &[big]), Ok(()));
+    cube.try_put(&[ONE, TWO], &[big])?;
     assert_eq!(rt;
         cube.try_put(&[TWO, KeyValue::Code(3)], &[big]),
         Err(PutFault::Overflow)
@@ -159,8 +159,8 @@ fn six_keys_and_eight_aggregates(rt: HostRuntime) -> Result<(), Fail> {
     let mut cube = store(rt.alloc(), Shape::Cube, 6, &aggregates)?;
     let first = [ONE, TWO, code, ONE, TWO, code];
     let second = [ONE, TWO, code, ONE, TWO, ONE];
-    assert_eq!(rt; cube.try_put(&first, &[5, 1, 5, 5, -5, 1, -5, -5]), Ok(()));
-    assert_eq!(rt; cube.try_put(&second, &[3, 1, 3, 3, 4, 1, 4, 4]), Ok(()));
+    cube.try_put(&first, &[5, 1, 5, 5, -5, 1, -5, -5])?;
+    cube.try_put(&second, &[3, 1, 3, 3, 4, 1, 4, 4])?;
     let rows = cube.into_rows()?;
     // The 32 groups without the last key are those of both puts.
     assert_eq!(rt; rows.len(), 96);
@@ -222,5 +222,27 @@ fn put_where_there_is_room(rt: HostRuntime) -> Result<(), Fail> {
     let sums = seven(rt.alloc())?;
     assert_eq!(rt; first_total(&sums), Some(7));
     assert!(rt; has_row(sums.into_rows()?.as_slice(), &[Some(ONE)], &[Some(7)]));
+    Ok(())
+}
+
+#[test]
+fn put_without_memory_leaves_the_rows(rt: HostRuntime) -> Result<(), Fail> {
+    let mut cube = store(rt.alloc(), Shape::Cube, 6, &[Aggregate::Sum])?;
+    cube.try_put(&[ONE, ONE, ONE, ONE, ONE, ONE], &[7])?;
+    let (count, total) = match cube.try_put(&[ONE, ONE, ONE, ONE, ONE, TWO], &[5]) {
+        Ok(()) => (96, 12),
+        Err(PutFault::OutOfMemory) => (64, 7),
+        Err(fault) => return Err(Fail::from(format_args!("{fault:?}"))),
+    };
+    let rows = cube.into_rows()?;
+    assert_eq!(rt; rows.len(), count);
+    assert!(rt; has_row(rows.as_slice(), &[None; 6], &[Some(total)]));
+    assert!(rt;
+        has_row(
+            rows.as_slice(),
+            &[None, None, None, None, None, Some(ONE)],
+            &[Some(7)]
+        )
+    );
     Ok(())
 }

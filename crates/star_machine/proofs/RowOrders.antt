@@ -18,7 +18,7 @@ use Rattle.star_schema.specs.Order.{key_cmp}
 use Rattle.star_program.specs.declared.key.KeyValue.{KeyValue}
 use Rattle.star_program.specs.declared.key.KeyValue.TheVariants.{Number, Code}
 use Rattle.star_program.specs.Keys.{value_cmp}
-use Rattle.star_machine.specs.RowOrder.{HaveSameNulls, column_cmp, directed_cmp, total_row_cmp}
+use Rattle.star_machine.specs.RowOrder.{HaveSameNulls, column_order, directed_order, row_order}
 
 -- ---- an order
 
@@ -56,15 +56,15 @@ key_total {K} {cmp} o = subst IsTotalOrder (λ i a b. turned a b i) (back_total 
     turned None (Some b) = refl
     turned None None = refl
 
-column_total : (c : GroupColumn) → IsTotalOrder (column_cmp c)
+column_total : (c : GroupColumn) → IsTotalOrder (column_order c)
 column_total (column.Key place) = on_total (λ (row : Row KeyValue). get_or row.keys place None) (key_total value_total)
 column_total (column.Aggregate place) = on_total (λ (row : Row KeyValue). get_or row.totals place None) (options_total int_cmp_total)
 
-directed_total : (c : GroupColumn) (d : Direction) → IsTotalOrder (directed_cmp c d)
+directed_total : (c : GroupColumn) (d : Direction) → IsTotalOrder (directed_order c d)
 directed_total c Ascending = column_total c
 directed_total c Descending = back_total (column_total c)
 
-pub row_total : (sorts : List SortKey) → IsTotalOrder (total_row_cmp sorts)
+pub row_total : (sorts : List SortKey) → IsTotalOrder (row_order sorts)
 row_total [] = on_total (λ (row : Row KeyValue). row.keys) (lists_total (key_total value_total))
 row_total (sort ∷ sorts) = then_total (directed_total sort.column sort.direction) (row_total sorts)
 
@@ -95,9 +95,9 @@ keys_level (a ∷ xs) (b ∷ ys) e =
     let both = both_equal (key_cmp value_cmp a b) (slice_cmp (key_cmp value_cmp) xs ys) e in
     λ i. key_level a b both.0 i ∷ keys_level xs ys both.1 i
 
-pub rows_level : (sorts : List SortKey) (a b : Row KeyValue) → total_row_cmp sorts a b ≡ Equal → a.keys ≡ b.keys
+pub rows_level : (sorts : List SortKey) (a b : Row KeyValue) → row_order sorts a b ≡ Equal → a.keys ≡ b.keys
 rows_level [] a b e = keys_level a.keys b.keys e
-rows_level (sort ∷ sorts) a b e = rows_level sorts a b (both_equal (directed_cmp sort.column sort.direction a b) (total_row_cmp sorts a b) e).1
+rows_level (sort ∷ sorts) a b e = rows_level sorts a b (both_equal (directed_order sort.column sort.direction a b) (row_order sorts a b) e).1
 
 -- ---- the order of the report
 
@@ -107,14 +107,14 @@ same_total (Some x) None e = absurd (true≢false e)
 same_total None (Some y) e = absurd (true≢false (sym e))
 same_total None None e = refl
 
-same_column : (c : GroupColumn) (a b : Row KeyValue) → HaveSameNulls a b → report.column_cmp value_cmp c a b ≡ column_cmp c a b
+same_column : (c : GroupColumn) (a b : Row KeyValue) → HaveSameNulls a b → report.column_cmp value_cmp c a b ≡ column_order c a b
 same_column (column.Key place) a b h = refl
 same_column (column.Aggregate place) a b h = same_total (get_or a.totals place None) (get_or b.totals place None) (h.same place)
 
-same_directed : (c : GroupColumn) (d : Direction) (a b : Row KeyValue) → HaveSameNulls a b → report.sort_cmp value_cmp (record { column = c; direction = d }) a b ≡ directed_cmp c d a b
+same_directed : (c : GroupColumn) (d : Direction) (a b : Row KeyValue) → HaveSameNulls a b → report.sort_cmp value_cmp (record { column = c; direction = d }) a b ≡ directed_order c d a b
 same_directed c Ascending a b h = same_column c a b h
 same_directed c Descending a b h = same_column c b a (record { same = λ place. sym (h.same place) })
 
-pub same_order : (sorts : List SortKey) (a b : Row KeyValue) → HaveSameNulls a b → report.row_cmp value_cmp sorts a b ≡ total_row_cmp sorts a b
+pub same_order : (sorts : List SortKey) (a b : Row KeyValue) → HaveSameNulls a b → report.row_cmp value_cmp sorts a b ≡ row_order sorts a b
 same_order [] a b h = refl
 same_order (sort ∷ sorts) a b h = λ i. ordering_then (same_directed sort.column sort.direction a b h i) (same_order sorts a b h i)

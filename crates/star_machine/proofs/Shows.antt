@@ -1,9 +1,7 @@
--- What a report names is there.
-use Rattle.std.proofs.Common.{◌≡◌, ◌<◌, ◌+◌, ℕ, Bool, true, false, List, [], ◌∷◌, ◌++◌, Option, Some, None, length, map, refl}
-use Rattle.std.specs.Prelude.{nat_lt, if◌then◌else◌}
-use Rattle.std.specs.Cmp.{first_so}
+-- The columns of the show lines are there.
+use Rattle.std.proofs.Common.{◌≡◌, ◌+◌, ℕ, Bool, true, false, List, [], ◌∷◌, ◌++◌, Option, Some, None, map, refl}
+use Rattle.std.specs.Prelude.{if◌then◌else◌}
 use Rattle.std.specs.List.{All, AllByRecursion}
-use borrow.Author.Tests.{ltb-true}
 use Rattle.std.proofs.lemmas.List.Elements.{All-from_recursion}
 use Rattle.star_schema.specs.declared.group.GroupColumn.{GroupColumn}
 use Rattle.star_program.specs.declared.group.GroupDecl.{GroupDecl}
@@ -11,10 +9,6 @@ use Rattle.star_program.specs.declared.program.Parts.{Parts}
 use Rattle.star_program.specs.declared.program.Show.{Show}
 use Rattle.star_program.specs.Faults.{group_at}
 use Rattle.star_program.specs.Shown.{first_unshown, has_column, named_columns, reports, shown_fault}
-
-pub record AreShown (parts : Parts) : Type 0 where
-  pub there : parts.report < length parts.groups
-  pub shows : All (λ show. has_column (group_at parts parts.report) show.column ≡ true) parts.shows
 
 if_none : (b : Bool) (o : Option ℕ) (line : ℕ) → (if b then o else Some line) ≡ None → (b ≡ true) × (o ≡ None)
 if_none true o line e = (refl, e)
@@ -26,10 +20,8 @@ each_shown d line (show ∷ shows) more e =
     let both = if_none (has_column d show.column) (first_unshown d (line + 1) (map (λ s. s.column) shows ++ more)) line e in
     (both.0, each_shown d (line + 1) shows more both.1)
 
-pub are_shown : (parts : Parts) → shown_fault parts ≡ None → AreShown parts
-are_shown parts e =
-    let both = if_none (reports parts) (first_unshown (group_at parts parts.report) 1 (named_columns parts)) 0 e in
-    record {
-      there = ltb-true parts.report (length parts.groups) (first_so (nat_lt parts.report (length parts.groups)) _ both.0);
-      shows = All-from_recursion (λ show. has_column (group_at parts parts.report) show.column ≡ true) parts.shows (each_shown (group_at parts parts.report) 1 parts.shows _ both.1);
-    }
+pub shows_are_there : (parts : Parts) → shown_fault parts ≡ None → All (λ show. has_column (group_at parts parts.report) show.column ≡ true) parts.shows
+shows_are_there parts e =
+    let d = group_at parts parts.report in
+    let lines = (if_none (reports parts) (first_unshown d 1 (named_columns parts)) 0 e).1 in
+    All-from_recursion (λ show. has_column d show.column ≡ true) parts.shows (each_shown d 1 parts.shows _ lines)

@@ -25,7 +25,7 @@ use Rattle.star_group.specs.declared.group_row.GroupRow.{GroupRow}
 use Rattle.star_group.specs.OwnKeys.{key_eq}
 use Rattle.star_group.specs.Shown.{row_shown}
 use Rattle.star_group.proofs.GroupKeys.{key_decides, key_equiv}
-use Rattle.star_machine.specs.RowOrder.{AllHaveSameNulls, AreApart, keys_of_row, total_row_cmp}
+use Rattle.star_machine.specs.RowOrder.{AllHaveSameNulls, AreApart, keys_of_row, row_order}
 use Rattle.star_machine.proofs.RowOrders.{row_total, rows_level, same_order}
 
 -- what a sort by a closure ensures, where each call answers by an order
@@ -49,15 +49,15 @@ sorted_mapped f R S (x ∷ xs) agree up = (
 
 -- rows by their order
 abbrev pub shown_cmp : List SortKey → GroupRow → GroupRow → Ordering
-shown_cmp sorts a b = total_row_cmp sorts (row_shown a) (row_shown b)
+shown_cmp sorts a b = row_order sorts (row_shown a) (row_shown b)
 
 pub shown_total : (sorts : List SortKey) → IsTotalOrder (shown_cmp sorts)
 shown_total sorts = on_total row_shown (row_total sorts)
 
-before_next : (sorts : List SortKey) (a b : Row KeyValue) → is_lt (total_row_cmp sorts b a) ≡ false → (a.keys ≡ b.keys → ⊥) → total_row_cmp sorts a b ≡ Less
-before_next sorts a b not_after apart = by (total_row_cmp sorts b a) refl
+before_next : (sorts : List SortKey) (a b : Row KeyValue) → is_lt (row_order sorts b a) ≡ false → (a.keys ≡ b.keys → ⊥) → row_order sorts a b ≡ Less
+before_next sorts a b not_after apart = by (row_order sorts b a) refl
   where
-    by : (o : Ordering) → total_row_cmp sorts b a ≡ o → total_row_cmp sorts a b ≡ Less
+    by : (o : Ordering) → row_order sorts b a ≡ o → row_order sorts a b ≡ Less
     by Less e = absurd (true≢false (sym (ap is_lt e) ∙ not_after))
     by Equal e = absurd (apart (sym (rows_level sorts b a e)))
     by Greater e = (row_total sorts).antisymm a b ∙ ap ordering_reverse e

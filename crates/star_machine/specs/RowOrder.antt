@@ -20,20 +20,20 @@ use Rattle.star_group.specs.Shown.{row_shown}
 
 -- ---- as reports are sorted, but with NULL before the numbers
 
-abbrev pub column_cmp : GroupColumn → Row KeyValue → Row KeyValue → Ordering
-column_cmp (column.Key place) a b = key_cmp value_cmp (slice_index_or a.keys place None) (slice_index_or b.keys place None)
-column_cmp (column.Aggregate place) a b = option_cmp int_cmp (slice_index_or a.totals place None) (slice_index_or b.totals place None)
+abbrev pub column_order : GroupColumn → Row KeyValue → Row KeyValue → Ordering
+column_order (column.Key place) a b = key_cmp value_cmp (slice_index_or a.keys place None) (slice_index_or b.keys place None)
+column_order (column.Aggregate place) a b = option_cmp int_cmp (slice_index_or a.totals place None) (slice_index_or b.totals place None)
 
-abbrev pub directed_cmp : GroupColumn → Direction → Row KeyValue → Row KeyValue → Ordering
-directed_cmp c Ascending a b = column_cmp c a b
-directed_cmp c Descending a b = column_cmp c b a
+abbrev pub directed_order : GroupColumn → Direction → Row KeyValue → Row KeyValue → Ordering
+directed_order c Ascending a b = column_order c a b
+directed_order c Descending a b = column_order c b a
 
-abbrev pub sort_cmp : SortKey → Row KeyValue → Row KeyValue → Ordering
-sort_cmp sort a b = directed_cmp sort.column sort.direction a b
+abbrev pub sort_order : SortKey → Row KeyValue → Row KeyValue → Ordering
+sort_order sort a b = directed_order sort.column sort.direction a b
 
-abbrev pub total_row_cmp : List SortKey → Row KeyValue → Row KeyValue → Ordering
-total_row_cmp [] a b = slice_cmp (key_cmp value_cmp) a.keys b.keys
-total_row_cmp (sort ∷ sorts) a b = ordering_then (sort_cmp sort a b) (total_row_cmp sorts a b)
+abbrev pub row_order : List SortKey → Row KeyValue → Row KeyValue → Ordering
+row_order [] a b = slice_cmp (key_cmp value_cmp) a.keys b.keys
+row_order (sort ∷ sorts) a b = ordering_then (sort_order sort a b) (row_order sorts a b)
 
 -- ---- the rows of one group
 

@@ -7,6 +7,7 @@ mod compute;
 mod fault;
 pub mod law;
 mod lookups;
+mod machine;
 mod outcome;
 mod report;
 mod run;

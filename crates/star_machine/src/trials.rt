@@ -8,11 +8,12 @@ ghost use Rattle.star_machine.specs.Walks.{Finishes};
 ghost use Rattle.star_machine.specs.WorldOf.{world_of};
 
 use crate::fault::{TrapKind, TrialFault};
+use crate::machine::Machine;
 use crate::outcome::outcome;
 use crate::report::names_what_is_there;
 use crate::run::Run;
 use crate::start::{empty_registers, start};
-use crate::walk::{Machine, walk};
+use crate::walk::walk;
 use star_catalogue::Catalogue;
 use star_program::{MOST_SCANS, Outcome, Parts, Program};
 use std::alloc::Global;

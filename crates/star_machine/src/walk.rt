@@ -1,43 +1,18 @@
 // The walk over a body, and the turns of its scans.
 
-ghost use Rattle.std.specs.Prelude.{◌≡◌, ◌≤◌, ◌<◌, ◌+◌, ◌*◌, ◌^◌, All, OnOk, length, nat_lt, true};
-ghost use Rattle.star_schema.specs.Database.{rows_in};
+ghost use Rattle.std.specs.Prelude.{◌≡◌, ◌≤◌, ◌<◌, ◌+◌, ◌*◌, ◌^◌, OnOk, length};
 ghost use Rattle.star_program.specs.Code.{code_size, scan_depth};
-ghost use Rattle.star_program.specs.Effects.{Store};
-ghost use Rattle.star_program.specs.Limits.{IsSmall};
-ghost use Rattle.star_program.specs.Run.{begin, meaning, scans, turns as all_turns};
-ghost use Rattle.star_program.specs.Values.{Row, with_entry};
-ghost use Rattle.star_machine.specs.Runs.{HasDone};
 ghost use Rattle.star_machine.specs.Shown.{held, value_shown};
 ghost use Rattle.star_machine.specs.Sound.{AreSound, IsSoundValue};
-ghost use Rattle.star_machine.specs.Walks.{HasWorked, IsEnd, IsFew, fault_at};
-ghost use Rattle.star_machine.specs.WorldOf.{world_of};
+ghost use Rattle.star_machine.specs.Walks.{Does, HasRun, HasWorked, IsFew, fault_at, means, means_scan, means_turn, means_turns};
 
 use crate::act::{Flow, act};
 use crate::compute::set;
 use crate::fault::{Stop, TrapKind, TrialFault};
+use crate::machine::{Machine, Scanned};
 use crate::run::Run;
 use crate::value::{Register, Value};
-use star_catalogue::Catalogue;
-use star_program::{Body, Parts, Step};
-use star_schema::TableId;
-
-/// What a walk reads and never changes: the tables, the program, and how many turns may begin in all.
-#[derive(Clone, Copy)]
-pub(crate) struct Machine<'a> {
-    pub(crate) catalogue: &'a Catalogue,
-    pub(crate) parts: &'a Parts,
-    pub(crate) most: u64,
-}
-
-/// A scan: of a table, into a register; its body, and its number.
-#[derive(Clone, Copy)]
-struct Scanned<'a> {
-    table: TableId,
-    target: u16,
-    body: &'a Body,
-    at: u16,
-}
+use star_program::{Body, Step};
 
 /// How many instructions a body has.
 fn size(body: &Body) -> u16
@@ -81,14 +56,11 @@ fn turn(
     requires before { length before.now ≡ machine.now.parts.now.registers }
     requires wide { length registers.old ≡ machine.now.parts.now.registers }
     requires deep { scan_depth scanned.now.body.now * machine.now.parts.now.registers ≤ length frames.old }
-    requires groups { All IsSmall machine.now.parts.now.groups }
-    requires most { machine.now.most ≤ 10 ^ 15 }
     requires few { IsFew machine.now.most run.old 0 }
     requires sound { AreSound machine.now.catalogue.now (held before.now) }
-    requires done { (s : Store) × HasDone machine.now.catalogue.now machine.now.parts.now run.old s }
+    requires done { HasRun machine.now run.old }
     requires row { IsSoundValue machine.now.catalogue.now (value_shown row) }
-    ensures ends { (s : Store) → HasDone machine.now.catalogue.now machine.now.parts.now run.old s
-        → IsEnd machine.now.catalogue.now machine.now.parts.now run.new (begin (nat_lt s.visits machine.now.most) s (meaning (world_of machine.now.catalogue.now) machine.now.parts.now (λ visits. nat_lt visits machine.now.most) scanned.now.body.now (scanned.now.at + 1) true (with_entry (held before.now) scanned.now.target (value_shown row)))) result }
+    ensures ends { Does machine.now run.old run.new (means_turn machine.now scanned.now (held before.now) (value_shown row)) result }
     ensures worked { OnOk result (HasWorked machine.now.most run.old run.new 0) }
     ensures len { length registers.new ≡ length registers.old }
     ensures frames { length frames.new ≡ length frames.old }
@@ -126,13 +98,10 @@ fn turns(
     requires before { length before.now ≡ machine.now.parts.now.registers }
     requires wide { length registers.old ≡ machine.now.parts.now.registers }
     requires deep { scan_depth scanned.now.body.now * machine.now.parts.now.registers ≤ length frames.old }
-    requires groups { All IsSmall machine.now.parts.now.groups }
-    requires most { machine.now.most ≤ 10 ^ 15 }
     requires few { IsFew machine.now.most run.old 0 }
     requires sound { AreSound machine.now.catalogue.now (held before.now) }
-    requires done { (s : Store) × HasDone machine.now.catalogue.now machine.now.parts.now run.old s }
-    ensures ends { (s : Store) → HasDone machine.now.catalogue.now machine.now.parts.now run.old s
-        → IsEnd machine.now.catalogue.now machine.now.parts.now run.new (all_turns (λ visits. nat_lt visits machine.now.most) (length (rows_in machine.now.catalogue.now scanned.now.table)) 0 (λ row. meaning (world_of machine.now.catalogue.now) machine.now.parts.now (λ visits. nat_lt visits machine.now.most) scanned.now.body.now (scanned.now.at + 1) true (with_entry (held before.now) scanned.now.target (Row scanned.now.table row))) s) result }
+    requires done { HasRun machine.now run.old }
+    ensures ends { Does machine.now run.old run.new (means_turns machine.now scanned.now (held before.now)) result }
     ensures worked { OnOk result (HasWorked machine.now.most run.old run.new 0) }
 {
     for row in 0..machine.catalogue.rows(scanned.table) {
@@ -155,13 +124,10 @@ fn scan(
     requires at { scanned.now.at + 1 + code_size scanned.now.body.now < 2 ^ 16 }
     requires before { length before.now ≡ machine.now.parts.now.registers }
     requires deep { (1 + scan_depth scanned.now.body.now) * machine.now.parts.now.registers ≤ length frames.old }
-    requires groups { All IsSmall machine.now.parts.now.groups }
-    requires most { machine.now.most ≤ 10 ^ 15 }
     requires few { IsFew machine.now.most run.old 0 }
     requires sound { AreSound machine.now.catalogue.now (held before.now) }
-    requires done { (s : Store) × HasDone machine.now.catalogue.now machine.now.parts.now run.old s }
-    ensures ends { (s : Store) → HasDone machine.now.catalogue.now machine.now.parts.now run.old s
-        → IsEnd machine.now.catalogue.now machine.now.parts.now run.new (scans scanned.now.at (nat_lt scanned.now.target machine.now.parts.now.registers) (λ _. all_turns (λ visits. nat_lt visits machine.now.most) (length (rows_in machine.now.catalogue.now scanned.now.table)) 0 (λ row. meaning (world_of machine.now.catalogue.now) machine.now.parts.now (λ visits. nat_lt visits machine.now.most) scanned.now.body.now (scanned.now.at + 1) true (with_entry (held before.now) scanned.now.target (Row scanned.now.table row))) s)) result }
+    requires done { HasRun machine.now run.old }
+    ensures ends { Does machine.now run.old run.new (means_scan machine.now scanned.now (held before.now)) result }
     ensures worked { OnOk result (HasWorked machine.now.most run.old run.new 0) }
     ensures frames { length frames.new ≡ length frames.old }
 {
@@ -191,13 +157,10 @@ pub(crate) fn walk(
     requires at { at + code_size body.now < 2 ^ 16 }
     requires wide { length registers.old ≡ machine.now.parts.now.registers }
     requires deep { scan_depth body.now * machine.now.parts.now.registers ≤ length frames.old }
-    requires groups { All IsSmall machine.now.parts.now.groups }
-    requires most { machine.now.most ≤ 10 ^ 15 }
     requires few { IsFew machine.now.most run.old (code_size body.now) }
     requires sound { AreSound machine.now.catalogue.now (held registers.old) }
-    requires done { (s : Store) × HasDone machine.now.catalogue.now machine.now.parts.now run.old s }
-    ensures ends { (s : Store) → HasDone machine.now.catalogue.now machine.now.parts.now run.old s
-        → IsEnd machine.now.catalogue.now machine.now.parts.now run.new (meaning (world_of machine.now.catalogue.now) machine.now.parts.now (λ visits. nat_lt visits machine.now.most) body.now at inside (held registers.old) s) result }
+    requires done { HasRun machine.now run.old }
+    ensures ends { Does machine.now run.old run.new (means machine.now body.now at inside (held registers.old)) result }
     ensures worked { OnOk result (HasWorked machine.now.most run.old run.new (code_size body.now)) }
     ensures len { length registers.new ≡ length registers.old }
     ensures frames { length frames.new ≡ length frames.old }

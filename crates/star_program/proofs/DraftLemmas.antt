@@ -461,7 +461,7 @@ reached_ok p line s (Some r) q h = elim (cases_Bool (is_within r && is_small s))
   | inr large ↦ let bad : ⊥ = let no = rw large at h in cc in absurd bad
 ]
 
-abbrev opens_report : Place → List ℕ → Bool
+abbrev pub opens_report : Place → List ℕ → Bool
 opens_report p text = nat_lt 0 p.depth && begins_report (words_of text)
 
 advance_ok : (p : Place) (line : ℕ) (text : List ℕ) (s : Statement) (q : Place) → said text ≡ Some s → advance p line text ≡ Ok q → reached p line s (after p s) ≡ Ok q

@@ -28,3 +28,4 @@ mod NoFault
 mod SpelledWords
 mod Spelled
 mod Sayable
+mod Faultless

@@ -12,9 +12,9 @@ use Rattle.star_program.specs.Keywords.{keyword_name, keyword_of, same}
 use Rattle.star_program.specs.Limits.{IsSmall, IsWithinLimits}
 use Rattle.star_program.specs.Lines.{is_blank, lines_of, words_of}
 use Rattle.star_program.specs.Numerals.{count_of}
-use Rattle.star_program.specs.Places.{advance, after, after_in, after_step, begins_report, end_in, fault_from, is_small, is_within, start}
+use Rattle.star_program.specs.Places.{advance, after, after_in, after_step, begins_report, end_in, fault_from, is_small, is_within, start, text_fault}
 use Rattle.star_program.specs.Said.{by_keyword, by_words, one, said}
-use Rattle.star_program.specs.Spelling.{NoFault, Spells, statements_of}
+use Rattle.star_program.specs.Spelling.{Spells, statements_of}
 use Rattle.star_program.specs.declared.group.GroupDecl.{GroupDecl}
 use Rattle.star_program.specs.declared.op.Op.{Op}
 use Rattle.star_program.specs.declared.program.Parts.{Parts}
@@ -292,7 +292,7 @@ program_ends p h =
     program_said p ∙ ap (λ ss. says.Header ∷ says.Registers p.registers ∷ ss) (body_first (groups_say 0 p.groups) (code_says p.body) (tail_of p) (says.Report p.report)) in
     subst (Ends start) (sym is) all
 
-pub no_fault : NoFault
+pub no_fault : (text : List ℕ) (p : Parts) → Spells text p → IsWithinLimits p → text_fault text ≡ None
 unfolding Spells
 no_fault text p spells small =
     let end = program_ends p small in

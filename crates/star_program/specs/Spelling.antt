@@ -1,5 +1,5 @@
 -- Which programs a text spells.
-use Rattle.std.specs.Prelude.{◌≡◌, ◌⊎◌, not, ℕ, List, None, Some, Result, MatchResult, filter, map}
+use Rattle.std.specs.Prelude.{◌≡◌, ◌⊎◌, ◌↔◌, not, ℕ, List, None, Some, Result, MatchResult, filter, map}
 use Rattle.star_program.specs.Lines.{is_blank, lines_of}
 use Rattle.star_program.specs.Limits.{IsWithinLimits}
 use Rattle.star_program.specs.Places.{text_fault}
@@ -30,6 +30,6 @@ IsFirstFault text f = (f ≡ fault.OutOfMemory) ⊎ (text_fault text ≡ Some f)
 abbrev pub IsRead : Parts → Result Parts TextFault → Type 0
 IsRead p result = MatchResult result (λ q. q ≡ p) (λ f. f ≡ fault.OutOfMemory)
 
--- a text that spells a program within the limits has no fault
-abbrev pub NoFault : Type 0
-NoFault = (text : List ℕ) (p : Parts) → Spells text p → IsWithinLimits p → text_fault text ≡ None
+-- a text has no fault exactly where it spells a program within the limits
+abbrev pub Faultless : Type 0
+Faultless = (text : List ℕ) → (text_fault text ≡ None) ↔ ((p : Parts) × Spells text p × IsWithinLimits p)

@@ -27,5 +27,5 @@ pub use program::{
 };
 pub use spelling::{
     TextFault, no_text_spells_two_programs, spelled_programs_are_written_back,
-    texts_of_programs_have_no_fault,
+    texts_without_a_fault_spell_programs,
 };

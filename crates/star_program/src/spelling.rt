@@ -18,5 +18,6 @@ mod writing;
 
 pub use fault::TextFault;
 pub use law::{
-    no_text_spells_two_programs, spelled_programs_are_written_back, texts_of_programs_have_no_fault,
+    no_text_spells_two_programs, spelled_programs_are_written_back,
+    texts_without_a_fault_spell_programs,
 };

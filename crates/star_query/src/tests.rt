@@ -359,6 +359,85 @@ fn each_count_has_its_limit(rt: HostRuntime) -> Result<(), Fail> {
     Ok(())
 }
 
+#[test]
+fn what_begins_at_a_token_is_counted_there(rt: HostRuntime) -> Result<(), Fail> {
+    let many = QueryFault::TooMany;
+    for (front, middle, count, end, fault) in [
+        // The 17th item and the 257th comparison, though the text goes wrong behind them, and what can't begin one.
+        ("select a", ", a", 15, ", a b", many),
+        (
+            "select a",
+            ", a",
+            15,
+            ", from t",
+            QueryFault::Unexpected { at: 55 },
+        ),
+        (
+            "select count(*) from t where a = b",
+            " and a = 1",
+            255,
+            " and a a",
+            many,
+        ),
+        (
+            "select count(*) from t where a = b",
+            " and a = 1",
+            255,
+            " and 1",
+            QueryFault::Unexpected { at: 2_589 },
+        ),
+        (
+            "select count(*) from t where a = b",
+            " and a = 1",
+            255,
+            " and not",
+            many,
+        ),
+        // A minus is no operand.
+        (
+            "select sum(a",
+            " + 1",
+            511,
+            " + -) from t",
+            QueryFault::Unexpected { at: 2_060 },
+        ),
+        ("select sum(a", " + 1", 511, " + -1) from t", many),
+        // A long name where no name may stand.
+        (
+            "select count(*) ",
+            "n",
+            65,
+            " from t",
+            QueryFault::Unexpected { at: 16 },
+        ),
+    ] {
+        let text = repeated(rt.alloc(), front, middle, count, end)?;
+        assert!(rt;
+            fault_of(rt.alloc(), text.as_bytes())? == Some(fault),
+            "{text}"
+        );
+    }
+    Ok(())
+}
+
+#[test]
+fn too_deep_is_told_before_too_many(rt: HostRuntime) -> Result<(), Fail> {
+    for (comparisons, nots, fault) in [
+        (223, 32, QueryFault::TooMany),
+        (223, 33, QueryFault::TooDeep),
+        (224, 33, QueryFault::TooMany),
+    ] {
+        let front = "select count(*) from t where a = b";
+        let begun = repeated(rt.alloc(), front, " and a = 1", comparisons, " and ")?;
+        let text = repeated(rt.alloc(), begun.as_str(), "not ", nots, "a = 1")?;
+        assert!(rt;
+            fault_of(rt.alloc(), text.as_bytes())? == Some(fault),
+            "{text}"
+        );
+    }
+    Ok(())
+}
+
 // So many parentheses round what stands between two ends.
 fn nested(
     alloc: Global,

@@ -5,7 +5,7 @@ ghost use Rattle.std.specs.Cmp.Lexicographic.{slice_cmp};
 ghost use Rattle.star_schema.specs.Order.{AreInOrder, key_cmp};
 ghost use Rattle.star_group.specs.Shown.{row_shown};
 ghost use Rattle.star_program.specs.Keys.{value_cmp};
-ghost use Rattle.star_machine.specs.RowOrder.{AllHaveSameNulls, AreApart, column_cmp, sort_cmp, total_row_cmp};
+ghost use Rattle.star_machine.specs.RowOrder.{AllHaveSameNulls, AreApart, column_order, sort_order, row_order};
 
 use star_group::{GroupRow, KeyValue};
 use star_schema::{Direction, GroupColumn, SortKey};
@@ -61,7 +61,7 @@ pub(super) fn part_at<T: Copy>(parts: &[Option<T>], place: u16) -> Option<T>
 }
 
 fn compare_at(column: GroupColumn, a: &GroupRow, b: &GroupRow) -> Ordering
-    ensures { result ≡ column_cmp column (row_shown a.now) (row_shown b.now) }
+    ensures { result ≡ column_order column (row_shown a.now) (row_shown b.now) }
 {
     match column {
         GroupColumn::Key(place) => compare_keys(
@@ -75,7 +75,7 @@ fn compare_at(column: GroupColumn, a: &GroupRow, b: &GroupRow) -> Ordering
 }
 
 fn compare_by(sort: SortKey, a: &GroupRow, b: &GroupRow) -> Ordering
-    ensures { result ≡ sort_cmp sort (row_shown a.now) (row_shown b.now) }
+    ensures { result ≡ sort_order sort (row_shown a.now) (row_shown b.now) }
 {
     match sort.direction {
         Direction::Ascending => compare_at(sort.column, a, b),
@@ -85,7 +85,7 @@ fn compare_by(sort: SortKey, a: &GroupRow, b: &GroupRow) -> Ordering
 
 /// By the sort keys, and then by all keys of the rows.
 fn compare_rows(sorts: &[SortKey], a: &GroupRow, b: &GroupRow) -> Ordering
-    ensures { result ≡ total_row_cmp sorts.now (row_shown a.now) (row_shown b.now) }
+    ensures { result ≡ row_order sorts.now (row_shown a.now) (row_shown b.now) }
 {
     match sorts {
         [] => compare_key_lists(a.keys.as_slice(), b.keys.as_slice()),

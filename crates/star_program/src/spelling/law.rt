@@ -1,16 +1,16 @@
 // What holds of all texts.
 
 ghost use Rattle.star_program.specs.Spellable.{OnlySpellable, Written, WrittenBack};
-ghost use Rattle.star_program.specs.Spelling.{NoFault, OneProgram};
+ghost use Rattle.star_program.specs.Spelling.{Faultless, OneProgram};
 
 /// No text spells two programs.
 pub fn no_text_spells_two_programs()
     ensures { OneProgram }
 {}
 
-/// A text that spells a program within the limits has no fault.
-pub fn texts_of_programs_have_no_fault()
-    ensures { NoFault }
+/// A text has no fault exactly where it spells a program within the limits.
+pub fn texts_without_a_fault_spell_programs()
+    ensures { Faultless }
 {}
 
 /// The text of a program spells it where some text does: where each of its statements can be said.

@@ -5,12 +5,12 @@ use Rattle.star_schema.specs.Database.{rows_in}
 use Rattle.star_program.specs.Code.{code_size, scan_depth}
 use Rattle.star_program.specs.CodeOfSteps.{code_of_steps}
 use Rattle.star_program.specs.Effects.{act}
-use Rattle.star_program.specs.Run.{meaning, visited}
+use Rattle.star_program.specs.Run.{visited}
 use Rattle.star_program.specs.Values.{Registers, Row, with_entry}
 use Rattle.star_machine.specs.Shown.{held, value_shown}
 use Rattle.star_machine.specs.Sound.{AreSound}
 use Rattle.star_machine.specs.Trials.{IsFaultOf}
-use Rattle.star_machine.specs.Walks.{HasWorked, IsEnd}
+use Rattle.star_machine.specs.Walks.{HasWorked, IsEnd, means, means_at}
 use Rattle.star_machine.specs.Runs.{HasDone}
 use Rattle.star_machine.specs.WorldOf.{world_of}
 use Rattle.star_machine.proofs.Registers.{sound_set}
@@ -30,17 +30,11 @@ turn-walk-requires t c = (
         (
           c.requires.deep,
           (
-            c.requires.groups,
+            record { visits = omega (arith, c.if-run-machine.false); work = omega (arith, c.requires.few.work, c.requires.size) },
             (
-              c.requires.most,
-              (
-                record { visits = omega (arith, c.if-run-machine.false); work = omega (arith, c.requires.few.work, c.requires.size) },
-                (
-                  subst (AreSound c.args.machine.now.catalogue.now) (sym (c.set.ensures.set ∙ ap (λ xs. with_entry (held xs) c.args.scanned.now.target (value_shown c.args.row)) c.copy_from_slice.ensures.after))
-                      (sound_set c.args.machine.now.catalogue.now (held c.args.before.now) c.args.scanned.now.target (value_shown c.args.row) c.requires.sound c.requires.row),
-                  (visited c.requires.done.0, done_visited c.args.machine.now.catalogue.now c.args.machine.now.parts.now c.args.run.now _ c.requires.done.0 refl refl refl refl c.requires.done.1),
-                ),
-              ),
+              subst (AreSound c.args.machine.now.catalogue.now) (sym (c.set.ensures.set ∙ ap (λ xs. with_entry (held xs) c.args.scanned.now.target (value_shown c.args.row)) c.copy_from_slice.ensures.after))
+                  (sound_set c.args.machine.now.catalogue.now (held c.args.before.now) c.args.scanned.now.target (value_shown c.args.row) c.requires.sound c.requires.row),
+              (visited c.requires.done.0, done_visited c.args.machine.now.catalogue.now c.args.machine.now.parts.now c.args.run.now _ c.requires.done.0 refl refl refl refl c.requires.done.1),
             ),
           ),
         ),
@@ -52,18 +46,18 @@ turn-walk-requires t c = (
 pub turn-returns-clause-ends : goal.turn-returns-clause-ends
 turn-returns-clause-ends t c = λ s h.
     let m = c.args.machine.now in
-    let meant = λ (registers : Registers). meaning (world_of m.catalogue.now) m.parts.now (λ visits. nat_lt visits m.most) c.args.scanned.now.body.now (c.args.scanned.now.at + 1) true registers in
+    let meant = λ (registers : Registers). means m c.args.scanned.now.body.now (c.args.scanned.now.at + 1) true registers in
     let at_row = c.set.ensures.set ∙ ap (λ xs. with_entry (held xs) c.args.scanned.now.target (value_shown c.args.row)) c.copy_from_slice.ensures.after in
     let may : s.visits < m.most = omega (arith, h.visits, c.if-run-machine.false) in
     subst (λ end. IsEnd m.catalogue.now m.parts.now c.walk.new.run end c.walk.result)
-    (ap (λ registers. meant registers (visited s)) at_row ∙ sym (begin_turn m.most s (meant (with_entry (held c.args.before.now) c.args.scanned.now.target (value_shown c.args.row))) may))
+    (ap (λ registers. meant registers (visited s)) at_row ∙ sym (begin_turn m.most s (means_at m c.args.scanned.now (held c.args.before.now) (value_shown c.args.row)) may))
     (c.walk.ensures.ends (visited s) (done_visited m.catalogue.now m.parts.now c.args.run.now _ s refl refl refl refl h))
 
 pub turns-returns-in_err-turn-clause-ends : goal.turns-returns-in_err-turn-clause-ends
 turns-returns-in_err-turn-clause-ends t c = λ s h.
     let p = err_from_is_err_and c.from_residual.result c.from_residual.ensures.1 in
     let at = c.loop-row.invariant.ends s h in
-    rw (p.1, p.2) (turns_fault (λ visits. nat_lt visits c.args.machine.now.most) (length (rows_in c.args.machine.now.catalogue.now c.args.scanned.now.table)) c.loop-row.row (λ row. meaning (world_of c.args.machine.now.catalogue.now) c.args.machine.now.parts.now (λ visits. nat_lt visits c.args.machine.now.most) c.args.scanned.now.body.now (c.args.scanned.now.at + 1) true (with_entry (held c.args.before.now) c.args.scanned.now.target (Row c.args.scanned.now.table row))) at.0 _ c.in_err-turn.field-0.0
+    rw (p.1, p.2) (turns_fault (λ visits. nat_lt visits c.args.machine.now.most) (length (rows_in c.args.machine.now.catalogue.now c.args.scanned.now.table)) c.loop-row.row (λ row. means_at c.args.machine.now c.args.scanned.now (held c.args.before.now) (Row c.args.scanned.now.table row)) at.0 _ c.in_err-turn.field-0.0
     (omega (arith, c.loop-row-test.true, c.rows-row-end.ensures)) (c.in_err-turn.ensures.ends at.0 at.1) at.2)
 
 pub turns-loop-row-preserved : goal.turns-loop-row-preserved
@@ -71,7 +65,7 @@ turns-loop-row-preserved t c = record {
   ends = λ s h.
       let at = c.loop-row.invariant.ends s h in
       let done = c.in_ok-turn.ensures.ends at.0 at.1 in
-      (done.s, done.done, sym (turn_done (λ visits. nat_lt visits c.args.machine.now.most) (length (rows_in c.args.machine.now.catalogue.now c.args.scanned.now.table)) c.loop-row.row (λ row. meaning (world_of c.args.machine.now.catalogue.now) c.args.machine.now.parts.now (λ visits. nat_lt visits c.args.machine.now.most) c.args.scanned.now.body.now (c.args.scanned.now.at + 1) true (with_entry (held c.args.before.now) c.args.scanned.now.target (Row c.args.scanned.now.table row))) at.0 done.s (omega (arith, c.loop-row-test.true, c.rows-row-end.ensures)) done.is) ∙ at.2);
+      (done.s, done.done, sym (turn_done (λ visits. nat_lt visits c.args.machine.now.most) (length (rows_in c.args.machine.now.catalogue.now c.args.scanned.now.table)) c.loop-row.row (λ row. means_at c.args.machine.now c.args.scanned.now (held c.args.before.now) (Row c.args.scanned.now.table row)) at.0 done.s (omega (arith, c.loop-row-test.true, c.rows-row-end.ensures)) done.is) ∙ at.2);
   worked = worked_more c.args.machine.now.most c.args.run.now c.loop-row.run c.turn.new.run 0 0 0 c.loop-row.invariant.worked c.in_ok-turn.ensures.worked (omega arith);
 }
 
@@ -81,7 +75,7 @@ walk-returns-in-Ok-EndsTurn-clause-ends t c = λ s h.
     let ends = turn_ended c.args.machine.now.catalogue.now c.args.machine.now.parts.now c.act.new.run (act (world_of c.args.machine.now.catalogue.now) c.args.machine.now.parts.now c.args.inside (held c.loop-step.registers) at.0 c.in-Act.op) c.in-Ok-EndsTurn.field-0 c.in-Ok-EndsTurn.field-0-is (held c.act.new.registers) (c.in-Ok-EndsTurn.ensures.does at.0 at.1) in
     record {
       s = ends.s;
-      is = sym (ap (λ k. meaning (world_of c.args.machine.now.catalogue.now) c.args.machine.now.parts.now (λ visits. nat_lt visits c.args.machine.now.most) k c.args.at c.args.inside (held c.args.registers.now) s) c.as_slice-step-items.ensures) ∙ sym at.2 ∙ act_follows (world_of c.args.machine.now.catalogue.now) c.args.machine.now.parts.now (λ visits. nat_lt visits c.args.machine.now.most) c.as_slice-step-items.result.now c.loop-step.step-index c.step-item.result c.loop-step.place c.args.inside (held c.loop-step.registers) at.0 c.in-Act.op _ c.loop-step-test.true c.step-item.is c.in-Act.is ends.does;
+      is = sym (ap (λ k. means c.args.machine.now k c.args.at c.args.inside (held c.args.registers.now) s) c.as_slice-step-items.ensures) ∙ sym at.2 ∙ act_follows (world_of c.args.machine.now.catalogue.now) c.args.machine.now.parts.now (λ visits. nat_lt visits c.args.machine.now.most) c.as_slice-step-items.result.now c.loop-step.step-index c.step-item.result c.loop-step.place c.args.inside (held c.loop-step.registers) at.0 c.in-Act.op _ c.loop-step-test.true c.step-item.is c.in-Act.is ends.does;
       done = ends.done;
     }
 
@@ -90,7 +84,7 @@ walk-returns-in-Err-clause-ends t c = λ s h.
     let at = c.loop-step.invariant.ends s h in
     subst (IsFaultOf _) (sym c.stopped.ensures)
     (stop_fault _ c.loop-step.place (act (world_of c.args.machine.now.catalogue.now) c.args.machine.now.parts.now c.args.inside (held c.loop-step.registers) at.0 c.in-Act.op) _ c.in-Err.stop (c.in-Err.ensures.does at.0 at.1)
-    (sym (ap (λ k. meaning (world_of c.args.machine.now.catalogue.now) c.args.machine.now.parts.now (λ visits. nat_lt visits c.args.machine.now.most) k c.args.at c.args.inside (held c.args.registers.now) s) c.as_slice-step-items.ensures) ∙ sym at.2 ∙ act_follows (world_of c.args.machine.now.catalogue.now) c.args.machine.now.parts.now (λ visits. nat_lt visits c.args.machine.now.most) c.as_slice-step-items.result.now c.loop-step.step-index c.step-item.result c.loop-step.place c.args.inside (held c.loop-step.registers) at.0 c.in-Act.op _ c.loop-step-test.true c.step-item.is c.in-Act.is refl))
+    (sym (ap (λ k. means c.args.machine.now k c.args.at c.args.inside (held c.args.registers.now) s) c.as_slice-step-items.ensures) ∙ sym at.2 ∙ act_follows (world_of c.args.machine.now.catalogue.now) c.args.machine.now.parts.now (λ visits. nat_lt visits c.args.machine.now.most) c.as_slice-step-items.result.now c.loop-step.step-index c.step-item.result c.loop-step.place c.args.inside (held c.loop-step.registers) at.0 c.in-Act.op _ c.loop-step-test.true c.step-item.is c.in-Act.is refl))
 
 pub walk-scan-requires : goal.walk-scan-requires
 walk-scan-requires t c =
@@ -108,16 +102,10 @@ walk-scan-requires t c =
             (
               body_deep c.in-Scan.table c.in-Scan.target c.args.machine.now.parts.now.registers (length c.loop-step.frames) c.in-Scan.body (code_of_steps (drop (c.loop-step.step-index + 1) c.as_slice-step-items.result.now)) (subst (λ k. scan_depth k * c.args.machine.now.parts.now.registers ≤ length c.loop-step.frames) code c.loop-step.invariant.deep),
               (
-                c.requires.groups,
+                record { visits = c.loop-step.invariant.worked.visits; work = omega (arith, c.loop-step.invariant.worked.work, c.requires.few.work, c.loop-step.invariant.placed, c.loop-step.invariant.after, all) },
                 (
-                  c.requires.most,
-                  (
-                    record { visits = c.loop-step.invariant.worked.visits; work = omega (arith, c.loop-step.invariant.worked.work, c.requires.few.work, c.loop-step.invariant.placed, c.loop-step.invariant.after, all) },
-                    (
-                      c.loop-step.invariant.sound,
-                      (now.0, now.1),
-                    ),
-                  ),
+                  c.loop-step.invariant.sound,
+                  (now.0, now.1),
                 ),
               ),
             ),
@@ -131,7 +119,7 @@ walk-returns-in_err-scan-in-Scan-clause-ends t c = λ s h.
     let p = err_from_is_err_and c.from_residual.result c.from_residual.ensures.1 in
     let at = c.loop-step.invariant.ends s h in
     rw (p.1, p.2) (after_fault _ _ _ c.in_err-scan-in-Scan.field-0.0 (c.in_err-scan-in-Scan.ensures.ends at.0 at.1)
-    (sym (ap (λ k. meaning (world_of c.args.machine.now.catalogue.now) c.args.machine.now.parts.now (λ visits. nat_lt visits c.args.machine.now.most) k c.args.at c.args.inside (held c.args.registers.now) s) c.as_slice-step-items.ensures) ∙ sym at.2 ∙ scan_follows (world_of c.args.machine.now.catalogue.now) c.args.machine.now.parts.now (λ visits. nat_lt visits c.args.machine.now.most) c.as_slice-step-items.result.now c.loop-step.step-index c.step-item.result c.loop-step.place c.args.inside (held c.loop-step.registers) at.0 c.in-Scan.table c.in-Scan.target c.in-Scan.body _ c.loop-step-test.true c.step-item.is c.in-Scan.is refl))
+    (sym (ap (λ k. means c.args.machine.now k c.args.at c.args.inside (held c.args.registers.now) s) c.as_slice-step-items.ensures) ∙ sym at.2 ∙ scan_follows (world_of c.args.machine.now.catalogue.now) c.args.machine.now.parts.now (λ visits. nat_lt visits c.args.machine.now.most) c.as_slice-step-items.result.now c.loop-step.step-index c.step-item.result c.loop-step.place c.args.inside (held c.loop-step.registers) at.0 c.in-Scan.table c.in-Scan.target c.in-Scan.body _ c.loop-step-test.true c.step-item.is c.in-Scan.is refl))
 
 pub walk-loop-step-preserved : goal.walk-loop-step-preserved
 walk-loop-step-preserved t c =
@@ -145,7 +133,7 @@ walk-loop-step-preserved t c =
                 let goes = gone_on c.args.machine.now.catalogue.now c.args.machine.now.parts.now w.act.new.run (act (world_of c.args.machine.now.catalogue.now) c.args.machine.now.parts.now c.args.inside (held c.loop-step.registers) at.0 w.in-Act.op) w.in-Ok-GoesOn.field-0 w.in-Ok-GoesOn.field-0-is (held w.act.new.registers) (w.in-Ok-GoesOn.ensures.does at.0 at.1) in (
                   goes.s,
                   subst (λ r. HasDone c.args.machine.now.catalogue.now c.args.machine.now.parts.now r goes.s) (sym w.run-is) goes.done,
-                  (λ i. meaning (world_of c.args.machine.now.catalogue.now) c.args.machine.now.parts.now (λ visits. nat_lt visits c.args.machine.now.most) (code_of_steps (drop (c.loop-step.step-index + 1) c.as_slice-step-items.result.now)) (w.place-is i) c.args.inside (held (w.registers-is i)) goes.s)
+                  (λ i. means c.args.machine.now (code_of_steps (drop (c.loop-step.step-index + 1) c.as_slice-step-items.result.now)) (w.place-is i) c.args.inside (held (w.registers-is i)) goes.s)
                       ∙ sym (act_follows (world_of c.args.machine.now.catalogue.now) c.args.machine.now.parts.now (λ visits. nat_lt visits c.args.machine.now.most) c.as_slice-step-items.result.now c.loop-step.step-index c.step-item.result c.loop-step.place c.args.inside (held c.loop-step.registers) at.0 w.in-Act.op _ c.loop-step-test.true c.step-item.is w.in-Act.is goes.does)
                       ∙ at.2,
                 );
@@ -167,8 +155,8 @@ walk-loop-step-preserved t c =
                 let place : c.loop-step.place + (1 + w.size.result) ≡ c.loop-step.place + 1 + code_size w.in-Scan.body = omega (arith, w.size.ensures) in (
                   done.s,
                   subst (λ r. HasDone c.args.machine.now.catalogue.now c.args.machine.now.parts.now r done.s) (sym w.run-is) done.done,
-                  (λ i. meaning (world_of c.args.machine.now.catalogue.now) c.args.machine.now.parts.now (λ visits. nat_lt visits c.args.machine.now.most) (code_of_steps (drop (c.loop-step.step-index + 1) c.as_slice-step-items.result.now)) (w.place-is i) c.args.inside (held (w.registers-is i)) done.s)
-                      ∙ ap (λ n. meaning (world_of c.args.machine.now.catalogue.now) c.args.machine.now.parts.now (λ visits. nat_lt visits c.args.machine.now.most) (code_of_steps (drop (c.loop-step.step-index + 1) c.as_slice-step-items.result.now)) n c.args.inside (held c.loop-step.registers) done.s) place
+                  (λ i. means c.args.machine.now (code_of_steps (drop (c.loop-step.step-index + 1) c.as_slice-step-items.result.now)) (w.place-is i) c.args.inside (held (w.registers-is i)) done.s)
+                      ∙ ap (λ n. means c.args.machine.now (code_of_steps (drop (c.loop-step.step-index + 1) c.as_slice-step-items.result.now)) n c.args.inside (held c.loop-step.registers) done.s) place
                       ∙ sym (scan_follows (world_of c.args.machine.now.catalogue.now) c.args.machine.now.parts.now (λ visits. nat_lt visits c.args.machine.now.most) c.as_slice-step-items.result.now c.loop-step.step-index c.step-item.result c.loop-step.place c.args.inside (held c.loop-step.registers) at.0 w.in-Scan.table w.in-Scan.target w.in-Scan.body _ c.loop-step-test.true c.step-item.is w.in-Scan.is done.is)
                       ∙ at.2,
                 );
@@ -187,6 +175,6 @@ walk-returns-clause-ends t c = λ s h.
     let at = c.loop-step.invariant.ends s h in
     record {
       s = at.0;
-      is = sym (ap (λ k. meaning (world_of c.args.machine.now.catalogue.now) c.args.machine.now.parts.now (λ visits. nat_lt visits c.args.machine.now.most) k c.args.at c.args.inside (held c.args.registers.now) s) c.as_slice-step-items.ensures) ∙ sym at.2 ∙ ap (λ k. meaning (world_of c.args.machine.now.catalogue.now) c.args.machine.now.parts.now (λ visits. nat_lt visits c.args.machine.now.most) k c.loop-step.place c.args.inside (held c.loop-step.registers) at.0) (ap code_of_steps (drop_past c.as_slice-step-items.result.now c.loop-step.step-index c.loop-step-test.false));
+      is = sym (ap (λ k. means c.args.machine.now k c.args.at c.args.inside (held c.args.registers.now) s) c.as_slice-step-items.ensures) ∙ sym at.2 ∙ ap (λ k. means c.args.machine.now k c.loop-step.place c.args.inside (held c.loop-step.registers) at.0) (ap code_of_steps (drop_past c.as_slice-step-items.result.now c.loop-step.step-index c.loop-step-test.false));
       done = at.1;
     }

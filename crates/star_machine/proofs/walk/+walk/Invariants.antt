@@ -1,16 +1,15 @@
 use Rattle.std.proofs.Common.{◌≡◌, ◌≤◌, ◌+◌, ◌-◌, ◌*◌, length, drop}
-use Rattle.std.specs.Prelude.{nat_lt, true}
+use Rattle.std.specs.Prelude.{nat_lt}
 use Rattle.star_schema.specs.Database.{rows_in}
 use Rattle.star_program.specs.Code.{code_size, scan_depth}
 use Rattle.star_program.specs.CodeOfSteps.{code_of_steps}
 use Rattle.star_program.specs.Effects.{Store}
-use Rattle.star_program.specs.Run.{meaning, turns}
-use Rattle.star_program.specs.Values.{Row, with_entry}
+use Rattle.star_program.specs.Run.{turns}
+use Rattle.star_program.specs.Values.{Row}
 use Rattle.star_machine.specs.Runs.{HasDone}
 use Rattle.star_machine.specs.Shown.{held}
 use Rattle.star_machine.specs.Sound.{AreSound}
-use Rattle.star_machine.specs.Walks.{HasWorked}
-use Rattle.star_machine.specs.WorldOf.{world_of}
+use Rattle.star_machine.specs.Walks.{HasWorked, means, means_at, means_turns}
 use Rattle.star_machine.proofs.walk.+walk.Given as goal
 
 abbrev pub decreases-walk : goal.decreases-walk
@@ -28,16 +27,16 @@ decreases-scan l = 4 * code_size l.scanned.now.body.now + 3
 abbrev pub invariant-turns-loop-row : goal.invariant-turns-loop-row
 invariant-turns-loop-row l = record {
   ends : (s : Store) → HasDone l.machine.catalogue.now l.machine.parts.now l.initial.run s → (now : Store) × HasDone l.machine.catalogue.now l.machine.parts.now l.run now
-      × (turns (λ visits. nat_lt visits l.machine.most) (length (rows_in l.machine.catalogue.now l.scanned.table) - l.row) l.row (λ row. meaning (world_of l.machine.catalogue.now) l.machine.parts.now (λ visits. nat_lt visits l.machine.most) l.scanned.body.now (l.scanned.at + 1) true (with_entry (held l.before) l.scanned.target (Row l.scanned.table row))) now
-      ≡ turns (λ visits. nat_lt visits l.machine.most) (length (rows_in l.machine.catalogue.now l.scanned.table)) 0 (λ row. meaning (world_of l.machine.catalogue.now) l.machine.parts.now (λ visits. nat_lt visits l.machine.most) l.scanned.body.now (l.scanned.at + 1) true (with_entry (held l.before) l.scanned.target (Row l.scanned.table row))) s);
+      × (turns (λ visits. nat_lt visits l.machine.most) (length (rows_in l.machine.catalogue.now l.scanned.table) - l.row) l.row (λ row. means_at l.machine l.scanned (held l.before) (Row l.scanned.table row)) now
+      ≡ means_turns l.machine l.scanned (held l.before) s);
   worked : HasWorked l.machine.most l.initial.run l.run 0;
 }
 
 abbrev pub invariant-walk-loop-step : goal.invariant-walk-loop-step
 invariant-walk-loop-step l = record {
   ends : (s : Store) → HasDone l.machine.catalogue.now l.machine.parts.now l.initial.run s → (now : Store) × HasDone l.machine.catalogue.now l.machine.parts.now l.run now
-      × (meaning (world_of l.machine.catalogue.now) l.machine.parts.now (λ visits. nat_lt visits l.machine.most) (code_of_steps (drop l.step-index l.step-items)) l.place l.inside (held l.registers) now
-      ≡ meaning (world_of l.machine.catalogue.now) l.machine.parts.now (λ visits. nat_lt visits l.machine.most) (code_of_steps l.step-items) l.at l.inside (held l.initial.registers) s);
+      × (means l.machine (code_of_steps (drop l.step-index l.step-items)) l.place l.inside (held l.registers) now
+      ≡ means l.machine (code_of_steps l.step-items) l.at l.inside (held l.initial.registers) s);
   sound : AreSound l.machine.catalogue.now (held l.registers);
   worked : HasWorked l.machine.most l.initial.run l.run (l.place - l.at);
   placed : l.place + code_size (code_of_steps (drop l.step-index l.step-items)) ≡ l.at + code_size (code_of_steps l.step-items);
