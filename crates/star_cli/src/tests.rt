@@ -1,7 +1,7 @@
 // What the program prints, and its exit statuses.
 
 use crate::command::command;
-use std::alloc::AllocError;
+use std::alloc::{AllocError, Global};
 use std::process::Abort;
 use std::rt::Files;
 use std::test::Fail;
@@ -210,7 +210,11 @@ fn tells_faults_of_trials(rt: HostRuntime) -> Result<(), Fail> {
     write_sample(&rt, "tables")?;
     fs::write(&rt, "above.star", ABOVE_AVERAGE.as_bytes())?;
     fs::write(&rt, "astray.star", ASTRAY.as_bytes())?;
-    fs::write(&rt, "open.star", b"star program 1\nregisters 1\nscan date r0\n")?;
+    fs::write(
+        &rt,
+        "open.star",
+        b"star program 1\nregisters 1\nscan date r0\n",
+    )?;
     for (folder, file, limit, line, status) in [
         ("tables", "above.star", "9", "limit\n", 1),
         ("tables", "above.star", "0", "limit\n", 1),
@@ -220,25 +224,24 @@ fn tells_faults_of_trials(rt: HostRuntime) -> Result<(), Fail> {
         ("none", "no.star", "10", "file no.star\n", 6),
         ("tables", "tables", "10", "file tables\n", 6),
     ] {
-        assert_fault(
-            &rt,
-            ["trial", folder, file, limit].as_slice(),
-            line,
-            status,
-        )?;
+        assert_fault(&rt, ["trial", folder, file, limit].as_slice(), line, status)?;
     }
     Ok(())
+}
+
+fn spaces(alloc: Global, count: usize) -> Result<Vec<u8>, AllocError> {
+    vec![in alloc; b' '; count]
 }
 
 #[test]
 fn tells_a_file_that_is_too_large(rt: HostRuntime) -> Result<(), Fail> {
     write_sample(&rt, "tables")?;
-    let bytes = vec![in rt.alloc(); b' '; 16_777_217]?;
     for (count, line, status) in [
         (16_777_216, "program 50 BadHeader\n", 5),
         (16_777_217, "file spaces.star\n", 6),
     ] {
-        fs::write(&rt, "spaces.star", &bytes[..count])?;
+        let bytes = spaces(rt.alloc(), count)?;
+        fs::write(&rt, "spaces.star", bytes.as_slice())?;
         assert_fault(
             &rt,
             ["trial", "tables", "spaces.star", "10"].as_slice(),

@@ -11,7 +11,9 @@ pub(crate) enum Task<'a> {
     /// List the tables of the sample.
     CheckSample,
     /// List the tables of a folder.
-    Check { folder: &'a str },
+    Check {
+        folder: &'a str,
+    },
     /// Run the program of a file over the tables of a folder, with at most so many visits.
     Trial {
         folder: &'a str,

@@ -60,11 +60,7 @@ fn list_tables(alloc: Global, catalogue: &Catalogue) -> Result<String, AllocErro
 }
 
 // The listing of the tables of five texts.
-pub(crate) fn listing(
-    alloc: Global,
-    texts: &Texts<'_>,
-    limits: Limits,
-) -> Result<String, LoadFault>
+pub(crate) fn listing(alloc: Global, texts: &Texts<'_>, limits: Limits) -> Result<String, LoadFault>
     ensures { MatchResult result
         (λ text. IsLoadable limits.rows (text_of texts.now) × (string_bytes text ≡ check_text (text_of texts.now)))
         (IsLoadFault limits.rows (text_of texts.now)) }

@@ -311,6 +311,7 @@ const REVENUES: &str = concat!(
 );
 
 const HEAD: &str = "star program 1\nregisters 3\ngroup 0 plain : count\n";
+
 const TAIL: &str = "report 0\nshow n aggregate 0\n";
 
 // What a trial prints, or its fault line.
@@ -350,7 +351,10 @@ fn tries_programs(rt: HostRuntime) -> Result<(), Fail> {
         (&empty, REVENUE, 0, none),
         (&empty, ABOVE_AVERAGE, 0, "n\n0\n"),
     ] {
-        assert_eq!(rt; tried(rt.alloc(), texts, program, visits)?.as_str(), expected);
+        assert_eq!(rt;
+            tried(rt.alloc(), texts, program, visits)?.as_str(),
+            expected
+        );
     }
     Ok(())
 }
@@ -378,7 +382,11 @@ fn tries_bodies(rt: HostRuntime) -> Result<(), Fail> {
             3,
             "trap Unset at 3",
         ),
-        ("r0 = const 1\nr1 = eq r0 r0\nkeep r1\n", 0, "trap Misplaced at 3"),
+        (
+            "r0 = const 1\nr1 = eq r0 r0\nkeep r1\n",
+            0,
+            "trap Misplaced at 3",
+        ),
         ("scan date r0\n", 0, "program 52 OpenScan"),
         ("r0 = const\n", 0, "program 51 BadLine line 4"),
     ] {

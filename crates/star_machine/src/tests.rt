@@ -96,7 +96,9 @@ fn all_agree(alloc: Global, catalogue: &Catalogue, cases: &[Case]) -> Result<(),
 /// Whether programs of these lines, with three registers, that count their puts answer what is expected.
 fn all_counting_agree(alloc: Global, catalogue: &Catalogue, cases: &[Case]) -> Result<(), Fail> {
     for (lines, visits, expected) in cases {
-        let text = format!(in alloc; "star program 1\nregisters 3\ngroup 0 plain : count\n{lines}report 0\nshow n aggregate 0\n")?;
+        let text = format!(in alloc;
+            "star program 1\nregisters 3\ngroup 0 plain : count\n{lines}report 0\nshow n aggregate 0\n"
+        )?;
         agree(alloc, catalogue, text.as_str(), *visits, expected)?;
     }
     Ok(())
@@ -265,8 +267,16 @@ const NOT_THERE: &[&str] = &[
 fn a_report_of_what_is_not_there_traps_first(rt: HostRuntime) -> Result<(), Fail> {
     let catalogue = loaded(rt.alloc(), &sample())?;
     for report in NOT_THERE {
-        let text = format!(in rt.alloc(); "star program 1\nregisters 3\ngroup 0 plain : count\nr3 = const 1\n{report}")?;
-        agree(rt.alloc(), &catalogue, text.as_str(), 0, "trap BadGroup at 0")?;
+        let text = format!(in rt.alloc();
+            "star program 1\nregisters 3\ngroup 0 plain : count\nr3 = const 1\n{report}"
+        )?;
+        agree(
+            rt.alloc(),
+            &catalogue,
+            text.as_str(),
+            0,
+            "trap BadGroup at 0",
+        )?;
     }
     Ok(())
 }
