@@ -3,3 +3,4 @@ pub mod Load
 pub mod Keys
 pub mod Kept
 pub mod FiveTables
+pub mod FaultTexts

@@ -9,3 +9,4 @@ pub mod Acts
 pub mod Walks
 pub mod RowOrder
 pub mod Decoded
+pub mod FaultTexts

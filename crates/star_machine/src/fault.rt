@@ -31,6 +31,12 @@ pub enum TrapKind {
 }
 
 impl fmt::Display for TrapKind {
+    ghost use Rattle.std.specs.Prelude.{Some};
+    ghost use Rattle.star_machine.specs.FaultTexts.{kind_text};
+
+    ghost output = { λ kind. Some (kind_text kind) };
+
+    #[tactic(auto, unfolding(crate::specs::FaultTexts::kind_text))]
     fn fmt<W: fmt::Write>(&self, f: &mut fmt::Formatter<W>) -> fmt::Result {
         f.write_str(match self {
             TrapKind::BadRegister => "BadRegister",
@@ -65,6 +71,12 @@ impl From<AllocError> for TrialFault {
 }
 
 impl fmt::Display for TrialFault {
+    ghost use Rattle.std.specs.Prelude.{Some};
+    ghost use Rattle.star_machine.specs.FaultTexts.{fault_text};
+
+    ghost output = { λ fault. Some (fault_text fault) };
+
+    #[tactic(auto, unfolding(crate::specs::FaultTexts::fault_text))]
     fn fmt<W: fmt::Write>(&self, f: &mut fmt::Formatter<W>) -> fmt::Result {
         match self {
             TrialFault::OutOfMemory => write!(f, "memory"),

@@ -32,3 +32,4 @@ pub mod Spelling
 pub mod Followed
 pub mod Drafts
 pub mod Spellable
+pub mod FaultTexts

@@ -54,6 +54,12 @@ impl From<AllocError> for TextFault {
 }
 
 impl fmt::Display for TextFault {
+    ghost use Rattle.std.specs.Prelude.{Some};
+    ghost use Rattle.star_program.specs.FaultTexts.{fault_text};
+
+    ghost output = { λ fault. Some (fault_text fault) };
+
+    #[tactic(auto, unfolding(crate::specs::FaultTexts::fault_text))]
     fn fmt<W: fmt::Write>(&self, f: &mut fmt::Formatter<W>) -> fmt::Result {
         match self {
             TextFault::OutOfMemory => write!(f, "1 OutOfMemory"),

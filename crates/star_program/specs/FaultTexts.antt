@@ -1,0 +1,12 @@
+-- The words of the faults of a program's text.
+use Rattle.std.specs.Prelude.{◌++◌, ℕ, List, codes, decimal}
+use Rattle.star_program.specs.declared.spelling.fault.TextFault.{TextFault}
+use Rattle.star_program.specs.declared.spelling.fault.TextFault.TheVariants.{OutOfMemory, BadHeader, BadLine, OpenScan, TooLarge}
+
+-- the number and name of a fault, and its line
+unfoldable pub fault_text : TextFault → List ℕ
+fault_text OutOfMemory = codes "1 OutOfMemory"
+fault_text BadHeader = codes "50 BadHeader"
+fault_text (BadLine line) = codes "51 BadLine line " ++ decimal line
+fault_text OpenScan = codes "52 OpenScan"
+fault_text (TooLarge line) = codes "53 TooLarge line " ++ decimal line
