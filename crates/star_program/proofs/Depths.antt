@@ -21,3 +21,16 @@ pub rest_nested : (depth : ℕ) (steps : List Step) (i : ℕ) (step : Step) → 
 rest_nested depth steps i step at h =
     let here : depth + scan_depth (before step (code_of_steps (drop (i + 1) steps))) ≤ 3 = rw (drop_at_place steps i step at) at h in
     omega (arith, here, rest_depth step (code_of_steps (drop (i + 1) steps)))
+
+-- the larger of two is within what both are within
+abbrev pub larger : ℕ → ℕ → ℕ
+larger a b = if nat_lt a b then b else a
+
+pub left_within : (a b k : ℕ) → larger a b ≤ k → a ≤ k
+left_within a b k h = grind arith
+
+pub right_within : (a b k : ℕ) → larger a b ≤ k → b ≤ k
+right_within a b k h = grind arith
+
+pub both_within : (a b k : ℕ) → a ≤ k → b ≤ k → larger a b ≤ k
+both_within a b k h g = grind arith

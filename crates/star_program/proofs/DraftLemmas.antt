@@ -2,7 +2,7 @@
 use Rattle.std.specs.Prelude.{if◌then◌else◌, nat_le, nat_lt}
 use Rattle.std.proofs.Common.{◌≡◌, ◌⊎◌, ◌==◌, ◌&&◌, ◌<◌, ◌≤◌, ◌+◌, ◌-◌, ◌∙◌, ◌∷◌, ◌++◌, [], ℕ, Bool, true, false, List, Option, Some, None, Ok, Err, append_assoc, append-nil, length, map, arith, ap, refl, sym, subst, inl, inr, lit≤}
 use Rattle.std.proofs.lemmas.Bool.{and_parts, cases_Bool, eqb-false, eqb-true, leb-true}
-use Rattle.std.proofs.lemmas.List.{length_push, map_push}
+use Rattle.std.proofs.lemmas.List.{length_push, map_push, nil_from_length}
 use Rattle.std.proofs.lemmas.List.Elements.{All-push}
 use Rattle.star_program.specs.Code.{Code, Stop, Then, Each, code_size, scan_depth}
 use Rattle.star_program.specs.Drafts.{Counts, IsAdded, IsAt, IsClosed, IsInOrder, IsPassed, IsRefused, begun, closed, code_says, finished, groups_say, lines_say, nothing_read, opens_say, told, whole}
@@ -26,7 +26,8 @@ use Rattle.star_program.specs.declared.spelling.statement.Statement.{Statement}
 use Rattle.star_program.specs.declared.spelling.statement.Statement.TheVariants as says
 use Rattle.star_schema.specs.declared.group.SortKey.{SortKey}
 use Rattle.star_schema.specs.declared.table.TableId.{TableId}
-use Rattle.star_program.proofs.FaultLemmas.{advanced, blank_line, refused, start_within, within_from}
+use Rattle.star_program.proofs.Depths.{both_within, left_within, right_within}
+use Rattle.star_program.proofs.FaultLemmas.{advanced, blank_line, place, refused, start_within, within_from}
 use Rattle.star_program.proofs.OneProgram.{program_said}
 
 -- ---- a code and another after it
@@ -42,18 +43,6 @@ followed_size : (c d : Code) → code_size (followed c d) ≡ code_size c + code
 followed_size Stop d = omega arith
 followed_size (Then op c) d = omega (arith, followed_size c d)
 followed_size (Each t r b c) d = omega (arith, followed_size c d)
-
-abbrev larger : ℕ → ℕ → ℕ
-larger a b = if nat_lt a b then b else a
-
-left_within : (a b k : ℕ) → larger a b ≤ k → a ≤ k
-left_within a b k h = grind arith
-
-right_within : (a b k : ℕ) → larger a b ≤ k → b ≤ k
-right_within a b k h = grind arith
-
-both_within : (a b k : ℕ) → a ≤ k → b ≤ k → larger a b ≤ k
-both_within a b k h g = grind arith
 
 followed_depth : (c d : Code) (k : ℕ) → scan_depth c ≤ k → scan_depth d ≤ k → scan_depth (followed c d) ≤ k
 followed_depth Stop d k h g = g
@@ -309,10 +298,6 @@ ends_some st p q h = let bad : ⊥ = cc in absurd bad
 
 -- ---- a statement that may stand there
 
-none_long : {X : Type 0} (xs : List X) → length xs ≡ 0 → xs ≡ []
-none_long [] h = refl
-none_long (x ∷ xs) h = absurd (omega arith)
-
 small_registers : (n : ℕ) → is_small (says.Registers n) ≡ true → n ≤ 4096
 unfolding is_small
 small_registers n h = leb-true n 4096 h
@@ -322,9 +307,6 @@ unfolding is_small
 small_group place group h =
     let parts : (nat_le (length group.keys) 6 ≡ true) × (nat_le (length group.aggregates) 8 ≡ true) = and_parts _ _ h in
     record { keys = leb-true _ _ parts.0; aggregates = leb-true _ _ parts.1 }
-
-abbrev place : Stage → ℕ → ℕ → ℕ → ℕ → ℕ → Place
-place st g i dp sh so = record { stage = st; groups = g; instructions = i; depth = dp; shows = sh; sorts = so }
 
 abbrev Goes : Place → Draft → Statement → Place → Draft → Type 0
 Goes p d s q e = IsAt q e × (told q.stage e ≡ told p.stage d ++ s ∷ [])
@@ -365,7 +347,7 @@ report_goes : (g i dp sh so n : ℕ) (d e : Draft) (q : Place) → Counts g i dp
     → IsWithin q → e ≡ record d { report = n } → Steps d (says.Report n) q e
 report_goes g i dp sh so n d e q counts order none is within added =
     let there : IsWithin (place stage.Shows g i dp sh so) = subst IsWithin (sym is) within in
-    let closed_all : d.scans ≡ [] = none_long d.scans (counts.scans_are ∙ none) in
+    let closed_all : d.scans ≡ [] = nil_from_length d.scans (counts.scans_are ∙ none) in
     rw (← is, added) (record { within = there; counts = counts_report g i dp sh so n d counts; order = (closed_all, order.1) }, whole_report d n closed_all order.0 order.1)
 
 -- a statement after its like, by the part of the program

@@ -6,6 +6,11 @@ use Rattle.star_program.specs.Lines.{is_blank, lines_of}
 use Rattle.star_program.specs.Places.{IsWithin, advance, end_in, fault_from, is_within, start, text_fault}
 use Rattle.star_program.specs.declared.spelling.fault.TextFault.{TextFault}
 use Rattle.star_program.specs.declared.spelling.place.Place.{Place}
+use Rattle.star_program.specs.declared.spelling.place.Stage.{Stage}
+
+-- a place by its parts
+abbrev pub place : Stage → ℕ → ℕ → ℕ → ℕ → ℕ → Place
+place st g i dp sh so = record { stage = st; groups = g; instructions = i; depth = dp; shows = sh; sorts = so }
 
 pub within_from : (p : Place) → is_within p ≡ true → IsWithin p
 unfolding is_within

@@ -1,5 +1,5 @@
 -- A text has no fault exactly where it spells a program within the limits.
-use Rattle.std.proofs.Common.{◌≡◌, ◌<◌, ◌+◌, ◌∙◌, ◌∷◌, ◌++◌, [], ℕ, true, false, List, Option, Some, None, Result, Ok, Err, append-nil, length, map, arith, ap, refl, sym, inl, inr}
+use Rattle.std.proofs.Common.{◌≡◌, ◌<◌, ◌+◌, ◌∙◌, ◌∷◌, ◌++◌, [], ℕ, false, List, Option, Some, None, Result, Ok, Err, append-nil, length, map, arith, ap, refl, sym, inl, inr}
 use Rattle.std.proofs.lemmas.Bool.{cases_Bool}
 use Rattle.star_program.specs.Code.{Stop, Then, Each}
 use Rattle.star_program.specs.Drafts.{IsAdded, IsAt, finished, lines_say, nothing_read, told}

@@ -1,10 +1,11 @@
 -- A text that spells a program within the limits has no fault.
-use Rattle.std.specs.Prelude.{codes, filter, if◌then◌else◌, nat_lt, not}
-use Rattle.std.proofs.Common.{◌≡◌, ◌==◌, ◌&&◌, ◌≤◌, ◌+◌, ◌-◌, ◌⊎◌, ◌∙◌, ◌∷◌, ◌++◌, [], ℕ, suc, Bool, true, false, List, Option, Some, None, Ok, All, append_assoc, length, map, arith, ap, refl, sym, subst, inl, inr, lit≤}
+use Rattle.std.specs.Prelude.{codes, filter, nat_lt, not}
+use Rattle.std.proofs.Common.{◌≡◌, ◌==◌, ◌&&◌, ◌≤◌, ◌+◌, ◌-◌, ◌⊎◌, ◌∙◌, ◌∷◌, ◌++◌, [], ℕ, Bool, true, false, List, Option, Some, None, Ok, All, append_assoc, length, map, arith, ap, refl, sym, subst, inl, inr, lit≤}
 use Rattle.std.specs.Cmp.Lexicographic.{bytes_decides}
 use Rattle.std.specs.List.{list_all}
 use Rattle.std.specs.Option.{option_map}
 use Rattle.std.proofs.lemmas.Bool.{cases_Bool, eqb-true, eq-eqb, le-leb, ne_eqb}
+use Rattle.std.proofs.lemmas.List.Elements.{All-head, All-tail}
 use Rattle.star_schema.specs.Tables.{is_printable}
 use Rattle.star_program.specs.Code.{Code, Stop, Then, Each, code_size, scan_depth}
 use Rattle.star_program.specs.Drafts.{code_says, groups_say}
@@ -27,7 +28,8 @@ use Rattle.star_program.specs.declared.spelling.statement.Statement.{Statement}
 use Rattle.star_program.specs.declared.spelling.statement.Statement.TheVariants as says
 use Rattle.star_schema.specs.declared.group.SortKey.{SortKey}
 use Rattle.star_schema.specs.declared.table.TableId.{TableId}
-use Rattle.star_program.proofs.FaultLemmas.{advanced, blank_line, ended, text_fault_is}
+use Rattle.star_program.proofs.Depths.{larger, left_within, right_within}
+use Rattle.star_program.proofs.FaultLemmas.{advanced, blank_line, ended, place, text_fault_is}
 use Rattle.star_program.proofs.OneProgram.{program_said, tail_of}
 
 -- ---- a report stands in no scan
@@ -125,9 +127,6 @@ walk_faults (text ∷ texts) (s ∷ ss) p q line says walks ends = elim (cases_B
 
 -- ---- the statements of a program
 
-abbrev place : Stage → ℕ → ℕ → ℕ → ℕ → ℕ → Place
-place st g i dp sh so = record { stage = st; groups = g; instructions = i; depth = dp; shows = sh; sorts = so }
-
 within_is : (st : Stage) (g i dp sh so : ℕ) → g ≤ 8 → i ≤ 4096 → dp ≤ 3 → sh ≤ 16 → so ≤ 16 → is_within (place st g i dp sh so) ≡ true
 unfolding is_within
 within_is st g i dp sh so a b c d e = rw (le-leb g 8 a, le-leb i 4096 b, le-leb dp 3 c, le-leb sh 16 d, le-leb so 16 e) refl
@@ -145,8 +144,8 @@ walk_groups : (gs : List GroupDecl) (g m : ℕ) → g + length gs ≡ m → m �
 walk_groups [] g m is room small = let same : g ≡ m = omega arith in rw same refl
 walk_groups (group ∷ gs) g m is room small = (
   place stage.Groups (g + 1) 0 0 0 0,
-  group_follows g group (omega arith) (small 0 group (omega arith)),
-  walk_groups gs (g + 1) m (omega arith) room (λ k d h. small (suc k) d (omega arith)),
+  group_follows g group (omega arith) (All-head IsSmall group gs small),
+  walk_groups gs (g + 1) m (omega arith) room (All-tail IsSmall group gs small),
 )
 
 -- a step of the body, from the groups on
@@ -170,9 +169,6 @@ end_follows g i dp a b c =
     let less : dp + 1 - 1 ≡ dp = omega arith in
     record { after = rw (some, less) refl; within = within_is stage.Body g i dp 0 0 a b (omega arith) (lit≤ tt) (lit≤ tt); small = refl }
 
-left_within : (a b k : ℕ) → (if nat_lt a b then b else a) ≤ k → (a ≤ k) × (b ≤ k)
-left_within a b k h = (grind arith, grind arith)
-
 -- a body after one of its steps
 walk_body : (c : Code) (g i dp m : ℕ) → i + code_size c ≡ m → m ≤ 4096 → dp + scan_depth c ≤ 3 → g ≤ 8 → Walks (place stage.Body g i dp 0 0) (code_says c) (place stage.Body g m dp 0 0)
 walk_body Stop g i dp m is room nested few = let same : i ≡ m = omega arith in rw same refl
@@ -182,9 +178,9 @@ walk_body (Then op rest) g i dp m is room nested few = (
   walk_body rest g (i + 1) dp m (omega arith) room nested few,
 )
 walk_body (Each t r body rest) g i dp m is room nested few =
-    let depths = left_within (1 + scan_depth body) (scan_depth rest) (3 - dp) (omega arith) in
-    let inner : dp + 1 + scan_depth body ≤ 3 = omega (arith, depths.0) in
-    let outer : dp + scan_depth rest ≤ 3 = omega (arith, depths.1) in
+    let within : larger (1 + scan_depth body) (scan_depth rest) ≤ 3 - dp = omega arith in
+    let inner : dp + 1 + scan_depth body ≤ 3 = omega (arith, left_within (1 + scan_depth body) (scan_depth rest) (3 - dp) within) in
+    let outer : dp + scan_depth rest ≤ 3 = omega (arith, right_within (1 + scan_depth body) (scan_depth rest) (3 - dp) within) in
     let n : ℕ = i + 1 + code_size body in
     let turns = walk_body body g (i + 1) (dp + 1) n refl (omega arith) inner few in
     let others = walk_body rest g n dp m (omega arith) room outer few in (
@@ -212,10 +208,11 @@ walk_code Stop g n room nested few = (place stage.Shows g 0 0 0 0, report_follow
 walk_code (Then op rest) g n room nested few =
     (place stage.Body g 1 0 0 0, act_follows stage.Groups g 0 0 op (inl refl) few (lit≤ tt) (lit≤ tt), walk_report rest g 1 (code_size (Then op rest)) n (omega arith) room nested few)
 walk_code (Each t r body rest) g n room nested few =
-    let depths = left_within (1 + scan_depth body) (scan_depth rest) 3 nested in
+    let inner : 1 + scan_depth body ≤ 3 = left_within (1 + scan_depth body) (scan_depth rest) 3 nested in
+    let outer : scan_depth rest ≤ 3 = right_within (1 + scan_depth body) (scan_depth rest) 3 nested in
     let k : ℕ = 1 + code_size body in
-    let turns = walk_body body g 1 1 k (omega arith) (omega arith) (omega (arith, depths.0)) few in
-    let others = walk_report rest g k (code_size (Each t r body rest)) n (omega arith) room depths.1 few in
+    let turns = walk_body body g 1 1 k (omega arith) (omega arith) inner few in
+    let others = walk_report rest g k (code_size (Each t r body rest)) n (omega arith) room outer few in
     let parted : (code_says body ++ says.End ∷ code_says rest) ++ says.Report n ∷ [] ≡ code_says body ++ (says.End ∷ (code_says rest ++ says.Report n ∷ [])) =
     append_assoc (code_says body) (says.End ∷ code_says rest) (says.Report n ∷ []) in
     let q : Place = place stage.Shows g (code_size (Each t r body rest)) 0 0 0 in

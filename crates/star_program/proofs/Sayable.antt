@@ -8,6 +8,7 @@ use Rattle.std.specs.Str.Parse.{AllDigits, digits_value, starts_with_minus}
 use Rattle.std.proofs.lemmas.Bool.{and_parts, cases_Bool, leb-true}
 use Rattle.std.proofs.lemmas.Int.Digits.{digits_value-lt}
 use Rattle.std.proofs.lemmas.Str.{digit_value_digit}
+use Rattle.std.proofs.lemmas.List.Elements.{All-cons}
 use Rattle.star_schema.specs.Records.{is_filled, with_first}
 use Rattle.star_schema.specs.Tables.{is_printable}
 use Rattle.star_schema.specs.declared.column.ColumnId.{ColumnId}
@@ -17,7 +18,7 @@ use Rattle.star_schema.specs.declared.group.SortKey.{SortKey}
 use Rattle.star_program.specs.Keywords.{aggregate_of, column_of, direction_of, keyword_of, operator_of, same, shape_of, table_of}
 use Rattle.star_program.specs.Lines.{begins_with, is_blank, lines_of, pieces_of, words_of}
 use Rattle.star_program.specs.Numerals.{constant_of, count_of, is_name, numeral_of, register_of, up_to}
-use Rattle.star_program.specs.Said.{assigned, both, by_first, by_keyword, by_words, each, end_of, group_column_of, group_head, group_key_of, group_of, header_of, lists, name_of, one, only, operation, plain_operation, put_head, put_of, quoted_text_of, said, show_of, sort_of, three, two, unquoted, until_colon}
+use Rattle.star_program.specs.Said.{assigned, both, by_first, by_keyword, by_words, each, end_of, group_column_of, group_head, group_key_of, group_of, header_of, lists, name_of, of_two, one, only, operation, plain_operation, put_head, put_of, quoted_text_of, said, show_of, sort_of, test_of_two, three, two, unquoted, until_colon}
 use Rattle.star_program.specs.Spellable.{IsConstant, IsPrinted, IsSayable, IsShort, IsShortColumn, IsSpellableOp, OnlySpellable}
 use Rattle.star_program.specs.Spelling.{Spells, statements_of}
 use Rattle.star_program.specs.declared.op.Op.{Op}
@@ -72,10 +73,6 @@ three_gives f g k P Q R (w ∷ ws) p first second third h =
     let rest = two_gives g k Q R ws p.1 second third parts.1 in
     (first w p.0 parts.0, rest.0, rest.1)
 
-all_cons : {A : Type 0} (P : A → Type 0) (x : A) (xs : List A) → P x → All P xs → All P (x ∷ xs)
-all_cons P x xs h rest zero d small = h
-all_cons P x xs h rest (suc k) d small = rest k d (omega arith)
-
 each_gives : {A : Type 0} (f : List ℕ → Option A) (P : A → Type 0) (ws : List (List ℕ)) (xs : List A) → Gives f P → each f ws ≡ Some xs → All P xs
 each_gives f P [] xs gives h =
     let is : [] ≡ xs = cc in
@@ -83,7 +80,7 @@ each_gives f P [] xs gives h =
 each_gives f P (w ∷ ws) xs gives h =
     let c = mapped (λ (y, ys). y ∷ ys) (both (f w) (each f ws)) xs h in
     let parts = paired (f w) (each f ws) c.0 c.1 in
-    subst (All P) c.2 (all_cons P c.0.0 c.0.1 (gives w c.0.0 parts.0) (each_gives f P ws c.0.1 gives parts.1))
+    subst (All P) c.2 (All-cons P c.0.0 c.0.1 (gives w c.0.0 parts.0) (each_gives f P ws c.0.1 gives parts.1))
 
 until_colon_gives : {A : Type 0} (f : List ℕ → Option A) (P : A → Type 0) (ws : List (List ℕ)) (r : List A × List (List ℕ)) → Gives f P → until_colon f ws ≡ Some r → All P r.0
 until_colon_gives f P [] r gives h = let bad : ⊥ = cc in absurd bad
@@ -95,7 +92,7 @@ until_colon_gives f P (w ∷ ws) r gives h = elim (cases_Bool (same w (codes ":"
   | inr other ↦
       let c = mapped (λ (x, (xs, rest)). (x ∷ xs, rest)) (both (f w) (until_colon f ws)) r (rw other at h) in
       let parts = paired (f w) (until_colon f ws) c.0 c.1 in
-      subst (λ q. All P q.0) c.2 (all_cons P c.0.0 c.0.1.0 (gives w c.0.0 parts.0) (until_colon_gives f P ws c.0.1 gives parts.1))
+      subst (λ q. All P q.0) c.2 (All-cons P c.0.0 c.0.1.0 (gives w c.0.0 parts.0) (until_colon_gives f P ws c.0.1 gives parts.1))
 ]
 
 lists_gives : {A B : Type 0} (f : List ℕ → Option A) (g : List ℕ → Option B) (P : A → Type 0) (Q : B → Type 0) (ws : List (List ℕ)) (r : List A × List B) → Gives f P → Gives g Q → lists f g ws ≡ Some r
@@ -255,6 +252,20 @@ any_table w t h = tt
 two_short : (ws : List (List ℕ)) (p : ℕ × ℕ) → two register_of register_of ws ≡ Some p → IsShort p.0 × IsShort p.1
 two_short ws p h = two_gives register_of register_of IsShort IsShort ws p register_short register_short h
 
+test_spellable : (t : ℕ) (o : Operator) (a b : ℕ) (x : Op) → IsShort t → IsShort a × IsShort b → test_of_two t o a b ≡ Some x → IsSpellableOp x
+test_spellable t operator.Less a b x short both h = let is : op.Less t a b ≡ x = cc in subst IsSpellableOp is (short, both.0, both.1)
+test_spellable t operator.LessOrEqual a b x short both h = let is : op.LessOrEqual t a b ≡ x = cc in subst IsSpellableOp is (short, both.0, both.1)
+test_spellable t operator.Equal a b x short both h = let is : op.Equal t a b ≡ x = cc in subst IsSpellableOp is (short, both.0, both.1)
+test_spellable t operator.And a b x short both h = let is : op.And t a b ≡ x = cc in subst IsSpellableOp is (short, both.0, both.1)
+test_spellable t operator.Or a b x short both h = let is : op.Or t a b ≡ x = cc in subst IsSpellableOp is (short, both.0, both.1)
+test_spellable t o a b x short both h = let bad : ⊥ = cc in absurd bad
+
+two_spellable : (t : ℕ) (o : Operator) (a b : ℕ) (x : Op) → IsShort t → IsShort a × IsShort b → of_two t o a b ≡ Some x → IsSpellableOp x
+two_spellable t operator.Add a b x short both h = let is : op.Add t a b ≡ x = cc in subst IsSpellableOp is (short, both.0, both.1)
+two_spellable t operator.Sub a b x short both h = let is : op.Sub t a b ≡ x = cc in subst IsSpellableOp is (short, both.0, both.1)
+two_spellable t operator.Mul a b x short both h = let is : op.Mul t a b ≡ x = cc in subst IsSpellableOp is (short, both.0, both.1)
+two_spellable t o a b x short both h = test_spellable t o a b x short both h
+
 plain_spellable : (t : ℕ) (o : Operator) (ws : List (List ℕ)) (x : Op) → IsShort t → plain_operation t o ws ≡ Some x → IsSpellableOp x
 unfolding plain_operation
 plain_spellable t operator.Const ws x short h =
@@ -268,38 +279,6 @@ plain_spellable t operator.Load ws x short h =
 plain_spellable t operator.Find ws x short h =
     let c = mapped (λ (table, k). op.Find t table k) (two table_of register_of ws) x h in
     subst IsSpellableOp c.2 (short, (two_gives table_of register_of Any IsShort ws c.0 any_table register_short c.1).1)
-plain_spellable t operator.Add ws x short h =
-    let c = mapped (λ (a, b). op.Add t a b) (two register_of register_of ws) x h in
-    let d = two_short ws c.0 c.1 in
-    subst IsSpellableOp c.2 (short, d.0, d.1)
-plain_spellable t operator.Sub ws x short h =
-    let c = mapped (λ (a, b). op.Sub t a b) (two register_of register_of ws) x h in
-    let d = two_short ws c.0 c.1 in
-    subst IsSpellableOp c.2 (short, d.0, d.1)
-plain_spellable t operator.Mul ws x short h =
-    let c = mapped (λ (a, b). op.Mul t a b) (two register_of register_of ws) x h in
-    let d = two_short ws c.0 c.1 in
-    subst IsSpellableOp c.2 (short, d.0, d.1)
-plain_spellable t operator.Less ws x short h =
-    let c = mapped (λ (a, b). op.Less t a b) (two register_of register_of ws) x h in
-    let d = two_short ws c.0 c.1 in
-    subst IsSpellableOp c.2 (short, d.0, d.1)
-plain_spellable t operator.LessOrEqual ws x short h =
-    let c = mapped (λ (a, b). op.LessOrEqual t a b) (two register_of register_of ws) x h in
-    let d = two_short ws c.0 c.1 in
-    subst IsSpellableOp c.2 (short, d.0, d.1)
-plain_spellable t operator.Equal ws x short h =
-    let c = mapped (λ (a, b). op.Equal t a b) (two register_of register_of ws) x h in
-    let d = two_short ws c.0 c.1 in
-    subst IsSpellableOp c.2 (short, d.0, d.1)
-plain_spellable t operator.And ws x short h =
-    let c = mapped (λ (a, b). op.And t a b) (two register_of register_of ws) x h in
-    let d = two_short ws c.0 c.1 in
-    subst IsSpellableOp c.2 (short, d.0, d.1)
-plain_spellable t operator.Or ws x short h =
-    let c = mapped (λ (a, b). op.Or t a b) (two register_of register_of ws) x h in
-    let d = two_short ws c.0 c.1 in
-    subst IsSpellableOp c.2 (short, d.0, d.1)
 plain_spellable t operator.Within ws x short h =
     let c = mapped (λ (y, (a, b)). op.Within t y a b) (three register_of register_of register_of ws) x h in
     let d = three_gives register_of register_of register_of IsShort IsShort IsShort ws c.0 register_short register_short register_short c.1 in
@@ -311,6 +290,9 @@ plain_spellable t operator.Read ws x short h =
     let c = mapped (λ (g, (a, n)). op.Read t g a n) (three count_of count_of constant_of ws) x h in
     let d = three_gives count_of count_of constant_of IsShort IsShort IsConstant ws c.0 count_short count_short constant_fits c.1 in
     subst IsSpellableOp c.2 (short, d.0, d.1, d.2)
+plain_spellable t o ws x short h =
+    let c = chained (λ (a, b). of_two t o a b) (two register_of register_of ws) x h in
+    two_spellable t o c.0.0 c.0.1 x short (two_short ws c.0 c.1) c.2
 
 spellable : (t : ℕ) (o : Operator) (ws : List (List ℕ)) (x : Op) → IsShort t → all_printed ws ≡ true → operation t o ws ≡ Some x → IsSpellableOp x
 unfolding operation
@@ -450,7 +432,7 @@ all_sayable [] (s ∷ ss) h = let bad : ⊥ = cc in absurd bad
 all_sayable (text ∷ texts) (s ∷ ss) h =
     let here : said text ≡ Some s = cc in
     let rest : map said texts ≡ map Some ss = cc in
-    all_cons IsSayable s ss (said_sayable text s here) (all_sayable texts ss rest)
+    All-cons IsSayable s ss (said_sayable text s here) (all_sayable texts ss rest)
 
 pub only_spellable : OnlySpellable
 unfolding Spells

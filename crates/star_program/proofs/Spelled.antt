@@ -1,10 +1,11 @@
 -- The text of a program that can be spelled spells it.
 use Rattle.std.specs.Prelude.{codes, decimal, filter, nat_le, not}
-use Rattle.std.proofs.Common.{◌≡◌, ◌==◌, ◌&&◌, ◌<◌, ◌≤◌, ◌*◌, ◌∙◌, ◌∷◌, ◌++◌, [], ℕ, zero, suc, true, false, List, Option, Some, None, All, append_assoc, append-nil, length, map, arith, ap, refl, sym, replicate, slice_index_or}
+use Rattle.std.proofs.Common.{◌≡◌, ◌==◌, ◌&&◌, ◌≤◌, ◌*◌, ◌∙◌, ◌∷◌, ◌++◌, [], ℕ, zero, suc, true, false, List, Option, Some, None, All, append_assoc, append-nil, map, arith, ap, refl, sym, replicate, slice_index_or}
 use Rattle.std.specs.Fmt.{signed_decimal}
 use Rattle.std.specs.List.{flat_map, list_all}
 use Rattle.std.proofs.lemmas.Bool.{and_parts, leb-true, ne_eqb}
 use Rattle.std.proofs.lemmas.List.Concat.{flat_map-append}
+use Rattle.std.proofs.lemmas.List.Elements.{All-head, All-tail}
 use Rattle.std.proofs.lemmas.List.Folds.{list_all-append}
 use Rattle.star_schema.specs.Records.{with_first}
 use Rattle.star_schema.specs.Schema.{column_name, column_of as schema_column, table_name}
@@ -132,17 +133,17 @@ until_colon_read : {A : Type 0} (f : List ℕ → Option A) (word : A → List �
     → until_colon f (map word xs ++ codes ":" ∷ rest) ≡ Some (xs, rest)
 until_colon_read f word [] rest h = refl
 until_colon_read f word (x ∷ xs) rest h =
-    let here = h 0 x (omega arith) in
+    let here = All-head (IsItem f word) x xs h in
     let reads : f (word x) ≡ Some x = here.0 in
     let other : same (word x) (codes ":") ≡ false = here.1 in
-    let later : until_colon f (map word xs ++ codes ":" ∷ rest) ≡ Some (xs, rest) = until_colon_read f word xs rest (λ k d small. h (suc k) d (omega arith)) in
+    let later : until_colon f (map word xs ++ codes ":" ∷ rest) ≡ Some (xs, rest) = until_colon_read f word xs rest (All-tail (IsItem f word) x xs h) in
     rw (other, reads, later) refl
 
-each_read : {A : Type 0} (f : List ℕ → Option A) (word : A → List ℕ) (xs : List A) → ((k : ℕ) (d : A) → k < length xs → f (word (slice_index_or xs k d)) ≡ Some (slice_index_or xs k d)) → each f (map word xs) ≡ Some xs
+each_read : {A : Type 0} (f : List ℕ → Option A) (word : A → List ℕ) (xs : List A) → All (λ x. f (word x) ≡ Some x) xs → each f (map word xs) ≡ Some xs
 each_read f word [] h = refl
 each_read f word (x ∷ xs) h =
-    let reads : f (word x) ≡ Some x = h 0 x (omega arith) in
-    let later : each f (map word xs) ≡ Some xs = each_read f word xs (λ k d small. h (suc k) d (omega arith)) in
+    let reads : f (word x) ≡ Some x = All-head (λ y. f (word y) ≡ Some y) x xs h in
+    let later : each f (map word xs) ≡ Some xs = each_read f word xs (All-tail (λ y. f (word y) ≡ Some y) x xs h) in
     rw (reads, later) refl
 
 lists_read : {A B : Type 0} (f : List ℕ → Option A) (g : List ℕ → Option B) (v : A → List ℕ) (w : B → List ℕ) (xs : List A) (ys : List B) → All (IsItem f v) xs → All (λ y. g (w y) ≡ Some y) ys
@@ -155,8 +156,8 @@ lists_read f g v w xs ys front back =
 words_all : {A : Type 0} (word : A → List ℕ) (xs : List A) → All (λ x. is_word (word x) ≡ true) xs → list_all is_word (map word xs) ≡ true
 words_all word [] h = refl
 words_all word (x ∷ xs) h =
-    let here : is_word (word x) ≡ true = h 0 x (omega arith) in
-    let later : list_all is_word (map word xs) ≡ true = words_all word xs (λ k d small. h (suc k) d (omega arith)) in
+    let here : is_word (word x) ≡ true = All-head (λ y. is_word (word y) ≡ true) x xs h in
+    let later : list_all is_word (map word xs) ≡ true = words_all word xs (All-tail (λ y. is_word (word y) ≡ true) x xs h) in
     rw (here, later) refl
 
 lists_are_words : {A B : Type 0} (v : A → List ℕ) (w : B → List ℕ) (xs : List A) (ys : List B) → All (λ x. is_word (v x) ≡ true) xs → All (λ y. is_word (w y) ≡ true) ys
@@ -374,13 +375,13 @@ line_first l rest h =
     let regrouped : (spaces ++ (text ++ 10 ∷ [])) ++ rest ≡ (spaces ++ text) ++ 10 ∷ rest = simp append_assoc in
     ap lines_of regrouped ∙ line_cut (spaces ++ text) rest (indented_printable (2 * l.depth) text h.printable)
 
-lines_said : (ls : List Line) → All (λ s. IsSayable s) (map (λ l. l.says) ls)
+lines_said : (ls : List Line) → All IsSayable (map (λ l. l.says) ls)
     → map said (filter (λ line. not (is_blank line)) (lines_of (flat_map line_text ls))) ≡ map Some (map (λ l. l.says) ls)
 lines_said [] h = rw no_lines refl
 lines_said (l ∷ ls) h =
-    let here : IsSpoken l.says = spoken_statement l.says (h 0 l.says (omega arith)) in
+    let here : IsSpoken l.says = spoken_statement l.says (All-head IsSayable l.says (map (λ k. k.says) ls) h) in
     let filled : is_blank (content_of l) ≡ false = spaces_blank (2 * l.depth) (statement_text l.says) ∙ here.starts in
-    let later = lines_said ls (λ k d small. h (suc k) d (omega arith)) in
+    let later = lines_said ls (All-tail IsSayable l.says (map (λ k. k.says) ls) h) in
     rw (line_first l (flat_map line_text ls) here, filled, said_line l here, later) refl
 
 pub written : Written

@@ -95,6 +95,22 @@ quoted_text_of (b ∷ rest) = if b == 39 then unquoted rest else None
 
 -- ---- statements
 
+-- a test of two registers
+abbrev pub test_of_two : ℕ → Operator → ℕ → ℕ → Option Op
+test_of_two t operator.Less a b = Some (op.Less t a b)
+test_of_two t operator.LessOrEqual a b = Some (op.LessOrEqual t a b)
+test_of_two t operator.Equal a b = Some (op.Equal t a b)
+test_of_two t operator.And a b = Some (op.And t a b)
+test_of_two t operator.Or a b = Some (op.Or t a b)
+test_of_two t o a b = None
+
+-- an operation on two registers
+abbrev pub of_two : ℕ → Operator → ℕ → ℕ → Option Op
+of_two t operator.Add a b = Some (op.Add t a b)
+of_two t operator.Sub a b = Some (op.Sub t a b)
+of_two t operator.Mul a b = Some (op.Mul t a b)
+of_two t o a b = test_of_two t o a b
+
 -- the operations without texts
 unfoldable pub plain_operation : ℕ → Operator → List (List ℕ) → Option Op
 plain_operation t operator.Const ws = option_map (λ n. op.Const t n) (one constant_of ws)
@@ -102,17 +118,10 @@ plain_operation t operator.Low ws = None
 plain_operation t operator.High ws = None
 plain_operation t operator.Load ws = option_map (λ (c, row). op.Load t c row) (two column_of register_of ws)
 plain_operation t operator.Find ws = option_map (λ (table, k). op.Find t table k) (two table_of register_of ws)
-plain_operation t operator.Add ws = option_map (λ (a, b). op.Add t a b) (two register_of register_of ws)
-plain_operation t operator.Sub ws = option_map (λ (a, b). op.Sub t a b) (two register_of register_of ws)
-plain_operation t operator.Mul ws = option_map (λ (a, b). op.Mul t a b) (two register_of register_of ws)
-plain_operation t operator.Less ws = option_map (λ (a, b). op.Less t a b) (two register_of register_of ws)
-plain_operation t operator.LessOrEqual ws = option_map (λ (a, b). op.LessOrEqual t a b) (two register_of register_of ws)
-plain_operation t operator.Equal ws = option_map (λ (a, b). op.Equal t a b) (two register_of register_of ws)
 plain_operation t operator.Within ws = option_map (λ (x, (a, b)). op.Within t x a b) (three register_of register_of register_of ws)
-plain_operation t operator.And ws = option_map (λ (a, b). op.And t a b) (two register_of register_of ws)
-plain_operation t operator.Or ws = option_map (λ (a, b). op.Or t a b) (two register_of register_of ws)
 plain_operation t operator.Not ws = option_map (λ f. op.Not t f) (one register_of ws)
 plain_operation t operator.Read ws = option_map (λ (g, (a, n)). op.Read t g a n) (three count_of count_of constant_of ws)
+plain_operation t o ws = option_and_then (λ (a, b). of_two t o a b) (two register_of register_of ws)
 
 unfoldable pub operation : ℕ → Operator → List (List ℕ) → Option Op
 operation t operator.Low ws = option_map (λ (c, text). op.Low t c text) (two column_of quoted_text_of ws)

@@ -94,6 +94,71 @@ fn two_counts_and_constant(line: &[u8]) -> Option<(u16, (u16, i64))>
     Some((read_count(first)?, count_and_constant(rest)?))
 }
 
+// A test of two registers.
+fn test_of_two(target: u16, operator: Operator, left: u16, right: u16) -> Option<Op>
+    ensures { result ≡ spec.test_of_two target operator left right }
+{
+    match operator {
+        Operator::Less => Some(Op::Less {
+            target,
+            left,
+            right,
+        }),
+        Operator::LessOrEqual => Some(Op::LessOrEqual {
+            target,
+            left,
+            right,
+        }),
+        Operator::Equal => Some(Op::Equal {
+            target,
+            left,
+            right,
+        }),
+        Operator::And => Some(Op::And {
+            target,
+            left,
+            right,
+        }),
+        Operator::Or => Some(Op::Or {
+            target,
+            left,
+            right,
+        }),
+        _ => None,
+    }
+}
+
+// An operation on two registers.
+fn of_two(target: u16, operator: Operator, left: u16, right: u16) -> Option<Op>
+    ensures { result ≡ spec.of_two target operator left right }
+{
+    match operator {
+        Operator::Add => Some(Op::Add {
+            target,
+            left,
+            right,
+        }),
+        Operator::Sub => Some(Op::Sub {
+            target,
+            left,
+            right,
+        }),
+        Operator::Mul => Some(Op::Mul {
+            target,
+            left,
+            right,
+        }),
+        _ => test_of_two(target, operator, left, right),
+    }
+}
+
+fn two_op(target: u16, operator: Operator, operands: &[u8]) -> Option<Op>
+    ensures { result ≡ option_and_then (λ (a, b). spec.of_two target operator a b) (spec.two numerals.register_of numerals.register_of (words_of operands.now)) }
+{
+    let (left, right) = two_registers(operands)?;
+    of_two(target, operator, left, right)
+}
+
 // An operation, but for those with a text.
 #[tactic(auto, unfolding(crate::specs::Said::plain_operation))]
 fn plain_operation(target: u16, operator: Operator, operands: &[u8]) -> Option<Op>
@@ -104,73 +169,10 @@ fn plain_operation(target: u16, operator: Operator, operands: &[u8]) -> Option<O
         Operator::Low | Operator::High => None,
         Operator::Load => load_op(target, operands),
         Operator::Find => find_op(target, operands),
-        Operator::Add => {
-            let (left, right) = two_registers(operands)?;
-            Some(Op::Add {
-                target,
-                left,
-                right,
-            })
-        }
-        Operator::Sub => {
-            let (left, right) = two_registers(operands)?;
-            Some(Op::Sub {
-                target,
-                left,
-                right,
-            })
-        }
-        Operator::Mul => {
-            let (left, right) = two_registers(operands)?;
-            Some(Op::Mul {
-                target,
-                left,
-                right,
-            })
-        }
-        Operator::Less => {
-            let (left, right) = two_registers(operands)?;
-            Some(Op::Less {
-                target,
-                left,
-                right,
-            })
-        }
-        Operator::LessOrEqual => {
-            let (left, right) = two_registers(operands)?;
-            Some(Op::LessOrEqual {
-                target,
-                left,
-                right,
-            })
-        }
-        Operator::Equal => {
-            let (left, right) = two_registers(operands)?;
-            Some(Op::Equal {
-                target,
-                left,
-                right,
-            })
-        }
         Operator::Within => within_op(target, operands),
-        Operator::And => {
-            let (left, right) = two_registers(operands)?;
-            Some(Op::And {
-                target,
-                left,
-                right,
-            })
-        }
-        Operator::Or => {
-            let (left, right) = two_registers(operands)?;
-            Some(Op::Or {
-                target,
-                left,
-                right,
-            })
-        }
         Operator::Not => not_op(target, operands),
         Operator::Read => read_op(target, operands),
+        _ => two_op(target, operator, operands),
     }
 }
 
