@@ -1,4 +1,4 @@
--- The order of texts, and the dictionary of a column of texts.
+-- The order of texts, and the dictionary of a column of texts (this project's profile).
 use Rattle.std.specs.Prelude.{◌≡◌, ◌↔◌, ℕ, ℤ, List, [], ◌∷◌, Contains, Some, count_by, map, pos, slice_get}
 use Rattle.std.specs.Cmp.Lexicographic.{slice_cmp}
 use Rattle.std.specs.List.Sorted.{IsStrictlySortedBy}

@@ -67,7 +67,7 @@ fn place_rows<K: Eq + Hash + Copy + Drop>(
     Ok(())
 }
 
-// Whether no row at these places leaves 64 bits by one more put.
+// The row at a place with one more put, if that leaves no aggregate outside 64 bits.
 fn next_at<K: Eq + Hash + Copy + Drop>(
     rows: &IndexMap<K, Row>,
     place: usize,

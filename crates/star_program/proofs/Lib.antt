@@ -1,6 +1,8 @@
 mod Sample
 mod WorkedRuns
 mod WorkedRefusals
+mod WorkedTexts
+mod WorkedCubes
 mod Numbers
 mod TallyOrder
 mod Tallied
@@ -11,11 +13,11 @@ mod Runs
 mod Always
 mod OwnGroups
 mod Refused
+mod Scopes
 mod Told
 pub mod Positions
 pub mod LineLemmas
 pub mod WordLemmas
-pub mod NumeralLemmas
 pub mod WrittenLemmas
 pub mod Depths
 pub mod Quotes

@@ -134,8 +134,10 @@ find_by_quantity = counting
 abbrev pub read_while_putting : Parts
 read_while_putting = counting (Each Lineorder 0 (Then (op.Put 0 [] []) (Then (op.Read 1 0 0 (pos 0)) Stop)) Stop)
 
+-- a register that is written twice and then put
 abbrev pub written_twice : Parts
-written_twice = counting (Then (op.Const 0 (pos 1)) (Then (op.Const 0 (pos 2)) Stop))
+written_twice = program 3 (plain (aggregate.Sum ∷ []) ∷ []) 0
+    (Then (op.Const 0 (pos 1)) (Then (op.Const 0 (pos 2)) (Then (op.Put 0 [] (0 ∷ [])) Stop)))
 
 abbrev pub keep_outside : Parts
 keep_outside = counting (Then (op.Const 0 (pos 1)) (Then (op.Equal 1 0 0) (Then (op.Keep 1) Stop)))
@@ -176,3 +178,16 @@ squared_price = program 10 (plain (aggregate.Sum ∷ []) ∷ []) 0
 
 abbrev pub two_keys : GroupDecl
 two_keys = record { shape = Cube; keys = key.Number ∷ key.Number ∷ []; aggregates = aggregate.Sum ∷ aggregate.Count ∷ [] }
+
+-- one update of a cube of these keys, of which all is shown
+abbrev pub one_put : Parts
+one_put = record {
+  registers = 3;
+  groups = two_keys ∷ [];
+  body = Then (op.Const 0 (pos 1)) (Then (op.Const 1 (pos 2)) (Then (op.Const 2 (pos 7)) (Then (op.Put 0 (0 ∷ 1 ∷ []) (2 ∷ [])) Stop)));
+  report = 0;
+  shows =
+      record { name = codes "a"; column = column.Key 0 } ∷ record { name = codes "b"; column = column.Key 1 }
+      ∷ record { name = codes "s"; column = column.Aggregate 0 } ∷ record { name = codes "n"; column = column.Aggregate 1 } ∷ [];
+  sorts = [];
+}

@@ -17,7 +17,8 @@ use Rattle.star_schema.specs.declared.group.GroupColumn.TheVariants as column
 use Rattle.star_schema.specs.declared.group.SortKey.{SortKey}
 use Rattle.star_program.specs.Keywords.{aggregate_of, column_of, direction_of, keyword_of, operator_of, same, shape_of, table_of}
 use Rattle.star_program.specs.Lines.{begins_with, is_blank, lines_of, pieces_of, words_of}
-use Rattle.star_program.specs.Numerals.{constant_of, count_of, is_name, numeral_of, register_of, up_to}
+use Rattle.star_schema.specs.Numerals.{numeral_of}
+use Rattle.star_program.specs.Numerals.{constant_of, count_of, is_name, register_of, up_to}
 use Rattle.star_program.specs.Said.{assigned, both, by_first, by_keyword, by_words, each, end_of, group_column_of, group_head, group_key_of, group_of, header_of, lists, name_of, of_two, one, only, operation, plain_operation, put_head, put_of, quoted_text_of, said, show_of, sort_of, test_of_two, three, two, unquoted, until_colon}
 use Rattle.star_program.specs.Spellable.{IsConstant, IsPrinted, IsSayable, IsShort, IsShortColumn, IsSpellableOp, OnlySpellable}
 use Rattle.star_program.specs.Spelling.{Spells, statements_of}
@@ -30,7 +31,7 @@ use Rattle.star_program.specs.declared.spelling.keyword.Operator.{Operator}
 use Rattle.star_program.specs.declared.spelling.keyword.Operator.TheVariants as operator
 use Rattle.star_program.specs.declared.spelling.statement.Statement.{Statement}
 use Rattle.star_program.specs.declared.spelling.statement.Statement.TheVariants as says
-use Rattle.star_program.proofs.NumeralLemmas.{below_power, digit_bounds}
+use Rattle.star_schema.proofs.NumeralLemmas.{below_power, digit_bounds}
 
 -- ---- what an answer came from
 

@@ -27,7 +27,8 @@ use Rattle.star_schema.specs.declared.group.Shape.TheVariants as shape
 use Rattle.star_schema.proofs.NamesApart.{column_by_name, table_by_name}
 use Rattle.star_program.specs.Keywords.{aggregate_name, aggregate_of, column_of, direction_name, direction_of, keyword_name, keyword_of, operator_name, operator_of, same, shape_name, shape_of, table_of}
 use Rattle.star_program.specs.Lines.{pieces_of, words_of}
-use Rattle.star_program.specs.Numerals.{constant_of, count_of, is_name, is_name_byte, numeral_of, register_of}
+use Rattle.star_schema.specs.Numerals.{numeral_of}
+use Rattle.star_program.specs.Numerals.{constant_of, count_of, is_name, is_name_byte, register_of}
 use Rattle.star_program.specs.Said.{quoted_text_of, unquoted}
 use Rattle.star_program.specs.Spellable.{IsConstant, IsPrinted, IsShort}
 use Rattle.star_program.specs.Written.{doubled, quoted}

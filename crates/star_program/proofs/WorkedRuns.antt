@@ -41,7 +41,8 @@ unfolding column_of is_i64
 read_while_putting_runs = refl
 
 -- what is written twice holds what was written last
-written_twice_runs : shown written_twice (run_of sample written_twice) ≡ Some (pos 0) ∷ Some (pos 0) ∷ Some (pos 0) ∷ Some (pos 0) ∷ []
+written_twice_runs : shown written_twice (run_of sample written_twice) ≡ Some (pos 0) ∷ Some (pos 0) ∷ Some (pos 1) ∷ Some (pos 2) ∷ []
+unfolding is_i64
 written_twice_runs = refl
 
 keep_outside_traps : run_of sample keep_outside ≡ Trapped 3 (Wrong Misplaced)

@@ -2,14 +2,10 @@
 use Rattle.std.specs.Prelude.{◌==◌, ◌&&◌, ◌||◌, if◌then◌else◌, Bool, ℕ, ℤ, List, Option, Some, None, drop, length, nat_le, neg_ℤ, pos}
 use Rattle.std.specs.List.{list_all}
 use Rattle.std.specs.Option.{option_map}
-use Rattle.std.specs.Char.{is_ascii_alphanumeric, is_ascii_digit}
-use Rattle.std.specs.Str.Parse.{digits_value, starts_with_minus}
+use Rattle.std.specs.Char.{is_ascii_alphanumeric}
+use Rattle.std.specs.Str.Parse.{starts_with_minus}
+use Rattle.star_schema.specs.Numerals.{numeral_of}
 use Rattle.star_program.specs.Lines.{begins_with}
-
--- the number that 1 to so many digits write
-abbrev pub numeral_of : ℕ → List ℕ → Option ℕ
-numeral_of places word =
-    if nat_le 1 (length word) && nat_le (length word) places && list_all is_ascii_digit word then Some (digits_value 10 word) else None
 
 abbrev pub up_to : ℕ → Option ℕ → Option ℕ
 up_to most None = None

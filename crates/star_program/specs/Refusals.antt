@@ -1,4 +1,4 @@
--- What refuses a program: the conditions on an instruction in its context, and the first of them.
+-- What refuses a program: the conditions on an instruction in its context, and the first of them (interval analysis: Moore, Interval Analysis, 1966).
 use Rattle.std.specs.Prelude.{ℕ, suc, ◌+◌, ◌+ℤ◌, ◌-ℤ◌, ◌*ℤ◌, Bool, true, false, ◌||◌, not, nat_lt, List, [], ◌∷◌, filter, map, Option, Some, None}
 use Rattle.std.specs.Option.{option_map, option_or}
 use Rattle.star_schema.specs.declared.table.TableId.{TableId}

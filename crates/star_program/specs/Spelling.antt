@@ -1,4 +1,4 @@
--- Which programs a text spells.
+-- Which programs a text spells (this project's text of programs).
 use Rattle.std.specs.Prelude.{◌≡◌, ◌⊎◌, ◌↔◌, not, ℕ, List, None, Some, Result, MatchResult, filter, map}
 use Rattle.star_program.specs.Lines.{is_blank, lines_of}
 use Rattle.star_program.specs.Limits.{IsWithinLimits}

@@ -42,11 +42,11 @@ pub fn admissible_programs_within_the_limit_are_not_refused()
         → (first_refusal w most parts ≡ None) ↔ (IsAdmissible w parts × (quote w.size parts ≤ most)) }
 {}
 
-/// The context of each instruction is told by the instructions before it, and the first that is refused in its context decides.
+/// The context of each instruction is told by the scans round it and the instructions before and after it, and the first that is refused in its context decides.
 ///
-/// Instructions are numbered in the order of the text. What is known of a register is what an earlier instruction that writes it makes; what a group can add up to is the sum, over the puts before, of as often as each is met times what it adds; how often that is is the product of the row counts of the scans round it.
+/// Instructions are numbered in the order of the text. What is known of a register is what the last instruction before that writes it in scope makes, and where there is none nothing is known; what is written is in scope where all scans stand round that stand round its instruction, and a scan's row in the scan. What a group can add up to is the sum, over the puts before, of as often as each is met times what it adds; how often that is is the product of the row counts of the scans round it. A group is open where a later instruction puts to it, or one in a scan round.
 pub fn instructions_are_judged_in_their_contexts()
-    ensures told { (w : World) (parts : Parts) → AreTold w parts [] (instructions_of w parts) }
+    ensures told { (w : World) (parts : Parts) → AreTold w parts }
     ensures first { (w : World) (parts : Parts)
         → first_reason w parts at_first 1 parts.body
         ≡ first_answer (reason_of w parts) (instructions_of w parts) }

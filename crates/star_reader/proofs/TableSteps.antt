@@ -1,5 +1,5 @@
 -- One more record of a table.
-use Rattle.std.proofs.Common.{◌≡◌, ◌+◌, ◌<◌, ◌≤◌, ◌&&◌, ◌==◌, ℕ, List, [], ◌∷◌, ◌++◌, All, Bool, true, false, Bor, Option, Some, None, drop, length, map, take, refl, sym, ap, ◌∙◌, inl, inr, arith, append_assoc, rules, length-append}
+use Rattle.std.proofs.Common.{◌≡◌, ◌+◌, ◌<◌, ◌≤◌, ℕ, List, [], ◌∷◌, ◌++◌, All, true, false, Bor, Some, None, drop, length, map, take, refl, sym, ◌∙◌, inl, inr, arith, append_assoc}
 use Rattle.std.specs.Prelude.{nat_eq}
 use Rattle.std.specs.List.{starts_with}
 use Rattle.std.proofs.lemmas.Bool.{and_parts, cases_Bool, eqb-true, le-ltb, lt-ltb, true≢false}
@@ -10,10 +10,9 @@ use Rattle.std.proofs.lemmas.List.Elements.{All-map}
 use Rattle.csv.specs.Reading.{is_bom, strip_bom}
 use Rattle.csv.specs.declared.reader.Reader.{Reader}
 use Rattle.star_schema.specs.declared.table.TableId.{TableId}
-use Rattle.star_schema.specs.declared.column.Kind.{Kind}
 use Rattle.star_schema.specs.First.{first_answer}
 use Rattle.star_schema.specs.Records.{fields_of, records_of}
-use Rattle.star_schema.specs.Schema.{kinds_of, width_of}
+use Rattle.star_schema.specs.Schema.{kinds_of}
 use Rattle.star_schema.specs.Tables.{Value, cells_of, row_of, rows_of, values_of}
 use Rattle.star_reader.specs.declared.column.RawColumn.{RawColumn}
 use Rattle.star_reader.specs.declared.fault.ReadFault.{ReadFault}

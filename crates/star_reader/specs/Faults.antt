@@ -1,5 +1,5 @@
 -- The first fault of a text that is no table.
-use Rattle.std.specs.Prelude.{◌+◌, ◌∷◌, ◌==◌, if◌then◌else◌, not, ℕ, List, [], Option, Some, None, length, nat_eq, nat_lt}
+use Rattle.std.specs.Prelude.{◌∷◌, ◌==◌, if◌then◌else◌, not, ℕ, List, [], Option, Some, None, length, nat_eq, nat_lt}
 use Rattle.std.specs.List.{enumerate_from, list_all, starts_with, zip}
 use Rattle.star_schema.specs.declared.table.TableId.{TableId}
 use Rattle.star_schema.specs.declared.column.Kind.{Kind}

@@ -14,13 +14,22 @@ const SUPPLIER: &str = concat!(
     "2|Supplier#000000002|b2|UNITED ST4|UNITED STATES|AMERICA|34-555-555-5555|\n",
 );
 
-fn read_suppliers(alloc: Global, text: &[u8]) -> Result<u32, ReadFault> {
-    read_table(alloc, text, TableId::Supplier, Limits::widest()).map(|raw| raw.rows())
+// How many suppliers a text has, or its fault.
+fn read_suppliers(
+    alloc: Global,
+    text: &[u8],
+    limits: Limits,
+) -> Result<Result<u32, ReadFault>, AllocError> {
+    match read_table(alloc, text, TableId::Supplier, limits) {
+        Ok(raw) => Ok(Ok(raw.rows())),
+        Err(ReadFault::OutOfMemory) => Err(AllocError),
+        Err(fault) => Ok(Err(fault)),
+    }
 }
 
 // A prefix of the suppliers is a table where its last record has a last field, and a phone number may be cut short.
 #[test]
-fn reads_prefixes(rt: HostRuntime) {
+fn reads_prefixes(rt: HostRuntime) -> Result<(), Fail> {
     for length in 0..SUPPLIER.len() + 1 {
         let expected = match length {
             0 => Ok(0),
@@ -29,15 +38,15 @@ fn reads_prefixes(rt: HostRuntime) {
             75..131 => Err(ReadFault::FieldCount { at_row: 2 }),
             _ => Ok(2),
         };
-        let got = read_suppliers(rt.alloc(), &SUPPLIER.as_bytes()[..length]);
-        if got != Err(ReadFault::OutOfMemory) {
-            assert_eq!(rt; got, expected, "at {length}");
-        }
+        let prefix = &SUPPLIER.as_bytes()[..length];
+        let got = read_suppliers(rt.alloc(), prefix, Limits::widest())?;
+        assert_eq!(rt; got, expected, "at {length}");
     }
+    Ok(())
 }
 
 #[test]
-fn tells_the_first_fault(rt: HostRuntime) {
+fn tells_the_first_fault(rt: HostRuntime) -> Result<(), Fail> {
     let field = |field| ReadFault::BadByte { at_row: 1, field };
     let number = |at_row| ReadFault::BadNumber { at_row, field: 1 };
     let count = |at_row| ReadFault::FieldCount { at_row };
@@ -61,11 +70,10 @@ fn tells_the_first_fault(rt: HostRuntime) {
         (b"1|a|b|c|d|e|\xef\xbb\xbf", Err(field(7))),
     ];
     for (text, expected) in cases {
-        let got = read_suppliers(rt.alloc(), text);
-        if got != Err(ReadFault::OutOfMemory) {
-            assert_eq!(rt; got, expected, "{text:?}");
-        }
+        let got = read_suppliers(rt.alloc(), text, Limits::widest())?;
+        assert_eq!(rt; got, expected, "{text:?}");
     }
+    Ok(())
 }
 
 const MANY: u32 = 100_000;
@@ -118,12 +126,7 @@ fn reads_many_rows_back(rt: HostRuntime) -> Result<(), Fail> {
     }
     assert_eq!(rt; count_of(&raw, ColumnId::SSuppkey), 100_000);
     let few = Limits::new(MANY - 1, 0).ok_or("limits")?;
-    let refused = read_table(rt.alloc(), text.as_bytes(), TableId::Supplier, few);
-    assert!(rt;
-        matches!(
-            refused,
-            Err(ReadFault::TooManyRows | ReadFault::OutOfMemory)
-        )
-    );
+    let refused = read_suppliers(rt.alloc(), text.as_bytes(), few)?;
+    assert_eq!(rt; refused, Err(ReadFault::TooManyRows));
     Ok(())
 }

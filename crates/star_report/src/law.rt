@@ -14,7 +14,7 @@ pub fn one_text_has_one_meaning()
         → report_text names rows ≡ report_text names others → rows ≡ others }
 {}
 
-/// No text of a table has a bar or an end of a line, so the law above speaks of every report over tables.
+/// No text of a table has a bar or an end of a line: texts of tables are such as the law above asks for.
 pub fn texts_of_tables_are_fields()
     ensures { (t : TableId) (text : List ℕ) → All (All IsFieldValue) (rows_of t text) }
 {}

@@ -1,11 +1,10 @@
 -- The columns of keys, and those that refer to keys.
-use Rattle.std.specs.Prelude.{◌≡◌, ℕ, List, [], ◌∷◌, Contains, Option, Some, None, slice_get, refl}
-use Rattle.std.proofs.Common.{arith, ap, ◌∙◌, lit≤}
+use Rattle.std.specs.Prelude.{◌≡◌, [], ◌∷◌, Contains, Some, None, slice_get, refl}
+use Rattle.std.proofs.Common.{ap, ◌∙◌, lit≤}
 use Rattle.std.specs.Option.{option_map}
 use Rattle.std.proofs.lemmas.Option.{slice_get-map}
 use Rattle.star_schema.specs.declared.table.TableId.{TableId}
-use Rattle.star_schema.specs.declared.table.TableId.TheVariants.{Date, Customer, Supplier, Part, Lineorder}
-use Rattle.star_schema.specs.declared.table.Key.{Key}
+use Rattle.star_schema.specs.declared.table.TableId.TheVariants.{Lineorder}
 use Rattle.star_schema.specs.declared.table.Key.TheVariants.{One, Two}
 use Rattle.star_schema.specs.declared.column.Kind.{Kind}
 use Rattle.star_schema.specs.declared.column.Kind.TheVariants.{Number}

@@ -1,4 +1,4 @@
--- The bounds of a column of numbers.
+-- The bounds of a column of numbers (this project's profile).
 use Rattle.std.specs.Prelude.{ℕ, ℤ, List, [], ◌∷◌, Option, Some, fold, map, pos, slice_get}
 use Rattle.std.specs.Int.{int_max, int_min}
 use Rattle.star_schema.specs.declared.column.ColumnId.{ColumnId}

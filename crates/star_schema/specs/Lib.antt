@@ -2,6 +2,7 @@ pub mod Schema
 pub mod Describes
 pub mod Sizes
 pub mod Out
+pub mod Numerals
 pub mod Records
 pub mod Tables
 pub mod Bounds

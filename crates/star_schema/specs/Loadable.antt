@@ -1,4 +1,4 @@
--- Which five texts can be loaded: they are tables, whose keys tell their rows apart and whose foreign keys are found.
+-- Which five texts can be loaded: they are tables, whose keys tell their rows apart and whose foreign keys are found (Star Schema Benchmark, revision 3, section 2).
 use Rattle.std.specs.Prelude.{◌≡◌, ◌≢◌, ℕ, ℤ, List, [], ◌∷◌, All, AllPairs, Contains, Some, filter, is_some, map, slice_get}
 use Rattle.star_schema.specs.declared.column.ColumnId.{ColumnId}
 use Rattle.star_schema.specs.declared.column.TheConstants.{COLUMNS}

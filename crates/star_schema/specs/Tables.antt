@@ -1,11 +1,11 @@
 -- Which texts are tables, and which rows they hold (the cell forms are this project's profile of the benchmark's files).
 use Rattle.std.specs.Prelude.{◌≡◌, ◌+◌, ◌≤◌, ◌==◌, ◌&&◌, if◌then◌else◌, All, Bool, true, false, IsTrue, ℕ, ℤ, List, [], ◌∷◌, Option, Some, drop, take, length, map, nat_le, neg_ℤ, pos, slice_get, option_and_then}
 use Rattle.std.specs.List.{list_all}
-use Rattle.std.specs.Char.{is_ascii_digit}
 use Rattle.std.specs.Str.Parse.{digits_value, starts_with_minus}
 use Rattle.star_schema.specs.declared.table.TableId.{TableId}
 use Rattle.star_schema.specs.declared.column.Kind.{Kind}
 use Rattle.star_schema.specs.declared.column.Kind.TheVariants as kind
+use Rattle.star_schema.specs.Numerals.{is_numeral}
 use Rattle.star_schema.specs.Records.{fields_of, records_of}
 use Rattle.star_schema.specs.Schema.{kinds_of, width_of}
 
@@ -26,13 +26,9 @@ is_printable b = nat_le 32 b && nat_le b 126
 abbrev pub unsigned : List ℕ → List ℕ
 unsigned cell = if starts_with_minus cell then drop 1 cell else cell
 
--- 1 to 18 digits
-abbrev pub is_numeral : List ℕ → Bool
-is_numeral digits = nat_le 1 (length digits) && nat_le (length digits) 18 && list_all is_ascii_digit digits
-
--- a minus or none, and a numeral
+-- a minus or none, and 1 to 18 digits
 abbrev pub is_number : List ℕ → Bool
-is_number cell = is_numeral (unsigned cell)
+is_number cell = is_numeral 18 (unsigned cell)
 
 -- the whole number that a cell writes
 abbrev pub number_of : List ℕ → ℤ

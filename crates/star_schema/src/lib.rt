@@ -7,6 +7,7 @@ mod column;
 mod group;
 mod limits;
 mod name;
+mod numeral;
 mod sink;
 mod sizes;
 mod table;
@@ -17,6 +18,7 @@ pub use column::{
 pub use group::{Aggregate, Direction, GroupColumn, Shape, SortKey};
 pub use limits::{Limits, MOST_ROWS, MOST_VISITS};
 pub use name::{Named, name_of};
+pub use numeral::numeral_value;
 pub use sink::{Out, Sink, SinkFault};
 pub use sizes::Sizes;
 pub use table::{Key, TABLES, TableId, column_at, columns, key_of, table_named, width};

@@ -1,38 +1,23 @@
 // The words that write numbers, registers and names.
 
-ghost use Rattle.std.specs.Prelude.{◌≡◌, ◌<◌, ◌≤◌, ◌^◌, Some, None, IfSome, if◌then◌else◌, length, neg_ℤ, pos};
+ghost use Rattle.std.specs.Prelude.{◌≡◌, ◌<◌, ◌≤◌, ◌^◌, Some, IfSome, neg_ℤ, pos};
 ghost use Rattle.std.specs.Option.{option_map};
-ghost use Rattle.std.specs.Char.{is_ascii_digit};
 ghost use Rattle.std.specs.List.{list_all};
-ghost use Rattle.std.specs.Str.Parse.{digits_value};
+ghost use Rattle.star_schema.specs.Numerals.{numeral_of};
 ghost use Rattle.star_program.specs.Numerals as spec;
 
-// The number that some digits write, if each byte is one.
-fn magnitude(digits: &[u8]) -> Option<u64>
-    requires { length digits.now ≤ 19 }
-    ensures value { result ≡ (if list_all is_ascii_digit digits.now then Some (digits_value 10 digits.now) else None) }
-    ensures bound { IfSome result (λ magnitude. magnitude < 10 ^ length digits.now) }
-{
-    let mut magnitude = 0u64;
-    for digit in digits {
-        if !digit.is_ascii_digit() {
-            return None;
-        }
-        magnitude = magnitude * 10 + u64::from(*digit - b'0');
-    }
-    Some(magnitude)
-}
+use star_schema::numeral_value;
 
 // The number that 1 to so many digits write.
 fn numeral(places: usize, word: &[u8]) -> Option<u64>
     requires { places ≤ 19 }
-    ensures value { result ≡ spec.numeral_of places word.now }
+    ensures value { result ≡ numeral_of places word.now }
     ensures bound { IfSome result (λ number. number < 10 ^ places) }
 {
-    if word.is_empty() || word.len() > places {
+    if word.len() > places {
         return None;
     }
-    magnitude(word)
+    numeral_value(word)
 }
 
 /// The count or the place that a word of 1 to 4 digits writes.

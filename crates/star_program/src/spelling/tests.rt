@@ -7,6 +7,7 @@ use crate::spelling::reading::read_line;
 use crate::*;
 use star_schema::{Aggregate, ColumnId, GroupColumn, Shape, TableId};
 use std::alloc::{AllocError, Global};
+use std::test::Fail;
 
 const REVENUE: &str = concat!(
     "star program 1\n",
@@ -277,35 +278,40 @@ fn above_average(alloc: Global) -> Result<Parts, AllocError> {
     })
 }
 
-fn text_of(parts: Result<Parts, AllocError>) -> Result<Option<Vec<u8>>, AllocError> {
-    match Program::new(parts?) {
-        Some(program) => Ok(Some(program.to_text()?)),
-        None => Ok(None),
-    }
+fn text_of(parts: Parts) -> Result<Vec<u8>, Fail> {
+    let program = Program::new(parts).ok_or("within the limits")?;
+    Ok(program.to_text()?)
 }
 
 #[test]
-fn writes_programs(rt: HostRuntime) {
+fn writes_programs(rt: HostRuntime) -> Result<(), Fail> {
     let cases = [
-        (revenue(rt.alloc()), REVENUE),
-        (above_average(rt.alloc()), ABOVE_AVERAGE),
+        (revenue(rt.alloc())?, REVENUE),
+        (above_average(rt.alloc())?, ABOVE_AVERAGE),
     ];
     for (parts, expected) in cases {
-        match text_of(parts) {
-            Ok(Some(text)) => assert!(rt; text.as_slice() == expected.as_bytes()),
-            Ok(None) => assert!(rt; false, "within the limits"),
-            Err(_) => {}
-        }
+        let text = text_of(parts)?;
+        assert!(rt; text.as_slice() == expected.as_bytes(), "{expected}");
+    }
+    Ok(())
+}
+
+// A program that is read, or its text's fault. Want of memory is an error of the test.
+fn parsed(alloc: Global, text: &[u8]) -> Result<Result<Program, TextFault>, Fail> {
+    match Program::parse(alloc, text) {
+        Err(TextFault::OutOfMemory) => Err(Fail::from(AllocError)),
+        answer => Ok(answer),
     }
 }
 
 // The text that a program has after it was read from one.
-fn text_again(alloc: Global, text: &str) -> Result<Vec<u8>, TextFault> {
-    Ok(Program::parse(alloc, text.as_bytes())?.to_text()?)
+fn text_again(alloc: Global, text: &str) -> Result<Vec<u8>, Fail> {
+    let program = parsed(alloc, text.as_bytes())??;
+    Ok(program.to_text()?)
 }
 
 #[test]
-fn reads_programs_back(rt: HostRuntime) {
+fn reads_programs_back(rt: HostRuntime) -> Result<(), Fail> {
     let cases = [
         (REVENUE, REVENUE),
         (ABOVE_AVERAGE, ABOVE_AVERAGE),
@@ -313,26 +319,37 @@ fn reads_programs_back(rt: HostRuntime) {
         (LOOSE, LOOSE_AGAIN),
     ];
     for (text, expected) in cases {
-        match text_again(rt.alloc(), text) {
-            Ok(again) => assert!(rt; again.as_slice() == expected.as_bytes(), "{text}"),
-            Err(fault) => assert_eq!(rt; fault, TextFault::OutOfMemory, "{text}"),
-        }
+        let again = text_again(rt.alloc(), text)?;
+        assert!(rt; again.as_slice() == expected.as_bytes(), "{text}");
+    }
+    Ok(())
+}
+
+// Whether a line says something. Want of memory is an error of the test.
+fn says_something(alloc: Global, line: &[u8]) -> Result<bool, Fail> {
+    match read_line(alloc, line) {
+        Ok(_) => Ok(true),
+        Err(LineFault::Unreadable) => Ok(false),
+        Err(LineFault::OutOfMemory) => Err(Fail::from(AllocError)),
     }
 }
 
-fn lines_read(alloc: Global, text: &str) -> Result<usize, LineFault> {
+// How many lines a text has, where each says something.
+fn lines_read(alloc: Global, text: &str) -> Result<Option<usize>, Fail> {
     let mut rest = text.as_bytes();
     let mut count = 0usize;
     while let Some((line, after)) = split_line(rest) {
+        if !says_something(alloc, line)? {
+            return Ok(None);
+        }
         rest = after;
-        let _ = read_line(alloc, line)?;
         count = count.saturating_add(1);
     }
-    Ok(count)
+    Ok(Some(count))
 }
 
 #[test]
-fn reads_each_line(rt: HostRuntime) {
+fn reads_each_line(rt: HostRuntime) -> Result<(), Fail> {
     let texts = [
         (REVENUE, 25),
         (ABOVE_AVERAGE, 19),
@@ -347,15 +364,13 @@ fn reads_each_line(rt: HostRuntime) {
         ("r1 = not r2\nr3 = or r1 r2\nr4 = le r1 r2", 3),
     ];
     for (text, count) in texts {
-        let got = lines_read(rt.alloc(), text);
-        if got != Err(LineFault::OutOfMemory) {
-            assert_eq!(rt; got, Ok(count), "{text}");
-        }
+        assert_eq!(rt; lines_read(rt.alloc(), text)?, Some(count), "{text}");
     }
+    Ok(())
 }
 
 #[test]
-fn refuses_lines(rt: HostRuntime) {
+fn refuses_lines(rt: HostRuntime) -> Result<(), Fail> {
     let texts = [
         "star program 2",
         "star program 1 1",
@@ -391,11 +406,9 @@ fn refuses_lines(rt: HostRuntime) {
         "limit 5",
     ];
     for text in texts {
-        let got = lines_read(rt.alloc(), text);
-        if got != Err(LineFault::OutOfMemory) {
-            assert_eq!(rt; got, Err(LineFault::Unreadable), "{text}");
-        }
+        assert_eq!(rt; lines_read(rt.alloc(), text)?, None, "{text}");
     }
+    Ok(())
 }
 
 #[test]
@@ -442,24 +455,22 @@ fn reads_words_at_their_limits(rt: HostRuntime) {
     assert!(rt; is_name(b"Rev_9"));
 }
 
-fn fault_of(alloc: Global, text: &[u8]) -> Result<(), TextFault> {
-    match Program::parse(alloc, text) {
-        Ok(_) => Ok(()),
-        Err(fault) => Err(fault),
-    }
+// The first fault of a text, if it has one.
+fn fault_of(alloc: Global, text: &[u8]) -> Result<Option<TextFault>, Fail> {
+    Ok(parsed(alloc, text)?.err())
 }
 
 #[test]
-fn tells_the_first_fault(rt: HostRuntime) {
-    let bad = |line| Err(TextFault::BadLine { line });
-    let large = |line| Err(TextFault::TooLarge { line });
+fn tells_the_first_fault(rt: HostRuntime) -> Result<(), Fail> {
+    let bad = |line| Some(TextFault::BadLine { line });
+    let large = |line| Some(TextFault::TooLarge { line });
     let cases = [
-        (REVENUE, Ok(())),
-        (ABOVE_AVERAGE, Ok(())),
-        ("star program 1\nregisters 4096\n\n  report 9999", Ok(())),
-        ("", Err(TextFault::BadHeader)),
-        ("\nregisters 1", Err(TextFault::BadHeader)),
-        ("star program 1\r", Err(TextFault::BadHeader)),
+        (REVENUE, None),
+        (ABOVE_AVERAGE, None),
+        ("star program 1\nregisters 4096\n\n  report 9999", None),
+        ("", Some(TextFault::BadHeader)),
+        ("\nregisters 1", Some(TextFault::BadHeader)),
+        ("star program 1\r", Some(TextFault::BadHeader)),
         ("star program 1", bad(2)),
         ("star program 1\n\n", bad(3)),
         ("star program 1\nregisters 4097\nx", large(2)),
@@ -477,11 +488,11 @@ fn tells_the_first_fault(rt: HostRuntime) {
         ),
         (
             "star program 1\nregisters 1\nscan date r0\n",
-            Err(TextFault::OpenScan),
+            Some(TextFault::OpenScan),
         ),
         (
             "star program 1\nregisters 1\nscan date r0\nreport \x01",
-            Err(TextFault::OpenScan),
+            Some(TextFault::OpenScan),
         ),
         (
             "star program 1\nregisters 1\nscan date r0\nreport\t0",
@@ -491,11 +502,9 @@ fn tells_the_first_fault(rt: HostRuntime) {
         ("star program 1\nregisters 1\nreport 0\nreport 0", bad(4)),
     ];
     for (text, expected) in cases {
-        let got = fault_of(rt.alloc(), text.as_bytes());
-        if got != Err(TextFault::OutOfMemory) {
-            assert_eq!(rt; got, expected, "{text}");
-        }
+        assert_eq!(rt; fault_of(rt.alloc(), text.as_bytes())?, expected, "{text}");
     }
+    Ok(())
 }
 
 // The front, so many times the middle, and the end.
@@ -515,14 +524,14 @@ fn repeated(
     Ok(text)
 }
 
-// The fault of a text with so many middles.
+// The first fault of a text with so many middles.
 fn fault_at(
     alloc: Global,
     front: &str,
     middle: &str,
     count: u16,
     end: &str,
-) -> Result<(), TextFault> {
+) -> Result<Option<TextFault>, Fail> {
     let text = repeated(alloc, front, middle, count, end)?;
     fault_of(alloc, text.as_slice())
 }
@@ -530,7 +539,7 @@ fn fault_at(
 const HEAD: &str = "star program 1\nregisters 1\n";
 
 #[test]
-fn texts_are_limited(rt: HostRuntime) {
+fn texts_are_limited(rt: HostRuntime) -> Result<(), Fail> {
     let cases = [
         (HEAD, "r0 = const 7\n", 4096, "report 0", 4099),
         (HEAD, "scan date r0\nend\n", 4096, "report 0", 8195),
@@ -564,41 +573,40 @@ fn texts_are_limited(rt: HostRuntime) {
         ),
     ];
     for (front, middle, most, end, line) in cases {
-        let at = fault_at(rt.alloc(), front, middle, most, end);
-        if at != Err(TextFault::OutOfMemory) {
-            assert_eq!(rt; at, Ok(()), "{most} {middle}");
-        }
-        let past = fault_at(rt.alloc(), front, middle, most + 1, end);
-        if past != Err(TextFault::OutOfMemory) {
-            assert_eq!(rt; past, Err(TextFault::TooLarge { line }), "{most} {middle}");
-        }
+        let at = fault_at(rt.alloc(), front, middle, most, end)?;
+        assert_eq!(rt; at, None, "{most} {middle}");
+        let past = fault_at(rt.alloc(), front, middle, most + 1, end)?;
+        assert_eq!(rt; past, Some(TextFault::TooLarge { line }), "{most} {middle}");
     }
+    Ok(())
 }
 
 #[test]
-fn texts_have_few_groups_and_scans(rt: HostRuntime) {
+fn texts_have_few_groups_and_scans(rt: HostRuntime) -> Result<(), Fail> {
     let cases = [
         (
             "group 0 plain :\ngroup 1 plain :\ngroup 2 plain :\ngroup 3 plain :\ngroup 4 plain :\ngroup 5 plain :\ngroup 6 plain :\ngroup 7 plain :\nreport 0",
-            Ok(()),
+            None,
         ),
         (
             "group 0 plain :\ngroup 1 plain :\ngroup 2 plain :\ngroup 3 plain :\ngroup 4 plain :\ngroup 5 plain :\ngroup 6 plain :\ngroup 7 plain :\ngroup 8 plain :\nreport 0",
-            Err(TextFault::TooLarge { line: 11 }),
+            Some(TextFault::TooLarge { line: 11 }),
         ),
         (
             "scan date r0\nscan date r0\nscan date r0\nend\nend\nend\nreport 0",
-            Ok(()),
+            None,
         ),
         (
             "scan date r0\nscan date r0\nscan date r0\nscan date r0\nend\nend\nend\nend\nreport 0",
-            Err(TextFault::TooLarge { line: 6 }),
+            Some(TextFault::TooLarge { line: 6 }),
         ),
     ];
     for (body, expected) in cases {
-        let got = fault_at(rt.alloc(), HEAD, body, 1, "");
-        if got != Err(TextFault::OutOfMemory) {
-            assert_eq!(rt; got, expected, "{body}");
-        }
+        assert_eq!(rt;
+            fault_at(rt.alloc(), HEAD, body, 1, "")?,
+            expected,
+            "{body}"
+        );
     }
+    Ok(())
 }

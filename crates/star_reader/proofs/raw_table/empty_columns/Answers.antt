@@ -1,10 +1,9 @@
-use Rattle.std.proofs.Common.{◌≡◌, ◌+◌, ◌<◌, ◌∙◌, ◌∷◌, ◌++◌, [], ℕ, List, Some, All, add-one, get_or, length, map, suc, take, slice_get, sym, ap, arith}
+use Rattle.std.proofs.Common.{◌≡◌, ◌+◌, ◌∙◌, ◌∷◌, ◌++◌, [], ℕ, List, Some, add-one, length, take, slice_get, sym, ap}
 use Rattle.std.specs.Option.{option_map}
 use Rattle.std.proofs.Math.Seq.{take-suc}
-use Rattle.std.proofs.lemmas.List.{length-map, map-append}
+use Rattle.std.proofs.lemmas.List.{map-append}
 use Rattle.std.proofs.lemmas.List.Elements.{All-append, All-cons, All-nil}
 use Rattle.std.proofs.lemmas.Option.{get_or_from_slice_get, slice_get-map, slice_get_within}
-use Rattle.star_schema.specs.declared.column.Kind.{Kind}
 use Rattle.star_schema.specs.Schema.{columns_of, kind_of as kind_in_schema, kinds_of}
 use Rattle.star_reader.specs.Columns.{kind_of, values}
 use Rattle.star_reader.specs.declared.column.RawColumn.{RawColumn}

@@ -1,4 +1,4 @@
-use Rattle.std.proofs.Common.{◌≡◌, ◌⊎◌, ◌<◌, ◌≤◌, ◌+◌, ◌∙◌, ap, None, Some, map, length, ℕ, true, false, Bool, List, [], ◌∷◌, inl, inr, refl, sym, arith}
+use Rattle.std.proofs.Common.{◌≡◌, ◌+◌, ◌∙◌, ap, length, false, inl, inr, refl, sym, arith}
 use Rattle.std.specs.Prelude.{nat_eq}
 use Rattle.std.specs.List.{starts_with}
 use Rattle.std.proofs.lemmas.List.{length-map}
@@ -6,7 +6,7 @@ use Rattle.std.proofs.lemmas.Result.{err_from_is_err_and}
 use Rattle.csv.specs.Reading.{strip_bom}
 use Rattle.csv.specs.Records.{fields_of as fields_read}
 use Rattle.star_reader.specs.declared.fault.ReadFault.TheVariants as fault
-use Rattle.star_reader.specs.Faults.{byte_order_mark, text_fault}
+use Rattle.star_reader.specs.Faults.{byte_order_mark}
 use Rattle.star_reader.specs.Lines.{ReadsFirst, TakesFirst}
 use Rattle.star_schema.proofs.Places.{width_few}
 use Rattle.star_reader.specs.Columns.{kind_of}

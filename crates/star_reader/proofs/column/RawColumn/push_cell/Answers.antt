@@ -1,4 +1,4 @@
-use Rattle.std.proofs.Common.{◌≡◌, ◌∷◌, [], arith, map, of_z, to_z, w64}
+use Rattle.std.proofs.Common.{◌≡◌, ◌∷◌, [], arith, of_z, to_z, w64}
 use Rattle.std.proofs.lemmas.Int.{ints, to_z-of_z}
 use Rattle.std.proofs.lemmas.List.{map-append}
 use Rattle.star_schema.specs.Tables.{Number}

@@ -1,14 +1,14 @@
-use Rattle.std.proofs.Common.{refl, rules, FitsSigned, w64, ◌≡◌, ◌<◌, Some, length, map, slice_get, sym, ap, ◌∙◌, arith}
+use Rattle.std.proofs.Common.{refl, rules, FitsSigned, w64, ◌≡◌, ◌<◌, Some, length, map, slice_get, ap, ◌∙◌, arith}
 use Rattle.std.proofs.lemmas.Int.{to_z-of_z}
 use Rattle.std.proofs.lemmas.List.{length-map}
 use Rattle.std.proofs.lemmas.Option.{slice_get_read, slice_get-map}
 use Rattle.std.specs.Option.{option_map}
 use Rattle.star_schema.specs.declared.column.Kind.TheVariants as kind
 use Rattle.star_schema.specs.Schema.{kinds_of}
-use Rattle.star_schema.specs.Tables.{Number, Text}
+use Rattle.star_schema.specs.Tables.{Number}
 use Rattle.star_reader.specs.Columns.{first_rows, values}
 use Rattle.star_reader.proofs.ColumnLemmas.{column_at}
-use Rattle.star_reader.proofs.RowLemmas.{length-first_rows, numbers_are, value_there}
+use Rattle.star_reader.proofs.RowLemmas.{length-first_rows, value_there}
 use Rattle.star_reader.proofs.raw_table.RawTable.number.Goals as goal
 
 pub unreachable-requires : goal.unreachable-requires

@@ -1,13 +1,11 @@
-use Rattle.std.proofs.Common.{◌≡◌, ◌<◌, Some, length, map, slice_get, sym, ap, ◌∙◌, arith}
+use Rattle.std.proofs.Common.{◌≡◌, Some, length, map, slice_get, sym, ◌∙◌}
 use Rattle.std.proofs.lemmas.List.{length-map}
-use Rattle.std.proofs.lemmas.Option.{slice_get-get_or, slice_get-map}
-use Rattle.std.specs.Option.{option_map}
 use Rattle.star_schema.specs.declared.column.Kind.TheVariants as kind
 use Rattle.star_schema.specs.Schema.{kinds_of}
-use Rattle.star_schema.specs.Tables.{Number, Text}
+use Rattle.star_schema.specs.Tables.{Number}
 use Rattle.star_reader.specs.Columns.{values}
 use Rattle.star_reader.proofs.ColumnLemmas.{column_at}
-use Rattle.star_reader.proofs.RowLemmas.{length-first_rows, numbers_are, value_there}
+use Rattle.star_reader.proofs.RowLemmas.{numbers_are}
 use Rattle.star_reader.proofs.raw_table.RawTable.numbers.Goals as goal
 
 pub returns : goal.returns

@@ -1,8 +1,8 @@
 -- Each digit fits.
 use Rattle.std.proofs.Common.{◌≡◌, ◌∙◌, get_or, length, arith, sym, true}
 use Rattle.std.specs.Char.{is_ascii_digit}
-use Rattle.star_program.proofs.NumeralLemmas.{below_power, digit_bounds, digits_more, all_more, room}
-use Rattle.star_program.proofs.spelling.numerals.magnitude.Goals as goal
+use Rattle.star_schema.proofs.NumeralLemmas.{below_power, digit_bounds, digits_more, all_more, room}
+use Rattle.star_schema.proofs.numeral.magnitude.Goals as goal
 
 pub overflow_mul-magnitude : goal.overflow_mul-magnitude
 overflow_mul-magnitude c = omega (arith, below_power c.loop-digit.digit-index 18 c.loop-digit.magnitude c.loop-digit.invariant.small (omega arith))

@@ -1,5 +1,5 @@
 -- The number that some digits write.
-use Rattle.std.proofs.Common.{◌≡◌, ◌+◌, ◌*◌, ◌^◌, ◌<◌, ◌≤◌, ℕ, true, List, [], ◌∷◌, get_or, length, take, arith, refl, lit<, add-one}
+use Rattle.std.proofs.Common.{◌≡◌, ◌+◌, ◌*◌, ◌^◌, ◌<◌, ◌≤◌, ℕ, Option, Some, None, IfSome, true, List, [], ◌∷◌, get_or, length, take, arith, refl, lit<, add-one}
 use Rattle.std.specs.Char.{digit_value, is_ascii_digit}
 use Rattle.std.specs.List.{list_all}
 use Rattle.std.specs.Str.Parse.{digits_value}
@@ -36,3 +36,7 @@ pub below_power : (i k m : ℕ) → m < 10 ^ i → i ≤ k → m < 10 ^ k
 below_power i k m small within =
     let h : 10 ^ i ≤ 10 ^ k = pow-le-pow_right (lit< tt) within in
     omega (arith, h)
+
+pub some_below_power : (o : Option ℕ) (i k : ℕ) → IfSome o (λ n. n < 10 ^ i) → i ≤ k → IfSome o (λ n. n < 10 ^ k)
+some_below_power None i k h within = tt
+some_below_power (Some n) i k h within = below_power i k n h within

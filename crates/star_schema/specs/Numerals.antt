@@ -1,0 +1,13 @@
+-- Numbers written in decimal digits.
+use Rattle.std.specs.Prelude.{◌&&◌, if◌then◌else◌, Bool, ℕ, List, Option, Some, None, length, nat_le}
+use Rattle.std.specs.Char.{is_ascii_digit}
+use Rattle.std.specs.List.{list_all}
+use Rattle.std.specs.Str.Parse.{digits_value}
+
+-- 1 to so many digits
+abbrev pub is_numeral : ℕ → List ℕ → Bool
+is_numeral places text = nat_le 1 (length text) && nat_le (length text) places && list_all is_ascii_digit text
+
+-- the number that they write
+abbrev pub numeral_of : ℕ → List ℕ → Option ℕ
+numeral_of places text = if is_numeral places text then Some (digits_value 10 text) else None
