@@ -23,7 +23,7 @@ ghost use Rattle.star_machine.specs.Shown.{held};
 ghost use Rattle.star_machine.specs.Sound.{AreSound};
 ghost use Rattle.star_machine.specs.WorldOf.{world_of};
 
-use crate::check::{operands, place, target};
+use crate::check::{check_operands, check_place, declared_target};
 use crate::compute::{
     both, difference, either, flag, is_equal, is_less, is_less_or_equal, is_within, number,
     product, row, set, sum,
@@ -36,7 +36,7 @@ use star_catalogue::Catalogue;
 use star_program::{Op, Parts, RegisterList};
 use star_schema::TableId;
 
-/// What an instruction without a fault does: it sets its target, or goes on, or ends the turn of the innermost scan.
+// What an instruction without a fault does: it sets its target, or goes on, or ends the turn of the innermost scan.
 #[derive(Clone, Copy, Debug)]
 pub(crate) enum Deed {
     Sets(Value),
@@ -44,14 +44,14 @@ pub(crate) enum Deed {
     EndsTurn,
 }
 
-/// What follows an instruction.
+// What follows an instruction.
 #[derive(Clone, Copy, Debug)]
 pub(crate) enum Flow {
     GoesOn,
     EndsTurn,
 }
 
-/// A number, if it didn't leave 64 bits.
+// A number, if it didn't leave 64 bits.
 fn sets_number(number: Option<i64>) -> Result<Deed, Stop>
     ensures { MatchOption number (result ≡ Err (Stop.Trap TrapKind.Overflow)) (λ z. result ≡ Ok (Deed.Sets (Value.Number z))) }
 {
@@ -73,7 +73,7 @@ fn keeps(flag: bool) -> Deed
     if flag { Deed::GoesOn } else { Deed::EndsTurn }
 }
 
-/// Finds the row of a table with a key.
+// Finds the row of a table with a key.
 fn look_up(
     catalogue: &Catalogue,
     registers: &[Register],
@@ -95,7 +95,7 @@ fn look_up(
     }
 }
 
-/// Makes one more update of a group.
+// Makes one more update of a group.
 fn update(
     parts: &Parts,
     registers: &[Register],
@@ -122,7 +122,7 @@ fn update(
     }
 }
 
-/// Reads the total of an aggregate, or a default where it is NULL.
+// Reads the total of an aggregate, or a default where it is NULL.
 fn read(run: &Run, group: u16, aggregate: u16, default: i64) -> Value
     requires there { group < length run.now.stores.items }
     requires declared { (store : EagerStore) → slice_get run.now.stores.items group ≡ Some store → aggregate < length (group_of store).aggregates }
@@ -132,7 +132,7 @@ fn read(run: &Run, group: u16, aggregate: u16, default: i64) -> Value
     Value::Number(run.total(group, aggregate).unwrap_or(default))
 }
 
-/// What an instruction does in which nothing is wrong.
+// What an instruction does in which nothing is wrong.
 fn perform(
     catalogue: &Catalogue,
     parts: &Parts,
@@ -193,7 +193,7 @@ fn perform(
     }
 }
 
-/// One instruction, inside scans or not.
+// One instruction, inside scans or not.
 pub(crate) fn act(
     catalogue: &Catalogue,
     parts: &Parts,
@@ -215,9 +215,9 @@ pub(crate) fn act(
     ensures work { run.new.lookups + run.new.updates ≤ run.old.lookups + run.old.updates + 1 }
     ensures visits { run.new.visits ≡ run.old.visits }
 {
-    place(parts, inside, op)?;
-    let target = target(registers, op)?;
-    operands(parts, registers, op)?;
+    check_place(parts, inside, op)?;
+    let target = declared_target(registers, op)?;
+    check_operands(parts, registers, op)?;
     match (perform(catalogue, parts, registers, run, op)?, target) {
         (Deed::Sets(value), Some(target)) => {
             set(registers, target, value);

@@ -16,14 +16,14 @@ use crate::value::{Register, Value, is_column, is_table, register};
 use star_program::{GroupDecl, GroupKey, Op, Parts};
 use star_schema::{Aggregate, ColumnId, is_text, table_of};
 
-/// What an operand may be.
+// What an operand may be.
 #[derive(Clone, Copy, Debug)]
 pub(crate) enum Wanted {
     Number,
     Flag,
     Row,
     Ordered,
-    /// What compares with this.
+    // What compares with this.
     Like(Register),
     Key(GroupKey),
 }
@@ -70,7 +70,7 @@ fn takes(wanted: Wanted, value: Value) -> bool
     }
 }
 
-fn operand(registers: &[Register], wanted: Wanted, number: u16) -> Result<(), Fault>
+fn check_operand(registers: &[Register], wanted: Wanted, number: u16) -> Result<(), Fault>
     ensures { Answers result (faults.operand_fault (length registers.now) (kinds_in (held registers.now)) (taken wanted) number) }
 {
     if number as usize >= registers.len() {
@@ -83,27 +83,27 @@ fn operand(registers: &[Register], wanted: Wanted, number: u16) -> Result<(), Fa
     }
 }
 
-fn both(registers: &[Register], wanted: Wanted, left: u16, right: u16) -> Result<(), Fault>
+fn check_both(registers: &[Register], wanted: Wanted, left: u16, right: u16) -> Result<(), Fault>
     ensures { Answers result (faults.both_fault (length registers.now) (kinds_in (held registers.now)) (taken wanted) left right) }
 {
-    operand(registers, wanted, left)?;
-    operand(registers, wanted, right)
+    check_operand(registers, wanted, left)?;
+    check_operand(registers, wanted, right)
 }
 
-fn compared(registers: &[Register], left: u16, right: u16) -> Result<(), Fault>
+fn check_comparison(registers: &[Register], left: u16, right: u16) -> Result<(), Fault>
     ensures { Answers result (faults.compare_fault (length registers.now) (kinds_in (held registers.now)) left right) }
 {
-    operand(registers, Wanted::Ordered, left)?;
-    operand(registers, Wanted::Like(register(registers, left)), right)
+    check_operand(registers, Wanted::Ordered, left)?;
+    check_operand(registers, Wanted::Like(register(registers, left)), right)
 }
 
-fn within(registers: &[Register], value: u16, from: u16, below: u16) -> Result<(), Fault>
+fn check_within(registers: &[Register], value: u16, from: u16, below: u16) -> Result<(), Fault>
     ensures { Answers result (option_or
         (faults.compare_fault (length registers.now) (kinds_in (held registers.now)) value from)
         (faults.operand_fault (length registers.now) (kinds_in (held registers.now)) (faults.compares_with (kinds_in (held registers.now) value)) below)) }
 {
-    compared(registers, value, from)?;
-    operand(registers, Wanted::Like(register(registers, value)), below)
+    check_comparison(registers, value, from)?;
+    check_operand(registers, Wanted::Like(register(registers, value)), below)
 }
 
 fn declared_at(declared: &[GroupKey], place: usize) -> GroupKey
@@ -120,32 +120,28 @@ pub(crate) fn number_at(numbers: &[u16], place: usize) -> u16
     numbers[place]
 }
 
-fn keys_as_declared(
-    registers: &[Register],
-    declared: &[GroupKey],
-    keys: &[u16],
-) -> Result<(), Fault>
+fn check_keys(registers: &[Register], declared: &[GroupKey], keys: &[u16]) -> Result<(), Fault>
     requires { length keys.now ≡ length declared.now }
     ensures { Answers result (faults.keys_fault (length registers.now) (kinds_in (held registers.now)) declared.now keys.now) }
 {
     for place in 0..keys.len() {
         let key = declared_at(declared, place);
         let number = number_at(keys, place);
-        operand(registers, Wanted::Key(key), number)?;
+        check_operand(registers, Wanted::Key(key), number)?;
     }
     Ok(())
 }
 
-fn numbers(registers: &[Register], values: &[u16]) -> Result<(), Fault>
+fn check_numbers(registers: &[Register], values: &[u16]) -> Result<(), Fault>
     ensures { Answers result (faults.numbers_fault (length registers.now) (kinds_in (held registers.now)) values.now) }
 {
     for value in values {
-        operand(registers, Wanted::Number, *value)?;
+        check_operand(registers, Wanted::Number, *value)?;
     }
     Ok(())
 }
 
-/// How many numbers a put has: one for each aggregate that is no count.
+// How many numbers a put has: one for each aggregate that is no count.
 fn value_count(aggregates: &[Aggregate]) -> usize
     ensures { result ≡ faults.value_count aggregates.now }
 {
@@ -158,7 +154,7 @@ fn value_count(aggregates: &[Aggregate]) -> usize
     count
 }
 
-/// The group of a number, if it is there.
+// The group of a number, if it is there.
 pub(crate) fn group_at(parts: &Parts, group: u16) -> Option<&GroupDecl>
     ensures there { IfSome result (λ declared. (declared.now ≡ faults.group_at parts.now group) × (group < length parts.now.groups)) }
     ensures none { IfNone result (length parts.now.groups ≤ group) }
@@ -166,7 +162,7 @@ pub(crate) fn group_at(parts: &Parts, group: u16) -> Option<&GroupDecl>
     parts.groups.as_slice().get(group as usize)
 }
 
-fn put_place(parts: &Parts, group: u16, keys: &[u16], values: &[u16]) -> Result<(), Fault>
+fn check_put_group(parts: &Parts, group: u16, keys: &[u16], values: &[u16]) -> Result<(), Fault>
     ensures { Answers result (faults.unless (nat_lt group (length parts.now.groups)
         && (nat_eq (length keys.now) (length (faults.group_at parts.now group).keys)
         && nat_eq (length values.now) (faults.value_count (faults.group_at parts.now group).aggregates))) faults.BadGroup) }
@@ -179,7 +175,7 @@ fn put_place(parts: &Parts, group: u16, keys: &[u16], values: &[u16]) -> Result<
     }
 }
 
-fn read_place(parts: &Parts, group: u16, aggregate: u16) -> Result<(), Fault>
+fn check_read_group(parts: &Parts, group: u16, aggregate: u16) -> Result<(), Fault>
     ensures { Answers result (faults.unless (nat_lt group (length parts.now.groups)
         && nat_lt aggregate (length (faults.group_at parts.now group).aggregates)) faults.BadGroup) }
 {
@@ -189,8 +185,8 @@ fn read_place(parts: &Parts, group: u16, aggregate: u16) -> Result<(), Fault>
     }
 }
 
-/// Whether an instruction stands where it may, and its group is as it says.
-pub(crate) fn place(parts: &Parts, inside: bool, op: &Op) -> Result<(), Fault>
+// Whether an instruction stands where it may, and its group is as it says.
+pub(crate) fn check_place(parts: &Parts, inside: bool, op: &Op) -> Result<(), Fault>
     ensures { Answers result (faults.place_fault parts.now inside op.now) }
 {
     match op {
@@ -199,17 +195,17 @@ pub(crate) fn place(parts: &Parts, inside: bool, op: &Op) -> Result<(), Fault>
             group,
             keys,
             values,
-        } => put_place(parts, *group, keys.as_slice(), values.as_slice()),
+        } => check_put_group(parts, *group, keys.as_slice(), values.as_slice()),
         Op::Read {
             group,
             aggregate,
             ..
-        } => read_place(parts, *group, *aggregate),
+        } => check_read_group(parts, *group, *aggregate),
         _ => Ok(()),
     }
 }
 
-/// The register that an instruction writes.
+// The register that an instruction writes.
 fn target_of(op: &Op) -> Option<u16>
     ensures { result ≡ faults.target_of op.now }
 {
@@ -234,8 +230,8 @@ fn target_of(op: &Op) -> Option<u16>
     }
 }
 
-/// The register that an instruction writes, if it is declared.
-pub(crate) fn target(registers: &[Register], op: &Op) -> Result<Option<u16>, Fault>
+// The register that an instruction writes, if it is declared.
+pub(crate) fn declared_target(registers: &[Register], op: &Op) -> Result<Option<u16>, Fault>
     ensures fault { MatchResult result
         (λ _. faults.target_fault (length registers.now) (faults.target_of op.now) ≡ None)
         (λ fault. faults.target_fault (length registers.now) (faults.target_of op.now) ≡ Some (fault_shown fault)) }
@@ -248,19 +244,19 @@ pub(crate) fn target(registers: &[Register], op: &Op) -> Result<Option<u16>, Fau
     }
 }
 
-fn loads(registers: &[Register], column: ColumnId, row: u16) -> Result<(), Fault>
+fn check_load(registers: &[Register], column: ColumnId, row: u16) -> Result<(), Fault>
     ensures { Answers result (option_or
         (faults.operand_fault (length registers.now) (kinds_in (held registers.now)) faults.is_row row)
         (faults.unless (faults.is_row_of (schema.table_of column) (kinds_in (held registers.now) row)) faults.BadColumn)) }
 {
-    operand(registers, Wanted::Row, row)?;
+    check_operand(registers, Wanted::Row, row)?;
     match register(registers, row) {
         Some(Value::Row(table, _)) if is_table(table, table_of(column)) => Ok(()),
         _ => Err(Fault::BadColumn),
     }
 }
 
-fn texts(column: ColumnId) -> Result<(), Fault>
+fn check_text_column(column: ColumnId) -> Result<(), Fault>
     ensures { Answers result (faults.unless (world.is_text column) faults.BadColumn) }
 {
     if is_text(column) {
@@ -270,42 +266,42 @@ fn texts(column: ColumnId) -> Result<(), Fault>
     }
 }
 
-/// The operands from the left, and then the columns, of an instruction whose group is as it should be.
-pub(crate) fn operands(parts: &Parts, registers: &[Register], op: &Op) -> Result<(), Fault>
+// The operands from the left, and then the columns, of an instruction whose group is as it should be.
+pub(crate) fn check_operands(parts: &Parts, registers: &[Register], op: &Op) -> Result<(), Fault>
     requires wide { length registers.now ≡ parts.now.registers }
     requires placed { (inside : Bool) × (faults.place_fault parts.now inside op.now ≡ None) }
     ensures { Answers result (faults.operands_fault parts.now (kinds_in (held registers.now)) op.now) }
 {
     match op {
         Op::Const { .. } | Op::Read { .. } => Ok(()),
-        Op::Low { column, .. } | Op::High { column, .. } => texts(*column),
-        Op::Load { column, row, .. } => loads(registers, *column, *row),
-        Op::Find { key, .. } => operand(registers, Wanted::Number, *key),
+        Op::Low { column, .. } | Op::High { column, .. } => check_text_column(*column),
+        Op::Load { column, row, .. } => check_load(registers, *column, *row),
+        Op::Find { key, .. } => check_operand(registers, Wanted::Number, *key),
         Op::Add { left, right, .. } | Op::Sub { left, right, .. } | Op::Mul { left, right, .. } => {
-            both(registers, Wanted::Number, *left, *right)
+            check_both(registers, Wanted::Number, *left, *right)
         }
         Op::Less { left, right, .. }
         | Op::LessOrEqual { left, right, .. }
-        | Op::Equal { left, right, .. } => compared(registers, *left, *right),
+        | Op::Equal { left, right, .. } => check_comparison(registers, *left, *right),
         Op::Within {
             value,
             from,
             below,
             ..
-        } => within(registers, *value, *from, *below),
+        } => check_within(registers, *value, *from, *below),
         Op::And { left, right, .. } | Op::Or { left, right, .. } => {
-            both(registers, Wanted::Flag, *left, *right)
+            check_both(registers, Wanted::Flag, *left, *right)
         }
-        Op::Not { flag, .. } | Op::Keep { flag } => operand(registers, Wanted::Flag, *flag),
+        Op::Not { flag, .. } | Op::Keep { flag } => check_operand(registers, Wanted::Flag, *flag),
         Op::Put {
             group,
             keys,
             values,
-        } => put_operands(parts, registers, *group, keys.as_slice(), values.as_slice()),
+        } => check_put_operands(parts, registers, *group, keys.as_slice(), values.as_slice()),
     }
 }
 
-fn put_operands(
+fn check_put_operands(
     parts: &Parts,
     registers: &[Register],
     group: u16,
@@ -320,8 +316,8 @@ fn put_operands(
 {
     match group_at(parts, group) {
         Some(declared) => {
-            keys_as_declared(registers, declared.keys.as_slice(), keys)?;
-            numbers(registers, values)
+            check_keys(registers, declared.keys.as_slice(), keys)?;
+            check_numbers(registers, values)
         }
         None => unreachable!(),
     }

@@ -8,7 +8,7 @@ ghost use Rattle.star_machine.specs.Shown.{held, value_shown};
 
 use crate::value::{Register, Value, flag_of, number_of, register, row_of};
 
-/// The number in a register.
+// The number in a register.
 pub(crate) fn number(registers: &[Register], at: u16) -> i64
     ensures { result ≡ number_in (held registers.now at) }
 {
@@ -21,7 +21,7 @@ pub(crate) fn flag(registers: &[Register], at: u16) -> bool
     flag_of(register(registers, at))
 }
 
-/// The sum of two registers, if it doesn't leave 64 bits.
+// The sum of two registers, if it doesn't leave 64 bits.
 #[tactic(auto, unfolding(star_interval::specs::Range::is_i64))]
 pub(crate) fn sum(registers: &[Register], left: u16, right: u16) -> Option<i64>
     ensures { MatchOption result
@@ -31,7 +31,7 @@ pub(crate) fn sum(registers: &[Register], left: u16, right: u16) -> Option<i64>
     number(registers, left).checked_add(number(registers, right))
 }
 
-/// The difference of two registers, if it doesn't leave 64 bits.
+// The difference of two registers, if it doesn't leave 64 bits.
 #[tactic(auto, unfolding(star_interval::specs::Range::is_i64))]
 pub(crate) fn difference(registers: &[Register], left: u16, right: u16) -> Option<i64>
     ensures { MatchOption result
@@ -41,7 +41,7 @@ pub(crate) fn difference(registers: &[Register], left: u16, right: u16) -> Optio
     number(registers, left).checked_sub(number(registers, right))
 }
 
-/// The product of two registers, if it doesn't leave 64 bits.
+// The product of two registers, if it doesn't leave 64 bits.
 #[tactic(auto, unfolding(star_interval::specs::Range::is_i64))]
 pub(crate) fn product(registers: &[Register], left: u16, right: u16) -> Option<i64>
     ensures { MatchOption result
@@ -75,7 +75,7 @@ pub(crate) fn is_equal(registers: &[Register], left: u16, right: u16) -> bool
         .is_eq()
 }
 
-/// Whether a register is at least `from` and less than `below`.
+// Whether a register is at least `from` and less than `below`.
 pub(crate) fn is_within(registers: &[Register], value: u16, from: u16, below: u16) -> bool
     ensures { result ≡ (is_le (int_cmp (number_in (held registers.now from)) (number_in (held registers.now value))) && is_lt (int_cmp (number_in (held registers.now value)) (number_in (held registers.now below)))) }
 {
@@ -100,7 +100,7 @@ pub(crate) fn row(registers: &[Register], at: u16) -> u32
     row_of(register(registers, at))
 }
 
-/// Writes a register.
+// Writes a register.
 #[tactic(auto, using(crate::proofs::Registers::held_set))]
 pub(crate) fn set(registers: &mut [Register], target: u16, value: Value)
     requires { target < length registers.old }

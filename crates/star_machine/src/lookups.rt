@@ -16,7 +16,7 @@ use star_catalogue::Catalogue;
 use star_program::Text;
 use star_schema::{ColumnId, TableId, is_text};
 
-/// The place in a text column where the texts begin that are not less than this one.
+// The place in a text column where the texts begin that are not less than this one.
 #[tactic(auto, using(crate::proofs::Found::kind_text))]
 pub(crate) fn low(catalogue: &Catalogue, column: ColumnId, text: &Text) -> Value
     requires { world.is_text column ≡ true }
@@ -25,7 +25,7 @@ pub(crate) fn low(catalogue: &Catalogue, column: ColumnId, text: &Text) -> Value
     Value::Place(column, catalogue.low(column, text.as_slice()))
 }
 
-/// The place in a text column where the texts begin that are greater than this one.
+// The place in a text column where the texts begin that are greater than this one.
 #[tactic(auto, using(crate::proofs::Found::kind_text))]
 pub(crate) fn high(catalogue: &Catalogue, column: ColumnId, text: &Text) -> Value
     requires { world.is_text column ≡ true }
@@ -34,7 +34,7 @@ pub(crate) fn high(catalogue: &Catalogue, column: ColumnId, text: &Text) -> Valu
     Value::Place(column, catalogue.high(column, text.as_slice()))
 }
 
-/// A number column's value in a row.
+// A number column's value in a row.
 fn number(catalogue: &Catalogue, column: ColumnId, row: u32) -> i64
     requires kind { schema.kind_of column ≡ kind.Number }
     requires row { row < length (rows_in catalogue.now (schema.table_of column)) }
@@ -43,7 +43,7 @@ fn number(catalogue: &Catalogue, column: ColumnId, row: u32) -> i64
     catalogue.number(column, row)
 }
 
-/// The code of a text column's text in a row.
+// The code of a text column's text in a row.
 fn code(catalogue: &Catalogue, column: ColumnId, row: u32) -> u32
     requires kind { schema.kind_of column ≡ kind.Text }
     requires row { row < length (rows_in catalogue.now (schema.table_of column)) }
@@ -53,7 +53,7 @@ fn code(catalogue: &Catalogue, column: ColumnId, row: u32) -> u32
     catalogue.code(column, row)
 }
 
-/// A column's value in a row.
+// A column's value in a row.
 pub(crate) fn load(catalogue: &Catalogue, column: ColumnId, row: u32) -> Value
     requires { row < length (rows_in catalogue.now (schema.table_of column)) }
     ensures value { value_shown result ≡ loaded (world_of catalogue.now) column row (world.is_text column) }
@@ -66,7 +66,7 @@ pub(crate) fn load(catalogue: &Catalogue, column: ColumnId, row: u32) -> Value
     }
 }
 
-/// The row of a table with a key.
+// The row of a table with a key.
 pub(crate) fn find(catalogue: &Catalogue, table: TableId, key: i64) -> Option<u32>
     ensures found { result ≡ (world_of catalogue.now).find table key }
     ensures within { IfSome result (λ row. row < length (rows_in catalogue.now table)) }

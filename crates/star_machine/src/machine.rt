@@ -7,7 +7,7 @@ use star_catalogue::Catalogue;
 use star_program::{Body, Parts};
 use star_schema::TableId;
 
-/// The tables, the program, and how many turns may begin in all.
+// The tables, the program, and how many turns may begin in all.
 #[derive(Clone, Copy)]
 pub(crate) struct Machine<'a> {
     pub(crate) catalogue: &'a Catalogue,
@@ -17,7 +17,7 @@ pub(crate) struct Machine<'a> {
     ghost bounded: { most ≤ 10 ^ 15 },
 }
 
-/// A scan: of a table, into a register; its body, and its number.
+// A scan: of a table, into a register; its body, and its number.
 #[derive(Clone, Copy)]
 pub(crate) struct Scanned<'a> {
     pub(crate) table: TableId,

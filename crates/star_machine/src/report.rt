@@ -30,7 +30,7 @@ fn has_all_sorted(declared: &GroupDecl, sorts: &[SortKey]) -> bool
     sorts.iter().all(|sort| has_column(declared, sort.column))
 }
 
-/// Whether a group has each column that the show and sort lines name.
+// Whether a group has each column that the show and sort lines name.
 fn has_all_named(declared: &GroupDecl, parts: &Parts) -> bool
     ensures { IsTrue result ↔ (first_unshown declared.now 1 (named_columns parts.now) ≡ None) }
 {
@@ -38,7 +38,7 @@ fn has_all_named(declared: &GroupDecl, parts: &Parts) -> bool
         && has_all_sorted(declared, parts.sorts.as_slice())
 }
 
-/// Whether the reported group is there, and a show line, and each column that the show and sort lines name.
+// Whether the reported group is there, and a show line, and each column that the show and sort lines name.
 pub(crate) fn names_what_is_there(parts: &Parts) -> bool
     ensures { IsTrue result ↔ (shown_fault parts.now ≡ None) }
 {

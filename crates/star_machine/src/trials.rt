@@ -18,7 +18,7 @@ use star_catalogue::Catalogue;
 use star_program::{MOST_SCANS, Outcome, Parts, Program};
 use std::alloc::Global;
 
-/// Runs the instructions from the first on. The registers of the program and those of the scans that can stand one in another are all the memory that it takes beside the groups.
+// Runs the instructions from the first on. The registers of the program and those of the scans that can stand one in another are all the memory that it takes beside the groups.
 fn run_through(
     alloc: Global,
     catalogue: &Catalogue,

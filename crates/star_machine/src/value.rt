@@ -10,7 +10,7 @@ ghost use Rattle.star_machine.specs.Shown.{value_shown};
 use star_program::KeyValue;
 use star_schema::{ColumnId, TableId};
 
-/// A number, the code of a text of a column, a place among the texts of a column, a row of a table, or a truth value.
+// A number, the code of a text of a column, a place among the texts of a column, a row of a table, or a truth value.
 #[derive(Clone, Copy, Debug)]
 pub(crate) enum Value {
     Number(i64),
@@ -20,7 +20,7 @@ pub(crate) enum Value {
     Flag(bool),
 }
 
-/// A register, which may be empty.
+// A register, which may be empty.
 pub(crate) type Register = Option<Value>;
 
 pub(crate) fn is_column(column: ColumnId, other: ColumnId) -> bool
@@ -35,7 +35,7 @@ pub(crate) fn is_table(table: TableId, other: TableId) -> bool
     table == other
 }
 
-/// What stands in a register of this number.
+// What stands in a register of this number.
 pub(crate) fn register(registers: &[Register], number: u16) -> Register
     ensures { result ≡ slice_index_or registers.now number None }
 {
@@ -45,7 +45,7 @@ pub(crate) fn register(registers: &[Register], number: u16) -> Register
     }
 }
 
-/// The number in a register: codes and places compare as numbers.
+// The number in a register: codes and places compare as numbers.
 pub(crate) fn number_of(register: Register) -> i64
     ensures { result ≡ number_in (option_map value_shown register) }
 {

@@ -14,7 +14,7 @@ use crate::run::Run;
 use crate::value::{Register, Value};
 use star_program::{Body, Step};
 
-/// How many instructions a body has.
+// How many instructions a body has.
 fn size(body: &Body) -> u16
     requires { code_size body.now < 2 ^ 16 }
     ensures { result ≡ code_size body.now }
@@ -29,7 +29,7 @@ fn size(body: &Body) -> u16
     total
 }
 
-/// The fault of an instruction that doesn't go on.
+// The fault of an instruction that doesn't go on.
 fn stopped(stop: Stop, at: u16) -> TrialFault
     ensures { result ≡ fault_at at stop }
 {
@@ -39,7 +39,7 @@ fn stopped(stop: Stop, at: u16) -> TrialFault
     }
 }
 
-/// A turn of a scan: at a row, with the registers before the scan.
+// A turn of a scan: at a row, with the registers before the scan.
 #[cycle(walk)]
 fn turn(
     machine: &Machine<'_>,
@@ -82,7 +82,7 @@ fn turn(
     )
 }
 
-/// The turns of a scan, one for each row of the table in order.
+// The turns of a scan, one for each row of the table in order.
 #[cycle(walk)]
 fn turns(
     machine: &Machine<'_>,
@@ -111,7 +111,7 @@ fn turns(
     Ok(())
 }
 
-/// A scan of a table, whose own number stands before that of its body.
+// A scan of a table, whose own number stands before that of its body.
 #[cycle(walk)]
 fn scan(
     machine: &Machine<'_>,
@@ -141,8 +141,8 @@ fn scan(
     turns(machine, scanned, before, registers, deeper, run)
 }
 
-/// A walk over a body from an instruction on, inside scans or not: to its end or to the end of the turn. The frames hold
-/// the registers of the scans in it.
+// A walk over a body from an instruction on, inside scans or not: to its end or to the end of the turn. The frames hold
+// the registers of the scans in it.
 #[cycle(walk)]
 pub(crate) fn walk(
     machine: &Machine<'_>,

@@ -18,7 +18,7 @@ use star_program::{Cell, GroupDecl, GroupKey, Items, Name, Show};
 use star_schema::{ColumnId, GroupColumn};
 use std::alloc::{AllocError, Global};
 
-/// The text that a code stands for.
+// The text that a code stands for.
 fn text_cell(
     alloc: Global,
     catalogue: &Catalogue,
@@ -33,7 +33,7 @@ fn text_cell(
     Ok(Cell::Text(Items::from_vec(text)))
 }
 
-/// A key, as a report shows it.
+// A key, as a report shows it.
 fn key_cell(
     alloc: Global,
     catalogue: &Catalogue,
@@ -53,7 +53,7 @@ fn key_cell(
     }
 }
 
-/// An aggregate, as a report shows it.
+// An aggregate, as a report shows it.
 fn total_cell(total: Option<i64>) -> Cell
     ensures { result ≡ outcome.total_cell total }
 {
@@ -63,7 +63,7 @@ fn total_cell(total: Option<i64>) -> Cell
     }
 }
 
-/// The cell of a row in a column.
+// The cell of a row in a column.
 fn cell(
     alloc: Global,
     catalogue: &Catalogue,
@@ -86,7 +86,7 @@ fn cell(
     }
 }
 
-/// The cells of a row, one for each show line.
+// The cells of a row, one for each show line.
 fn cells(
     alloc: Global,
     catalogue: &Catalogue,
@@ -105,7 +105,7 @@ fn cells(
     Ok(Items::from_vec(cells))
 }
 
-/// The cells of each row.
+// The cells of each row.
 pub(super) fn cell_rows(
     alloc: Global,
     catalogue: &Catalogue,
@@ -124,7 +124,7 @@ pub(super) fn cell_rows(
     Ok(Items::from_vec(table))
 }
 
-/// The names of the show lines.
+// The names of the show lines.
 pub(super) fn names(alloc: Global, shows: &[Show]) -> Result<Items<Name>, AllocError>
     ensures { IfOk result (λ names. names ≡ map (λ show. show.name) shows.now) }
 {

@@ -11,7 +11,7 @@ use star_group::{GroupRow, KeyValue};
 use star_schema::{Direction, GroupColumn, SortKey};
 use std::cmp::Ordering;
 
-/// Values of one key, by number or by code.
+// Values of one key, by number or by code.
 fn compare_values(a: KeyValue, b: KeyValue) -> Ordering
     ensures { result ≡ value_cmp a b }
 {
@@ -23,7 +23,7 @@ fn compare_values(a: KeyValue, b: KeyValue) -> Ordering
     }
 }
 
-/// Keys of one place: ALL comes after every value.
+// Keys of one place: ALL comes after every value.
 fn compare_keys(a: Option<KeyValue>, b: Option<KeyValue>) -> Ordering
     ensures { result ≡ key_cmp value_cmp a b }
 {
@@ -35,7 +35,7 @@ fn compare_keys(a: Option<KeyValue>, b: Option<KeyValue>) -> Ordering
     }
 }
 
-/// All keys, from the left.
+// All keys, from the left.
 fn compare_key_lists(a: &[Option<KeyValue>], b: &[Option<KeyValue>]) -> Ordering
     ensures { result ≡ slice_cmp (key_cmp value_cmp) a.now b.now }
 {
@@ -50,7 +50,7 @@ fn compare_key_lists(a: &[Option<KeyValue>], b: &[Option<KeyValue>]) -> Ordering
     }
 }
 
-/// What a row has at a place: a key or an aggregate.
+// What a row has at a place: a key or an aggregate.
 pub(super) fn part_at<T: Copy>(parts: &[Option<T>], place: u16) -> Option<T>
     ensures { result ≡ slice_index_or parts.now place None }
 {
@@ -83,7 +83,7 @@ fn compare_by(sort: SortKey, a: &GroupRow, b: &GroupRow) -> Ordering
     }
 }
 
-/// By the sort keys, and then by all keys of the rows.
+// By the sort keys, and then by all keys of the rows.
 fn compare_rows(sorts: &[SortKey], a: &GroupRow, b: &GroupRow) -> Ordering
     ensures { result ≡ row_order sorts.now (row_shown a.now) (row_shown b.now) }
 {
@@ -96,7 +96,7 @@ fn compare_rows(sorts: &[SortKey], a: &GroupRow, b: &GroupRow) -> Ordering
     }
 }
 
-/// Sorts the rows of a group, in which no two have the same keys.
+// Sorts the rows of a group, in which no two have the same keys.
 pub(super) fn sort_rows(rows: &mut Vec<GroupRow>, sorts: &[SortKey])
     requires apart { AreApart rows.old.items }
     requires nulls { AllHaveSameNulls rows.old.items }
