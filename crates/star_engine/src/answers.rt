@@ -37,6 +37,10 @@ pub fn check<S: Sink>(
     ensures write { (sent : ℕ) → result ≡ Err (EngineFault.Write sent)
         → IsLoadable limits.rows (text_of texts.now) × (sent < length (check_text (text_of texts.now)))
         × Appends (S.contents out.old) (S.contents out.new) (take sent (check_text (text_of texts.now))) × (S.is_failed out.new ≡ true) }
+
+    // No other fault comes.
+    ensures no_program { (fault : TextFault) → ¬ (result ≡ Err (EngineFault.Program fault)) }
+    ensures no_trial { (fault : TrialFault) → ¬ (result ≡ Err (EngineFault.Trial fault)) }
 {
     let text = listing(alloc, texts, limits)?;
     write_whole(out, text.as_bytes())?;

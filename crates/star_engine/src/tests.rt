@@ -198,19 +198,33 @@ fn letters(alloc: Global, count: usize) -> Result<String, AllocError> {
 fn tells_faults_of_customer(rt: HostRuntime) -> Result<(), Fail> {
     let texts = sample();
     let customers = str::from_utf8(texts.customer)?;
+    let first = "Customer#000000001";
+    let last = "Customer#000000003";
     let cases = [
-        (letters(rt.alloc(), 255)?, LISTING),
+        (first, letters(rt.alloc(), 255)?, LISTING),
         (
+            first,
             letters(rt.alloc(), 256)?,
             "load 5 CellTooLong table customer record 1 field 2",
         ),
         (
+            last,
+            letters(rt.alloc(), 256)?,
+            "load 5 CellTooLong table customer record 3 field 2",
+        ),
+        (
+            first,
             String::from_str(rt.alloc(), "a\tb")?,
             "load 6 BadByte table customer record 1 field 2",
         ),
+        (
+            last,
+            String::from_str(rt.alloc(), "a\tb")?,
+            "load 6 BadByte table customer record 3 field 2",
+        ),
     ];
-    for (name, expected) in &cases {
-        let customer = replaced(rt.alloc(), customers, "Customer#000000001", name.as_str())?;
+    for (old, name, expected) in &cases {
+        let customer = replaced(rt.alloc(), customers, old, name.as_str())?;
         let changed = Texts {
             customer: customer.as_bytes(),
             ..texts
@@ -241,10 +255,11 @@ fn tells_what_was_sent(rt: HostRuntime) -> Result<(), Fail> {
         } else {
             Ok(())
         };
-        if answer != Err(EngineFault::OutOfMemory) {
-            assert_eq!(rt; answer, expected);
-            assert_eq!(rt; short.taken.as_slice(), &LISTING.as_bytes()[..left]);
+        if answer == Err(EngineFault::OutOfMemory) {
+            return Err(Fail::from(AllocError));
         }
+        assert_eq!(rt; answer, expected);
+        assert_eq!(rt; short.taken.as_slice(), &LISTING.as_bytes()[..left]);
     }
     Ok(())
 }
@@ -420,10 +435,11 @@ fn tells_what_was_sent_of_a_trial(rt: HostRuntime) -> Result<(), Fail> {
         } else {
             Ok(())
         };
-        if answer != Err(EngineFault::OutOfMemory) {
-            assert_eq!(rt; answer, expected);
-            assert_eq!(rt; short.taken.as_slice(), &report.as_bytes()[..left]);
+        if answer == Err(EngineFault::OutOfMemory) {
+            return Err(Fail::from(AllocError));
         }
+        assert_eq!(rt; answer, expected);
+        assert_eq!(rt; short.taken.as_slice(), &report.as_bytes()[..left]);
     }
     Ok(())
 }
