@@ -10,3 +10,5 @@ pub mod KeptJoins
 pub mod KeptCounts
 pub mod KeptSpelling
 pub mod Kept
+pub mod Conditions
+pub mod Worked

@@ -1,4 +1,4 @@
--- What is wrong with a query's names, and which fault comes first.
+-- What is wrong with a query's names, and which fault comes first (this project's profile of SQL).
 use Rattle.std.specs.Prelude.{ℕ, ◌+◌, Bool, ◌||◌, List, [], ◌∷◌, length, Option, Some, None, if◌then◌else◌}
 use Rattle.std.specs.Option.{option_or}
 use Rattle.star_schema.specs.declared.table.TableId.{TableId}

@@ -6,10 +6,12 @@ pub mod Uses
 pub mod Joins
 pub mod Naming
 pub mod Faults
+pub mod WellNamed
 pub mod Shown
 pub mod Sound
 pub mod Limits
 pub mod Spelled
 pub mod Resolved
+pub mod Planned
 pub mod Answers
 pub mod PlanTrees

@@ -108,8 +108,8 @@ abbrev pub all_hold : List Condition → Joined → Bool
 all_hold cs row = list_all (λ c. holds c row) cs
 
 -- the rows that a query selects: the joined rows for which every conjunct holds
-abbrev pub rows_of : Tables → Plan → List Joined
-rows_of ts p = filter (all_hold p.conjuncts) (joined ts p.joins)
+abbrev pub selected : Tables → Plan → List Joined
+selected ts p = filter (all_hold p.conjuncts) (joined ts p.joins)
 
 -- ---- what a selected row adds to its groups
 

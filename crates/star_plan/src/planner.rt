@@ -1,10 +1,11 @@
 // How a plan is made: the faults in their order, and then the names resolved.
 
-ghost use Rattle.std.specs.Prelude.{◌≡◌, ◌⊎◌, ◌≤◌, None, Some, IfOk, MatchResult, length};
+ghost use Rattle.std.specs.Prelude.{◌≡◌, ◌⊎◌, ◌≤◌, None, Some, IfErr, IfOk, length};
 ghost use Rattle.star_query.specs.Shown.{tree_of};
 ghost use Rattle.star_plan.specs.declared.fault.PlanFault.TheVariants.{OutOfMemory};
 ghost use Rattle.star_plan.specs.Answers.{Tells};
 ghost use Rattle.star_plan.specs.Faults.{grouping_fault, naming_fault, plan_fault};
+ghost use Rattle.star_plan.specs.WellNamed.{IsWellNamed};
 ghost use Rattle.star_plan.specs.Resolved.{IsResolved};
 ghost use Rattle.star_plan.specs.PlanTrees.{plan_tree};
 ghost use Rattle.star_plan.specs.Shown.{shown};
@@ -92,9 +93,12 @@ fn resolve(alloc: Global, tree: &Tree) -> Result<PlanTree, AllocError>
 
 /// The plan of a query, exactly where the query is well named; else the first fault. Want of memory may come before it.
 pub fn plan(alloc: Global, query: &Query) -> Result<Plan, PlanFault>
-    ensures { MatchResult result
-        (λ plan. (plan_fault (tree_of query.now) ≡ None) × IsResolved (tree_of query.now) (shown (plan_tree plan)))
-        (λ fault. (fault ≡ OutOfMemory) ⊎ (plan_fault (tree_of query.now) ≡ Some fault)) }
+    // Only a well named query has one.
+    ensures named { IfOk result (λ _. IsWellNamed (tree_of query.now)) }
+    // Its tree is the query's, with the names resolved.
+    ensures resolved { IfOk result (λ plan. IsResolved (tree_of query.now) (shown (plan_tree plan))) }
+    // A refusal is the first fault.
+    ensures refused { IfErr result (λ fault. (fault ≡ OutOfMemory) ⊎ (plan_fault (tree_of query.now) ≡ Some fault)) }
 {
     let query = query.tree();
     check(alloc, query)?;

@@ -1,16 +1,18 @@
 // Plans.
 
 ghost use Rattle.star_plan.specs.Shown.{shown};
+ghost use Rattle.star_plan.specs.Planned.{IsPlanned};
 ghost use Rattle.star_plan.specs.Sound.{IsSound};
 ghost use Rattle.star_plan.specs.Limits.{IsWithinLimits};
 ghost use Rattle.star_plan.specs.Spelled.{IsSpelled};
 
 use crate::tree::PlanTree;
 
-/// A query whose names are resolved. It is made by `plan` alone.
+/// A well named query whose names are resolved. It is made by `plan` alone.
 #[derive(Drop)]
 pub struct Plan {
     pub(crate) tree: PlanTree,
+    ghost planned: { ∥ IsPlanned (shown tree) ∥₁ },
     ghost sound: { IsSound (shown tree) },
     ghost within: { IsWithinLimits (shown tree) },
     ghost spelled: { IsSpelled (shown tree) },
@@ -23,6 +25,8 @@ impl Plan {
     /// What was resolved.
     pub fn tree(&self) -> &PlanTree
         ensures same { result.now ≡ plan_tree self.now }
+        // It is some well named query with its names resolved.
+        ensures planned { ∥ IsPlanned (shown result.now) ∥₁ }
         // Each dimension is joined once by a foreign key, columns are of joined tables and of the kind that is asked of
         // them, and items and sort keys are columns of the groups.
         ensures sound { IsSound (shown result.now) }

@@ -1,4 +1,4 @@
--- How a text is cut into tokens, and its first fault from the left where it can't be.
+-- How a text is cut into tokens, and its first fault from the left where it can't be (this project's profile of SQL).
 use Rattle.std.specs.Prelude.{ℕ, zero, suc, ◌+◌, ◌-◌, ◌*◌, nat_lt, Bool, true, false, ◌==◌, ◌||◌, if◌then◌else◌, List, [], ◌∷◌, find, drop, take, nat_eq, Option, Some, None, Result, Ok, Err}
 use Rattle.std.specs.List.{prefix_len, slice_get}
 use Rattle.std.specs.Char.{is_ascii_alphabetic, is_ascii_digit}

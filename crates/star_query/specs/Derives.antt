@@ -1,4 +1,4 @@
--- Which texts are a query within the limits, and what else is the first fault.
+-- Which texts are a query within the limits, and what else is the first fault (this project's profile of SQL).
 use Rattle.std.specs.Prelude.{◌≡◌, ℕ, ◌+◌, ◌<◌, ◌≤◌, ◌⊎◌, Bool, true, false, List, [], ◌∷◌, ◌++◌, map, length, Ok, Err, if◌then◌else◌}
 use Rattle.std.specs.List.{AllByRecursion}
 use Rattle.star_query.specs.declared.counts.Part.{Part}

@@ -1,4 +1,4 @@
--- The grammar of queries: its phrases, how each is written, and what it means.
+-- The grammar of queries (this project's profile of SQL): its phrases, how each is written, and what it means.
 use Rattle.std.specs.Prelude.{ℕ, ◌+◌, Bool, true, false, List, [], ◌∷◌, ◌++◌, Option, Some, None, pos, neg_ℤ, option_map}
 use Rattle.star_query.specs.declared.token.Keyword.TheVariants as k
 use Rattle.star_query.specs.declared.token.Sign.TheVariants as s

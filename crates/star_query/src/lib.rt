@@ -5,7 +5,7 @@
 
 mod counts;
 mod fault;
-mod laws;
+pub mod law;
 mod lexer;
 mod parser;
 mod query;
@@ -15,7 +15,6 @@ mod token;
 mod tree;
 
 pub use fault::QueryFault;
-pub use laws::{one_front, one_tree};
 pub use query::{MAX_TEXT, Query};
 pub use token::{Fold, Relation};
 pub use tree::{

@@ -50,7 +50,8 @@ impl Query {
     /// What was read.
     pub fn tree(&self) -> &Tree
         ensures lent { result.now ≡ tree_of self.now }
-        ensures same { tree_view result.now ≡ shown self.now }
+        // Some text means it.
+        ensures meant { ∥ IsMeant (tree_view result.now) ∥₁ }
         // It has at most 16 items, 8 aggregates, 512 operands in them, 256 comparisons, 6 group columns and 16 sort keys.
         ensures limits { IsWithinLimits (tree_view result.now) }
         // Names have 1 to 64 letters, digits and `_`, numbers at most 18 digits, and texts bytes from 0x20 to 0x7E.

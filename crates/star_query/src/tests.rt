@@ -1,5 +1,6 @@
 // Tests: trees as the grammar groups them, the first fault of a text, and each limit at and one past it.
 
+use crate::lexer::tokens_of;
 use crate::*;
 use std::alloc::{AllocError, Global};
 use std::fmt::Write;
@@ -255,6 +256,32 @@ fn case_and_white_space_make_no_difference(rt: HostRuntime) -> Result<(), Fail> 
 }
 
 #[test]
+fn a_number_has_at_most_18_digits(rt: HostRuntime) -> Result<(), Fail> {
+    let most = "select sum(999999999999999999) from t where a = -000000000000000001";
+    let found = printed(rt.alloc(), most.as_bytes())?;
+    let tree = "select sum@7 999999999999999999 from t@36 where a@44 = -1 group by ";
+    assert_eq!(rt; found.as_str(), tree);
+    let past = fault_of(rt.alloc(), b"select sum(0000000000000000001) from t")?;
+    assert!(rt; past == Some(QueryFault::BadNumber { at: 11 }));
+    Ok(())
+}
+
+#[test]
+fn tokens_are_as_long_as_they_can_be(rt: HostRuntime) -> Result<(), Fail> {
+    for (text, count) in [
+        ("<= >= <> < > =,()*+-;", 13),
+        ("<=>=<>", 3),
+        ("'a''b'", 1),
+        ("'a' 'b'", 2),
+        (" SeLeCt\ta_1\r\n,\nfrom ", 4),
+    ] {
+        let tokens = tokens_of(rt.alloc(), text.as_bytes())?;
+        assert_eq!(rt; tokens.len(), count, "{text}");
+    }
+    Ok(())
+}
+
+#[test]
 fn a_token_that_no_query_goes_on_with_is_told_at_its_place(rt: HostRuntime) -> Result<(), Fail> {
     for (text, at) in [
         ("", 0),
@@ -303,6 +330,7 @@ fn faults_of_tokens_come_first_from_the_left(rt: HostRuntime) -> Result<(), Fail
             QueryFault::OpenText { at: 46 },
         ),
         ("from 'it''s", QueryFault::OpenText { at: 5 }),
+        ("'a''", QueryFault::OpenText { at: 0 }),
     ] {
         let found = fault_of(rt.alloc(), text.as_bytes())?;
         assert!(rt; found == Some(fault), "{text}");

@@ -1,6 +1,13 @@
+use Rattle.std.proofs.Common.{subst}
+use Rattle.std.proofs.lemmas.Grind.{merely}
 use Rattle.star_plan.specs.Shown.{shown}
+use Rattle.star_plan.specs.WellNamed.{IsWellNamed}
+use Rattle.star_plan.proofs.Conditions.{well_named}
 use Rattle.star_plan.proofs.Kept.{kept_sound, kept_spelled, kept_within}
 use Rattle.star_plan.proofs.planner.plan.Goals as goal
+
+pub invariant_of-result-clause-planned : goal.invariant_of-result-clause-planned
+invariant_of-result-clause-planned c = merely (record { tree = c.tree-query.result.now; named = well_named c.tree-query.result.now c.in_ok-check.ensures; resolved = c.in_ok-tree.ensures })
 
 pub invariant_of-result-clause-sound : goal.invariant_of-result-clause-sound
 invariant_of-result-clause-sound c = kept_sound c.tree-query.result.now (shown c.in_ok-tree.tree) c.in_ok-check.ensures c.in_ok-tree.ensures
@@ -12,3 +19,6 @@ invariant_of-result-clause-within c =
 pub invariant_of-result-clause-spelled : goal.invariant_of-result-clause-spelled
 invariant_of-result-clause-spelled c =
     kept_spelled c.tree-query.result.now (shown c.in_ok-tree.tree) c.tree-query.ensures.limits c.tree-query.ensures.spelled c.in_ok-tree.ensures
+
+pub returns-clause-named : goal.returns-clause-named
+returns-clause-named c = subst IsWellNamed c.tree-query.ensures.lent (well_named c.tree-query.result.now c.in_ok-check.ensures)

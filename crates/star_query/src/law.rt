@@ -1,4 +1,4 @@
-// What holds of the grammar itself, for all texts.
+//! Laws of the grammar: functions with no body, whose clauses hold of all texts.
 
 ghost use Rattle.std.specs.Prelude.{◌≡◌, ℕ, List};
 ghost use Rattle.star_query.specs.Tree.{Tree};
