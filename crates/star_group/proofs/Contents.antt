@@ -8,13 +8,14 @@ use Rattle.star_program.specs.declared.key.KeyValue.{KeyValue}
 use Rattle.star_program.specs.Keys.{value_cmp}
 use Rattle.star_program.specs.Puts.{own_groups, some_leaves, leaves as leaves_total}
 use Rattle.star_group.specs.Cells.{held, leaves}
-use Rattle.star_group.specs.OwnKeys.{key_eq, padded, in_places, own_keys}
+use Rattle.star_group.specs.OwnKeys.{key_eq, padded, own_keys}
 use Rattle.star_group.specs.Rows.{blank, PutsRows, SomeLeaves, with_blanks}
 use Rattle.star_group.specs.Stores.{Put, Group, aggregate_at, overflows}
-use Rattle.star_group.specs.Held.{IsOwn, changes, held_at, IsRow, Holds, PutStays, PutLeaves}
+use Rattle.star_group.specs.Held.{IsOwn, changes, held_at, IsRow, Holds}
+use Rattle.star_group.proofs.OnePut.{PutStays, PutLeaves}
 use Rattle.star_group.proofs.OwnKeyLemmas.{all_padded}
 use Rattle.star_group.proofs.PutSteps.{or_right, holds_more, stays_more, leaves_more, blank_none}
-use Rattle.star_group.proofs.GroupKeys.{key_equiv, own_mask, own_belongs, members_at, changes_belongs, own_at}
+use Rattle.star_group.proofs.GroupKeys.{key_equiv, in_places, own_mask, own_belongs, members_at, changes_belongs, own_at}
 use Rattle.star_group.proofs.OwnGroups.{any_false, all_more, groups_own, own_any}
 use Rattle.star_group.proofs.Totals.{some_aggregate}
 

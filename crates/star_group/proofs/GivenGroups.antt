@@ -17,14 +17,14 @@ use Rattle.star_program.specs.declared.key.KeyValue.{KeyValue}
 use Rattle.star_group.specs.declared.group_row.GroupRow.{GroupRow}
 use Rattle.star_group.specs.Cells.{held, shown}
 use Rattle.star_program.specs.Keys.{value_cmp}
-use Rattle.star_group.specs.OwnKeys.{key_eq, padded, in_places}
+use Rattle.star_group.specs.OwnKeys.{key_eq, padded}
 use Rattle.star_group.specs.Stores.{Put, Group}
 use Rattle.star_group.specs.Held.{changes, puts_at, has_puts, IsRow, IsFound, Holds}
 use Rattle.star_group.specs.Given.{is_given, shown_from, row_given, rows_given}
 use Rattle.star_group.specs.Shown.{row_shown, AreRows}
 use Rattle.star_group.proofs.OwnKeyLemmas.{all_padded}
 use Rattle.star_group.proofs.Totals.{shown_held}
-use Rattle.star_group.proofs.GroupKeys.{key_equiv, key_decides, IsMask, own_mask, own_belongs, masked_all, changes_belongs, members_at, own_at, in_all, length-all}
+use Rattle.star_group.proofs.GroupKeys.{key_equiv, in_places, key_decides, IsMask, own_mask, own_belongs, masked_all, changes_belongs, members_at, own_at, in_all, length-all}
 
 -- ---- lists
 

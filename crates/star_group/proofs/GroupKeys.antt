@@ -15,9 +15,15 @@ use Rattle.star_program.specs.declared.key.KeyValue.{KeyValue}
 use Rattle.star_program.specs.declared.key.KeyValue.TheVariants.{Number, Code}
 use Rattle.star_program.specs.contracts.key.KeyValueEq.TheImpl.Laws.{laws-law}
 use Rattle.star_program.specs.Keys.{value_cmp, value_eq}
-use Rattle.star_group.specs.OwnKeys.{key_eq, padded, in_places, vary, own_keys}
+use Rattle.star_group.specs.OwnKeys.{key_eq, padded, vary, own_keys}
 use Rattle.star_group.specs.Stores.{Put, Group}
 use Rattle.star_group.specs.Held.{IsOwn, changes, puts_at}
+
+-- a key list in so many places
+unfoldable pub in_places : ℕ → List (Option KeyValue) → List (Option KeyValue)
+in_places zero ms = []
+in_places (suc n) [] = None ∷ in_places n []
+in_places (suc n) (m ∷ ms) = m ∷ in_places n ms
 
 pub key_equiv : IsEquivalence key_eq
 key_equiv = lists_equiv (options_equiv laws-law)

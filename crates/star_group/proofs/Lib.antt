@@ -1,7 +1,9 @@
 pub mod Lists
 pub mod Lookups
+pub mod ChangedCells
 pub mod Changes
 pub mod OwnKeyLemmas
+pub mod OnePut
 pub mod PutSteps
 pub mod Distinct
 pub mod Places

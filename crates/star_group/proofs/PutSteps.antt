@@ -7,7 +7,8 @@ use Rattle.star_group.specs.Cells.{held, step, leaves}
 use Rattle.star_group.specs.Stores.{aggregate_at, Put, Group}
 use Rattle.star_group.specs.OwnKeys.{key_eq, padded, own_keys}
 use Rattle.star_group.specs.Rows.{blank, with_blank, with_blanks, cell_at, SomeLeaves, AllStay, ChangesAll}
-use Rattle.star_group.specs.Held.{changes, puts_at, has_puts, held_at, IsRow, Holds, PutStays, PutLeaves}
+use Rattle.star_group.specs.Held.{changes, puts_at, has_puts, held_at, IsRow, Holds}
+use Rattle.star_group.proofs.OnePut.{PutStays, PutLeaves}
 use Rattle.star_schema.specs.Groups.{numbers_for}
 
 pub blank_none : (a : ℕ) → get_or blank a None ≡ None

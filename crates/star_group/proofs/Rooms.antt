@@ -11,7 +11,8 @@ use Rattle.star_program.specs.declared.key.KeyValue.{KeyValue}
 use Rattle.star_group.specs.Cells.{held, step, leaves}
 use Rattle.star_group.specs.OwnKeys.{key_eq, padded, own_keys}
 use Rattle.star_group.specs.Stores.{Put, Group, aggregate_at, number_at, sums_by_keys, above_zero, below_zero, AddUp, HasRoomAt, HasRoom}
-use Rattle.star_group.specs.Held.{changes, puts_at, PutStays}
+use Rattle.star_group.specs.Held.{changes, puts_at}
+use Rattle.star_group.proofs.OnePut.{PutStays}
 use Rattle.star_group.proofs.ContentByKeys.{sums_passing, length-numbers}
 use Rattle.star_group.proofs.Totals.{held_joined}
 

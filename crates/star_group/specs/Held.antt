@@ -3,7 +3,7 @@ use Rattle.std.specs.Prelude.{◌≡◌, ◌⊎◌, replicate, ℕ, ◌<◌, Boo
 use Rattle.std.specs.List.{list_any, AllByRecursion}
 use Rattle.star_schema.specs.Groups.{IsMasked, numbers_for}
 use Rattle.star_program.specs.declared.key.KeyValue.{KeyValue}
-use Rattle.star_group.specs.Cells.{held, leaves}
+use Rattle.star_group.specs.Cells.{held}
 use Rattle.star_group.specs.OwnKeys.{key_eq, padded, own_keys}
 use Rattle.star_group.specs.Stores.{Put, Group, aggregate_at}
 
@@ -40,17 +40,3 @@ IsRow d puts q (Some row) = IsFound d puts q row
 pub record Holds (d : Group) (look : List (Option KeyValue) → Option (List (Option ℤ))) (puts : List Put) : Type 0 where
   pub fit : AllByRecursion (λ put. length put.keys ≡ d.count) puts
   pub rows : (q : List (Option KeyValue)) → IsRow d puts q (look q)
-
--- with this put after those, no SUM or COUNT of a row that it changes leaves 64 bits
-pub record PutStays (d : Group) (puts : List Put) (put : Put) : Type 0 where
-  pub stays : (q : List (Option KeyValue)) (place : ℕ) (z : ℤ) → changes d q put ≡ true → place < length d.aggregates → held_at d (put ∷ puts) q place ≡ Some z → leaves (aggregate_at d place) z ≡ false
-
--- and here one does
-pub record PutLeaves (d : Group) (puts : List Put) (put : Put) : Type 0 where
-  pub key : List (Option KeyValue)
-  pub place : ℕ
-  pub number : ℤ
-  pub own : changes d key put ≡ true
-  pub declared : place < length d.aggregates
-  pub is_held : held_at d (put ∷ puts) key place ≡ Some number
-  pub leaves : leaves (aggregate_at d place) number ≡ true

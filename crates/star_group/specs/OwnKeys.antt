@@ -16,12 +16,6 @@ padded zero ks = []
 padded (suc n) [] = None ∷ padded n []
 padded (suc n) (k ∷ ks) = Some k ∷ padded n ks
 
--- a group's keys in so many places
-unfoldable pub in_places : ℕ → List (Option KeyValue) → List (Option KeyValue)
-in_places zero ms = []
-in_places (suc n) [] = None ∷ in_places n []
-in_places (suc n) (m ∷ ms) = m ∷ in_places n ms
-
 -- the key with each of its first n places as it is or ALL
 unfoldable pub vary : ℕ → List (Option KeyValue) → List (List (Option KeyValue))
 vary zero key = key ∷ []

@@ -61,12 +61,6 @@ abbrev pub StaysIn : Option (List (Option ℤ)) → List Aggregate → List ℤ 
 StaysIn None gs vs = Unit {0}
 StaysIn (Some row) gs vs = RowStays gs vs row
 
--- the places below i have one more update
-pub record ChangedBelow (gs : List Aggregate) (vs : List ℤ) (row new : List (Option ℤ)) (i : ℕ) : Type 0 where
-  pub wide : length new ≡ 8
-  pub cells : (a : ℕ) → a < i → slice_index_or new a None ≡ Some (cell_at gs vs row a)
-  pub stay : (a : ℕ) → a < i → leaves_at gs vs row a ≡ false
-
 -- the rows, with those of these keys made where they are missing
 abbrev pub with_blanks : {K : Type 0} → (K → K → Bool) → List K → (K → Option (List (Option ℤ))) → K → Option (List (Option ℤ))
 with_blanks eq own look q = with_blank (list_any (eq q) own) (look q)
