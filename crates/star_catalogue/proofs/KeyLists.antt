@@ -14,7 +14,8 @@ use Rattle.star_schema.specs.Schema.{key_of, place_of}
 use Rattle.star_schema.specs.Tables.{Value}
 use Rattle.star_schema.specs.Texts.{texts_at}
 use Rattle.star_catalogue.specs.declared.fault.LoadFault.TheVariants.{DuplicateKey}
-use Rattle.star_catalogue.specs.Load.{first_repeat, keys_fault, same_key, same_pair}
+use Rattle.star_catalogue.specs.Load.{first_repeat, keys_fault, same_key}
+use Rattle.star_catalogue.specs.Private.Keys.{same_pair}
 use Rattle.star_catalogue.proofs.Apart.{apart-map}
 use Rattle.star_catalogue.proofs.Repeats.{apart_no_repeat, first_repeat-map}
 

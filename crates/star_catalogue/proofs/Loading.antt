@@ -3,7 +3,7 @@ use Rattle.std.proofs.Common.{◌≡◌, ℕ, List, Some, None, refl}
 use Rattle.star_schema.specs.declared.table.TableId.{TableId}
 use Rattle.star_schema.specs.declared.table.TableId.TheVariants.{Date, Customer, Supplier, Part, Lineorder}
 use Rattle.star_schema.specs.Database.{AreTables, rows_in}
-use Rattle.star_schema.specs.First.{first_answer}
+use Rattle.star_common.specs.First.{first_answer}
 use Rattle.star_schema.specs.Loadable.{HasDistinctKeys, IsLoadable, IsSound, database_of}
 use Rattle.star_schema.specs.Tables.{IsTable, rows_of}
 use Rattle.star_reader.proofs.Law.{table_complete}

@@ -17,7 +17,7 @@ use Rattle.star_schema.proofs.KeyColumns.{kind_at_place}
 use Rattle.star_reader.specs.declared.column.RawColumn.{RawColumn}
 use Rattle.star_reader.specs.Columns.{AreColumnsOf as AreRawColumnsOf, first_rows, kind_of as raw_kind, row_at, values as raw_values}
 use Rattle.star_catalogue.specs.declared.columns.Column.{Column}
-use Rattle.star_catalogue.specs.Columns.{AreColumnsOf, kind_of, values}
+use Rattle.star_catalogue.specs.Private.Columns.{AreColumnsOf, kind_of, values}
 
 -- a column at its place
 pub record IsColumnAt (rows : ℕ) (columns : List Column) (place : ℕ) (k : Kind) (column : Column) : Type 0 where

@@ -22,11 +22,11 @@ use Rattle.star_schema.specs.declared.table.TableId.{TableId}
 use Rattle.star_schema.specs.declared.table.TableId.TheVariants.{Lineorder}
 use Rattle.star_schema.specs.Bounds.{numbers_at, numbers_of}
 use Rattle.star_schema.specs.Database.{Database, rows_in}
-use Rattle.star_schema.specs.First.{first_answer}
+use Rattle.star_common.specs.First.{first_answer}
 use Rattle.star_schema.specs.Loadable.{IsSound, RefersTo, foreign_keys, keys_of, number_at}
 use Rattle.star_schema.specs.Schema.{column_of, references}
 use Rattle.star_schema.specs.Tables.{Value}
-use Rattle.star_schema.proofs.Firsts.{all_without_answer, enumerated_at, first_answer_here, first_answer_none, first_answer_on}
+use Rattle.star_common.proofs.Firsts.{all_without_answer, enumerated_at, first_answer_here, first_answer_none, first_answer_on}
 use Rattle.star_schema.proofs.KeyColumns.{IsNumberOf, foreign_key, foreign_keys_are}
 use Rattle.star_catalogue.specs.declared.fault.LoadFault.{LoadFault}
 use Rattle.star_catalogue.specs.declared.fault.LoadFault.TheVariants.{AbsentKey}

@@ -8,8 +8,8 @@ use Rattle.std.proofs.lemmas.List.{get_or_default, get_or-take, take_more, take-
 use Rattle.std.proofs.lemmas.List.Folds.{list_any_none}
 use Rattle.std.proofs.lemmas.List.FromFn.{get_or-enumerate_from, length-enumerate_from}
 use Rattle.std.proofs.lemmas.Option.{get_or_from_slice_get, slice_get_within}
-use Rattle.star_schema.specs.First.{first_answer}
-use Rattle.star_schema.proofs.Firsts.{enumerated_at, first_answer_here, first_answer_none, first_answer_on}
+use Rattle.star_common.specs.First.{first_answer}
+use Rattle.star_common.proofs.Firsts.{enumerated_at, first_answer_here, first_answer_none, first_answer_on}
 use Rattle.indexmap.specs.IndexSet.{insert_key}
 use Rattle.star_catalogue.specs.Load.{first_repeat, repeat_at}
 

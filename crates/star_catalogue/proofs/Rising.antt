@@ -7,7 +7,7 @@ use Rattle.std.specs.declared.cmp.Ordering.TheVariants.{Less}
 use Rattle.std.proofs.lemmas.Cmp.{int_cmp_total, on_total, then_total}
 use Rattle.std.proofs.lemmas.Map.Keys.{Less-from_sorted, sorted_from_all_adjacent}
 use Rattle.std.proofs.lemmas.Option.{slice_get-get_or}
-use Rattle.star_catalogue.specs.Keys.{pair_cmp}
+use Rattle.star_catalogue.specs.Private.Keys.{pair_cmp}
 
 -- each pair before a place is greater than the pair before it
 pub record RiseBefore (place : ℕ) (pairs : List (ℤ × ℤ)) : Type 0 where

@@ -9,7 +9,7 @@ use Rattle.star_schema.specs.Tables.{IsRowOf, Number, Text, kind_of_value}
 use Rattle.star_reader.specs.Columns.{first_rows, row_at}
 use Rattle.star_catalogue.specs.declared.columns.Column.{Column}
 use Rattle.star_catalogue.specs.declared.columns.Column.TheVariants.{Numbers, Texts}
-use Rattle.star_catalogue.specs.Columns.{AreColumnsOf, kind_of, values}
+use Rattle.star_catalogue.specs.Private.Columns.{AreColumnsOf, kind_of, values}
 
 -- a value of a column is of its kind
 kind_in : (column : Column) (i : ℕ) → i < length (values column) → kind_of_value (get_or (values column) i (Number (pos 0))) ≡ kind_of column

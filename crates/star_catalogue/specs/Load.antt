@@ -1,5 +1,5 @@
 -- The first fault of five texts that can't be loaded.
-use Rattle.std.specs.Prelude.{◌+◌, ◌∷◌, ◌&&◌, if◌then◌else◌, Bool, true, ℕ, ℤ, List, [], Option, Some, None, take}
+use Rattle.std.specs.Prelude.{◌+◌, ◌∷◌, if◌then◌else◌, Bool, true, ℕ, ℤ, List, [], Option, Some, None, take}
 use Rattle.std.specs.Cmp.Lexicographic.{pointwise}
 use Rattle.std.specs.List.{enumerate_from, list_any}
 use Rattle.std.specs.Option.{option_map, option_or}
@@ -9,7 +9,7 @@ use Rattle.star_schema.specs.declared.table.TableId.{TableId}
 use Rattle.star_schema.specs.declared.table.TableId.TheVariants.{Date, Customer, Supplier, Part, Lineorder}
 use Rattle.star_schema.specs.declared.table.TheConstants.{TABLES}
 use Rattle.star_schema.specs.Database.{Database, rows_in}
-use Rattle.star_schema.specs.First.{first_answer}
+use Rattle.star_common.specs.First.{first_answer}
 use Rattle.star_schema.specs.Loadable.{database_of, foreign_keys, keys_of, number_at}
 use Rattle.star_schema.specs.Schema.{references}
 use Rattle.star_schema.specs.Tables.{Value, rows_of}
@@ -29,9 +29,6 @@ text_of texts Lineorder = texts.lineorder.now
 -- whether two keys are one
 abbrev pub same_key : List ℤ → List ℤ → Bool
 same_key = pointwise int_eq
-
-abbrev pub same_pair : ℤ × ℤ → ℤ × ℤ → Bool
-same_pair a b = int_eq a.0 b.0 && int_eq a.1 b.1
 
 -- the number of a record whose key stands among the keys of earlier records
 abbrev pub repeat_at : {K : Type 0} → (K → K → Bool) → List K → ℕ → K → Option ℕ

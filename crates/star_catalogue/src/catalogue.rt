@@ -1,6 +1,7 @@
 // The catalogue of the five tables.
 
-ghost use Rattle.std.specs.Prelude.{◌≡◌, ◌⊎◌, ◌↔◌, ◌<◌, ◌∷◌, [], ℕ, All, Some, IfErr, IfOk, length, slice_get};
+ghost use Rattle.std.specs.Prelude.{◌≡◌, ◌↔◌, ◌<◌, ◌∷◌, [], ℕ, All, Some, IfErr, IfOk, length, slice_get};
+ghost use Rattle.star_common.specs.Memory.{UnlessMemory};
 ghost use Rattle.star_schema.specs.Bounds.{greatest, least, numbers_of};
 ghost use Rattle.star_schema.specs.Database.{rows_in};
 ghost use Rattle.star_schema.specs.Loadable.{IsLoadable, IsSound, database_of, keys_of};
@@ -23,9 +24,9 @@ use std::alloc::Global;
 use std::marker::Model;
 
 /// Five sound tables. A contract sees the rows of each. No look-up takes memory.
-#[derive(Debug, Drop)]
+#[derive(Drop)]
 pub struct Catalogue {
-    tables: Tables,
+    tables: Box<Tables>,
 }
 
 impl Model for Catalogue {
@@ -34,9 +35,9 @@ impl Model for Catalogue {
 
     ghost Value = { Database };
 
-    ghost view = { λ catalogue. catalogue.tables };
+    ghost view = { λ catalogue. catalogue.tables.value };
 
-    ghost invariant = { λ catalogue. IsSound catalogue.tables };
+    ghost invariant = { λ catalogue. IsSound catalogue.tables.value };
 }
 
 impl Catalogue {
@@ -45,10 +46,10 @@ impl Catalogue {
     pub fn load(alloc: Global, texts: &Texts<'_>, limits: Limits) -> Result<Catalogue, LoadFault>
         ensures loadable { IfOk result (λ catalogue. IsLoadable limits.rows (text_of texts.now)) }
         ensures rows { IfOk result (λ catalogue. catalogue ≡ database_of (text_of texts.now)) }
-        ensures refused { IfErr result (λ fault. (fault ≡ LoadFault.OutOfMemory)
-            ⊎ ((load_fault limits.rows (text_of texts.now) ≡ Some fault) × ¬ IsLoadable limits.rows (text_of texts.now))) }
+        ensures refused { IfErr result (λ fault. UnlessMemory LoadFault.OutOfMemory fault ((load_fault limits.rows (text_of texts.now) ≡ Some fault) × ¬ IsLoadable limits.rows (text_of texts.now))) }
     {
-        let tables = Tables::load(alloc, texts, limits)?;
+        let loaded = Tables::load(alloc, texts, limits)?;
+        let tables = Box::new(alloc, loaded)?;
         check_references(&tables)?;
         Ok(Catalogue { tables })
     }

@@ -2,14 +2,14 @@
 
 ghost use Rattle.std.specs.Prelude.{◌≡◌, ◌<◌, ◌^◌, All, IfOk, length, map};
 ghost use Rattle.star_reader.specs.Columns.{kind_of as raw_kind, values as raw_values};
-ghost use Rattle.star_catalogue.specs.Columns.{kind_of, values};
+ghost use Rattle.star_catalogue.specs.Private.Columns.{kind_of, values};
 
 use star_column::{NumberColumn, TextColumn};
 use star_reader::RawColumn;
 use std::alloc::{AllocError, Global};
 
 /// A column of a table.
-#[derive(Debug, Drop)]
+#[derive(Drop)]
 pub enum Column {
     Numbers(NumberColumn),
     Texts(TextColumn),

@@ -1,6 +1,6 @@
 // Why five texts were not loaded.
 
-ghost use Rattle.std.specs.Prelude.{◌≡◌};
+ghost use Rattle.star_common.specs.Memory.{TellsMemory};
 ghost use Rattle.star_catalogue.specs.declared.fault.LoadFault.TheVariants.{OutOfMemory};
 
 use star_reader::ReadFault;
@@ -9,7 +9,7 @@ use std::alloc::{AllocError, AllocFailed};
 use std::fmt;
 
 /// Why five texts were not loaded. Records count from 1.
-#[derive(Clone, Copy, Debug, PartialEq, Eq, Hash)]
+#[derive(Clone, Copy, Debug, PartialEq, Eq)]
 pub enum LoadFault {
     /// Memory was refused.
     OutOfMemory,
@@ -22,7 +22,7 @@ pub enum LoadFault {
 }
 
 impl From<AllocError> for LoadFault {
-    ghost from_gives = { λ _ fault. fault ≡ OutOfMemory };
+    ghost from_gives = { TellsMemory OutOfMemory };
 
     fn from(_error: AllocError) -> LoadFault {
         LoadFault::OutOfMemory
@@ -30,7 +30,7 @@ impl From<AllocError> for LoadFault {
 }
 
 impl<T: Drop> From<AllocFailed<T>> for LoadFault {
-    ghost from_gives = { λ _ fault. fault ≡ OutOfMemory };
+    ghost from_gives = { TellsMemory OutOfMemory };
 
     fn from(_error: AllocFailed<T>) -> LoadFault {
         LoadFault::OutOfMemory

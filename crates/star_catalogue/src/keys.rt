@@ -1,13 +1,14 @@
 // The keys of tables, which no two rows share.
 
-ghost use Rattle.std.specs.Prelude.{◌≡◌, ◌≢◌, ◌⊎◌, ◌↔◌, ◌<◌, ◌^◌, ◌∷◌, ℕ, ℤ, List, [], AllPairs, IfOk, IsTrue, MatchResult, Some, length, slice_get};
+ghost use Rattle.std.specs.Prelude.{◌≡◌, ◌≢◌, ◌↔◌, ◌<◌, ◌^◌, ◌∷◌, ℕ, ℤ, List, [], AllPairs, IfOk, IsTrue, MatchResult, Some, length, slice_get};
 ghost use Rattle.std.specs.List.{IsDistinct, zip};
 ghost use Rattle.std.specs.Option.{option_map};
 ghost use Rattle.std.specs.Ordering.{int_eq};
 ghost use Rattle.std.specs.declared.cmp.Ordering.TheVariants.{Less};
+ghost use Rattle.star_common.specs.Memory.{UnlessMemory};
 ghost use Rattle.star_schema.specs.Loadable.{HasDistinctKeys, keys_of};
-ghost use Rattle.star_catalogue.specs.Keys.{AreKept, pair_cmp};
-ghost use Rattle.star_catalogue.specs.Load.{first_repeat, keys_fault, same_pair};
+ghost use Rattle.star_catalogue.specs.Private.Keys.{AreKept, pair_cmp, same_pair};
+ghost use Rattle.star_catalogue.specs.Load.{first_repeat, keys_fault};
 
 use crate::fault::LoadFault;
 use indexmap::IndexSet;
@@ -26,7 +27,7 @@ fn distinct<K: Copy + Eq + Hash + Drop>(
     requires { length keys.now < 2 ^ 32 }
     ensures { MatchResult result
         (λ set. (set.keys ≡ keys.now) × IsDistinct K.eq keys.now)
-        (λ fault. (fault ≡ LoadFault.OutOfMemory) ⊎ (option_map (LoadFault.DuplicateKey table) (first_repeat K.eq keys.now) ≡ Some fault)) }
+        (λ fault. UnlessMemory LoadFault.OutOfMemory fault (option_map (LoadFault.DuplicateKey table) (first_repeat K.eq keys.now) ≡ Some fault)) }
 {
     let mut set = IndexSet::with_capacity(alloc, keys.len())?;
     for (place, key) in keys.iter().enumerate() {
@@ -42,7 +43,7 @@ fn distinct<K: Copy + Eq + Hash + Drop>(
 }
 
 /// Different numbers, at most 4,294,967,295 of them, each with its place from 0. A contract sees them as a list.
-#[derive(Debug, Drop)]
+#[derive(Drop)]
 pub struct KeyIndex {
     keys: IndexSet<i64>,
 }
@@ -65,7 +66,7 @@ impl KeyIndex {
         requires { length keys.now < 2 ^ 32 }
         ensures { MatchResult result
             (λ index. (index ≡ keys.now) × IsDistinct int_eq keys.now)
-            (λ fault. (fault ≡ LoadFault.OutOfMemory) ⊎ (option_map (LoadFault.DuplicateKey table) (first_repeat int_eq keys.now) ≡ Some fault)) }
+            (λ fault. UnlessMemory LoadFault.OutOfMemory fault (option_map (LoadFault.DuplicateKey table) (first_repeat int_eq keys.now) ≡ Some fault)) }
     {
         Ok(KeyIndex {
             keys: distinct(alloc, table, keys)?,
@@ -136,7 +137,7 @@ pub(crate) fn check_pairs(
     requires few { length firsts.now < 2 ^ 32 }
     ensures { MatchResult result
         (λ _. AllPairs (λ a b. a ≢ b) (zip firsts.now seconds.now))
-        (λ fault. (fault ≡ LoadFault.OutOfMemory) ⊎ (option_map (LoadFault.DuplicateKey table) (first_repeat same_pair (zip firsts.now seconds.now)) ≡ Some fault)) }
+        (λ fault. UnlessMemory LoadFault.OutOfMemory fault (option_map (LoadFault.DuplicateKey table) (first_repeat same_pair (zip firsts.now seconds.now)) ≡ Some fault)) }
 {
     if is_rising(firsts, seconds) {
         return Ok(());
@@ -147,7 +148,7 @@ pub(crate) fn check_pairs(
 }
 
 /// What is kept of the keys of a table, to find its rows by.
-#[derive(Debug, Drop)]
+#[derive(Drop)]
 pub enum Keys {
     /// Keys of one number, each with its row.
     Numbers(KeyIndex),
@@ -161,7 +162,7 @@ impl Keys {
         requires { length raw.now.rows < 2 ^ 32 }
         ensures { MatchResult result
             (λ keys. AreKept keys (keys_of raw.now.table raw.now.rows) × HasDistinctKeys raw.now.table raw.now.rows)
-            (λ fault. (fault ≡ LoadFault.OutOfMemory) ⊎ (keys_fault raw.now.table raw.now.rows ≡ Some fault)) }
+            (λ fault. UnlessMemory LoadFault.OutOfMemory fault (keys_fault raw.now.table raw.now.rows ≡ Some fault)) }
     {
         let table = raw.table();
         match key_of(table) {

@@ -9,8 +9,6 @@ mod references;
 mod sample_texts;
 mod table;
 mod tables;
-#[cfg(test)]
-mod tests;
 mod texts;
 
 pub use catalogue::Catalogue;

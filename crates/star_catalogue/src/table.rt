@@ -1,7 +1,8 @@
 // A table in memory.
 
-ghost use Rattle.std.specs.Prelude.{◌≡◌, ◌⊎◌, ◌↔◌, ◌<◌, ◌∷◌, [], ℕ, All, Some, MatchResult, length, slice_get};
+ghost use Rattle.std.specs.Prelude.{◌≡◌, ◌↔◌, ◌<◌, ◌∷◌, [], ℕ, All, Some, MatchResult, length, slice_get};
 ghost use Rattle.std.specs.Option.{option_map};
+ghost use Rattle.star_common.specs.Memory.{UnlessMemory};
 ghost use Rattle.star_schema.specs.Bounds.{numbers_of};
 ghost use Rattle.star_schema.specs.Loadable.{HasDistinctKeys, keys_of};
 ghost use Rattle.star_schema.specs.Schema.{kind_of, table_of};
@@ -20,7 +21,7 @@ use std::alloc::Global;
 use std::marker::Model;
 
 /// A table in memory, by columns, with an index of its keys. A contract sees which table it is, and the list of its rows.
-#[derive(Debug, Drop)]
+#[derive(Drop)]
 pub struct LoadedTable {
     table: TableId,
     rows: u32,
@@ -33,7 +34,7 @@ impl Model for LoadedTable {
 
     ghost Value = { Table };
 
-    ghost use Rattle.star_catalogue.specs.Kept.{table_kept, IsKept};
+    ghost use Rattle.star_catalogue.specs.Private.Kept.{table_kept, IsKept};
 
     ghost view = { table_kept };
 
@@ -44,7 +45,7 @@ impl Model for LoadedTable {
 fn read(alloc: Global, text: &[u8], table: TableId, limits: Limits) -> Result<RawTable, LoadFault>
     ensures { MatchResult result
         (λ raw. IsTable table limits.rows text.now × (raw.table ≡ table) × (raw.rows ≡ rows_of table text.now))
-        (λ fault. (fault ≡ LoadFault.OutOfMemory) ⊎ (option_map (LoadFault.Read table) (text_fault table limits.rows text.now) ≡ Some fault)) }
+        (λ fault. UnlessMemory LoadFault.OutOfMemory fault (option_map (LoadFault.Read table) (text_fault table limits.rows text.now) ≡ Some fault)) }
 {
     match read_table(alloc, text, table, limits) {
         Ok(raw) => Ok(raw),
@@ -57,7 +58,7 @@ fn read(alloc: Global, text: &[u8], table: TableId, limits: Limits) -> Result<Ra
 fn keep(alloc: Global, raw: RawTable) -> Result<LoadedTable, LoadFault>
     ensures { MatchResult result
         (λ loaded. (loaded ≡ raw) × HasDistinctKeys raw.table raw.rows)
-        (λ fault. (fault ≡ LoadFault.OutOfMemory) ⊎ (keys_fault raw.table raw.rows ≡ Some fault)) }
+        (λ fault. UnlessMemory LoadFault.OutOfMemory fault (keys_fault raw.table raw.rows ≡ Some fault)) }
 {
     let table = raw.table();
     let rows = raw.rows();
@@ -72,19 +73,21 @@ fn keep(alloc: Global, raw: RawTable) -> Result<LoadedTable, LoadFault>
 }
 
 impl LoadedTable {
-    /// The table that a text is, or its first fault: as a table, and then in its keys.
+    /// The table that a text is, or its first fault: as a table, and then in its keys. It is boxed, so that letting go of
+    /// it is one call.
     pub(crate) fn load(
         alloc: Global,
         text: &[u8],
         table: TableId,
         limits: Limits,
-    ) -> Result<LoadedTable, LoadFault>
+    ) -> Result<Box<LoadedTable>, LoadFault>
         ensures { MatchResult result
-            (λ loaded. IsTable table limits.rows text.now × (loaded.table ≡ table) × (loaded.rows ≡ rows_of table text.now) × HasDistinctKeys table (rows_of table text.now))
-            (λ fault. (fault ≡ LoadFault.OutOfMemory) ⊎ (table_fault table limits.rows text.now ≡ Some fault)) }
+            (λ loaded. IsTable table limits.rows text.now × (loaded.value.table ≡ table) × (loaded.value.rows ≡ rows_of table text.now) × HasDistinctKeys table (rows_of table text.now))
+            (λ fault. UnlessMemory LoadFault.OutOfMemory fault (table_fault table limits.rows text.now ≡ Some fault)) }
     {
         let raw = read(alloc, text, table, limits)?;
-        keep(alloc, raw)
+        let loaded = keep(alloc, raw)?;
+        Ok(Box::new(alloc, loaded)?)
     }
 
     /// Each row has a value for each column, of the column's kind.

@@ -1,6 +1,7 @@
 // Five tables in memory.
 
-ghost use Rattle.std.specs.Prelude.{◌≡◌, ◌⊎◌, ◌↔◌, ◌∷◌, [], ℕ, All, Some, MatchResult, length, slice_get};
+ghost use Rattle.std.specs.Prelude.{◌≡◌, ◌↔◌, ◌∷◌, [], ℕ, All, Some, MatchResult, length, slice_get};
+ghost use Rattle.star_common.specs.Memory.{UnlessMemory};
 ghost use Rattle.star_schema.specs.Bounds.{numbers_of};
 ghost use Rattle.star_schema.specs.Database.{AreTables, rows_in};
 ghost use Rattle.star_schema.specs.Loadable.{HasDistinctKeys, database_of, keys_of};
@@ -19,7 +20,7 @@ use std::alloc::Global;
 use std::marker::Model;
 
 /// Five tables in memory, whose foreign keys may refer to nothing. A contract sees the rows of each.
-#[derive(Debug, Drop)]
+#[derive(Drop)]
 pub struct Tables {
     date: LoadedTable,
     customer: LoadedTable,
@@ -33,7 +34,7 @@ impl Model for Tables {
 
     ghost Value = { Database };
 
-    ghost use Rattle.star_catalogue.specs.FiveTables.{database_kept, AreInPlace};
+    ghost use Rattle.star_catalogue.specs.Private.FiveTables.{database_kept, AreInPlace};
 
     ghost view = { database_kept };
 
@@ -51,7 +52,7 @@ impl Tables {
             (λ tables. AreTables limits.rows (text_of texts.now)
             × (tables ≡ database_of (text_of texts.now))
             × ((table : TableId) → HasDistinctKeys table (rows_of table (text_of texts.now table))))
-            (λ fault. (fault ≡ LoadFault.OutOfMemory) ⊎ (tables_fault limits.rows (text_of texts.now) ≡ Some fault)) }
+            (λ fault. UnlessMemory LoadFault.OutOfMemory fault (tables_fault limits.rows (text_of texts.now) ≡ Some fault)) }
     {
         let date = LoadedTable::load(alloc, texts.date, TableId::Date, limits)?;
         let customer = LoadedTable::load(alloc, texts.customer, TableId::Customer, limits)?;
@@ -59,11 +60,11 @@ impl Tables {
         let part = LoadedTable::load(alloc, texts.part, TableId::Part, limits)?;
         let lineorder = LoadedTable::load(alloc, texts.lineorder, TableId::Lineorder, limits)?;
         Ok(Tables {
-            date,
-            customer,
-            supplier,
-            part,
-            lineorder,
+            date: Box::into_inner(date),
+            customer: Box::into_inner(customer),
+            supplier: Box::into_inner(supplier),
+            part: Box::into_inner(part),
+            lineorder: Box::into_inner(lineorder),
         })
     }
 

@@ -1,7 +1,7 @@
 // The texts of five table files.
 
 /// The texts of the five table files, in the order of the tables.
-#[derive(Clone, Copy, Debug)]
+#[derive(Clone, Copy)]
 pub struct Texts<'a> {
     pub date: &'a [u8],
     pub customer: &'a [u8],

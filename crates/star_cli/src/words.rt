@@ -6,7 +6,7 @@ use star_schema::{Limits, MOST_ROWS, MOST_VISITS};
 use std::alloc::{AllocError, Global};
 
 /// What the program is to do.
-#[derive(Clone, Copy, Debug)]
+#[derive(Clone, Copy)]
 pub(crate) enum Task<'a> {
     /// List the tables of the sample.
     CheckSample,

@@ -7,7 +7,7 @@ use Rattle.std.proofs.lemmas.Bool.{cases_eq}
 use Rattle.std.proofs.lemmas.Cmp.{nat_list_cmp_total, alike_right}
 use Rattle.std.proofs.lemmas.Map.Keys.{Less-from_sorted}
 use Rattle.star_column.specs.Dictionary.{text_cmp}
-use Rattle.star_column.specs.Edge.{is_after}
+use Rattle.star_column.specs.Private.Edge.{is_after}
 use Rattle.star_column.specs.declared.dictionary.Edge.{Edge}
 use Rattle.star_column.specs.declared.dictionary.Edge.TheVariants.{Low, High}
 

@@ -6,8 +6,8 @@ use Rattle.std.proofs.lemmas.List.Elements.{All-push, All-get_or, All-map, All-w
 use Rattle.std.proofs.lemmas.Simd.{map-map}
 use Rattle.std.proofs.lemmas.Option.{get_or_from_slice_get, slice_get-get_or, slice_get-map, slice_get_within}
 use Rattle.std.specs.Option.{option_map}
-use Rattle.star_column.specs.Codes.{texts_at, AreCodes, AreNumbers, LeadBack}
-use Rattle.star_column.specs.Order.{IsOrderOf}
+use Rattle.star_column.specs.Private.Codes.{texts_at, AreCodes, AreNumbers, LeadBack}
+use Rattle.star_column.specs.Private.Order.{IsOrderOf}
 use Rattle.star_column.specs.declared.distinct.Numbered.{Numbered}
 use Rattle.star_column.specs.Dictionary.{dictionary_of}
 use Rattle.star_column.proofs.Dictionaries.{IsDictionary-dictionary_of, one_dictionary}
@@ -121,3 +121,24 @@ coded_column ds ordered lent listed made ts ns places values codes numbered few 
     let is : made ≡ map (λ (e : Numbered). e.text.now) ordered = built ∙ ap (map (λ (e : Numbered). e.text.now)) same in
     let leads = subst (λ xs. LeadBack places (map (λ (e : Numbered). e.number) xs)) also lead in
     rw (is, coded_by, read) (are_codes ds ordered order places leads ns ts numbered few, coded ds ordered order places leads ns ts numbered)
+
+-- ---- the code of a row
+pub length-texts_at : (dictionary : List (List ℕ)) (codes : List ℕ) → length (texts_at dictionary codes) ≡ length codes
+length-texts_at dictionary codes = length-map codes (λ place. get_or dictionary place [])
+
+-- the code of a row is a place in the dictionary
+pub code_within : (dictionary : List (List ℕ)) (codes : List ℕ) (row code : ℕ) → AreCodes dictionary codes → slice_get codes row ≡ Some code → code < length (dictionary_of (texts_at dictionary codes))
+code_within dictionary codes row code h there =
+    let inside : row < length codes = slice_get_within codes row code there in
+    let within : code < length dictionary = rw (get_or_from_slice_get codes row code 0 there) at (h.within row 0 inside) in
+    rw (← h.dictionary_is) within
+
+-- and there stands the row's text
+pub code_stands : (dictionary : List (List ℕ)) (codes : List ℕ) (row code : ℕ) → AreCodes dictionary codes → slice_get codes row ≡ Some code
+    → slice_get (dictionary_of (texts_at dictionary codes)) code ≡ slice_get (texts_at dictionary codes) row
+code_stands dictionary codes row code h there =
+    let inside : row < length codes = slice_get_within codes row code there in
+    let within : code < length dictionary = rw (get_or_from_slice_get codes row code 0 there) at (h.within row 0 inside) in
+    let text : slice_get (texts_at dictionary codes) row ≡ Some (get_or dictionary code []) =
+    slice_get-map (λ place. get_or dictionary place []) codes row ∙ ap (option_map (λ place. get_or dictionary place [])) there in
+    rw (← h.dictionary_is) (slice_get-get_or dictionary code [] within ∙ sym text)

@@ -18,7 +18,7 @@ use Rattle.std.proofs.lemmas.Simd.{map-map}
 use Rattle.star_column.specs.declared.distinct.Numbered.{Numbered}
 use Rattle.star_column.proofs.Enumerated.{nothing}
 use Rattle.star_column.specs.Dictionary.{text_cmp}
-use Rattle.star_column.specs.Order.{IsOrderOf}
+use Rattle.star_column.specs.Private.Order.{IsOrderOf}
 
 abbrev text_of : Numbered → Bor (List ℕ)
 text_of e = e.text

@@ -1,5 +1,2 @@
-pub mod Bounds
-pub mod Codes
 pub mod Dictionary
-pub mod Edge
-pub mod Order
+pub mod Private

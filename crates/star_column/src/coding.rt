@@ -2,7 +2,7 @@
 // each number is replaced by the place of its text in the dictionary.
 
 ghost use Rattle.std.specs.Prelude.{◌≡◌, ◌+◌, ◌<◌, ◌≤◌, ◌^◌, ◌++◌, ◌∷◌, [], All, IfOk, OnOk, length, map, slice_index, take};
-ghost use Rattle.star_column.specs.Codes.{AreNumbers, LeadBack};
+ghost use Rattle.star_column.specs.Private.Codes.{AreNumbers, LeadBack};
 
 use crate::distinct::{Distinct, Numbered};
 use star_flat::FlatTexts;

@@ -3,7 +3,7 @@
 ghost use Rattle.std.specs.Prelude.{◌≡◌, ◌<◌, ◌^◌, Some, IfOk, count_by, length, map, slice_get};
 ghost use Rattle.std.specs.List.Sorted.{IsStrictlySortedBy};
 ghost use Rattle.star_column.specs.Dictionary.{text_cmp, low_in, high_in};
-ghost use Rattle.star_column.specs.Edge.{is_after};
+ghost use Rattle.star_column.specs.Private.Edge.{is_after};
 
 use crate::distinct::Numbered;
 use star_flat::FlatTexts;
@@ -13,7 +13,7 @@ use std::convert::AsSlice;
 use std::marker::Model;
 
 /// Texts in the order of their bytes, each once.
-#[derive(Debug, Drop)]
+#[derive(Drop)]
 pub(crate) struct Dictionary {
     texts: FlatTexts,
 }

@@ -2,7 +2,7 @@
 
 ghost use Rattle.std.specs.Prelude.{◌≡◌, ◌⊎◌, ◌<◌, ◌^◌, ◌++◌, ◌∷◌, [], Some, IfOk, OnOk, length, map, slice_get};
 ghost use Rattle.std.specs.List.{range_with_len};
-ghost use Rattle.star_column.specs.Order.{IsOrderOf};
+ghost use Rattle.star_column.specs.Private.Order.{IsOrderOf};
 
 use indexmap::IndexSet;
 use std::alloc::{AllocError, Global};
@@ -10,7 +10,7 @@ use std::convert::AsSlice;
 use std::marker::Model;
 
 /// A text, and its number among different texts.
-#[derive(Clone, Copy, Debug, PartialEq, Eq, PartialOrd, Ord)]
+#[derive(Clone, Copy, PartialEq, Eq, PartialOrd, Ord)]
 pub(crate) struct Numbered<'t> {
     pub(crate) text: &'t [u8],
     pub(crate) number: u32,

@@ -7,8 +7,6 @@ mod dictionary;
 mod distinct;
 pub mod law;
 mod number;
-#[cfg(test)]
-mod tests;
 mod text;
 
 pub use column::ColumnData;

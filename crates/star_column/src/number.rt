@@ -1,7 +1,7 @@
 // Columns of numbers.
 
 ghost use Rattle.std.specs.Prelude.{◌≡◌, ◌<◌, ◌^◌, ◌≤ℤ◌, [], All, Contains, IfSome, IsOkAnd, MatchOption, vec_len};
-ghost use Rattle.star_column.specs.Bounds.{AreBounds};
+ghost use Rattle.star_column.specs.Private.Bounds.{AreBounds};
 
 use crate::column::ColumnData;
 use star_interval::Interval;
@@ -9,7 +9,7 @@ use std::alloc::AllocError;
 use std::marker::Model;
 
 /// A column of numbers, which a contract sees as the list of them in the order of the rows.
-#[derive(Debug, Drop)]
+#[derive(Drop)]
 pub struct NumberColumn {
     numbers: Vec<i64>,
     bounds: Interval,
@@ -17,7 +17,7 @@ pub struct NumberColumn {
 
 impl Model for NumberColumn {
     ghost use Rattle.std.specs.Prelude.{◌<◌, ◌^◌, ℤ, List, length};
-    ghost use Rattle.star_column.specs.Bounds.{AreBounds};
+    ghost use Rattle.star_column.specs.Private.Bounds.{AreBounds};
 
     ghost Value = { List ℤ };
 

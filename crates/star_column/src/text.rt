@@ -15,7 +15,7 @@ use std::marker::Model;
 ///
 /// It keeps each text once, in a dictionary in the order of bytes, and for each row a code, the place of its text there.
 /// Rows, places and codes count from 0.
-#[derive(Debug, Drop)]
+#[derive(Drop)]
 pub struct TextColumn {
     codes: Vec<u32>,
     dictionary: Dictionary,
@@ -23,7 +23,7 @@ pub struct TextColumn {
 
 impl Model for TextColumn {
     ghost use Rattle.std.specs.Prelude.{ℕ, List};
-    ghost use Rattle.star_column.specs.Codes.{texts_at, AreCodes};
+    ghost use Rattle.star_column.specs.Private.Codes.{texts_at, AreCodes};
 
     ghost Value = { List (List ℕ) };
 
@@ -38,7 +38,8 @@ impl TextColumn {
         requires { length texts.now < 2 ^ 32 }
         ensures { IfOk result (λ column. column ≡ map (λ text. text.items) texts.now) }
     {
-        TextColumn::from_flat(alloc, flatten(alloc, texts)?)
+        let flat = flatten(alloc, texts)?;
+        TextColumn::encode(alloc, &flat)
     }
 
     /// The column of these texts, of which there are at most 4,294,967,295. They are let go.
@@ -48,7 +49,15 @@ impl TextColumn {
         requires { length texts < 2 ^ 32 }
         ensures { IfOk result (λ column. column ≡ texts) }
     {
-        let (distinct, numbers) = number_each(alloc, &texts)?;
+        TextColumn::encode(alloc, &texts)
+    }
+
+    // The column of these texts, which stay with the caller.
+    fn encode(alloc: Global, texts: &FlatTexts) -> Result<TextColumn, AllocError>
+        requires { length texts.now < 2 ^ 32 }
+        ensures { IfOk result (λ column. column ≡ texts.now) }
+    {
+        let (distinct, numbers) = number_each(alloc, texts)?;
         let ordered = distinct.into_ordered(alloc)?;
         let dictionary = Dictionary::build(alloc, ordered.as_slice())?;
         let places = places_of(alloc, ordered.as_slice())?;

@@ -1,28 +1,48 @@
 -- What a trial over loaded tables answers.
-use Rattle.std.proofs.Common.{◌≡◌, ◌<◌, ◌++◌, ℕ, List, arith, codes, length}
+use Rattle.std.proofs.Common.{◌≡◌, ◌<◌, ◌++◌, ℕ, List, arith, codes, length, subst}
+use Rattle.std.specs.Prelude.{Result, Ok, Err, MatchResult}
 use Rattle.std.specs.List.{flat_map, join_with_byte}
 use Rattle.std.proofs.lemmas.List.{length-append}
 use Rattle.star_schema.specs.declared.table.TableId.{TableId}
 use Rattle.star_schema.specs.Database.{Database}
 use Rattle.star_schema.specs.Loadable.{IsLoadable, database_of}
 use Rattle.star_program.specs.declared.outcome.Cell.{Cell}
+use Rattle.star_program.specs.declared.outcome.Outcome.{Outcome}
 use Rattle.star_program.specs.declared.program.Parts.{Parts}
-use Rattle.star_program.specs.Run.{bounded_run_of}
+use Rattle.star_program.specs.Run.{End, bounded_run_of}
 use Rattle.star_report.specs.Report.{line_text, report_text, row_text}
 use Rattle.star_machine.specs.declared.fault.TrialFault.{TrialFault}
-use Rattle.star_machine.specs.declared.fault.TrialFault.TheVariants.{OutOfMemory, Trap, Limit}
-use Rattle.star_machine.specs.Trials.{IsFaultOf}
+use Rattle.star_machine.specs.declared.fault.TrialFault.TheVariants as trial
+use Rattle.star_machine.specs.Trials.{IsFaultOf, Yields}
 use Rattle.star_machine.specs.WorldOf.{world_of}
+use Rattle.star_engine.specs.declared.fault.EngineFault.{EngineFault}
+use Rattle.star_engine.specs.declared.fault.EngineFault.TheVariants.{OutOfMemory, Trial}
 use Rattle.star_engine.specs.Faults.{fault_of_trial}
-use Rattle.star_engine.specs.Trials.{IsNoOutcome}
+use Rattle.star_engine.specs.Private.Steps.{IsNoEnd, IsNoOutcome}
 
 -- a run that doesn't come to its end gives no outcome
-pub no_outcome : (most : ℕ) (texts : TableId → List ℕ) (program : Parts) (visits : ℕ) (database : Database) (fault : TrialFault)
-    → database ≡ database_of texts → IsLoadable most texts → IsFaultOf (bounded_run_of (world_of database) visits program) fault
-    → IsNoOutcome most texts program visits (fault_of_trial fault)
+pub no_end : (end : End) (fault : TrialFault) → IsFaultOf end fault → IsNoEnd end (fault_of_trial fault)
+no_end end trial.OutOfMemory stopped = tt
+no_end end (trial.Trap at kind) stopped = stopped
+no_end end trial.Limit stopped = stopped
+
+no_outcome : (most : ℕ) (texts : TableId → List ℕ) (program : Parts) (visits : ℕ) (database : Database) (fault : EngineFault)
+    → database ≡ database_of texts → IsLoadable most texts → IsNoEnd (bounded_run_of (world_of database) visits program) fault
+    → IsNoOutcome most texts program visits fault
 no_outcome most texts program visits database OutOfMemory same loadable stopped = tt
-no_outcome most texts program visits database (Trap at kind) same loadable stopped = (loadable, rw same at stopped)
-no_outcome most texts program visits database Limit same loadable stopped = (loadable, rw same at stopped)
+no_outcome most texts program visits database (Trial fault) same loadable stopped = (loadable, rw same at stopped)
+no_outcome most texts program visits database _ same loadable stopped = absurd stopped
+
+-- over the tables of five texts a program gives what it gives over the rows of these texts
+pub whole_outcome : (most : ℕ) (texts : TableId → List ℕ) (program : Parts) (visits : ℕ) (database : Database) (result : Result Outcome EngineFault)
+    → database ≡ database_of texts → IsLoadable most texts
+    → MatchResult result (Yields (world_of database) program (bounded_run_of (world_of database) visits program)) (IsNoEnd (bounded_run_of (world_of database) visits program))
+    → MatchResult result
+    (λ outcome. IsLoadable most texts × Yields (world_of (database_of texts)) program (bounded_run_of (world_of (database_of texts)) visits program) outcome)
+    (IsNoOutcome most texts program visits)
+whole_outcome most texts program visits database (Ok outcome) same loadable yields =
+    (loadable, subst (λ d. Yields (world_of d) program (bounded_run_of (world_of d) visits program) outcome) same yields)
+whole_outcome most texts program visits database (Err fault) same loadable none = no_outcome most texts program visits database fault same loadable none
 
 -- a report has a byte
 pub report_some : (names : List (List ℕ)) (rows : List (List Cell)) → 0 < length (report_text names rows)

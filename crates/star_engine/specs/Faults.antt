@@ -1,8 +1,4 @@
 -- The faults of the steps of an answer.
-use Rattle.std.specs.Prelude.{◌≡◌, ℕ, List, Some}
-use Rattle.star_schema.specs.declared.table.TableId.{TableId}
-use Rattle.star_schema.specs.Loadable.{IsLoadable}
-use Rattle.star_catalogue.specs.Load.{load_fault}
 use Rattle.star_catalogue.specs.declared.fault.LoadFault.{LoadFault}
 use Rattle.star_catalogue.specs.declared.fault.LoadFault.TheVariants as load
 use Rattle.star_machine.specs.declared.fault.TrialFault.{TrialFault}
@@ -23,8 +19,3 @@ fault_of_text fault = Program fault
 abbrev pub fault_of_trial : TrialFault → EngineFault
 fault_of_trial trial.OutOfMemory = OutOfMemory
 fault_of_trial fault = Trial fault
-
--- the first fault of five texts that are not loadable; memory may have been refused before
-abbrev pub IsLoadFault : ℕ → (TableId → List ℕ) → LoadFault → Type 0
-IsLoadFault most texts load.OutOfMemory = Unit {0}
-IsLoadFault most texts fault = (load_fault most texts ≡ Some fault) × ¬ IsLoadable most texts

@@ -1,3 +1,4 @@
 pub mod Listing
 pub mod Faults
 pub mod Trials
+pub mod Private

@@ -6,7 +6,7 @@ ghost use Rattle.star_schema.specs.Loadable.{IsLoadable, database_of};
 ghost use Rattle.star_catalogue.specs.Load.{load_fault, text_of};
 ghost use Rattle.star_catalogue.specs.declared.fault.LoadFault.{LoadFault};
 ghost use Rattle.star_machine.specs.declared.fault.TrialFault.{TrialFault};
-ghost use Rattle.star_program.specs.Places.{text_fault};
+ghost use Rattle.star_program.specs.Text.Places.{text_fault};
 ghost use Rattle.star_program.specs.declared.spelling.fault.TextFault.{TextFault};
 ghost use Rattle.star_engine.specs.Listing.{check_text};
 ghost use Rattle.star_engine.specs.Trials.{IsProgram, IsReport, IsStopped};

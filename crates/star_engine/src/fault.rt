@@ -1,6 +1,7 @@
 // Why an answer was not given.
 
 ghost use Rattle.std.specs.Prelude.{◌≡◌};
+ghost use Rattle.star_common.specs.Memory.{TellsMemory};
 ghost use Rattle.star_engine.specs.declared.fault.EngineFault.TheVariants.{OutOfMemory, Write};
 
 use star_catalogue::LoadFault;
@@ -31,7 +32,7 @@ pub enum EngineFault {
 }
 
 impl From<AllocError> for EngineFault {
-    ghost from_gives = { λ _ fault. fault ≡ OutOfMemory };
+    ghost from_gives = { TellsMemory OutOfMemory };
 
     fn from(_error: AllocError) -> EngineFault {
         EngineFault::OutOfMemory

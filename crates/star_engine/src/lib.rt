@@ -5,8 +5,6 @@ mod answers;
 mod fault;
 mod listing;
 mod reports;
-#[cfg(test)]
-mod tests;
 
 pub use answers::{check, trial_program};
 pub use fault::EngineFault;

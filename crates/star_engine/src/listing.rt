@@ -1,12 +1,12 @@
 // The text that lists the loaded tables.
 
-ghost use Rattle.std.specs.Prelude.{◌≡◌, ◌++◌, IfOk, MatchResult, OnOk, string_bytes};
+ghost use Rattle.std.specs.Prelude.{◌≡◌, ◌++◌, MatchResult, OnOk, string_bytes};
 ghost use Rattle.std.specs.List.{flat_map};
 ghost use Rattle.star_schema.specs.Database.{rows_in};
 ghost use Rattle.star_schema.specs.Loadable.{IsLoadable};
 ghost use Rattle.star_schema.specs.Schema.{columns_of, kind_of, table_of};
 ghost use Rattle.star_catalogue.specs.Load.{text_of};
-ghost use Rattle.star_engine.specs.Faults.{IsLoadFault};
+ghost use Rattle.star_engine.specs.Private.Steps.{IsLoadFault};
 ghost use Rattle.star_engine.specs.Listing.{check_text, column_text, listing_of, table_text};
 
 use star_catalogue::{Catalogue, LoadFault, Texts};
@@ -49,8 +49,8 @@ fn push_table(text: &mut String, catalogue: &Catalogue, table: TableId) -> Resul
 }
 
 // How many rows each table has, and the bounds of its columns of numbers, a line each.
-fn list_tables(alloc: Global, catalogue: &Catalogue) -> Result<String, AllocError>
-    ensures { IfOk result (λ text. string_bytes text ≡ listing_of (rows_in catalogue.now)) }
+fn list_tables(alloc: Global, catalogue: &Catalogue) -> Result<String, LoadFault>
+    ensures { MatchResult result (λ text. string_bytes text ≡ listing_of (rows_in catalogue.now)) (λ fault. fault ≡ LoadFault.OutOfMemory) }
 {
     let mut text = String::new(alloc);
     for table in &TABLES {
@@ -66,6 +66,5 @@ pub(crate) fn listing(alloc: Global, texts: &Texts<'_>, limits: Limits) -> Resul
         (IsLoadFault limits.rows (text_of texts.now)) }
 {
     let catalogue = Catalogue::load(alloc, texts, limits)?;
-    let text = list_tables(alloc, &catalogue)?;
-    Ok(text)
+    list_tables(alloc, &catalogue)
 }

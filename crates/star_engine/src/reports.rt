@@ -6,7 +6,8 @@ ghost use Rattle.star_catalogue.specs.Load.{text_of};
 ghost use Rattle.star_machine.specs.Trials.{Yields};
 ghost use Rattle.star_machine.specs.WorldOf.{world_of};
 ghost use Rattle.star_program.specs.Run.{bounded_run_of};
-ghost use Rattle.star_engine.specs.Trials.{IsNoOutcome, IsNoReport, IsReport};
+ghost use Rattle.star_engine.specs.Private.Steps.{IsNoEnd, IsNoOutcome, IsNoReport};
+ghost use Rattle.star_engine.specs.Trials.{IsReport};
 
 use crate::fault::EngineFault;
 use star_catalogue::{Catalogue, Texts};
@@ -15,6 +16,21 @@ use star_program::Program;
 use star_report::report_text;
 use star_schema::Limits;
 use std::alloc::Global;
+
+// What a program gives over loaded tables.
+fn outcome_over(
+    alloc: Global,
+    catalogue: &Catalogue,
+    program: &Program,
+    visits: u64,
+) -> Result<Outcome, EngineFault>
+    requires { visits ≤ 10 ^ 15 }
+    ensures { MatchResult result
+        (Yields (world_of catalogue.now) program.now (bounded_run_of (world_of catalogue.now) visits program.now))
+        (IsNoEnd (bounded_run_of (world_of catalogue.now) visits program.now)) }
+{
+    Ok(trial(alloc, catalogue, program, visits)?)
+}
 
 // What a program gives over the tables of five texts.
 fn outcome_of(
@@ -30,8 +46,7 @@ fn outcome_of(
         (IsNoOutcome limits.rows (text_of texts.now) program.now visits) }
 {
     let catalogue = Catalogue::load(alloc, texts, limits)?;
-    let outcome = trial(alloc, &catalogue, program, visits)?;
-    Ok(outcome)
+    outcome_over(alloc, &catalogue, program, visits)
 }
 
 // The report of the program that a file holds, over the tables of five texts.

@@ -3,7 +3,7 @@ use Rattle.std.proofs.Common.{◌≡◌, ℕ, zero, suc, ◌+◌, ◌-◌, ◌<�
 use Rattle.std.proofs.Math.Seq.{drop-append_seam, take-length}
 use Rattle.std.proofs.lemmas.List.{take-append-le, drop-append-le}
 use Rattle.std.proofs.lemmas.Grind.{common_steps}
-use Rattle.star_flat.specs.Cut.{texts_from, IsCut, start_of}
+use Rattle.star_flat.specs.Private.Cut.{texts_from, IsCut, start_of}
 
 pub length-texts_from : (s : ℕ) (b es : List ℕ) → length (texts_from s b es) ≡ length es
 unfolding texts_from

@@ -1,8 +1,6 @@
 //! Lists of texts in flat storage: one buffer for the bytes of all texts, and one for where each ends.
 #![tactic(auto)]
 
-#[cfg(test)]
-mod tests;
 mod texts;
 
 pub use texts::FlatTexts;

@@ -1,13 +1,13 @@
 // A list of texts, one after another in one buffer.
 
 ghost use Rattle.std.specs.Prelude.{◌≡◌, ◌<◌, ◌++◌, ◌∷◌, ◌↔◌, [], IsTrue, Some, length, slice_get, OnOk, OnErr};
-ghost use Rattle.star_flat.specs.Cut.{texts_from, start_of, IsCut};
+ghost use Rattle.star_flat.specs.Private.Cut.{texts_from, start_of, IsCut};
 
 use std::alloc::{AllocError, Global};
 use std::marker::Model;
 
 /// A list of texts, which a contract sees as the list of their bytes. No text has an allocation of its own.
-#[derive(Debug, Drop)]
+#[derive(Drop)]
 pub struct FlatTexts {
     bytes: Vec<u8>,
     ends: Vec<usize>,
@@ -15,7 +15,7 @@ pub struct FlatTexts {
 
 impl Model for FlatTexts {
     ghost use Rattle.std.specs.Prelude.{List, ℕ, length};
-    ghost use Rattle.star_flat.specs.Cut.{texts_from, IsCut};
+    ghost use Rattle.star_flat.specs.Private.Cut.{texts_from, IsCut};
 
     ghost Value = { List (List ℕ) };
 

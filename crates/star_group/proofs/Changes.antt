@@ -6,7 +6,7 @@ use Rattle.std.proofs.lemmas.List.Folds.{list_any_more, list_any_at}
 use Rattle.std.proofs.lemmas.Map.Keys.{apart_from_distinct, IsDistinct-tail}
 use Rattle.std.proofs.lemmas.Map.Steps.{list_any_congr}
 use Rattle.star_schema.specs.declared.group.Aggregate.{Aggregate}
-use Rattle.star_group.specs.Rows.{NextRow, RowStays, StaysIn, IsChanged, AllStay, ChangesAll}
+use Rattle.star_group.specs.Private.Rows.{NextRow, RowStays, StaysIn, IsChanged, AllStay, ChangesAll}
 use Rattle.star_group.proofs.Lookups.{among_more}
 
 pub stays_in : (gs : List Aggregate) (vs : List ℤ) (found : Option (List (Option ℤ))) → ((row : List (Option ℤ)) → found ≡ Some row → RowStays gs vs row) → StaysIn found gs vs

@@ -7,15 +7,15 @@ use Rattle.star_schema.specs.Groups.{aggregate, members, numbers_for}
 use Rattle.star_program.specs.declared.key.KeyValue.{KeyValue}
 use Rattle.star_program.specs.Keys.{value_cmp}
 use Rattle.star_program.specs.Puts.{own_groups, some_leaves, leaves as leaves_total}
-use Rattle.star_group.specs.Cells.{held, leaves}
+use Rattle.star_group.specs.Cells.{held}
 use Rattle.star_group.specs.OwnKeys.{key_eq, padded, own_keys}
-use Rattle.star_group.specs.Rows.{blank, PutsRows, SomeLeaves, with_blanks}
+use Rattle.star_group.specs.Private.Rows.{leaves, blank, PutsRows, SomeLeaves, with_blanks}
 use Rattle.star_group.specs.Stores.{Put, Group, aggregate_at, overflows}
-use Rattle.star_group.specs.Held.{IsOwn, changes, held_at, IsRow, Holds}
+use Rattle.star_group.specs.Held.{changes, held_at, IsRow, Holds}
 use Rattle.star_group.proofs.OnePut.{PutStays, PutLeaves}
 use Rattle.star_group.proofs.OwnKeyLemmas.{all_padded}
 use Rattle.star_group.proofs.PutSteps.{or_right, holds_more, stays_more, leaves_more, blank_none}
-use Rattle.star_group.proofs.GroupKeys.{key_equiv, in_places, own_mask, own_belongs, members_at, changes_belongs, own_at}
+use Rattle.star_group.proofs.GroupKeys.{IsOwn, key_equiv, in_places, own_mask, own_belongs, members_at, changes_belongs, own_at}
 use Rattle.star_group.proofs.OwnGroups.{any_false, all_more, groups_own, own_any}
 use Rattle.star_group.proofs.Totals.{some_aggregate}
 

@@ -15,12 +15,12 @@ use Rattle.star_schema.specs.declared.group.Shape.TheVariants.{Plain, Cube}
 use Rattle.star_schema.specs.Groups.{aggregate, HasEmptySubset, IsGroup, GroupRow as Shown, members, numbers_for, totals_from, totals_of}
 use Rattle.star_program.specs.declared.key.KeyValue.{KeyValue}
 use Rattle.star_group.specs.declared.group_row.GroupRow.{GroupRow}
-use Rattle.star_group.specs.Cells.{held, shown}
+use Rattle.star_group.specs.Cells.{held}
 use Rattle.star_program.specs.Keys.{value_cmp}
 use Rattle.star_group.specs.OwnKeys.{key_eq, padded}
 use Rattle.star_group.specs.Stores.{Put, Group}
 use Rattle.star_group.specs.Held.{changes, puts_at, has_puts, IsRow, IsFound, Holds}
-use Rattle.star_group.specs.Given.{is_given, shown_from, row_given, rows_given}
+use Rattle.star_group.specs.Private.Given.{shown, is_given, shown_from, row_given, rows_given}
 use Rattle.star_group.specs.Shown.{row_shown, AreRows}
 use Rattle.star_group.proofs.OwnKeyLemmas.{all_padded}
 use Rattle.star_group.proofs.Totals.{shown_held}

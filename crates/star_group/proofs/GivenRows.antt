@@ -6,8 +6,7 @@ use Rattle.star_schema.specs.declared.group.Aggregate.TheVariants.{Count}
 use Rattle.star_schema.specs.declared.group.Shape.{Shape}
 use Rattle.star_program.specs.declared.key.KeyValue.{KeyValue}
 use Rattle.star_group.specs.declared.group_row.GroupRow.{GroupRow}
-use Rattle.star_group.specs.Cells.{shown}
-use Rattle.star_group.specs.Given.{is_given, shown_from, row_given, rows_given, ShownBelow}
+use Rattle.star_group.specs.Private.Given.{shown, is_given, shown_from, row_given, rows_given, ShownBelow}
 
 shown_list : (gs : List Aggregate) (p : ℕ) (row r : List (Option ℤ)) → length gs ≤ length r → ((a : ℕ) → a < length gs → get_or r a None ≡ shown (get_or gs a Count) (get_or row (p + a) None)) → take (length gs) r ≡ shown_from gs p row
 shown_list [] p row r h each = refl

@@ -17,7 +17,11 @@ use Rattle.star_program.specs.contracts.key.KeyValueEq.TheImpl.Laws.{laws-law}
 use Rattle.star_program.specs.Keys.{value_cmp, value_eq}
 use Rattle.star_group.specs.OwnKeys.{key_eq, padded, vary, own_keys}
 use Rattle.star_group.specs.Stores.{Put, Group}
-use Rattle.star_group.specs.Held.{IsOwn, changes, puts_at}
+use Rattle.star_group.specs.Held.{changes, puts_at}
+
+-- the keys of a group of the put, or ALL in each place, which is the group of all puts
+abbrev pub IsOwn : Group → List (Option KeyValue) → Put → Type 0
+IsOwn d keys put = IsMasked d.shape keys put.keys ⊎ (keys ≡ replicate d.count None)
 
 -- a key list in so many places
 unfoldable pub in_places : ℕ → List (Option KeyValue) → List (Option KeyValue)

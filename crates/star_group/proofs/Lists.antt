@@ -1,6 +1,6 @@
 -- Lists.
 use Rattle.std.proofs.Common.{◌≡◌, List, refl, Bool, true, false, ◌||◌, Option, Some, None}
-use Rattle.star_group.specs.Rows.{with_blank}
+use Rattle.star_group.specs.Private.Rows.{with_blank}
 use Rattle.std.proofs.Common.{ℤ}
 
 pub with_blank-again : (a b : Bool) (o : Option (List (Option ℤ))) → with_blank b (with_blank a o) ≡ with_blank (a || b) o

@@ -5,7 +5,7 @@ use Rattle.std.specs.Map.{lookup}
 use Rattle.std.specs.List.{list_any}
 use Rattle.std.proofs.lemmas.List.Folds.{list_any_more}
 use Rattle.star_schema.specs.declared.group.Aggregate.{Aggregate}
-use Rattle.star_group.specs.Rows.{NextRow, RowStays, RowLeaves}
+use Rattle.star_group.specs.Private.Rows.{NextRow, RowStays, RowLeaves}
 
 pub lookup_same : {K X : Type 0} {eq : K → K → Bool} → IsEquivalence eq → (a b : K) (es : List (K × X)) → eq a b ≡ true → lookup (eq a) es ≡ lookup (eq b) es
 lookup_same laws a b es e = ap (λ t. lookup t es) (λ i z. laws.congr a b z e i)

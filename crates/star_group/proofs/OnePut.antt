@@ -1,7 +1,7 @@
 -- Whether one more put leaves 64 bits, by the rows that it changes.
 use Rattle.std.specs.Prelude.{◌≡◌, ℕ, ◌<◌, true, false, ℤ, List, ◌∷◌, Option, Some, length}
 use Rattle.star_program.specs.declared.key.KeyValue.{KeyValue}
-use Rattle.star_group.specs.Cells.{leaves}
+use Rattle.star_group.specs.Private.Rows.{leaves}
 use Rattle.star_group.specs.Stores.{Put, Group, aggregate_at}
 use Rattle.star_group.specs.Held.{changes, held_at}
 

@@ -8,9 +8,8 @@ use Rattle.star_schema.specs.Groups.{IsMasked}
 use Rattle.star_program.specs.declared.key.KeyValue.{KeyValue}
 use Rattle.star_program.specs.Puts.{masks, own_groups}
 use Rattle.star_group.specs.Stores.{Put, Group}
-use Rattle.star_group.specs.Held.{IsOwn}
 use Rattle.star_group.proofs.PutSteps.{or_right}
-use Rattle.star_group.proofs.GroupKeys.{masked_all, masked_itself}
+use Rattle.star_group.proofs.GroupKeys.{IsOwn, masked_all, masked_itself}
 
 module _ {A : Type 0} where
   pub any_false : (p : A → Bool) (xs : List A) → AllByRecursion (λ x. p x ≡ false) xs → list_any p xs ≡ false

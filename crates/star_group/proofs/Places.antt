@@ -10,7 +10,7 @@ use Rattle.std.proofs.lemmas.Option.{slice_get-map, slice_get-get_or, slice_get_
 use Rattle.std.proofs.lemmas.Map.Entries.{length-keys_of}
 use Rattle.std.proofs.lemmas.List.Quantifiers.{position-Some}
 use Rattle.star_schema.specs.declared.group.Aggregate.{Aggregate}
-use Rattle.star_group.specs.Rows.{IsAt, RowLeaves, RowStays, StaysIn, IsChanged, NextRow}
+use Rattle.star_group.specs.Private.Rows.{IsAt, RowLeaves, RowStays, StaysIn, IsChanged, NextRow}
 use Rattle.star_group.proofs.Lookups.{lookup_same}
 
 module _ {K X : Type 0} {eq : K → K → Bool} (laws : IsEquivalence eq) where

@@ -3,10 +3,10 @@ use Rattle.std.proofs.Common.{◌≡◌, ℕ, zero, suc, ◌<◌, Bool, true, fa
 use Rattle.std.specs.List.{list_any}
 use Rattle.star_schema.specs.declared.group.Aggregate.{Aggregate}
 use Rattle.star_program.specs.declared.key.KeyValue.{KeyValue}
-use Rattle.star_group.specs.Cells.{held, step, leaves}
+use Rattle.star_group.specs.Cells.{held, step}
 use Rattle.star_group.specs.Stores.{aggregate_at, Put, Group}
 use Rattle.star_group.specs.OwnKeys.{key_eq, padded, own_keys}
-use Rattle.star_group.specs.Rows.{blank, with_blank, with_blanks, cell_at, SomeLeaves, AllStay, ChangesAll}
+use Rattle.star_group.specs.Private.Rows.{leaves, blank, with_blank, with_blanks, cell_at, SomeLeaves, AllStay, ChangesAll}
 use Rattle.star_group.specs.Held.{changes, puts_at, has_puts, held_at, IsRow, Holds}
 use Rattle.star_group.proofs.OnePut.{PutStays, PutLeaves}
 use Rattle.star_schema.specs.Groups.{numbers_for}

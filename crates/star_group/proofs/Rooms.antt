@@ -8,7 +8,8 @@ use Rattle.star_schema.specs.declared.group.Aggregate.TheVariants.{Sum, Count, M
 use Rattle.star_schema.specs.Groups.{joined, numbers_for}
 use Rattle.star_interval.specs.Range.{is_i64}
 use Rattle.star_program.specs.declared.key.KeyValue.{KeyValue}
-use Rattle.star_group.specs.Cells.{held, step, leaves}
+use Rattle.star_group.specs.Cells.{held, step}
+use Rattle.star_group.specs.Private.Rows.{leaves}
 use Rattle.star_group.specs.OwnKeys.{key_eq, padded, own_keys}
 use Rattle.star_group.specs.Stores.{Put, Group, aggregate_at, number_at, sums_by_keys, above_zero, below_zero, AddUp, HasRoomAt, HasRoom}
 use Rattle.star_group.specs.Held.{changes, puts_at}

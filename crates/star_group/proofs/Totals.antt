@@ -9,7 +9,8 @@ use Rattle.star_schema.specs.declared.group.Shape.TheVariants.{Plain, Cube}
 use Rattle.std.specs.Int.{int_min, int_max}
 use Rattle.star_schema.specs.Groups.{aggregate, joined, numbers_for}
 use Rattle.star_program.specs.declared.key.KeyValue.{KeyValue}
-use Rattle.star_group.specs.Cells.{held, step, shown}
+use Rattle.star_group.specs.Cells.{held, step}
+use Rattle.star_group.specs.Private.Given.{shown}
 use Rattle.star_group.specs.OwnKeys.{key_eq, padded, vary, own_keys}
 use Rattle.star_group.specs.Stores.{Put, Group, aggregate_at, total_of}
 use Rattle.star_group.specs.Held.{changes, puts_at, has_puts, IsRow, Holds}

@@ -1,7 +1,6 @@
 -- What a row holds of an aggregate, and how one more number changes it.
-use Rattle.std.specs.Prelude.{Bool, false, not, ℤ, pos, ◌+ℤ◌, List, [], ◌∷◌, Option, Some, None}
+use Rattle.std.specs.Prelude.{ℤ, pos, ◌+ℤ◌, List, [], ◌∷◌, Option, Some, None}
 use Rattle.std.specs.Int.{int_min, int_max}
-use Rattle.star_interval.specs.Range.{is_i64}
 use Rattle.star_schema.specs.declared.group.Aggregate.{Aggregate}
 use Rattle.star_schema.specs.declared.group.Aggregate.TheVariants.{Sum, Count, Min, Max}
 
@@ -20,15 +19,3 @@ step Max v (Some z) = int_max v z
 unfoldable pub held : Aggregate → List ℤ → Option ℤ
 held g [] = None
 held g (v ∷ vs) = Some (step g v (held g vs))
-
--- what is shown of it: a COUNT of nothing is 0
-abbrev pub shown : Aggregate → Option ℤ → Option ℤ
-shown Count None = Some (pos 0)
-shown g c = c
-
--- a SUM or a COUNT leaves 64 bits at this number
-abbrev pub leaves : Aggregate → ℤ → Bool
-leaves Sum z = not (is_i64 z)
-leaves Count z = not (is_i64 z)
-leaves Min z = false
-leaves Max z = false

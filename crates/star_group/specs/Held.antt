@@ -1,15 +1,11 @@
 -- The content of an eager store: each row has the aggregates of the puts that change it.
-use Rattle.std.specs.Prelude.{◌≡◌, ◌⊎◌, replicate, ℕ, ◌<◌, Bool, true, false, ◌||◌, ℤ, List, [], ◌∷◌, Option, Some, None, filter, length, slice_index_or}
+use Rattle.std.specs.Prelude.{◌≡◌, ℕ, ◌<◌, Bool, true, false, ◌||◌, ℤ, List, [], ◌∷◌, Option, Some, None, filter, length, slice_index_or}
 use Rattle.std.specs.List.{list_any, AllByRecursion}
-use Rattle.star_schema.specs.Groups.{IsMasked, numbers_for}
+use Rattle.star_schema.specs.Groups.{numbers_for}
 use Rattle.star_program.specs.declared.key.KeyValue.{KeyValue}
 use Rattle.star_group.specs.Cells.{held}
 use Rattle.star_group.specs.OwnKeys.{key_eq, padded, own_keys}
 use Rattle.star_group.specs.Stores.{Put, Group, aggregate_at}
-
--- the keys of a group of the put, or ALL in each place, which is the group of all puts
-abbrev pub IsOwn : Group → List (Option KeyValue) → Put → Type 0
-IsOwn d keys put = IsMasked d.shape keys put.keys ⊎ (keys ≡ replicate d.count None)
 
 -- the put changes the row with this key
 abbrev pub changes : Group → List (Option KeyValue) → Put → Bool

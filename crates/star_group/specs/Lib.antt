@@ -2,8 +2,7 @@
 pub mod Stores
 pub mod Cells
 pub mod OwnKeys
-pub mod Rows
 pub mod Held
 pub mod Eager
 pub mod Shown
-pub mod Given
+pub mod Private

@@ -1,9 +1,9 @@
 // One row of a group, and one more put into it.
 
 ghost use Rattle.std.specs.Prelude.{◌≡◌, ◌≤◌, ◌<◌, true, false, length, MatchOption};
-ghost use Rattle.star_group.specs.Cells as spec;
-ghost use Rattle.star_group.specs.Cells.{step, leaves};
-ghost use Rattle.star_group.specs.Rows.{cell_at, leaves_at, IsChanged, RowLeaves, RowStays};
+ghost use Rattle.star_group.specs.Cells.{step};
+ghost use Rattle.star_group.specs.Private.Given as spec;
+ghost use Rattle.star_group.specs.Private.Rows.{leaves, cell_at, leaves_at, IsChanged, RowLeaves, RowStays};
 
 use star_schema::Aggregate;
 

@@ -8,7 +8,7 @@ use crate::own::Key;
 use std::marker::Model;
 
 /// A row's keys, in order, in which `None` is ALL. A contract sees the list.
-#[derive(Debug, Drop)]
+#[derive(Drop)]
 pub struct RowKeys {
     places: Key,
     count: usize,
@@ -42,7 +42,7 @@ impl RowKeys {
 }
 
 /// A row's aggregates, in order, in which `None` is NULL. A contract sees the list.
-#[derive(Debug, Drop)]
+#[derive(Drop)]
 pub struct RowAggregates {
     numbers: Row,
     count: usize,
@@ -75,7 +75,7 @@ impl RowAggregates {
 }
 
 /// One row of a group: its keys and its aggregates.
-#[derive(Debug, Drop)]
+#[derive(Drop)]
 pub struct GroupRow {
     pub keys: RowKeys,
     pub aggregates: RowAggregates,

@@ -10,8 +10,6 @@ pub mod law;
 mod own;
 mod rows;
 mod store;
-#[cfg(test)]
-mod tests;
 
 pub use eager::EagerStore;
 pub use group_row::{GroupRow, RowAggregates, RowKeys};

@@ -1,9 +1,10 @@
 // The rows of a group by their keys.
 
-ghost use Rattle.std.specs.Prelude.{◌≡◌, ◌≤◌, ◌<◌, true, false, length, take, Some, None, if◌then◌else◌, List, ℤ, Option, IsSome, OnOk, OnErr, MatchBool, MatchResult, IfErr, IfOk, ◌⊎◌};
+ghost use Rattle.std.specs.Prelude.{◌≡◌, ◌≤◌, ◌<◌, true, false, length, take, Some, None, if◌then◌else◌, List, ℤ, Option, IsSome, OnOk, OnErr, MatchBool, MatchResult, IfErr, IfOk};
 ghost use Rattle.std.specs.List.{list_any, IsDistinct};
 ghost use Rattle.indexmap.specs.IndexMap.{get, keys, index_map_len};
-ghost use Rattle.star_group.specs.Rows.{IsAt, ArePlaces, with_blank, with_blanks, PutsRows, AllStay, ChangesAll, NextRow, SomeLeaves, StaysIn};
+ghost use Rattle.star_common.specs.Memory.{TellsMemory, UnlessMemory};
+ghost use Rattle.star_group.specs.Private.Rows.{IsAt, ArePlaces, with_blank, with_blanks, PutsRows, AllStay, ChangesAll, NextRow, SomeLeaves, StaysIn};
 ghost use Rattle.star_group.specs.declared.rows.PutFault.TheVariants.{OutOfMemory};
 
 use crate::cell::{Row, changed_row};
@@ -22,7 +23,7 @@ pub enum PutFault {
 }
 
 impl From<AllocError> for PutFault {
-    ghost from_gives = { λ _ fault. fault ≡ OutOfMemory };
+    ghost from_gives = { TellsMemory OutOfMemory };
 
     fn from(_error: AllocError) -> PutFault {
         PutFault::OutOfMemory
@@ -163,7 +164,7 @@ pub(crate) fn put_rows<K: Eq + Hash + Copy + Drop>(
     requires few { length aggregates.now ≤ 8 }
     ensures ok { OnOk result (PutsRows K.eq own.now aggregates.now values.now (get K.eq rows.old) (get K.eq rows.new)) }
     ensures refused { OnErr result (rows.new.entries ≡ rows.old.entries) }
-    ensures overflow { IfErr result (λ fault. (fault ≡ PutFault.OutOfMemory) ⊎ SomeLeaves K.eq (with_blanks K.eq own.now (get K.eq rows.old)) own.now aggregates.now values.now) }
+    ensures overflow { IfErr result (λ fault. UnlessMemory PutFault.OutOfMemory fault (SomeLeaves K.eq (with_blanks K.eq own.now (get K.eq rows.old)) own.now aggregates.now values.now)) }
 {
     let before = rows.len();
     if place_rows(rows, own, places).is_err() {

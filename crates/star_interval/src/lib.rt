@@ -6,11 +6,9 @@ ghost use Rattle.std.specs.Prelude.{◌≡◌, ◌⊎◌, ◌↔◌, IsTrue, IsO
 use std::fmt;
 
 pub mod law;
-#[cfg(test)]
-mod tests;
 
 /// The numbers from `low` to `high`, both among them: one number or more.
-#[derive(Clone, Copy, Debug, PartialEq, Eq, Hash)]
+#[derive(Clone, Copy, Debug, PartialEq, Eq)]
 pub struct Interval {
     pub low: i64,
     pub high: i64,
@@ -18,7 +16,7 @@ pub struct Interval {
 }
 
 /// The bounds of numbers that may leave 64 bits.
-#[derive(Clone, Copy, Debug, PartialEq, Eq, Hash)]
+#[derive(Clone, Copy, Debug, PartialEq, Eq)]
 pub struct Wide {
     pub low: i128,
     pub high: i128,

@@ -26,8 +26,8 @@ use Rattle.star_program.specs.declared.key.KeyValue.TheVariants.{Number, Code}
 use Rattle.star_program.specs.Keys as by_code
 use Rattle.star_program.specs.Outcome.{decoded, decoded_keys, decoded_row}
 use Rattle.star_program.specs.Puts.{Update}
-use Rattle.star_machine.specs.Decoded.{AreDecodable, IsDecodable}
-use Rattle.star_machine.specs.Runs.{AreSoundKeys, IsSoundKey}
+use Rattle.star_machine.specs.Private.Decoded.{AreDecodable, IsDecodable}
+use Rattle.star_machine.specs.Private.Runs.{AreSoundKeys, IsSoundKey}
 use Rattle.star_machine.specs.WorldOf.{column_dictionary, column_texts, world_of}
 use Rattle.star_machine.proofs.SortedRows.{sorted_mapped}
 

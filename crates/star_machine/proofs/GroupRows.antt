@@ -20,7 +20,7 @@ use Rattle.star_group.specs.Held.{has_puts}
 use Rattle.star_group.specs.Shown.{AreRows, row_shown}
 use Rattle.star_group.specs.Stores.{Group, Put}
 use Rattle.star_group.proofs.GroupKeys.{key_decides, own_belongs}
-use Rattle.star_machine.specs.RowOrder.{AllHaveSameNulls, AreApart, HaveSameNulls, keys_of_row}
+use Rattle.star_machine.specs.Private.RowOrder.{AllHaveSameNulls, AreApart, HaveSameNulls, keys_of_row}
 
 -- ---- lists
 

@@ -20,11 +20,11 @@ use Rattle.star_machine.specs.declared.fault.TrapKind.TheVariants as trap
 use Rattle.star_machine.specs.declared.run.Run.{Run}
 use Rattle.star_machine.specs.declared.value.Value.{Value as Kept}
 use Rattle.star_machine.specs.declared.value.Value.TheVariants as kept
-use Rattle.star_machine.specs.Acts.{IsAnswer, IsDeed, IsStop, Sets}
-use Rattle.star_machine.specs.Stops.{stop_of_put}
-use Rattle.star_machine.specs.Runs.{HasDone}
-use Rattle.star_machine.specs.Shown.{value_shown}
-use Rattle.star_machine.specs.Sound.{IsSoundValue}
+use Rattle.star_machine.specs.Private.Acts.{IsAnswer, IsDeed, IsStop, Sets}
+use Rattle.star_machine.specs.Private.Stops.{stop_of_put}
+use Rattle.star_machine.specs.Private.Runs.{HasDone}
+use Rattle.star_machine.specs.Private.Shown.{value_shown}
+use Rattle.star_machine.specs.Private.Sound.{IsSoundValue}
 
 module _ (database : Database) (parts : Parts) (registers : Registers) (run : Run) (op : Op) (effect : Effect) (s : Store) (done : HasDone database parts run s) where
   pub sets : (t : ℕ) (value : Kept) → target_of op ≡ Some t → effect ≡ GoesOn (with_entry registers t (value_shown value)) s → IsSoundValue database (value_shown value)

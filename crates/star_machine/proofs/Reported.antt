@@ -21,8 +21,8 @@ use Rattle.star_group.specs.declared.group_row.GroupRow.{GroupRow}
 use Rattle.star_group.specs.Eager.{Has, group_of}
 use Rattle.star_group.specs.Shown.{row_shown}
 use Rattle.star_group.specs.Stores.{group_declared}
-use Rattle.star_machine.specs.Decoded.{AreDecodable, AreSortedGroups, row_cells}
-use Rattle.star_machine.specs.Runs.{AreSoundKeys, HasDone}
+use Rattle.star_machine.specs.Private.Decoded.{AreDecodable, AreSortedGroups, row_cells}
+use Rattle.star_machine.specs.Private.Runs.{AreSoundKeys, HasDone}
 use Rattle.star_machine.specs.WorldOf.{world_of}
 use Rattle.star_machine.specs.declared.run.Run.{Run}
 use Rattle.star_machine.proofs.DecodedRows.{decoded_in_order, group_decodable}

@@ -18,7 +18,7 @@ use Rattle.star_schema.specs.Order.{key_cmp}
 use Rattle.star_program.specs.declared.key.KeyValue.{KeyValue}
 use Rattle.star_program.specs.declared.key.KeyValue.TheVariants.{Number, Code}
 use Rattle.star_program.specs.Keys.{value_cmp}
-use Rattle.star_machine.specs.RowOrder.{HaveSameNulls, column_order, directed_order, row_order}
+use Rattle.star_machine.specs.Private.RowOrder.{HaveSameNulls, column_order, directed_order, row_order}
 
 -- ---- an order
 

@@ -25,7 +25,7 @@ use Rattle.star_group.specs.declared.group_row.GroupRow.{GroupRow}
 use Rattle.star_group.specs.OwnKeys.{key_eq}
 use Rattle.star_group.specs.Shown.{row_shown}
 use Rattle.star_group.proofs.GroupKeys.{key_decides, key_equiv}
-use Rattle.star_machine.specs.RowOrder.{AllHaveSameNulls, AreApart, keys_of_row, row_order}
+use Rattle.star_machine.specs.Private.RowOrder.{AllHaveSameNulls, AreApart, keys_of_row, row_order}
 use Rattle.star_machine.proofs.RowOrders.{row_total, rows_level, same_order}
 
 -- what a sort by a closure ensures, where each call answers by an order

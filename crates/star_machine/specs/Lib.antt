@@ -1,12 +1,4 @@
 pub mod WorldOf
-pub mod Shown
 pub mod Trials
-pub mod Checked
-pub mod Sound
-pub mod Stops
-pub mod Runs
-pub mod Acts
-pub mod Walks
-pub mod RowOrder
-pub mod Decoded
 pub mod FaultTexts
+pub mod Private

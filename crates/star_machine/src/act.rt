@@ -12,15 +12,15 @@ ghost use Rattle.star_program.specs.Effects.{Store, does, kinds_in};
 ghost use Rattle.star_program.specs.Effects as effects;
 ghost use Rattle.star_program.specs.Faults as faults;
 ghost use Rattle.star_program.specs.Limits.{IsSmall};
-ghost use Rattle.star_machine.specs.Acts.{IsAnswer, IsFlow, IsStop};
+ghost use Rattle.star_machine.specs.Private.Acts.{IsAnswer, IsFlow, IsStop};
 ghost use Rattle.star_group.specs.declared.eager.EagerStore.{EagerStore};
 ghost use Rattle.star_group.specs.Eager.{group_of};
 ghost use Rattle.star_program.specs.Puts as puts;
 ghost use Rattle.star_program.specs.Puts.{Update};
-ghost use Rattle.star_machine.specs.Runs.{AreStores, HasDone, IsPlaced};
+ghost use Rattle.star_machine.specs.Private.Runs.{AreStores, HasDone, IsPlaced};
 ghost use Rattle.std.specs.Prelude.{List};
-ghost use Rattle.star_machine.specs.Shown.{held};
-ghost use Rattle.star_machine.specs.Sound.{AreSound};
+ghost use Rattle.star_machine.specs.Private.Shown.{held};
+ghost use Rattle.star_machine.specs.Private.Sound.{AreSound};
 ghost use Rattle.star_machine.specs.WorldOf.{world_of};
 
 use crate::check::{check_operands, check_place, declared_target};
@@ -37,7 +37,7 @@ use star_program::{Op, Parts, RegisterList};
 use star_schema::TableId;
 
 // What an instruction without a fault does: it sets its target, or goes on, or ends the turn of the innermost scan.
-#[derive(Clone, Copy, Debug)]
+#[derive(Clone, Copy)]
 pub(crate) enum Deed {
     Sets(Value),
     GoesOn,
@@ -45,7 +45,7 @@ pub(crate) enum Deed {
 }
 
 // What follows an instruction.
-#[derive(Clone, Copy, Debug)]
+#[derive(Clone, Copy)]
 pub(crate) enum Flow {
     GoesOn,
     EndsTurn,

@@ -8,8 +8,8 @@ ghost use Rattle.star_program.specs.Values.{kind_of_value};
 ghost use Rattle.star_program.specs.Faults as faults;
 ghost use Rattle.star_program.specs.Effects.{kinds_in};
 ghost use Rattle.star_program.specs.declared.group.GroupKey.{GroupKey};
-ghost use Rattle.star_machine.specs.Shown.{Answers, fault_shown, held, value_shown};
-ghost use Rattle.star_machine.specs.Checked.{taken};
+ghost use Rattle.star_machine.specs.Private.Shown.{Answers, fault_shown, held, value_shown};
+ghost use Rattle.star_machine.specs.Private.Checked.{taken};
 
 use crate::fault::Fault;
 use crate::value::{Register, Value, is_column, is_table, register};
@@ -17,7 +17,7 @@ use star_program::{GroupDecl, GroupKey, Op, Parts};
 use star_schema::{Aggregate, ColumnId, is_text, table_of};
 
 // What an operand may be.
-#[derive(Clone, Copy, Debug)]
+#[derive(Clone, Copy)]
 pub(crate) enum Wanted {
     Number,
     Flag,

@@ -4,7 +4,7 @@ ghost use Rattle.std.specs.Prelude.{◌≡◌, ◌<◌, ◌+ℤ◌, ◌-ℤ◌, 
 ghost use Rattle.std.specs.Ordering.{int_cmp, is_eq, is_lt, is_le};
 ghost use Rattle.star_interval.specs.Range.{is_i64};
 ghost use Rattle.star_program.specs.Values.{number_in, flag_in, row_in, with_entry};
-ghost use Rattle.star_machine.specs.Shown.{held, value_shown};
+ghost use Rattle.star_machine.specs.Private.Shown.{held, value_shown};
 
 use crate::value::{Register, Value, flag_of, number_of, register, row_of};
 

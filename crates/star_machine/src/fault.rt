@@ -1,9 +1,10 @@
 // Why a run does not come to its end.
 
 ghost use Rattle.std.specs.Prelude.{◌≡◌};
+ghost use Rattle.star_common.specs.Memory.{TellsMemory};
 ghost use Rattle.star_machine.specs.declared.fault.Stop.TheVariants.{Trap};
 ghost use Rattle.star_machine.specs.declared.fault.TrialFault.TheVariants.{OutOfMemory};
-ghost use Rattle.star_machine.specs.Stops.{kind_of_fault, stop_of_put};
+ghost use Rattle.star_machine.specs.Private.Stops.{kind_of_fault, stop_of_put};
 
 use star_group::PutFault;
 use std::alloc::AllocError;
@@ -63,7 +64,7 @@ pub enum TrialFault {
 }
 
 impl From<AllocError> for TrialFault {
-    ghost from_gives = { λ _ fault. fault ≡ OutOfMemory };
+    ghost from_gives = { TellsMemory OutOfMemory };
 
     fn from(_error: AllocError) -> TrialFault {
         TrialFault::OutOfMemory
@@ -87,7 +88,7 @@ impl fmt::Display for TrialFault {
 }
 
 // What is wrong with an instruction by the kinds of its operands alone.
-#[derive(Clone, Copy, Debug, PartialEq, Eq)]
+#[derive(Clone, Copy)]
 pub(crate) enum Fault {
     BadRegister,
     Unset,
@@ -113,7 +114,7 @@ impl Fault {
 }
 
 // Why an instruction does not go on.
-#[derive(Clone, Copy, Debug, PartialEq, Eq)]
+#[derive(Clone, Copy)]
 pub(crate) enum Stop {
     OutOfMemory,
     Trap(TrapKind),

@@ -5,16 +5,16 @@ ghost use Rattle.star_schema.specs.Database.{Database};
 ghost use Rattle.star_schema.specs.Loadable.{IsSound};
 ghost use Rattle.star_program.specs.declared.outcome.Outcome.{Outcome};
 ghost use Rattle.star_program.specs.declared.program.Parts.{Parts};
-ghost use Rattle.star_program.specs.Admissible.{IsAdmissible};
+ghost use Rattle.star_admission.specs.Admissible.{IsAdmissible};
 ghost use Rattle.star_program.specs.Limits.{IsWithinLimits};
-ghost use Rattle.star_program.specs.Quote.{quote};
+ghost use Rattle.star_admission.specs.Quote.{quote};
 ghost use Rattle.star_program.specs.World.{IsLoaded};
 ghost use Rattle.star_machine.specs.declared.fault.TrialFault.{TrialFault};
 ghost use Rattle.star_machine.specs.declared.fault.TrialFault.TheVariants.{OutOfMemory};
 ghost use Rattle.star_machine.specs.Trials.{IsTrial};
 ghost use Rattle.star_machine.specs.WorldOf.{world_of};
 
-use star_program::law::admissible_programs_never_trap;
+use star_admission::law::admissible_programs_never_trap;
 
 /// In the world of sound rows each column's bounds hold its numbers, and each foreign key is found.
 pub fn sound_rows_are_loaded()

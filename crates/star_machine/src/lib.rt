@@ -12,8 +12,6 @@ mod outcome;
 mod report;
 mod run;
 mod start;
-#[cfg(test)]
-mod tests;
 mod trials;
 mod value;
 mod walk;

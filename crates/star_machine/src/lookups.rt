@@ -7,8 +7,8 @@ ghost use Rattle.star_schema.specs.declared.column.Kind.TheVariants as kind;
 ghost use Rattle.star_program.specs.Effects.{loaded};
 ghost use Rattle.star_program.specs.Values.{Place};
 ghost use Rattle.star_program.specs.World as world;
-ghost use Rattle.star_machine.specs.Shown.{value_shown};
-ghost use Rattle.star_machine.specs.Sound.{IsSoundValue};
+ghost use Rattle.star_machine.specs.Private.Shown.{value_shown};
+ghost use Rattle.star_machine.specs.Private.Sound.{IsSoundValue};
 ghost use Rattle.star_machine.specs.WorldOf.{world_of, column_dictionary};
 
 use crate::value::Value;

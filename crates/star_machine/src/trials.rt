@@ -4,7 +4,7 @@ ghost use Rattle.std.specs.Prelude.{◌≤◌, ◌^◌, MatchResult, nat_lt};
 ghost use Rattle.star_program.specs.Limits.{IsWithinLimits};
 ghost use Rattle.star_program.specs.Run.{meaning_of};
 ghost use Rattle.star_machine.specs.Trials.{IsFaultOf, IsTrial};
-ghost use Rattle.star_machine.specs.Walks.{Finishes};
+ghost use Rattle.star_machine.specs.Private.Walks.{Finishes};
 ghost use Rattle.star_machine.specs.WorldOf.{world_of};
 
 use crate::fault::{TrapKind, TrialFault};

@@ -5,13 +5,13 @@ ghost use Rattle.std.specs.Option.{option_map};
 ghost use Rattle.star_schema.specs.Schema as schema;
 ghost use Rattle.star_program.specs.World as world;
 ghost use Rattle.star_program.specs.Values.{number_in, flag_in, row_in, key_in};
-ghost use Rattle.star_machine.specs.Shown.{value_shown};
+ghost use Rattle.star_machine.specs.Private.Shown.{value_shown};
 
 use star_program::KeyValue;
 use star_schema::{ColumnId, TableId};
 
 // A number, the code of a text of a column, a place among the texts of a column, a row of a table, or a truth value.
-#[derive(Clone, Copy, Debug)]
+#[derive(Clone, Copy)]
 pub(crate) enum Value {
     Number(i64),
     Text(ColumnId, u32),

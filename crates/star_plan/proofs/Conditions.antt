@@ -7,7 +7,7 @@ use Rattle.std.proofs.lemmas.List.Folds.{list_any-append}
 use Rattle.star_schema.specs.declared.table.TableId.{TableId}
 use Rattle.star_schema.specs.declared.table.TableId.TheVariants.{Lineorder}
 use Rattle.star_schema.specs.declared.column.ColumnId.{ColumnId}
-use Rattle.star_schema.specs.First.{first_answer}
+use Rattle.star_common.specs.First.{first_answer}
 use Rattle.star_schema.specs.Schema.{is_table, table_name, table_of}
 use Rattle.star_query.specs.declared.tree.Name.{Name}
 use Rattle.star_query.specs.declared.tree.Item.{Item}

@@ -3,7 +3,7 @@ use Rattle.std.proofs.Common.{◌≡◌, ◌⊎◌, Option, Some, None, Result, 
 use Rattle.std.specs.Result.{IsErrAnd, result_err}
 use Rattle.star_plan.specs.declared.fault.PlanFault.{PlanFault}
 use Rattle.star_plan.specs.declared.fault.PlanFault.TheVariants.{OutOfMemory}
-use Rattle.star_plan.specs.Answers.{Gives, Tells}
+use Rattle.star_plan.specs.Private.Answers.{Tells}
 
 pub error_is : {T : Type 0} (r : Result T PlanFault) (e : PlanFault) → IsErrAnd r (λ y. y ≡ e) → result_err r ≡ Some e
 error_is (Ok x) e is_e = absurd is_e
@@ -13,8 +13,3 @@ pub tells_error : {T : Type 0} (r : Result T PlanFault) (e : PlanFault) (fault :
     → (e ≡ OutOfMemory) ⊎ (fault ≡ Some e) → Tells fault r
 tells_error (Ok x) e fault is_e told = absurd is_e
 tells_error (Err y) e fault is_e told = rw is_e told
-
-pub gives_error : {X Y : Type 0} (shown : X → Y) (wanted : Option Y) (r : Result X PlanFault) (e : PlanFault) → IsErrAnd r (λ y. y ≡ e)
-    → (e ≡ OutOfMemory) ⊎ (wanted ≡ None) → Gives shown wanted r
-gives_error shown wanted (Ok x) e is_e told = absurd is_e
-gives_error shown wanted (Err y) e is_e told = rw is_e told

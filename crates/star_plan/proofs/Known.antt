@@ -13,7 +13,7 @@ use Rattle.star_schema.specs.declared.group.GroupColumn.{GroupColumn}
 use Rattle.star_schema.specs.declared.group.GroupColumn.TheVariants as group
 use Rattle.star_schema.specs.Tables.{kind_of_value}
 use Rattle.star_schema.specs.declared.group.SortKey as sorted
-use Rattle.star_schema.specs.First.{first_answer}
+use Rattle.star_common.specs.First.{first_answer}
 use Rattle.star_schema.specs.Schema.{is_table, kind_of, table_name, table_of}
 use Rattle.star_schema.proofs.NamesApart.{table_by_name}
 use Rattle.star_query.specs.declared.token.Fold.{Fold}

@@ -5,7 +5,7 @@ use Rattle.std.specs.Option.{option_or}
 use Rattle.star_schema.specs.declared.column.ColumnId.{ColumnId}
 use Rattle.star_schema.specs.declared.group.GroupColumn.{GroupColumn}
 use Rattle.star_schema.specs.declared.group.SortKey.{SortKey}
-use Rattle.star_schema.specs.First.{first_answer}
+use Rattle.star_common.specs.First.{first_answer}
 use Rattle.star_schema.specs.Schema.{table_of}
 use Rattle.star_query.specs.declared.tree.Tree.{Tree}
 use Rattle.star_plan.specs.declared.tree.Join.{Join}

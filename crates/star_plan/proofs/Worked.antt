@@ -7,7 +7,7 @@ use Rattle.star_schema.specs.declared.column.ColumnId.TheVariants.{DDatekey, DYe
 use Rattle.star_schema.specs.declared.group.Shape.TheVariants.{Plain}
 use Rattle.star_schema.specs.declared.group.GroupColumn.TheVariants.{Key, Aggregate}
 use Rattle.std.specs.Option.{option_or}
-use Rattle.star_schema.specs.First.{first_answer}
+use Rattle.star_common.specs.First.{first_answer}
 use Rattle.star_schema.specs.Schema.{column_of, place_of, table_name}
 use Rattle.star_schema.specs.Tables.{Value, Number, Text}
 use Rattle.star_interval.specs.Range.{Range, hull, is_i64, multiple_range, only}

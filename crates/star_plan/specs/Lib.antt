@@ -13,5 +13,5 @@ pub mod Limits
 pub mod Spelled
 pub mod Resolved
 pub mod Planned
-pub mod Answers
 pub mod PlanTrees
+pub mod Private

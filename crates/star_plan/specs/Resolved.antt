@@ -1,6 +1,5 @@
 -- A query with its names resolved.
-use Rattle.std.specs.Prelude.{◌≡◌, ℕ, ◌+◌, List, [], ◌∷◌, ◌++◌, map, Option, Some, None, nat_eq, option_map, Vec}
-use Rattle.std.specs.Global.{Global}
+use Rattle.std.specs.Prelude.{◌≡◌, ℕ, ◌+◌, List, [], ◌∷◌, ◌++◌, map, Option, Some, None, nat_eq, option_map}
 use Rattle.std.specs.Cmp.Lexicographic.{pointwise}
 use Rattle.std.specs.List.{position}
 use Rattle.std.specs.Option.{option_or}
@@ -28,12 +27,11 @@ use Rattle.star_query.specs.declared.tree.Direction as of_direction
 use Rattle.star_query.specs.declared.tree.Direction.TheVariants as asked_direction
 use Rattle.star_query.specs.declared.tree.SortKey as of_key
 use Rattle.star_query.specs.declared.tree.Tree.{Tree}
-use Rattle.star_plan.specs.declared.tree.Condition as of_plan
 use Rattle.star_plan.specs.Meaning.{Condition, either, both, negation, compare, between, Expression, column, constant, add, sub, mul, Measure, counted, Plan}
 use Rattle.star_plan.specs.Names.{column_at}
 use Rattle.star_plan.specs.Joins.{joins_of, where_pairs}
 use Rattle.star_plan.specs.Naming.{aggregate_names}
-use Rattle.star_plan.specs.Shown.{condition_shown, folded, literal_value}
+use Rattle.star_plan.specs.Shown.{folded, literal_value}
 
 -- both values by an operation, or none where one is missing
 abbrev pub option_both : {A B C : Type 0} → (A → B → C) → Option A → Option B → Option C
@@ -72,9 +70,6 @@ resolved_condition (condition.Not' p a) = option_map negation (resolved_conditio
 resolved_condition (condition.Pair m n) = None
 resolved_condition (condition.Compare n s l) = resolved_compare n s l
 resolved_condition (condition.Between n from upto) = resolved_between n from upto
-
-abbrev pub conditions_shown : Vec of_plan.Condition Global → List Condition
-conditions_shown cs = map condition_shown cs.items
 
 -- the conjuncts that don't compare two columns, from the left
 abbrev pub conjuncts_of : of_condition.Condition → Option (List Condition)

@@ -1,12 +1,12 @@
 // What is wrong with the names of a query.
 
-ghost use Rattle.std.specs.Prelude.{◌≡◌};
+ghost use Rattle.star_common.specs.Memory.{TellsMemory};
 ghost use Rattle.star_plan.specs.declared.fault.PlanFault.TheVariants.{OutOfMemory};
 
 use std::alloc::{AllocError, AllocFailed};
 
 /// Why a query has no plan. `at` is the place of a name in the query's text, in bytes from 0.
-#[derive(Clone, Copy, Debug, PartialEq, Eq, Hash)]
+#[derive(Clone, Copy, Debug, PartialEq, Eq)]
 pub enum PlanFault {
     /// Memory was refused.
     OutOfMemory,
@@ -40,7 +40,7 @@ pub enum PlanFault {
 }
 
 impl From<AllocError> for PlanFault {
-    ghost from_gives = { λ _ fault. fault ≡ OutOfMemory };
+    ghost from_gives = { TellsMemory OutOfMemory };
 
     fn from(_error: AllocError) -> PlanFault {
         PlanFault::OutOfMemory
@@ -48,7 +48,7 @@ impl From<AllocError> for PlanFault {
 }
 
 impl<T: Drop> From<AllocFailed<T>> for PlanFault {
-    ghost from_gives = { λ _ fault. fault ≡ OutOfMemory };
+    ghost from_gives = { TellsMemory OutOfMemory };
 
     fn from(_error: AllocFailed<T>) -> PlanFault {
         PlanFault::OutOfMemory

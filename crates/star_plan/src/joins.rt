@@ -3,7 +3,7 @@
 ghost use Rattle.std.specs.Prelude.{◌≡◌, ◌++◌, OnOk, IfOk};
 ghost use Rattle.std.specs.Result.{result_err};
 ghost use Rattle.star_schema.specs.Schema as schema;
-ghost use Rattle.star_schema.specs.First.{first_answer};
+ghost use Rattle.star_common.specs.First.{first_answer};
 ghost use Rattle.star_plan.specs.First.{first_beside};
 ghost use Rattle.star_plan.specs.Joins as spec;
 ghost use Rattle.star_plan.specs.Faults.{join_fault, missing_fault, pair_fault};
@@ -16,7 +16,7 @@ use star_schema::{ColumnId, Key, TableId, key_of, references, table_of};
 use std::alloc::{AllocError, Global};
 
 /// Two columns that are compared.
-#[derive(Clone, Copy, Debug, PartialEq, Eq)]
+#[derive(Clone, Copy)]
 pub struct Pair {
     /// The join that they make, if they make one and the comparison is a conjunct of the whole condition.
     pub join: Option<Join>,

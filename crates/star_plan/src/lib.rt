@@ -13,8 +13,6 @@ mod planner;
 mod plans;
 mod resolve;
 mod select;
-#[cfg(test)]
-mod tests;
 mod tree;
 mod uses;
 

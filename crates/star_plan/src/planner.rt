@@ -1,9 +1,10 @@
 // How a plan is made: the faults in their order, and then the names resolved.
 
-ghost use Rattle.std.specs.Prelude.{◌≡◌, ◌⊎◌, ◌≤◌, None, Some, IfErr, IfOk, length};
+ghost use Rattle.std.specs.Prelude.{◌≡◌, ◌≤◌, None, Some, IfErr, IfOk, length};
+ghost use Rattle.star_common.specs.Memory.{UnlessMemory};
 ghost use Rattle.star_query.specs.Shown.{tree_of};
 ghost use Rattle.star_plan.specs.declared.fault.PlanFault.TheVariants.{OutOfMemory};
-ghost use Rattle.star_plan.specs.Answers.{Tells};
+ghost use Rattle.star_plan.specs.Private.Answers.{Tells};
 ghost use Rattle.star_plan.specs.Faults.{grouping_fault, naming_fault, plan_fault};
 ghost use Rattle.star_plan.specs.WellNamed.{IsWellNamed};
 ghost use Rattle.star_plan.specs.Resolved.{IsResolved};
@@ -98,7 +99,7 @@ pub fn plan(alloc: Global, query: &Query) -> Result<Plan, PlanFault>
     // Its tree is the query's, with the names resolved.
     ensures resolved { IfOk result (λ plan. IsResolved (tree_of query.now) (shown (plan_tree plan))) }
     // A refusal is the first fault.
-    ensures refused { IfErr result (λ fault. (fault ≡ OutOfMemory) ⊎ (plan_fault (tree_of query.now) ≡ Some fault)) }
+    ensures refused { IfErr result (λ fault. UnlessMemory OutOfMemory fault (plan_fault (tree_of query.now) ≡ Some fault)) }
 {
     let query = query.tree();
     check(alloc, query)?;

@@ -10,6 +10,7 @@ ghost use Rattle.star_plan.specs.Meaning as meaning;
 ghost use Rattle.star_plan.specs.Names.{column_at};
 ghost use Rattle.star_plan.specs.Resolved as spec;
 ghost use Rattle.star_plan.specs.Shown as shown;
+ghost use Rattle.star_plan.specs.Private.Answers.{conditions_shown};
 
 use crate::names::column_at;
 use crate::select::aggregate_name;
@@ -199,7 +200,7 @@ fn lone_conjunct(
     alloc: Global,
     condition: &query::Condition,
 ) -> Result<Option<Vec<Condition>>, AllocError>
-    ensures { IfOk result (λ found. option_map spec.conditions_shown found ≡ option_map (λ c. c ∷ []) (spec.resolved_condition condition.now)) }
+    ensures { IfOk result (λ found. option_map conditions_shown found ≡ option_map (λ c. c ∷ []) (spec.resolved_condition condition.now)) }
 {
     match resolve_condition(alloc, condition)? {
         None => Ok(None),
@@ -217,7 +218,7 @@ fn conjuncts_of(
     alloc: Global,
     condition: &query::Condition,
 ) -> Result<Option<Vec<Condition>>, AllocError>
-    ensures { IfOk result (λ found. option_map spec.conditions_shown found ≡ spec.conjuncts_of condition.now) }
+    ensures { IfOk result (λ found. option_map conditions_shown found ≡ spec.conjuncts_of condition.now) }
 {
     match condition {
         query::Condition::And(left, right) => {
@@ -243,7 +244,7 @@ pub(crate) fn resolve_where(
     alloc: Global,
     condition: &Option<query::Condition>,
 ) -> Result<Option<Vec<Condition>>, AllocError>
-    ensures { IfOk result (λ found. option_map spec.conditions_shown found ≡ spec.where_conjuncts condition.now) }
+    ensures { IfOk result (λ found. option_map conditions_shown found ≡ spec.where_conjuncts condition.now) }
 {
     match condition {
         None => Ok(Some(Vec::new(alloc))),

@@ -4,11 +4,11 @@ ghost use Rattle.std.specs.Prelude.{◌≡◌, ◌+◌, ◌≤◌, ◌++◌, [],
 ghost use Rattle.std.specs.List.{list_any};
 ghost use Rattle.std.specs.Cmp.Lexicographic.{pointwise};
 ghost use Rattle.std.specs.Result.{result_err};
-ghost use Rattle.star_schema.specs.First.{first_answer};
+ghost use Rattle.star_common.specs.First.{first_answer};
 ghost use Rattle.star_plan.specs.First.{first_beside};
 ghost use Rattle.star_plan.specs.Naming as spec;
 ghost use Rattle.star_plan.specs.Faults as faults;
-ghost use Rattle.star_plan.specs.Answers.{Tells};
+ghost use Rattle.star_plan.specs.Private.Answers.{Tells};
 
 use crate::fault::PlanFault;
 use crate::names::{has_name, table_at};

@@ -4,14 +4,14 @@ use star_query::{Fold, Literal, Relation};
 use star_schema::{ColumnId, GroupColumn, Shape, SortKey};
 
 /// A dimension is joined: the foreign key of lineorder, and the key that it references.
-#[derive(Clone, Copy, Debug, PartialEq, Eq, Hash)]
+#[derive(Clone, Copy, PartialEq, Eq)]
 pub struct Join {
     pub foreign: ColumnId,
     pub key: ColumnId,
 }
 
 /// A condition on a joined row. No two columns are compared in it.
-#[derive(Debug, Drop)]
+#[derive(Drop)]
 pub enum Condition {
     Or(Box<Condition>, Box<Condition>),
     And(Box<Condition>, Box<Condition>),
@@ -22,7 +22,7 @@ pub enum Condition {
 }
 
 /// A whole number of a joined row.
-#[derive(Debug, Drop)]
+#[derive(Drop)]
 pub enum Expression {
     Column(ColumnId),
     Number(i64),
@@ -32,7 +32,7 @@ pub enum Expression {
 }
 
 /// What is computed over the rows of a group.
-#[derive(Debug, Drop)]
+#[derive(Drop)]
 pub enum Measure {
     Fold(Fold, Expression),
     /// The number of rows.
@@ -40,7 +40,7 @@ pub enum Measure {
 }
 
 /// An aggregate, with the name under which it is shown.
-#[derive(Debug, Drop)]
+#[derive(Drop)]
 pub struct Aggregate {
     pub measure: Measure,
     pub name: Vec<u8>,
@@ -48,7 +48,7 @@ pub struct Aggregate {
 
 /// What a plan says: which rows of lineorder are joined and selected, how they are grouped, what is computed over each
 /// group, what is shown of it and in which order.
-#[derive(Debug, Drop)]
+#[derive(Drop)]
 pub struct PlanTree {
     pub joins: Vec<Join>,
     /// All of these hold of a selected row.

@@ -2,7 +2,7 @@
 
 ghost use Rattle.std.specs.Prelude.{◌≡◌, ◌++◌, OnOk, IfOk};
 ghost use Rattle.std.specs.Result.{result_err};
-ghost use Rattle.star_schema.specs.First.{first_answer};
+ghost use Rattle.star_common.specs.First.{first_answer};
 ghost use Rattle.star_plan.specs.Uses as spec;
 ghost use Rattle.star_plan.specs.Faults.{kind_fault, scope_fault};
 
@@ -13,7 +13,7 @@ use star_schema::{ColumnId, Kind, name_of, table_of};
 use std::alloc::{AllocError, Global};
 
 /// A column where a query names it.
-#[derive(Clone, Copy, Debug, PartialEq, Eq)]
+#[derive(Clone, Copy)]
 pub struct Use {
     /// The column, if there is one of this name.
     pub column: Option<ColumnId>,

@@ -69,14 +69,6 @@ line_bounds LoLinenumber = record { low = pos 1; high = pos 10 }
 line_bounds LoExtendedprice = only (pos 900000000000000000)
 line_bounds _ = only (pos 0)
 
-abbrev eleven_sizes : TableId → ℕ
-eleven_sizes Lineorder = 11
-eleven_sizes t = 0
-
-abbrev widest_bounds : ColumnId → Range
-widest_bounds LoExtendedprice = record { low = pos 500; high = pos 999999999999999999 }
-widest_bounds _ = only (pos 0)
-
 -- ten lines of one great price
 abbrev pub great_prices : World
 great_prices = record {
@@ -89,14 +81,6 @@ great_prices = record {
   find = λ t z. None;
   bounds = line_bounds;
 }
-
--- eleven of them
-abbrev pub one_line_more : World
-one_line_more = record great_prices { size = λ t. eleven_sizes t }
-
--- a line with the widest price
-abbrev pub widest_price : World
-widest_price = record sample { bounds = widest_bounds }
 
 -- ---- programs
 
@@ -164,17 +148,6 @@ doubled_difference = program 10 (plain (aggregate.Sum ∷ []) ∷ plain (aggrega
     (Then (op.Load 4 LoExtendedprice 0) (Then (op.Put 0 [] (4 ∷ [])) Stop))))))
     (Then (op.Read 5 0 0 (pos 0)) (Then (op.Const 6 (pos 9000000000000000000)) (Then (op.Sub 7 5 6)
     (Then (op.Const 8 (pos 2)) (Then (op.Mul 9 7 8) (Then (op.Put 1 [] (9 ∷ [])) Stop)))))))
-
--- the sum of the prices of the first lines
-abbrev pub first_lines : Parts
-first_lines = program 10 (plain (aggregate.Sum ∷ []) ∷ []) 0
-    (Each Lineorder 0
-    (Then (op.Load 1 LoLinenumber 0) (Then (op.Const 2 (pos 1)) (Then (op.Equal 3 1 2) (Then (op.Keep 3)
-    (Then (op.Load 4 LoExtendedprice 0) (Then (op.Put 0 [] (4 ∷ [])) Stop)))))) Stop)
-
-abbrev pub squared_price : Parts
-squared_price = program 10 (plain (aggregate.Sum ∷ []) ∷ []) 0
-    (Each Lineorder 0 (Then (op.Load 1 LoExtendedprice 0) (Then (op.Mul 2 1 1) (Then (op.Put 0 [] (2 ∷ [])) Stop))) Stop)
 
 abbrev pub two_keys : GroupDecl
 two_keys = record { shape = Cube; keys = key.Number ∷ key.Number ∷ []; aggregates = aggregate.Sum ∷ aggregate.Count ∷ [] }

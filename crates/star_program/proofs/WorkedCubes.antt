@@ -14,10 +14,9 @@ use Rattle.star_program.specs.declared.key.KeyValue.TheVariants.{Number}
 use Rattle.star_program.specs.declared.outcome.Cell.TheVariants as cell
 use Rattle.star_program.specs.declared.outcome.Outcome.{Outcome}
 use Rattle.star_program.specs.Keys.{value_cmp}
-use Rattle.star_program.specs.Laws.{EndsWith}
 use Rattle.star_program.specs.Outcome.{IsOutcome, decoded_row}
 use Rattle.star_program.specs.Puts.{Update}
-use Rattle.star_program.specs.Run.{run_of}
+use Rattle.star_program.specs.Run.{EndsWith, run_of}
 use Rattle.star_program.proofs.Sample.{sample, one_put, two_keys}
 
 abbrev update : Update

@@ -1,15 +1,11 @@
 // The instructions of a program, one after another, with scans round some.
 
-ghost use Rattle.std.specs.Prelude.{◌≡◌, ◌≤◌, ◌<◌, ◌+◌, ◌++◌, ◌↔◌, IsTrue, IfSome, IfNone, OnOk};
+ghost use Rattle.std.specs.Prelude.{◌≡◌, ◌≤◌, ◌<◌, ◌+◌, ◌↔◌, IsTrue, IfSome, IfNone, OnOk};
 ghost use Rattle.star_program.specs.Code.{code_size, scan_depth};
-ghost use Rattle.star_program.specs.CodeOfSteps.{code_of_step, code_of_steps};
-ghost use Rattle.star_program.specs.Followed.{followed};
-ghost use Rattle.star_program.specs.Statements.{lines_of_code};
-ghost use Rattle.star_program.specs.Written.{line_text};
-ghost use Rattle.std.specs.List.{flat_map};
+ghost use Rattle.star_program.specs.CodeOfSteps.{code_of_steps};
+ghost use Rattle.star_program.specs.Private.Followed.{code_of_step, followed};
 
 use crate::op::Op;
-use crate::spelling::program_lines::{push_end_line, push_op_line, push_scan_line};
 use star_schema::TableId;
 use std::alloc::AllocError;
 use std::marker::Model;
@@ -34,7 +30,8 @@ pub enum Step {
 }
 
 impl Model for Body {
-    ghost use Rattle.star_program.specs.Code.{Code, code_coded};
+    ghost use Rattle.star_program.specs.Code.{Code};
+    ghost use Rattle.star_program.specs.Private.StoredCode.{code_coded};
 
     ghost Value = { Code };
 
@@ -48,7 +45,7 @@ impl Model for Body {
 
     ghost size = { code_size };
 
-    ghost use Rattle.star_program.specs.Smaller.{most_le-code_size};
+    ghost use Rattle.star_program.specs.Private.Smaller.{most_le-code_size};
 
     ghost size_decreases = { λ a h. omega (arith, most_le-code_size a.steps.items) };
 }
@@ -97,18 +94,6 @@ impl Body {
         Some(left)
     }
 
-    /// Adds the lines of the body, where so many scans stand round it.
-    #[cycle(writing)]
-    pub(crate) fn write(&self, out: &mut Vec<u8>, depth: u8) -> Result<(), AllocError>
-        requires { depth + scan_depth self.now ≤ 3 }
-        ensures { OnOk result (out.new.items ≡ out.old.items ++ flat_map line_text (lines_of_code depth self.now)) }
-    {
-        for step in &self.steps {
-            step.write(out, depth)?;
-        }
-        Ok(())
-    }
-
     // Whether at most so many scans stand one in another.
     #[cycle(nesting)]
     pub(crate) fn is_nested_within(&self, scans: u8) -> bool
@@ -146,25 +131,6 @@ impl Step {
                 Some(inner) => body.is_nested_within(inner),
                 None => false,
             },
-        }
-    }
-
-    #[cycle(writing)]
-    fn write(&self, out: &mut Vec<u8>, depth: u8) -> Result<(), AllocError>
-        requires { depth + scan_depth (code_of_step self.now) ≤ 3 }
-        ensures { OnOk result (out.new.items ≡ out.old.items ++ flat_map line_text (lines_of_code depth (code_of_step self.now))) }
-    {
-        match self {
-            Step::Act(op) => push_op_line(out, depth, op),
-            Step::Scan {
-                table,
-                target,
-                body,
-            } => {
-                push_scan_line(out, depth, *table, *target)?;
-                body.write(out, depth + 1)?;
-                push_end_line(out, depth)
-            }
         }
     }
 }

@@ -1,10 +1,10 @@
 // What a program says of its groups.
 
-use crate::items::Items;
+use star_common::Items;
 use star_schema::{Aggregate, ColumnId, Shape};
 
 /// One key of a group: numbers, or the texts of one column.
-#[derive(Clone, Copy, Debug, PartialEq, Eq, Hash)]
+#[derive(Clone, Copy, Debug, PartialEq, Eq)]
 pub enum GroupKey {
     Number,
     Text(ColumnId),
@@ -17,7 +17,7 @@ pub type GroupKeys = Items<GroupKey>;
 pub type Aggregates = Items<Aggregate>;
 
 /// A group of rows: which groupings of its keys it has, and what it computes over each group of rows.
-#[derive(Debug, Drop)]
+#[derive(Drop)]
 pub struct GroupDecl {
     pub shape: Shape,
     pub keys: GroupKeys,

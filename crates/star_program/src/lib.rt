@@ -1,23 +1,19 @@
-//! Programs for the register machine: their types and limits, what they mean, and what a verifier asks of them.
+//! Programs for the register machine: their types and limits, what they mean, and their text.
 //!
-//! The meaning of a program, the conditions that it can be refused by and the law that ties the two stand in `specs/`: every crate above cites them.
+//! The meaning of a program stands in `specs/`: every crate above cites it. What a text spells stands apart from it, in `specs/Text/`.
 #![tactic(auto)]
 
 mod body;
 mod group;
-mod items;
 mod key;
 pub mod law;
 mod op;
 mod outcome;
 mod program;
 mod spelling;
-#[cfg(test)]
-mod tests;
 
 pub use body::{Body, Step};
 pub use group::{Aggregates, GroupDecl, GroupKey, GroupKeys};
-pub use items::Items;
 pub use key::KeyValue;
 pub use op::{Op, RegisterList, Text};
 pub use outcome::{Cell, Outcome};
@@ -29,3 +25,4 @@ pub use spelling::{
     TextFault, no_text_spells_two_programs, spelled_programs_are_written_back,
     texts_without_a_fault_spell_programs,
 };
+pub use star_common::Items;

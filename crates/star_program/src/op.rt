@@ -1,6 +1,6 @@
 // The instructions of a program, but for scans.
 
-use crate::items::Items;
+use star_common::Items;
 use star_schema::{ColumnId, TableId};
 
 /// The numbers of registers, in order.
@@ -10,7 +10,7 @@ pub type RegisterList = Items<u16>;
 pub type Text = Items<u8>;
 
 /// An instruction. Registers, groups and aggregates go by their numbers, from 0; `target` is the register that it writes.
-#[derive(Debug, Drop)]
+#[derive(Drop)]
 pub enum Op {
     /// A number.
     Const {

@@ -1,11 +1,11 @@
 // What a run gives: named columns, rows of cells, and how much was done.
 
-use crate::items::Items;
 use crate::op::Text;
 use crate::program::Name;
+use star_common::Items;
 
 /// A cell of a report.
-#[derive(Debug, Drop)]
+#[derive(Drop)]
 pub enum Cell {
     /// A key or an aggregate.
     Number(i64),
@@ -18,7 +18,7 @@ pub enum Cell {
 }
 
 /// What a run gives: a name for each show line, the rows in order, each a cell for each name, and three counts.
-#[derive(Debug, Drop)]
+#[derive(Drop)]
 pub struct Outcome {
     pub names: Items<Name>,
     pub rows: Items<Items<Cell>>,

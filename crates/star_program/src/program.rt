@@ -1,17 +1,17 @@
 // Programs and their parts.
 
 ghost use Rattle.std.specs.Prelude.{◌≡◌, ◌≤◌, ◌↔◌, All, length, IsSome, IfErr, IfOk, IfSome, IsTrue};
-ghost use Rattle.star_program.specs.Written.{text_of};
+ghost use Rattle.star_program.specs.Text.Written.{text_of};
 ghost use Rattle.star_program.specs.Limits.{IsSmall, IsWithinLimits};
-ghost use Rattle.star_program.specs.Spellable.{IsSpellable};
-ghost use Rattle.star_program.specs.Spelling.{IsFirstFault, IsRead, Spells};
+ghost use Rattle.star_program.specs.Text.Spellable.{IsSpellable};
+ghost use Rattle.star_program.specs.Text.Spelling.{IsFirstFault, IsRead, Spells};
 
 use crate::body::Body;
 use crate::group::GroupDecl;
-use crate::items::Items;
 use crate::spelling::TextFault;
 use crate::spelling::parsing::read_parts;
 use crate::spelling::program_lines::write_parts;
+use star_common::Items;
 use star_schema::{GroupColumn, SortKey};
 use std::alloc::{AllocError, Global};
 use std::marker::Model;
@@ -44,7 +44,7 @@ pub const MOST_SORTS: usize = 16;
 pub type Name = Items<u8>;
 
 /// A column of the report: its name, and what of the reported group it shows.
-#[derive(Debug, Drop)]
+#[derive(Drop)]
 pub struct Show {
     pub name: Name,
     pub column: GroupColumn,

@@ -1,5 +1,6 @@
 // The text of a program.
 
+mod body_lines;
 mod draft;
 mod fault;
 mod keyword;
@@ -12,8 +13,6 @@ mod place;
 pub(crate) mod program_lines;
 mod reading;
 mod statement;
-#[cfg(test)]
-mod tests;
 mod writing;
 
 pub use fault::TextFault;

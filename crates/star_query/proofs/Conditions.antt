@@ -18,9 +18,9 @@ use Rattle.star_query.specs.declared.tree.Condition.TheVariants as conditions
 use Rattle.star_query.specs.Symbols.{Symbol, keyword, relation, sign, additive, name, number, text}
 use Rattle.star_query.specs.Tree as tree
 use Rattle.star_query.specs.Grammar.{whole, negated, quoted, Cond, or_conj, Conj, and_unit, Unary, not_unit, group, pair, compare, between, ident, lit_tree, cond_tree, conj_tree, unit_tree}
-use Rattle.star_query.specs.Machine.{compared, low, high, UnitHole, first_unit, next_unit, under_not, ConjHole, first_conj, next_conj, CondHole, in_group, lit_depth, unit_depth, conj_depth, cond_depth, lit_wanted, lit_negative, low_had, unit_wanted, unit_named, equal_had, conj_had, cond_had, give_lit, give_unit, behind_relation, step, Verdict}
+use Rattle.star_query.specs.Private.Machine.{compared, low, high, UnitHole, first_unit, next_unit, under_not, ConjHole, first_conj, next_conj, CondHole, in_group, lit_depth, unit_depth, conj_depth, cond_depth, lit_wanted, lit_negative, low_had, unit_wanted, unit_named, equal_had, conj_had, cond_had, give_lit, give_unit, behind_relation, step, Verdict}
 use Rattle.star_query.specs.Views.{name_view, literal_view, condition_view}
-use Rattle.star_query.specs.Reads.{Spot, No, verdict, Takes, NoName, ReadsName, ReadsLit, ReadsNamed, ReadsUnit, ReadsConj, ReadsCond}
+use Rattle.star_query.specs.Private.Reads.{Spot, No, verdict, Takes, NoName, ReadsName, ReadsLit, ReadsNamed, ReadsUnit, ReadsConj, ReadsCond}
 use Rattle.star_query.proofs.Accepting.{cond_joins, group_closes}
 use Rattle.star_query.proofs.Descent.{takes, stuck, bad_along, bad_name, refused, along, same_from, head_no_name}
 
@@ -103,10 +103,10 @@ named_unit old here new d (Ok x) same deep reads =
 named_unit old here new d (Err e) same deep b =
     λ h q. bad_along e new _ _ (ap (λ s. verdict s (unit_wanted h)) (sym same)) (b h (omega (arith, q)))
 
-pub one_more_unit : (before : ConjHole → Verdict) (old mid new : Spot) (d : ℕ) (a b x y : Condition) → ((c : Conj) × (conj_tree c ≡ condition_view a) × ((h : ConjHole) → conj_depth h ≡ d → before h ≡ verdict old (conj_had c h))) → Takes old mid (keyword k.And) [] → d ≤ 32 → b ≡ a → y ≡ x → ReadsUnit d mid new (Ok x) → (c : Conj) × (conj_tree c ≡ tree.both (condition_view b) (condition_view y)) × ((h : ConjHole) → conj_depth h ≡ d → before h ≡ verdict new (conj_had c h))
-one_more_unit before old mid new d a b x y so_far t deep eb ey reads =
-    (and_unit so_far.0 reads.0, ap (λ z. tree.both z (unit_tree reads.0)) (so_far.1 ∙ ap condition_view (sym eb)) ∙ ap (tree.both (condition_view b)) (reads.1 ∙ ap condition_view (sym ey)), λ h q. so_far.2 h q ∙ takes old mid _ [] (conj_depth h) (conj_had so_far.0 h) (unit_wanted (next_unit so_far.0 h)) t (omega arith) refl ∙ reads.2 (next_unit so_far.0 h) q)
+pub one_more_unit : (before : ConjHole → Verdict) (old mid new : Spot) (d : ℕ) (a x z : Condition) → ((c : Conj) × (conj_tree c ≡ condition_view a) × ((h : ConjHole) → conj_depth h ≡ d → before h ≡ verdict old (conj_had c h))) → Takes old mid (keyword k.And) [] → d ≤ 32 → condition_view z ≡ tree.both (condition_view a) (condition_view x) → ReadsUnit d mid new (Ok x) → (c : Conj) × (conj_tree c ≡ condition_view z) × ((h : ConjHole) → conj_depth h ≡ d → before h ≡ verdict new (conj_had c h))
+one_more_unit before old mid new d a x z so_far t deep ez reads =
+    (and_unit so_far.0 reads.0, ap (λ l. tree.both l (unit_tree reads.0)) so_far.1 ∙ ap (tree.both (condition_view a)) reads.1 ∙ sym ez, λ h q. so_far.2 h q ∙ takes old mid _ [] (conj_depth h) (conj_had so_far.0 h) (unit_wanted (next_unit so_far.0 h)) t (omega arith) refl ∙ reads.2 (next_unit so_far.0 h) q)
 
-pub one_more_conj : (before : CondHole → Verdict) (old mid new : Spot) (d : ℕ) (a b x y : Condition) → ((p : Cond) × (cond_tree p ≡ condition_view a) × ((h : CondHole) → cond_depth h ≡ d → before h ≡ verdict old (cond_had p h))) → Takes old mid (keyword k.Or) [] → d ≤ 32 → b ≡ a → y ≡ x → ReadsConj d mid new (Ok x) → (p : Cond) × (cond_tree p ≡ tree.either (condition_view b) (condition_view y)) × ((h : CondHole) → cond_depth h ≡ d → before h ≡ verdict new (cond_had p h))
-one_more_conj before old mid new d a b x y so_far t deep eb ey reads =
-    (or_conj so_far.0 reads.0, ap (λ z. tree.either z (conj_tree reads.0)) (so_far.1 ∙ ap condition_view (sym eb)) ∙ ap (tree.either (condition_view b)) (reads.1 ∙ ap condition_view (sym ey)), λ h q. so_far.2 h q ∙ takes old mid _ [] (cond_depth h) (cond_had so_far.0 h) (unit_wanted (first_unit (next_conj so_far.0 h))) t (omega arith) (cond_joins so_far.0 h) ∙ reads.2 (next_conj so_far.0 h) q)
+pub one_more_conj : (before : CondHole → Verdict) (old mid new : Spot) (d : ℕ) (a x z : Condition) → ((p : Cond) × (cond_tree p ≡ condition_view a) × ((h : CondHole) → cond_depth h ≡ d → before h ≡ verdict old (cond_had p h))) → Takes old mid (keyword k.Or) [] → d ≤ 32 → condition_view z ≡ tree.either (condition_view a) (condition_view x) → ReadsConj d mid new (Ok x) → (p : Cond) × (cond_tree p ≡ condition_view z) × ((h : CondHole) → cond_depth h ≡ d → before h ≡ verdict new (cond_had p h))
+one_more_conj before old mid new d a x z so_far t deep ez reads =
+    (or_conj so_far.0 reads.0, ap (λ l. tree.either l (conj_tree reads.0)) so_far.1 ∙ ap (tree.either (condition_view a)) reads.1 ∙ sym ez, λ h q. so_far.2 h q ∙ takes old mid _ [] (cond_depth h) (cond_had so_far.0 h) (unit_wanted (first_unit (next_conj so_far.0 h))) t (omega arith) (cond_joins so_far.0 h) ∙ reads.2 (next_conj so_far.0 h) q)

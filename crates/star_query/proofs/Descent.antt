@@ -16,9 +16,9 @@ use Rattle.star_query.specs.declared.tree.Expression.TheVariants as expressions
 use Rattle.star_query.specs.Symbols.{Symbol, sign, additive, name, number}
 use Rattle.star_query.specs.Tree as tree
 use Rattle.star_query.specs.Grammar.{Expr, joined, Term, times, column, constant, negative, parens, first, ident, combined, expr_tree, term_tree, factor_tree}
-use Rattle.star_query.specs.Machine.{ExprHole, in_parens, TermHole, first_term, next_term, FactorHole, first_factor, next_factor, expr_depth, term_depth, factor_depth, State, factor_wanted, factor_negative, term_had, expr_had, give_factor, to, step, at_end, Verdict, Bad, plus, checked, after, ends, run}
+use Rattle.star_query.specs.Private.Machine.{ExprHole, in_parens, TermHole, first_term, next_term, FactorHole, first_factor, next_factor, expr_depth, term_depth, factor_depth, State, factor_wanted, factor_negative, term_had, expr_had, give_factor, to, step, at_end, Verdict, Bad, plus, checked, after, ends, run}
 use Rattle.star_query.specs.Views.{name_view, expression_view}
-use Rattle.star_query.specs.Reads.{Spot, head_of, No, verdict, EndsBad, Takes, NoName, NoNumber, IsName, IsNumber, IsBeyond, ReadsName, ReadsNumber, Nests, ReadsPhrase, ReadsOperand, ReadsFactor, ReadsTerm, ReadsExpr}
+use Rattle.star_query.specs.Private.Reads.{Spot, head_of, No, verdict, EndsBad, Takes, NoName, NoNumber, IsName, IsNumber, IsBeyond, ReadsName, ReadsNumber, Nests, ReadsPhrase, ReadsOperand, ReadsFactor, ReadsTerm, ReadsExpr}
 use Rattle.star_query.proofs.Counting.{not_below}
 use Rattle.star_query.proofs.Accepting.{expr_joins, parens_close}
 use Rattle.star_query.proofs.Tokens.{no_name_there}

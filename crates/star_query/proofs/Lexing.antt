@@ -7,12 +7,12 @@ use Rattle.star_query.specs.declared.token.Word.TheVariants.{Keyword, Fold, Coun
 use Rattle.star_query.specs.declared.token.Keyword.TheVariants.{Select}
 use Rattle.star_query.specs.declared.token.Fold.TheVariants.{Sum}
 use Rattle.star_query.specs.Symbols.{Symbol, Placed, spelling, lowered}
-use Rattle.star_query.specs.Cut.{is_spelled, Ending, closed, stopped, open_ended, farther, goes_on, ending_after, blank, token, bad, front_piece, cut_from, cut_of, with_token, begins_with_letter, is_word_byte}
+use Rattle.star_query.specs.Cut.{is_spelled, Ending, closed, stopped, open_ended, farther, goes_on, ending_after, blank, token, bad, cut_from, cut_of, with_token, begins_with_letter, is_word_byte}
 use Rattle.star_query.specs.declared.fault.QueryFault.TheVariants.{OutOfMemory, TooLong}
 use Rattle.star_query.specs.declared.fault.QueryFault.{QueryFault}
 use Rattle.std.specs.Char.{is_ascii_digit}
 use Rattle.std.proofs.lemmas.List.{get_or-take, drop_all}
-use Rattle.star_query.specs.Lexed.{ended_at, with_tokens, begins_with_digit, IsCutFault}
+use Rattle.star_query.specs.Private.Lexed.{ended_at, front_piece, with_tokens, begins_with_digit, IsCutFault}
 use Rattle.std.proofs.Math.Nat.{pow-le-pow_right}
 use Rattle.std.proofs.lemmas.Grind.{pow_more}
 use Rattle.std.specs.List.{prefix_len}

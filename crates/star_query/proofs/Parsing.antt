@@ -10,16 +10,16 @@ use Rattle.star_query.specs.declared.fault.QueryFault.{QueryFault}
 use Rattle.star_query.specs.declared.fault.QueryFault.TheVariants as faults
 use Rattle.star_query.specs.declared.tree.Tree.{Tree}
 use Rattle.star_query.specs.Symbols.{Symbol, Placed, symbols}
-use Rattle.star_query.specs.Lexed.{placed, symbol_of, IsCutFault, IsLexical}
+use Rattle.star_query.specs.Private.Lexed.{placed, symbol_of, IsCutFault, IsLexical}
 use Rattle.star_query.specs.Cut.{cut_of}
 use Rattle.star_query.specs.Tree as tree
 use Rattle.star_query.specs.Derives.{symbols_at, Derives, FirstFault, Means, StopsAt, IsFirstFault, place_of}
 use Rattle.star_query.specs.declared.counts.Counts.{Counts}
-use Rattle.star_query.specs.Machine.{Bad, begin, nothing_counted, run}
+use Rattle.star_query.specs.Private.Machine.{Bad, begin, nothing_counted, run}
 use Rattle.star_query.specs.Views.{tree_view}
-use Rattle.star_query.specs.Reads.{Spot, EndsBad}
-use Rattle.star_query.specs.Clauses.{ReadsQuery}
-use Rattle.star_query.specs.TokenFaults.{TokensStopAt, IsTokenFault, refusal_of, query_fault, IsTreeRead}
+use Rattle.star_query.specs.Private.Reads.{Spot, EndsBad}
+use Rattle.star_query.specs.Private.Clauses.{ReadsQuery}
+use Rattle.star_query.specs.Private.TokenFaults.{TokensStopAt, IsTokenFault, refusal_of, query_fault, IsTreeRead}
 use Rattle.star_query.specs.Shown.{IsRead}
 use Rattle.star_query.proofs.Verdicts.{verdict_of, derives, one_tree, first_fault, refuses}
 

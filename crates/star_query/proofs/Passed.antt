@@ -9,7 +9,7 @@ use Rattle.star_query.specs.declared.counts.Part.TheVariants as part
 use Rattle.star_query.specs.Symbols.{Symbol, keyword, fold, count, relation, sign, additive, name, number, text}
 use Rattle.star_query.specs.Tree.{Name}
 use Rattle.star_query.specs.Grammar.{Several, one, Expr, lone_term, joined, Term, lone_factor, times, Factor, constant, negative, parens, Lit, whole, negated, Cond, lone_conj, or_conj, Conj, lone_unit, and_unit, Unary, not_unit, group, pair, compare, between, Agg, folded, counted, Item, plain, aggregate, Key, unmarked, ascending, descending, ungrouped, grouped, cubed, Query, Mark, at, first, ident, function, expr_marks, term_marks, factor_marks, lit_marks, cond_marks, conj_marks, unit_marks, agg_marks, item_marks, table_marks, column_marks, key_marks, several_marks, where_marks, groups_marks, keys_marks, query_marks}
-use Rattle.star_query.specs.Machine.{extended, ExprHole, in_fold, in_parens, TermHole, first_term, next_term, FactorHole, first_factor, next_factor, CondHole, in_where, in_group, ConjHole, first_conj, next_conj, UnitHole, first_unit, next_unit, under_not, LitHole, compared, low, high, Filtered, Grouped, filtered_by, grouped_by, query_of, expr_depth, term_depth, factor_depth, cond_depth, conj_depth, unit_depth, lit_depth, State, begin, item_wanted, fold_named, count_named, count_opened, count_starred, factor_wanted, factor_negative, term_had, agg_had, alias_wanted, items_had, table_wanted, tables_had, unit_wanted, unit_named, equal_had, lit_wanted, lit_negative, low_had, conj_had, filtered_had, group_had, by_had, cube_had, column_wanted, columns_had, grouped_had, order_had, key_wanted, key_named, keys_had, done, ended, Step, give_factor, joined_expr, around_term, give_unit, joined_cond, around_conj, give_lit, behind_relation, closed_expr, on_begin, on_item, on_fold, on_count, on_count_opened, on_count_starred, on_factor, on_negative, on_term, on_items, on_agg, on_alias, on_table, on_done, on_grouped, on_filtered, on_tables, on_unit, on_named, on_lit, on_equal, on_lit_negative, on_low, closed_cond, on_cond, on_conj, on_group, on_column, on_by, on_cube, on_cubed, on_columns, on_order, on_key, on_keys, on_key_named, step, cond_end, at_end}
+use Rattle.star_query.specs.Private.Machine.{extended, ExprHole, in_fold, in_parens, TermHole, first_term, next_term, FactorHole, first_factor, next_factor, CondHole, in_where, in_group, ConjHole, first_conj, next_conj, UnitHole, first_unit, next_unit, under_not, LitHole, compared, low, high, Filtered, Grouped, filtered_by, grouped_by, query_of, expr_depth, term_depth, factor_depth, cond_depth, conj_depth, unit_depth, lit_depth, State, begin, item_wanted, fold_named, count_named, count_opened, count_starred, factor_wanted, factor_negative, term_had, agg_had, alias_wanted, items_had, table_wanted, tables_had, unit_wanted, unit_named, equal_had, lit_wanted, lit_negative, low_had, conj_had, filtered_had, group_had, by_had, cube_had, column_wanted, columns_had, grouped_had, order_had, key_wanted, key_named, keys_had, done, ended, Step, give_factor, joined_expr, around_term, give_unit, joined_cond, around_conj, give_lit, behind_relation, closed_expr, on_begin, on_item, on_fold, on_count, on_count_opened, on_count_starred, on_factor, on_negative, on_term, on_items, on_agg, on_alias, on_table, on_done, on_grouped, on_filtered, on_tables, on_unit, on_named, on_lit, on_equal, on_lit_negative, on_low, closed_cond, on_cond, on_conj, on_group, on_column, on_by, on_cube, on_cubed, on_columns, on_order, on_key, on_keys, on_key_named, step, cond_end, at_end}
 
 abbrev pub before_marks : {A : Type 0} → (A → List Mark → List Mark) → Option (Several A) → List Mark → List Mark
 before_marks marks None rest = rest

@@ -1,7 +1,7 @@
 -- The place of the tokens that are left.
 use Rattle.std.proofs.Common.{◌≡◌, ℕ, ◌<◌, ◌≤◌, List, [], ◌∷◌, zero, suc, map, length, drop, get_or, refl, ap, arith}
 use Rattle.star_query.specs.declared.token.Token.{Token}
-use Rattle.star_query.specs.Lexed.{placed}
+use Rattle.star_query.specs.Private.Lexed.{placed}
 use Rattle.star_query.specs.Derives.{place_of}
 
 pub some_place : (ts : List Token) (n end : ℕ) (t : Token) → n < length ts → t ≡ get_or ts n t → t.place ≡ place_of (drop n (map placed ts)) end

@@ -15,7 +15,7 @@ use Rattle.star_query.specs.declared.fault.ParseError.TheVariants as errors
 use Rattle.star_query.specs.declared.parser.Function.{Function}
 use Rattle.star_query.specs.declared.parser.Parser.{Parser}
 use Rattle.star_query.specs.declared.token.Token.{Token}
-use Rattle.star_query.specs.Lexed.{symbol_of}
+use Rattle.star_query.specs.Private.Lexed.{symbol_of}
 use Rattle.star_query.specs.declared.tree.Name.{Name}
 use Rattle.star_query.specs.declared.tree.Expression.{Expression}
 use Rattle.star_query.specs.declared.tree.Condition.{Condition}
@@ -33,10 +33,10 @@ use Rattle.star_query.specs.Symbols.{Symbol, keyword, sign, name}
 use Rattle.star_query.specs.Tree as tree
 use Rattle.star_query.specs.Grammar as grammar
 use Rattle.star_query.specs.Grammar.{Several, one, more, Expr, Agg, folded, counted, Cond, lone_conj, or_conj, Key, unmarked, ascending, descending, Groups, ungrouped, grouped, cubed, Query, at, first, ident, expr_tree, cond_tree, agg_tree, item_tree, key_tree, listed, names, groups_tree, keys_tree, query_tree}
-use Rattle.star_query.specs.Machine.{extended, in_fold, in_where, first_factor, first_term, first_unit, first_conj, Filtered, Grouped, filtered_by, grouped_by, query_of, State, begin, item_wanted, fold_named, count_named, count_opened, count_starred, factor_wanted, expr_had, cond_had, agg_had, alias_wanted, items_had, table_wanted, tables_had, unit_wanted, filtered_had, group_had, by_had, cube_had, column_wanted, columns_had, grouped_had, order_had, key_wanted, key_named, keys_had, done, ended, to, step, at_end, Whole, Bad, after, ends, run}
+use Rattle.star_query.specs.Private.Machine.{extended, in_fold, in_where, first_factor, first_term, first_unit, first_conj, Filtered, Grouped, filtered_by, grouped_by, query_of, State, begin, item_wanted, fold_named, count_named, count_opened, count_starred, factor_wanted, expr_had, cond_had, agg_had, alias_wanted, items_had, table_wanted, tables_had, unit_wanted, filtered_had, group_had, by_had, cube_had, column_wanted, columns_had, grouped_had, order_had, key_wanted, key_named, keys_had, done, ended, to, step, at_end, Whole, Bad, after, ends, run}
 use Rattle.star_query.specs.Views.{name_view, condition_view, measure_view, aggregate_view, item_view, grouping_view, key_view}
-use Rattle.star_query.specs.Reads.{Spot, spot_of, head_of, No, verdict, EndsBad, Takes, NoName, ReadsName, ReadsExpr, ReadsCond, NoLogic}
-use Rattle.star_query.specs.Clauses.{function_symbol, function_named, function_parts, ReadsFolded, ReadsCounted, ReadsMeasure, ReadsAlias, ReadsAggregate, ReadsItem, NoComma, ReadsItems, ReadsTables, ReadsFilter, ReadsColumns, ReadsGroups, ReadsGrouping, ReadsKey, ReadsKeyList, ReadsKeys, ReadsEnd, ReadsQuery}
+use Rattle.star_query.specs.Private.Reads.{Spot, spot_of, head_of, No, verdict, EndsBad, Takes, NoName, ReadsName, ReadsExpr, ReadsCond, NoLogic}
+use Rattle.star_query.specs.Private.Clauses.{function_symbol, function_named, function_parts, ReadsFolded, ReadsCounted, ReadsMeasure, ReadsAlias, ReadsAggregate, ReadsItem, NoComma, ReadsItems, ReadsTables, ReadsFilter, ReadsColumns, ReadsGroups, ReadsGrouping, ReadsKey, ReadsKeyList, ReadsKeys, ReadsEnd, ReadsQuery}
 use Rattle.star_query.proofs.Accepting.{fold_closes}
 use Rattle.star_query.proofs.Descent.{takes, stuck, bad_along, bad_name, refused, along, same_from, head_no_name}
 

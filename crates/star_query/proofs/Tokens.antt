@@ -2,7 +2,7 @@
 use Rattle.std.proofs.Common.{◌≡◌, ◌∙◌, ℕ, ◌+◌, ◌<◌, ◌≤◌, Bool, true, false, List, [], ◌∷◌, ◌++◌, Result, Ok, Err, length, map, drop, get_or, refl, sym, ap, subst, arith, append_assoc}
 use Rattle.std.proofs.lemmas.List.{drop_more, length-map}
 use Rattle.star_query.specs.declared.parser.Parser.{Parser}
-use Rattle.star_query.specs.Lexed.{symbol_of}
+use Rattle.star_query.specs.Private.Lexed.{symbol_of}
 use Rattle.std.specs.Prelude.{◌==◌}
 use Rattle.star_query.specs.declared.counts.Part.{Part}
 use Rattle.star_query.specs.declared.counts.Counts.{Counts}
@@ -13,8 +13,8 @@ use Rattle.star_query.specs.declared.token.Digits.{Digits}
 use Rattle.star_query.specs.declared.tree.Name.{Name}
 use Rattle.star_query.specs.Symbols.{Symbol, name, number, unquoted, unquoted_after}
 use Rattle.star_query.specs.Derives.{limit}
-use Rattle.star_query.specs.Machine.{number_of, bump}
-use Rattle.star_query.specs.Reads.{Spot, spot_of, Takes, IsName, IsNumber, NoName, NoNumber, IsBeyond, ReadsName, ReadsNumber}
+use Rattle.star_query.specs.Private.Machine.{number_of, bump}
+use Rattle.star_query.specs.Private.Reads.{Spot, spot_of, Takes, IsName, IsNumber, NoName, NoNumber, IsBeyond, ReadsName, ReadsNumber}
 use Rattle.star_query.proofs.Counting.{one_too_many, one_allowed}
 
 pub beyond_name : (p : Part) (n : Counts) (left : List Symbol) → IsName left → limit p ≤ number_of n p → IsBeyond (p ∷ []) n left

@@ -150,11 +150,6 @@ piece_at place b bs =
     then text_piece place bs
     else sign_piece place b (slice_get bs 0)
 
--- what begins with the first of these bytes
-abbrev pub front_piece : ℕ → List ℕ → Piece
-front_piece place [] = blank
-front_piece place (b ∷ bs) = piece_at place b bs
-
 abbrev pub with_token : Placed → Result (List Placed) QueryFault → Result (List Placed) QueryFault
 with_token t (Ok ts) = Ok (t ∷ ts)
 with_token t (Err e) = Err e

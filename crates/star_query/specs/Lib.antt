@@ -1,15 +1,11 @@
 pub mod Symbols
 pub mod Cut
-pub mod Lexed
 pub mod Tree
 pub mod Grammar
 pub mod Derives
-pub mod Machine
 pub mod Views
-pub mod Reads
-pub mod Clauses
-pub mod TokenFaults
 pub mod Shown
 pub mod Meant
 pub mod Limits
 pub mod Spelled
+pub mod Private

@@ -2,7 +2,7 @@
 
 ghost use Rattle.std.specs.Prelude.{◌≡◌, ◌≤◌, ◌<◌};
 ghost use Rattle.star_query.specs.Derives.{limit};
-ghost use Rattle.star_query.specs.Machine.{number_of, bump, nothing_counted};
+ghost use Rattle.star_query.specs.Private.Machine.{number_of, bump, nothing_counted};
 
 /// What is counted, each at its first token. An aggregate is an item too.
 #[derive(Clone, Copy, PartialEq, Eq)]

@@ -1,6 +1,6 @@
 // Why a text is no query.
 
-ghost use Rattle.std.specs.Prelude.{◌≡◌};
+ghost use Rattle.star_common.specs.Memory.{TellsMemory};
 ghost use Rattle.star_query.specs.declared.fault.QueryFault.TheVariants.{OutOfMemory};
 ghost use Rattle.star_query.specs.declared.fault.ParseError.TheVariants as errors;
 
@@ -28,7 +28,7 @@ pub enum QueryFault {
 }
 
 impl From<AllocError> for QueryFault {
-    ghost from_gives = { λ _ fault. fault ≡ OutOfMemory };
+    ghost from_gives = { TellsMemory OutOfMemory };
 
     fn from(_refused: AllocError) -> QueryFault {
         QueryFault::OutOfMemory
@@ -36,7 +36,7 @@ impl From<AllocError> for QueryFault {
 }
 
 impl<T: Drop> From<AllocFailed<T>> for QueryFault {
-    ghost from_gives = { λ _ fault. fault ≡ OutOfMemory };
+    ghost from_gives = { TellsMemory OutOfMemory };
 
     fn from(_refused: AllocFailed<T>) -> QueryFault {
         QueryFault::OutOfMemory
@@ -59,7 +59,7 @@ pub(crate) enum ParseError {
 }
 
 impl From<AllocError> for ParseError {
-    ghost from_gives = { λ _ error. error ≡ errors.OutOfMemory };
+    ghost from_gives = { TellsMemory errors.OutOfMemory };
 
     fn from(_refused: AllocError) -> ParseError {
         ParseError::OutOfMemory
@@ -67,7 +67,7 @@ impl From<AllocError> for ParseError {
 }
 
 impl<T: Drop> From<AllocFailed<T>> for ParseError {
-    ghost from_gives = { λ _ error. error ≡ errors.OutOfMemory };
+    ghost from_gives = { TellsMemory errors.OutOfMemory };
 
     fn from(_refused: AllocFailed<T>) -> ParseError {
         ParseError::OutOfMemory

@@ -4,7 +4,7 @@ ghost use Rattle.std.specs.Prelude.{◌≡◌, ◌≤◌, ◌<◌, ◌+◌, ◌-
 ghost use Rattle.std.specs.List.{prefix_len, take_while, list_all};
 ghost use Rattle.std.specs.Char.{is_ascii_digit};
 ghost use Rattle.star_query.specs.Cut as spec;
-ghost use Rattle.star_query.specs.Lexed as lexed;
+ghost use Rattle.star_query.specs.Private.Lexed as lexed;
 
 use crate::fault::QueryFault;
 use crate::token::{Additive, Digits, Kind, Relation, Sign, Token, WORDS, Word};
@@ -247,7 +247,7 @@ fn quoted<'a>(text: &'a [u8], place: usize) -> Piece<'a>
 // What begins with the first of these bytes.
 fn next_piece<'a>(text: &'a [u8], place: usize) -> Piece<'a>
     requires { place + length text.now ≤ usize.MAX }
-    ensures piece { lexed.piece_of place result ≡ spec.front_piece place text.now }
+    ensures piece { lexed.piece_of place result ≡ lexed.front_piece place text.now }
     ensures bad { lexed.BadLexically result }
     ensures some { 1 ≤ lexed.width_of result }
     ensures within { lexed.width_of result ≤ max 1 (length text.now) }

@@ -9,8 +9,6 @@ pub mod law;
 mod lexer;
 mod parser;
 mod query;
-#[cfg(test)]
-mod tests;
 mod token;
 mod tree;
 

@@ -3,15 +3,15 @@
 ghost use Rattle.std.specs.Prelude.{◌≡◌, ℕ, ◌<◌, ◌≤◌, [], ◌∷◌, Some, None, pos, neg_ℤ, ◌-◌, length, map, drop, IfErr, OnOk, IfOk, IfSome, IfNone, OnSome};
 ghost use Rattle.std.specs.Bool.{OnTrue, OnFalse};
 ghost use Rattle.star_query.specs.Symbols as symbols;
-ghost use Rattle.star_query.specs.Reads.{spot_of, Takes, No, Expects, Counted, NoName, NoNumber, IsName, IsNumber, head_of, ReadsName, ReadsNumber, ReadsText, Nests, ReadsOperand, ReadsFactor, ReadsTerm, ReadsExpr, NoTimes, NoOperator, ReadsLit, ReadsNamed, ReadsUnit, ReadsConj, ReadsCond, NoAnd, NoLogic};
-ghost use Rattle.star_query.specs.Views.{name_view, expression_view, literal_view, tree_view};
+ghost use Rattle.star_query.specs.Private.Reads.{spot_of, Takes, No, Expects, Counted, NoName, NoNumber, IsName, IsNumber, head_of, ReadsName, ReadsNumber, ReadsText, Nests, ReadsOperand, ReadsFactor, ReadsTerm, ReadsExpr, NoTimes, NoOperator, ReadsLit, ReadsNamed, ReadsUnit, ReadsConj, ReadsCond, NoAnd, NoLogic};
+ghost use Rattle.star_query.specs.Views.{name_view, expression_view, condition_view, literal_view, tree_view};
 ghost use Rattle.star_query.specs.Tree as tree;
-ghost use Rattle.star_query.specs.Machine.{unit_wanted, unit_named, equal_had, lit_wanted, low, compared, behind_relation};
+ghost use Rattle.star_query.specs.Private.Machine.{unit_wanted, unit_named, equal_had, lit_wanted, low, compared, behind_relation};
 ghost use Rattle.star_query.specs.Grammar.{combined};
-ghost use Rattle.star_query.specs.Lexed.{placed};
+ghost use Rattle.star_query.specs.Private.Lexed.{placed};
 ghost use Rattle.star_query.specs.Derives.{Derives, place_of};
-ghost use Rattle.star_query.specs.TokenFaults.{IsTokenFault, IsTreeRead, query_fault};
-ghost use Rattle.star_query.specs.Clauses.{function_symbol, NoFunction, ReadsFunction, ReadsFolded, ReadsCounted, ReadsMeasure, ReadsAlias, ReadsAggregate, ReadsItem, NoComma, ReadsItems, ReadsTables, ReadsFilter, ReadsColumns, ReadsGroups, ReadsGrouping, ReadsKey, ReadsKeyList, ReadsKeys, ReadsEnd, ReadsQuery};
+ghost use Rattle.star_query.specs.Private.TokenFaults.{IsTokenFault, IsTreeRead, query_fault};
+ghost use Rattle.star_query.specs.Private.Clauses.{function_symbol, NoFunction, ReadsFunction, ReadsFolded, ReadsCounted, ReadsMeasure, ReadsAlias, ReadsAggregate, ReadsItem, NoComma, ReadsItems, ReadsTables, ReadsFilter, ReadsColumns, ReadsGroups, ReadsGrouping, ReadsKey, ReadsKeyList, ReadsKeys, ReadsEnd, ReadsQuery};
 ghost use Rattle.star_query.specs.declared.token.Additive.{Additive};
 ghost use Rattle.star_query.specs.declared.token.Additive.TheVariants.{Minus};
 ghost use Rattle.star_query.specs.declared.token.Relation.{Relation};
@@ -470,7 +470,7 @@ impl<'a> Parser<'a> {
         let mut all = self.unit(depth)?;
         while self.take_keyword(Keyword::And) {
             let next = self.unit(depth)?;
-            all = Condition::And(Box::new(self.alloc, all)?, Box::new(self.alloc, next)?);
+            all = both(self.alloc, all, next)?;
         }
         Ok(all)
     }
@@ -486,7 +486,7 @@ impl<'a> Parser<'a> {
         let mut any = self.conjunction(depth)?;
         while self.take_keyword(Keyword::Or) {
             let next = self.conjunction(depth)?;
-            any = Condition::Or(Box::new(self.alloc, any)?, Box::new(self.alloc, next)?);
+            any = either(self.alloc, any, next)?;
         }
         Ok(any)
     }
@@ -804,6 +804,18 @@ fn joined(
         Additive::Plus => Expression::Add(a, b),
         Additive::Minus => Expression::Sub(a, b),
     })
+}
+
+fn both(alloc: Global, left: Condition, right: Condition) -> Result<Condition, AllocError>
+    ensures { IfOk result (λ c. condition_view c ≡ tree.both (condition_view left) (condition_view right)) }
+{
+    Ok(Condition::And(Box::new(alloc, left)?, Box::new(alloc, right)?))
+}
+
+fn either(alloc: Global, left: Condition, right: Condition) -> Result<Condition, AllocError>
+    ensures { IfOk result (λ c. condition_view c ≡ tree.either (condition_view left) (condition_view right)) }
+{
+    Ok(Condition::Or(Box::new(alloc, left)?, Box::new(alloc, right)?))
 }
 
 fn constant(digits: Digits) -> Expression

@@ -15,7 +15,7 @@ use std::alloc::Global;
 pub const MAX_TEXT: usize = 65_536;
 
 /// A query: its tree is what some text means, so it is within all limits. It is made by parsing a text alone.
-#[derive(Debug, Drop)]
+#[derive(Drop)]
 pub struct Query {
     tree: Tree,
     ghost meant: { ∥ IsMeant (tree_view tree) ∥₁ },

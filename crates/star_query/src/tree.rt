@@ -3,14 +3,14 @@
 use crate::token::{Fold, Relation};
 
 /// A name in lower case, and the place where it stands.
-#[derive(Debug, Drop)]
+#[derive(Drop)]
 pub struct Name {
     pub text: Vec<u8>,
     pub place: usize,
 }
 
 /// What a column is compared with.
-#[derive(Debug, Drop)]
+#[derive(Drop)]
 pub enum Literal {
     /// At most 18 digits.
     Number(i64),
@@ -18,7 +18,7 @@ pub enum Literal {
 }
 
 /// What an aggregate folds. Operators of one level group to the left.
-#[derive(Debug, Drop)]
+#[derive(Drop)]
 pub enum Expression {
     Column(Name),
     /// At most 18 digits.
@@ -29,7 +29,7 @@ pub enum Expression {
 }
 
 /// Which rows are selected. Operators of one level group to the left.
-#[derive(Debug, Drop)]
+#[derive(Drop)]
 pub enum Condition {
     Or(Box<Condition>, Box<Condition>),
     And(Box<Condition>, Box<Condition>),
@@ -42,7 +42,7 @@ pub enum Condition {
 }
 
 /// What is computed of each group.
-#[derive(Debug, Drop)]
+#[derive(Drop)]
 pub enum Measure {
     Fold(Fold, Expression),
     /// The number of rows.
@@ -50,7 +50,7 @@ pub enum Measure {
 }
 
 /// An aggregate, with the place of its function's word and its name, if it is given one.
-#[derive(Debug, Drop)]
+#[derive(Drop)]
 pub struct Aggregate {
     pub measure: Measure,
     pub place: usize,
@@ -58,41 +58,41 @@ pub struct Aggregate {
 }
 
 /// One item of SELECT.
-#[derive(Debug, Drop)]
+#[derive(Drop)]
 pub enum Item {
     Column(Name),
     Aggregate(Aggregate),
 }
 
 /// Whether rows are grouped by all columns alone, or by each subset of them.
-#[derive(Clone, Copy, Debug, PartialEq, Eq, Hash)]
+#[derive(Clone, Copy, PartialEq, Eq)]
 pub enum Shape {
     Plain,
     Cube,
 }
 
 /// How rows are grouped; by no column where nothing is said.
-#[derive(Debug, Drop)]
+#[derive(Drop)]
 pub struct Grouping {
     pub shape: Shape,
     pub columns: Vec<Name>,
 }
 
-#[derive(Clone, Copy, Debug, PartialEq, Eq, Hash)]
+#[derive(Clone, Copy, PartialEq, Eq)]
 pub enum Direction {
     Ascending,
     Descending,
 }
 
 /// One key of ORDER BY.
-#[derive(Debug, Drop)]
+#[derive(Drop)]
 pub struct SortKey {
     pub name: Name,
     pub direction: Direction,
 }
 
 /// A query.
-#[derive(Debug, Drop)]
+#[derive(Drop)]
 pub struct Tree {
     pub items: Vec<Item>,
     pub tables: Vec<Name>,

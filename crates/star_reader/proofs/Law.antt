@@ -8,7 +8,7 @@ use Rattle.std.proofs.lemmas.List.{length-map}
 use Rattle.std.proofs.lemmas.List.Elements.{All-cons, All-head, All-nil, All-tail}
 use Rattle.star_schema.specs.declared.table.TableId.{TableId}
 use Rattle.star_schema.specs.declared.column.Kind.{Kind}
-use Rattle.star_schema.specs.First.{first_answer}
+use Rattle.star_common.specs.First.{first_answer}
 use Rattle.star_schema.specs.Records.{ends_line, fields_of, is_bar, is_filled, pieces, records_of, with_first}
 use Rattle.star_schema.specs.Schema.{columns_of, kind_of, kinds_of, width_of}
 use Rattle.star_schema.specs.Tables.{IsRecordOf, IsTable, are_cells, cells_of, ends_in_bar, is_cell, is_of_kind, is_printable, is_short}

@@ -6,14 +6,15 @@ use Rattle.std.proofs.Math.Seq.{map-set_same}
 use Rattle.std.proofs.lemmas.List.{append-nil, drop_all, map-set}
 use Rattle.std.proofs.lemmas.Option.{get_or_from_slice_get, slice_get-map}
 use Rattle.star_schema.specs.declared.column.Kind.{Kind}
-use Rattle.star_schema.specs.First.{first_answer}
+use Rattle.star_common.specs.First.{first_answer}
 use Rattle.star_schema.specs.Tables.{Value, value_of, values_of}
-use Rattle.star_schema.proofs.Lists.{drop_at_place}
+use Rattle.star_common.proofs.Lists.{drop_at_place}
 use Rattle.star_reader.specs.declared.column.RawColumn.{RawColumn}
 use Rattle.star_reader.specs.declared.fault.ReadFault.{ReadFault}
-use Rattle.star_reader.specs.Columns.{extended, kind_of, values}
+use Rattle.star_reader.specs.Columns.{kind_of, values}
+use Rattle.star_reader.specs.Private.Extended.{extended}
 use Rattle.star_reader.specs.Faults.{cell_fault, cells_fault}
-use Rattle.star_reader.specs.Steps.{HasPushed}
+use Rattle.star_reader.specs.Private.Steps.{HasPushed}
 
 extended-nil : (columns : List (List Value)) → extended columns [] ≡ columns
 unfolding extended

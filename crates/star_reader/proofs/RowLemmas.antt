@@ -9,7 +9,8 @@ use Rattle.std.proofs.lemmas.List.Elements.{All-cons, All-head, All-nil, All-tai
 use Rattle.std.proofs.lemmas.Option.{get_or_from_slice_get, slice_get-get_or, slice_get-map}
 use Rattle.star_schema.specs.Bounds.{number_in, numbers_at}
 use Rattle.star_schema.specs.Tables.{Value, Number, value_at}
-use Rattle.star_reader.specs.Columns.{extended, first_rows, row_at}
+use Rattle.star_reader.specs.Columns.{first_rows, row_at}
+use Rattle.star_reader.specs.Private.Extended.{extended}
 
 pub length-first_rows : (n : ℕ) (columns : List (List Value)) → length (first_rows n columns) ≡ n
 unfolding first_rows

@@ -10,17 +10,18 @@ use Rattle.std.proofs.lemmas.List.Elements.{All-map}
 use Rattle.csv.specs.Reading.{is_bom, strip_bom}
 use Rattle.csv.specs.declared.reader.Reader.{Reader}
 use Rattle.star_schema.specs.declared.table.TableId.{TableId}
-use Rattle.star_schema.specs.First.{first_answer}
-use Rattle.star_schema.specs.Records.{fields_of, records_of}
+use Rattle.star_common.specs.First.{first_answer}
+use Rattle.star_schema.specs.Records.{fields_of}
 use Rattle.star_schema.specs.Schema.{kinds_of}
-use Rattle.star_schema.specs.Tables.{Value, cells_of, row_of, rows_of, values_of}
+use Rattle.star_schema.specs.Tables.{Value, cells_of, row_of, values_of}
 use Rattle.star_reader.specs.declared.column.RawColumn.{RawColumn}
 use Rattle.star_reader.specs.declared.fault.ReadFault.{ReadFault}
 use Rattle.star_reader.specs.declared.fault.ReadFault.TheVariants as fault
-use Rattle.star_reader.specs.Columns.{AreColumnsOf, extended, first_rows, kind_of, values}
+use Rattle.star_reader.specs.Columns.{AreColumnsOf, first_rows, kind_of, values}
+use Rattle.star_reader.specs.Private.Extended.{extended}
 use Rattle.star_reader.specs.Faults.{byte_order_mark, record_fault, records_fault}
-use Rattle.star_reader.specs.Lines.{HasLeft, TakesFirst}
-use Rattle.star_reader.specs.Steps.{HasRead}
+use Rattle.star_reader.specs.Private.Lines.{HasLeft, TakesFirst}
+use Rattle.star_reader.specs.Private.Steps.{HasRead, HasRows}
 use Rattle.star_reader.proofs.Law.{width_kinds}
 use Rattle.star_reader.proofs.RowLemmas.{extended_full, first_rows-extended}
 
@@ -43,17 +44,17 @@ no_mark (a ∷ b ∷ c ∷ rest) h =
       | inr plain ↦ rw plain refl
     ]
 
-pub start : (table : TableId) (most : ℕ) (text bytes : List ℕ) (columns : List RawColumn) (reader : Reader (Bor (List ℕ))) → bytes ≡ text → AreColumnsOf table 0 columns → HasLeft reader (records_of bytes)
-    → HasRead table most text 0 columns reader
+pub start : (table : TableId) (most : ℕ) (all : List (List ℕ)) (columns : List RawColumn) (reader : Reader (Bor (List ℕ))) → AreColumnsOf table 0 columns → HasLeft reader all
+    → HasRead table most all 0 columns reader
 unfolding first_rows
-start table most text bytes columns reader same empty left = record { lines = records_of text; left = rw same at left; no_fault = refl; of_table = empty; so_far = refl }
+start table most all columns reader empty left = record { lines = all; left = left; no_fault = refl; of_table = empty; so_far = refl }
 
 -- the next record's fault is the first
-pub faulty : (table : TableId) (most : ℕ) (text : List ℕ) (count : ℕ) (columns : List RawColumn) (old new : Reader (Bor (List ℕ))) (fields : List (List ℕ)) (f : ReadFault)
-    → (h : HasRead table most text count columns old) → TakesFirst h.lines fields new → count < most → record_fault (map kind_of columns) (count + 1) fields ≡ Some f
-    → records_fault table most 1 (records_of text) ≡ Some f
+pub faulty : (table : TableId) (most : ℕ) (all : List (List ℕ)) (count : ℕ) (columns : List RawColumn) (old new : Reader (Bor (List ℕ))) (fields : List (List ℕ)) (f : ReadFault)
+    → (h : HasRead table most all count columns old) → TakesFirst h.lines fields new → count < most → record_fault (map kind_of columns) (count + 1) fields ≡ Some f
+    → records_fault table most 1 all ≡ Some f
 unfolding first_answer
-faulty table most text count columns old new fields f h next within e =
+faulty table most all count columns old new fields f h next within e =
     let room = le-ltb most (count + 1) (omega arith) in
     let here : record_fault (kinds_of table) (count + 1) (fields_of next.line) ≡ Some f = rw (next.fields_are, h.of_table.kinds) at e in
     h.no_fault ∙ rw (next.was, room, here) refl
@@ -66,11 +67,11 @@ pub record AddsRecord (at_row : ℕ) (fields : List (List ℕ)) (old new : List 
   pub kinds : map kind_of new ≡ map kind_of old
 
 -- the next record has no fault
-pub more : (table : TableId) (most : ℕ) (text : List ℕ) (count : ℕ) (columns later : List RawColumn) (old new : Reader (Bor (List ℕ))) (fields : List (List ℕ))
-    → (h : HasRead table most text count columns old) → TakesFirst h.lines fields new → count < most → AddsRecord (count + 1) fields columns later
-    → HasRead table most text (count + 1) later new
+pub more : (table : TableId) (most : ℕ) (all : List (List ℕ)) (count : ℕ) (columns later : List RawColumn) (old new : Reader (Bor (List ℕ))) (fields : List (List ℕ))
+    → (h : HasRead table most all count columns old) → TakesFirst h.lines fields new → count < most → AddsRecord (count + 1) fields columns later
+    → HasRead table most all (count + 1) later new
 unfolding first_answer
-more table most text count columns later old new fields h next within adds =
+more table most all count columns later old new fields h next within adds =
     let room = le-ltb most (count + 1) (omega arith) in
     let here : record_fault (kinds_of table) (count + 1) (fields_of next.line) ≡ None = rw (next.fields_are, h.of_table.kinds) at adds.no_fault in
     let row : values_of (map kind_of columns) (cells_of (length (map kind_of columns)) fields) ≡ row_of table next.line = rw (next.fields_are, h.of_table.kinds, width_kinds table) refl in
@@ -91,17 +92,18 @@ more table most text count columns later old new fields h next within adds =
     }
 
 -- there is no other record
-pub whole : (table : TableId) (most : ℕ) (text : List ℕ) (count : ℕ) (columns : List RawColumn) (reader : Reader (Bor (List ℕ)))
-    → (h : HasRead table most text count columns reader) → h.lines ≡ [] → (records_fault table most 1 (records_of text) ≡ None) × (first_rows count (map values columns) ≡ rows_of table text)
+pub whole : (table : TableId) (most : ℕ) (all : List (List ℕ)) (count : ℕ) (columns : List RawColumn) (reader : Reader (Bor (List ℕ)))
+    → (h : HasRead table most all count columns reader) → h.lines ≡ [] → HasRows table most all count columns
 unfolding first_answer
-whole table most text count columns reader h none = (h.no_fault ∙ rw none refl, sym (append-nil (first_rows count (map values columns))) ∙ rw none at h.so_far)
+whole table most all count columns reader h none =
+    record { no_fault = h.no_fault ∙ rw none refl; of_table = h.of_table; rows = sym (append-nil (first_rows count (map values columns))) ∙ rw none at h.so_far }
 
 -- one record is too many
-pub too_many : (table : TableId) (most : ℕ) (text : List ℕ) (count : ℕ) (columns : List RawColumn) (old new : Reader (Bor (List ℕ))) (fields : List (List ℕ))
-    → (h : HasRead table most text count columns old) → TakesFirst h.lines fields new → most ≤ count
-    → records_fault table most 1 (records_of text) ≡ Some fault.TooManyRows
+pub too_many : (table : TableId) (most : ℕ) (all : List (List ℕ)) (count : ℕ) (columns : List RawColumn) (old new : Reader (Bor (List ℕ))) (fields : List (List ℕ))
+    → (h : HasRead table most all count columns old) → TakesFirst h.lines fields new → most ≤ count
+    → records_fault table most 1 all ≡ Some fault.TooManyRows
 unfolding first_answer
-too_many table most text count columns old new fields h next full =
+too_many table most all count columns old new fields h next full =
     let over = lt-ltb most (count + 1) (omega arith) in
     h.no_fault ∙ rw (next.was, over) refl
 

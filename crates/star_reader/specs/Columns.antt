@@ -16,12 +16,6 @@ abbrev pub values : RawColumn → List Value
 values (Numbers numbers) = map Number numbers.items
 values (Texts texts) = map Text texts
 
--- the columns with one more value each, as far as there are values
-unfoldable pub extended : List (List Value) → List Value → List (List Value)
-extended [] vs = []
-extended (column ∷ columns) [] = column ∷ columns
-extended (column ∷ columns) (v ∷ vs) = (column ++ v ∷ []) ∷ extended columns vs
-
 -- the row at a place of columns of one length
 abbrev pub row_at : List (List Value) → ℕ → List Value
 row_at columns i = map (λ column. slice_index_or column i (Number (pos 0))) columns

@@ -3,7 +3,7 @@ use Rattle.std.specs.Prelude.{◌∷◌, ◌==◌, if◌then◌else◌, not, ℕ
 use Rattle.std.specs.List.{enumerate_from, list_all, starts_with, zip}
 use Rattle.star_schema.specs.declared.table.TableId.{TableId}
 use Rattle.star_schema.specs.declared.column.Kind.{Kind}
-use Rattle.star_schema.specs.First.{first_answer}
+use Rattle.star_common.specs.First.{first_answer}
 use Rattle.star_schema.specs.Records.{fields_of, records_of}
 use Rattle.star_schema.specs.Schema.{kinds_of}
 use Rattle.star_schema.specs.Tables.{cells_of, is_of_kind, is_printable, is_short}

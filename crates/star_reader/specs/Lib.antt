@@ -1,5 +1,3 @@
-pub mod Bars
-pub mod Lines
 pub mod Columns
 pub mod Faults
-pub mod Steps
+pub mod Private

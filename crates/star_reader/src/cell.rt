@@ -2,10 +2,10 @@
 
 ghost use Rattle.std.specs.Prelude.{◌≡◌, ◌<◌, ◌^◌, Some, None, IfSome, if◌then◌else◌};
 ghost use Rattle.std.specs.List.{list_all};
-ghost use Rattle.star_schema.specs.Numerals.{numeral_of};
+ghost use Rattle.star_common.specs.Numerals.{numeral_of};
 ghost use Rattle.star_schema.specs.Tables as spec;
 
-use star_schema::numeral_value;
+use star_common::numeral_value;
 
 // The cell without a minus at its front.
 fn unsigned(cell: &[u8]) -> &[u8]

@@ -1,6 +1,7 @@
 // A column as it was read.
 
-ghost use Rattle.std.specs.Prelude.{◌≡◌, ◌++◌, ◌∷◌, ◌⊎◌, [], None, Some, MatchResult, false};
+ghost use Rattle.std.specs.Prelude.{◌≡◌, ◌++◌, ◌∷◌, [], None, Some, MatchResult, false};
+ghost use Rattle.star_common.specs.Memory.{UnlessMemory};
 ghost use Rattle.star_schema.specs.Tables as spec;
 ghost use Rattle.star_reader.specs.Columns.{kind_of, values};
 ghost use Rattle.star_reader.specs.Faults.{cell_fault};
@@ -12,7 +13,7 @@ use star_schema::Kind;
 use std::alloc::Global;
 
 /// The values of a column, in the order of the rows.
-#[derive(Debug, Drop)]
+#[derive(Drop)]
 pub enum RawColumn {
     Numbers(Vec<i64>),
     Texts(FlatTexts),
@@ -63,7 +64,7 @@ impl RawColumn {
     ) -> Result<(), ReadFault>
         ensures pushed { MatchResult result
             (λ _. (cell_fault at_row field (kind_of self.old) cell.now ≡ None) × (values self.new ≡ values self.old ++ spec.value_of (kind_of self.old) cell.now ∷ []))
-            (λ fault. (fault ≡ ReadFault.OutOfMemory) ⊎ (cell_fault at_row field (kind_of self.old) cell.now ≡ Some fault)) }
+            (λ fault. UnlessMemory ReadFault.OutOfMemory fault (cell_fault at_row field (kind_of self.old) cell.now ≡ Some fault)) }
         ensures kind { kind_of self.new ≡ kind_of self.old }
     {
         match self {

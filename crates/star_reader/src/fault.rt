@@ -1,12 +1,12 @@
 // Why a text is no table.
 
-ghost use Rattle.std.specs.Prelude.{◌≡◌};
+ghost use Rattle.star_common.specs.Memory.{TellsMemory};
 ghost use Rattle.star_reader.specs.declared.fault.ReadFault.TheVariants.{OutOfMemory};
 
 use std::alloc::{AllocError, AllocFailed};
 
 /// Why a text was not read as a table. Records and fields count from 1.
-#[derive(Clone, Copy, Debug, PartialEq, Eq, Hash)]
+#[derive(Clone, Copy, Debug, PartialEq, Eq)]
 pub enum ReadFault {
     /// Memory was refused.
     OutOfMemory,
@@ -25,7 +25,7 @@ pub enum ReadFault {
 }
 
 impl From<AllocError> for ReadFault {
-    ghost from_gives = { λ _ fault. fault ≡ OutOfMemory };
+    ghost from_gives = { TellsMemory OutOfMemory };
 
     fn from(_error: AllocError) -> ReadFault {
         ReadFault::OutOfMemory
@@ -33,7 +33,7 @@ impl From<AllocError> for ReadFault {
 }
 
 impl<T: Drop> From<AllocFailed<T>> for ReadFault {
-    ghost from_gives = { λ _ fault. fault ≡ OutOfMemory };
+    ghost from_gives = { TellsMemory OutOfMemory };
 
     fn from(_error: AllocFailed<T>) -> ReadFault {
         ReadFault::OutOfMemory

@@ -7,8 +7,6 @@ mod fault;
 mod lines;
 mod raw_table;
 mod record;
-#[cfg(test)]
-mod tests;
 
 pub use column::RawColumn;
 pub use fault::ReadFault;

@@ -1,24 +1,30 @@
 // A table as it was read.
 
-ghost use Rattle.std.specs.Prelude.{◌≡◌, ◌⊎◌, ◌<◌, [], None, Some, IfOk, IfErr, length, map, slice_get};
+ghost use Rattle.std.specs.Prelude.{◌≡◌, ◌<◌, ◌≤◌, ℕ, List, [], None, Some, IfOk, IfErr, MatchResult, length, map, slice_get};
+ghost use Rattle.star_common.specs.Memory.{UnlessMemory};
 ghost use Rattle.star_schema.specs.Bounds.{numbers_at};
+ghost use Rattle.csv.specs.Reading.{strip_bom};
+ghost use Rattle.star_schema.specs.Records.{records_of};
 ghost use Rattle.star_schema.specs.Schema.{kinds_of};
+ghost use Rattle.star_schema.specs.declared.table.TableId.{TableId};
 ghost use Rattle.star_schema.specs.Tables.{IsTable, Number, Text, rows_of, value_at};
 ghost use Rattle.star_reader.specs.Columns.{AreColumnsOf, first_rows, values};
-ghost use Rattle.star_reader.specs.Faults.{text_fault};
+ghost use Rattle.star_reader.specs.Faults.{records_fault, text_fault};
+ghost use Rattle.star_reader.specs.Private.Lines.{HasLeft};
+ghost use Rattle.star_reader.specs.Private.Steps.{HasRows};
 
 use crate::column::RawColumn;
 use crate::fault::ReadFault;
 use crate::lines::{read_next, records_reader};
 use crate::record::push_record;
-use csv::ByteRecord;
+use csv::{ByteRecord, Reader};
 use star_schema::{Kind, Limits, TableId, column_at, kind_of, width};
 use std::alloc::{AllocError, Global};
 use std::marker::Model;
 
 /// The rows of a table, kept by columns. A contract sees which table it is, and the list of its rows, each the list of
 /// its values.
-#[derive(Debug, Drop)]
+#[derive(Drop)]
 pub struct RawTable {
     table: TableId,
     rows: u32,
@@ -109,6 +115,50 @@ fn empty_columns(alloc: Global, table: TableId) -> Result<Vec<RawColumn>, AllocE
     Ok(empty)
 }
 
+// Adds the values of all records that are left to the columns of a table without rows, and says how many records there
+// were. After a fault the columns may differ in length.
+fn read_records(
+    reader: &mut Reader<&[u8]>,
+    line: &mut ByteRecord,
+    columns: &mut [RawColumn],
+    most: u32,
+) -> Result<u32, ReadFault>
+    requires { length columns.old ≤ 17 }
+    ensures { (table : TableId) (lines : List (List ℕ)) → HasLeft reader.old lines → AreColumnsOf table 0 columns.old → MatchResult result
+        (λ rows. HasRows table most lines rows columns.new)
+        (λ fault. UnlessMemory ReadFault.OutOfMemory fault (records_fault table most 1 lines ≡ Some fault)) }
+{
+    for rows in 0..most {
+        if !read_next(reader, line)? {
+            return Ok(rows);
+        }
+        push_record(columns, rows + 1, line)?;
+    }
+    if read_next(reader, line)? {
+        return Err(ReadFault::TooManyRows);
+    }
+    Ok(most)
+}
+
+// Reads the records of a text without a byte order mark so. The reader is let go here, at one place.
+fn read_columns(
+    alloc: Global,
+    text: &[u8],
+    table: TableId,
+    columns: &mut [RawColumn],
+    most: u32,
+) -> Result<u32, ReadFault>
+    requires plain { strip_bom text.now ≡ text.now }
+    requires empty { AreColumnsOf table 0 columns.old }
+    ensures { MatchResult result
+        (λ rows. HasRows table most (records_of text.now) rows columns.new)
+        (λ fault. UnlessMemory ReadFault.OutOfMemory fault (records_fault table most 1 (records_of text.now) ≡ Some fault)) }
+{
+    let mut reader = records_reader(alloc, text);
+    let mut line = ByteRecord::new(alloc);
+    read_records(&mut reader, &mut line, columns, most)
+}
+
 /// The table that a text is, with a row for each record, or the first fault: 2 before all, then by record, and in a
 /// record 3, 4, and then cell by cell from the left 5, 6, 7.
 pub fn read_table(
@@ -118,30 +168,16 @@ pub fn read_table(
     limits: Limits,
 ) -> Result<RawTable, ReadFault>
     ensures read { IfOk result (λ raw. IsTable table limits.rows text.now × (raw.table ≡ table) × (raw.rows ≡ rows_of table text.now)) }
-    ensures refused { IfErr result (λ fault. (fault ≡ ReadFault.OutOfMemory) ⊎ ((text_fault table limits.rows text.now ≡ Some fault) × ¬ IsTable table limits.rows text.now)) }
+    ensures refused { IfErr result (λ fault. UnlessMemory ReadFault.OutOfMemory fault ((text_fault table limits.rows text.now ≡ Some fault) × ¬ IsTable table limits.rows text.now)) }
 {
     if text.starts_with(&BYTE_ORDER_MARK) {
         return Err(ReadFault::ByteOrderMark);
     }
-    let mut reader = records_reader(alloc, text);
-    let mut record = ByteRecord::new(alloc);
     let mut columns = empty_columns(alloc, table)?;
-    for rows in 0..limits.rows {
-        if !read_next(&mut reader, &mut record)? {
-            return Ok(RawTable {
-                table,
-                rows,
-                columns,
-            });
-        }
-        push_record(columns.as_mut_slice(), rows + 1, &record)?;
-    }
-    if read_next(&mut reader, &mut record)? {
-        return Err(ReadFault::TooManyRows);
-    }
+    let rows = read_columns(alloc, text, table, columns.as_mut_slice(), limits.rows)?;
     Ok(RawTable {
         table,
-        rows: limits.rows,
+        rows,
         columns,
     })
 }

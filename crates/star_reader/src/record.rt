@@ -1,11 +1,13 @@
 // One record of a table.
 
-ghost use Rattle.std.specs.Prelude.{◌≡◌, ◌⊎◌, ◌≤◌, None, Some, length, map, slice_get, MatchResult};
+ghost use Rattle.std.specs.Prelude.{◌≡◌, ◌≤◌, None, Some, length, map, slice_get, MatchResult};
 ghost use Rattle.std.specs.Option.{option_copied};
+ghost use Rattle.star_common.specs.Memory.{UnlessMemory};
 ghost use Rattle.csv.specs.Records.{fields_of as fields_read};
 ghost use Rattle.star_schema.specs.Tables as spec;
-ghost use Rattle.star_reader.specs.Columns.{extended, kind_of, values};
+ghost use Rattle.star_reader.specs.Columns.{kind_of, values};
 ghost use Rattle.star_reader.specs.Faults.{record_fault};
+ghost use Rattle.star_reader.specs.Private.Extended.{extended};
 
 use crate::column::RawColumn;
 use crate::fault::ReadFault;
@@ -47,7 +49,7 @@ pub(crate) fn push_record(
         (λ _. (record_fault kinds at_row (fields_read line.now) ≡ None)
         × (map values columns.new ≡ extended (map values columns.old) (spec.values_of kinds (spec.cells_of (length kinds) (fields_read line.now))))
         × (length (spec.values_of kinds (spec.cells_of (length kinds) (fields_read line.now))) ≡ length columns.old))
-        (λ fault. (fault ≡ ReadFault.OutOfMemory) ⊎ (record_fault kinds at_row (fields_read line.now) ≡ Some fault)) }
+        (λ fault. UnlessMemory ReadFault.OutOfMemory fault (record_fault kinds at_row (fields_read line.now) ≡ Some fault)) }
     ensures kinds { map kind_of columns.new ≡ map kind_of columns.old }
 {
     if cell_count(line, columns.len()) != columns.len() {

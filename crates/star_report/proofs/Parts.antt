@@ -2,7 +2,7 @@
 use Rattle.std.proofs.Common.{◌≡◌, ◌+◌, ◌≤◌, ℕ, List, [], ◌++◌, Some, append_assoc, drop, length, sym, ◌∙◌}
 use Rattle.std.specs.List.{flat_map, slice_get}
 use Rattle.std.proofs.lemmas.List.{append-nil, drop_all}
-use Rattle.star_schema.proofs.Lists.{drop_at_place}
+use Rattle.star_common.proofs.Lists.{drop_at_place}
 
 -- the parts from a place on are still to come
 abbrev pub HasGrown : {X : Type 0} → (X → List ℕ) → List X → ℕ → List ℕ → List ℕ → Type 0

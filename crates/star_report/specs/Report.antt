@@ -3,19 +3,13 @@ use Rattle.std.specs.Prelude.{◌==◌, ◌||◌, ◌++◌, ◌∷◌, [], if◌
 use Rattle.std.specs.Cmp.Lexicographic.{pointwise}
 use Rattle.std.specs.Fmt.{signed_decimal}
 use Rattle.std.specs.List.{flat_map, join_with_byte, starts_with}
+use Rattle.star_common.specs.Quotes.{quoted}
 use Rattle.star_program.specs.declared.outcome.Cell.{Cell}
 use Rattle.star_program.specs.declared.outcome.Cell.TheVariants.{Number, Text, All, Null}
 
 -- a text that could be read as ALL, or as a text in quotes
 abbrev pub is_ambiguous : List ℕ → Bool
 is_ambiguous text = pointwise nat_eq text (codes "ALL") || starts_with nat_eq text (codes "'")
-
--- a byte of a text in quotes: a quote stands twice
-abbrev pub quoted_byte : ℕ → List ℕ
-quoted_byte b = if b == 39 then codes "''" else b ∷ []
-
-unfoldable pub quoted : List ℕ → List ℕ
-quoted text = codes "'" ++ flat_map quoted_byte text ++ codes "'"
 
 -- a text in quotes where it could be read as something else, and else as it is
 abbrev pub field_of_text : List ℕ → List ℕ

@@ -4,8 +4,6 @@
 mod deliver;
 mod law;
 mod report;
-#[cfg(test)]
-mod tests;
 
 pub use deliver::{WriteFault, write_whole};
 pub use law::{one_text_has_one_meaning, texts_of_tables_are_fields};

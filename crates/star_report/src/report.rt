@@ -3,9 +3,10 @@
 ghost use Rattle.std.specs.Prelude.{◌≡◌, ◌++◌, ◌∷◌, ℕ, List, IfOk, OnOk, map};
 ghost use Rattle.std.specs.Fmt.{signed_decimal};
 ghost use Rattle.std.specs.List.{flat_map, join_with_byte};
-ghost use Rattle.star_report.specs.Report.{cell_text, field_of_text, is_ambiguous, line_text, quoted, quoted_byte, report_text};
+ghost use Rattle.star_report.specs.Report.{cell_text, field_of_text, is_ambiguous, line_text, report_text};
 
 use itoa::Buffer;
+use star_common::push_quoted;
 use star_program::{Cell, Items, Outcome};
 use std::alloc::{AllocError, Global};
 
@@ -62,29 +63,6 @@ fn push_text(text: &mut Vec<u8>, bytes: &[u8]) -> Result<(), AllocError>
         push_quoted(text, bytes)
     } else {
         text.extend_from_slice(bytes)
-    }
-}
-
-#[tactic(auto, unfolding(crate::specs::Report::quoted))]
-fn push_quoted(text: &mut Vec<u8>, bytes: &[u8]) -> Result<(), AllocError>
-    ensures { OnOk result (text.new.items ≡ text.old.items ++ quoted bytes.now) }
-{
-    text.push(b'\'')?;
-    for byte in bytes {
-        push_quoted_byte(text, *byte)?;
-    }
-    text.push(b'\'')?;
-    Ok(())
-}
-
-fn push_quoted_byte(text: &mut Vec<u8>, byte: u8) -> Result<(), AllocError>
-    ensures { OnOk result (text.new.items ≡ text.old.items ++ quoted_byte byte) }
-{
-    if byte == b'\'' {
-        text.extend_from_slice(b"''")
-    } else {
-        text.push(byte)?;
-        Ok(())
     }
 }
 

@@ -1,14 +1,11 @@
 pub mod Schema
-pub mod Describes
 pub mod Sizes
-pub mod Out
-pub mod Numerals
 pub mod Records
 pub mod Tables
 pub mod Bounds
-pub mod First
 pub mod Database
 pub mod Groups
 pub mod Order
 pub mod Loadable
 pub mod Texts
+pub mod Private

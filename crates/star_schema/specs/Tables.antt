@@ -5,7 +5,7 @@ use Rattle.std.specs.Str.Parse.{digits_value, starts_with_minus}
 use Rattle.star_schema.specs.declared.table.TableId.{TableId}
 use Rattle.star_schema.specs.declared.column.Kind.{Kind}
 use Rattle.star_schema.specs.declared.column.Kind.TheVariants as kind
-use Rattle.star_schema.specs.Numerals.{is_numeral}
+use Rattle.star_common.specs.Numerals.{is_numeral}
 use Rattle.star_schema.specs.Records.{fields_of, records_of}
 use Rattle.star_schema.specs.Schema.{kinds_of, width_of}
 

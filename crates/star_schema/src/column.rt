@@ -3,14 +3,14 @@
 ghost use Rattle.std.specs.Prelude.{◌≡◌, ◌↔◌, ◌-◌, ◌<◌, Some, IsTrue, slice_get};
 ghost use Rattle.star_schema.specs.declared.column.ColumnId.{ColumnId};
 ghost use Rattle.star_schema.specs.Schema as spec;
-ghost use Rattle.star_schema.specs.Describes.{Describes};
+ghost use Rattle.star_schema.specs.Private.Describes.{Describes};
 
 use crate::name::{Named, first_named};
 use crate::table::{TableId, column_at};
 use std::fmt;
 
 /// The columns, in the order of the tables and, within a table, of a record's fields.
-#[derive(Clone, Copy, Debug, PartialEq, Eq, Hash)]
+#[derive(Clone, Copy, Debug, PartialEq, Eq)]
 pub enum ColumnId {
     DDatekey,
     DDate,
@@ -135,7 +135,7 @@ pub static COLUMNS: [ColumnId; 58] = [
 ];
 
 /// What a column holds.
-#[derive(Clone, Copy, Debug, PartialEq, Eq, Hash)]
+#[derive(Clone, Copy, PartialEq, Eq)]
 pub enum Kind {
     Number,
     Text,

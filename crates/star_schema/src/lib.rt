@@ -7,8 +7,6 @@ mod column;
 mod group;
 mod limits;
 mod name;
-mod numeral;
-mod sink;
 mod sizes;
 mod table;
 
@@ -18,7 +16,6 @@ pub use column::{
 pub use group::{Aggregate, Direction, GroupColumn, Shape, SortKey};
 pub use limits::{Limits, MOST_ROWS, MOST_VISITS};
 pub use name::{Named, name_of};
-pub use numeral::numeral_value;
-pub use sink::{Out, Sink, SinkFault};
 pub use sizes::Sizes;
+pub use star_common::{Out, Sink, SinkFault};
 pub use table::{Key, TABLES, TableId, column_at, columns, key_of, table_named, width};

@@ -10,7 +10,7 @@ pub const MOST_ROWS: u32 = 1_000_000_000;
 pub const MOST_VISITS: u64 = 1_000_000_000_000_000;
 
 /// The most rows that a table may have, and the most turns of scans that a program may take.
-#[derive(Clone, Copy, Debug, PartialEq, Eq, Hash)]
+#[derive(Clone, Copy, PartialEq, Eq)]
 pub struct Limits {
     pub rows: u32,
     pub visits: u64,

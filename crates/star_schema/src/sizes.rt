@@ -6,7 +6,7 @@ ghost use Rattle.star_schema.specs.Sizes.{size_of};
 use crate::table::TableId;
 
 /// How many rows each table has.
-#[derive(Clone, Copy, Debug, PartialEq, Eq, Hash)]
+#[derive(Clone, Copy, Debug, PartialEq, Eq)]
 pub struct Sizes {
     pub date: u32,
     pub customer: u32,

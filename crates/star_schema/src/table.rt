@@ -9,7 +9,7 @@ use crate::name::{Named, first_named};
 use std::fmt;
 
 /// The tables of the Star Schema Benchmark (revision 3), in the order in which they are read, checked and listed.
-#[derive(Clone, Copy, Debug, PartialEq, Eq, Hash)]
+#[derive(Clone, Copy, Debug, PartialEq, Eq)]
 pub enum TableId {
     Date,
     Customer,
@@ -28,7 +28,7 @@ pub static TABLES: [TableId; 5] = [
 ];
 
 /// The columns that tell the rows of a table apart.
-#[derive(Clone, Copy, Debug, PartialEq, Eq, Hash)]
+#[derive(Clone, Copy, PartialEq, Eq)]
 pub enum Key {
     One(ColumnId),
     Two(ColumnId, ColumnId),

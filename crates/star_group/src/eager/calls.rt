@@ -1,11 +1,12 @@
 // The calls of an eager store.
 
-ghost use Rattle.std.specs.Prelude.{◌≡◌, ◌≤◌, ℕ, List, ◌⊎◌, ◌∷◌, [], length, IfErr, OnOk, OnErr, IfOk, Option, true, false, if◌then◌else◌, Some, None};
+ghost use Rattle.std.specs.Prelude.{◌≡◌, ◌≤◌, ℕ, List, ◌∷◌, [], length, IfErr, OnOk, OnErr, IfOk, Option, true, false, if◌then◌else◌, Some, None};
 ghost use Rattle.indexmap.specs.IndexMap.{get};
+ghost use Rattle.star_common.specs.Memory.{UnlessMemory};
 ghost use Rattle.star_program.specs.declared.key.KeyValue.{KeyValue as Value};
 ghost use Rattle.star_group.specs.Eager.{group_of, look, Has};
 ghost use Rattle.star_group.specs.OwnKeys.{key_eq};
-ghost use Rattle.star_group.specs.Rows.{blank};
+ghost use Rattle.star_group.specs.Private.Rows.{blank};
 ghost use Rattle.star_group.specs.Stores.{Put, group_declared, overflows};
 
 use super::EagerStore;
@@ -61,7 +62,7 @@ impl EagerStore {
         requires values { length values.now ≡ length (group_of self.old).aggregates }
         ensures has { OnOk result ((puts : List Put) → Has self.old puts → Has self.new (record { keys = keys.now; values = values.now } ∷ puts)) }
         ensures stays { OnOk result ((puts : List Put) → Has self.old puts → overflows (group_of self.old) puts (record { keys = keys.now; values = values.now }) ≡ false) }
-        ensures overflow { IfErr result (λ fault. (fault ≡ PutFault.OutOfMemory) ⊎ ((puts : List Put) → Has self.old puts → overflows (group_of self.old) puts (record { keys = keys.now; values = values.now }) ≡ true)) }
+        ensures overflow { IfErr result (λ fault. UnlessMemory PutFault.OutOfMemory fault ((puts : List Put) → Has self.old puts → overflows (group_of self.old) puts (record { keys = keys.now; values = values.now }) ≡ true)) }
         ensures refused { OnErr result (look self.new ≡ look self.old) }
         ensures group { group_of self.new ≡ group_of self.old }
     {

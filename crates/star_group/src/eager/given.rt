@@ -2,9 +2,8 @@
 
 ghost use Rattle.std.specs.Prelude.{◌≡◌, ◌≤◌, ◌<◌, length, take, Some, None, if◌then◌else◌, List, ℤ, Option, IfOk, IfSome, MatchOption, slice_get, slice_index_or};
 ghost use Rattle.indexmap.specs.IndexMap.{index_map_len, IsUnique};
-ghost use Rattle.star_group.specs.Cells as cells;
-ghost use Rattle.star_group.specs.Given as spec;
-ghost use Rattle.star_group.specs.Given.{ShownBelow};
+ghost use Rattle.star_group.specs.Private.Given as spec;
+ghost use Rattle.star_group.specs.Private.Given.{ShownBelow};
 ghost use Rattle.star_group.specs.OwnKeys.{key_eq};
 ghost use Rattle.star_program.specs.declared.key.KeyValue.{KeyValue as Value};
 
@@ -29,7 +28,7 @@ fn is_given(shape: Shape, count: usize, key: &Key) -> bool
 fn shown_at(aggregates: &[Aggregate], row: &Row, place: usize) -> Option<i64>
     requires place { place < length aggregates.now }
     requires few { length aggregates.now ≤ 8 }
-    ensures { result ≡ cells.shown (slice_index_or aggregates.now place Aggregate.Count) (slice_index_or row.now place None) }
+    ensures { result ≡ spec.shown (slice_index_or aggregates.now place Aggregate.Count) (slice_index_or row.now place None) }
 {
     shown(aggregates[place], row[place])
 }

@@ -5,7 +5,7 @@ ghost use Rattle.std.specs.Cmp.Lexicographic.{slice_cmp};
 ghost use Rattle.star_schema.specs.Order.{AreInOrder, key_cmp};
 ghost use Rattle.star_group.specs.Shown.{row_shown};
 ghost use Rattle.star_program.specs.Keys.{value_cmp};
-ghost use Rattle.star_machine.specs.RowOrder.{AllHaveSameNulls, AreApart, column_order, sort_order, row_order};
+ghost use Rattle.star_machine.specs.Private.RowOrder.{AllHaveSameNulls, AreApart, column_order, sort_order, row_order};
 
 use star_group::{GroupRow, KeyValue};
 use star_schema::{Direction, GroupColumn, SortKey};

@@ -1,13 +1,13 @@
 // A program as far as its text was read.
 
 ghost use Rattle.std.specs.Prelude.{◌≡◌, ◌<◌, OnOk, length};
-ghost use Rattle.star_program.specs.Drafts as spec;
+ghost use Rattle.star_program.specs.Private.Drafts as spec;
 ghost use Rattle.star_program.specs.declared.spelling.statement.Statement.TheVariants as says;
 
 use crate::body::{Body, Step};
-use crate::items::Items;
 use crate::program::{Groups, Parts, Shows, Sorts};
 use crate::spelling::statement::Statement;
+use star_common::Items;
 use star_schema::TableId;
 use std::alloc::{AllocError, Global};
 use std::mem::replace;
@@ -34,7 +34,7 @@ pub struct Draft {
 
 impl Draft {
     /// The draft before the first line.
-    #[tactic(auto, unfolding(crate::specs::Drafts::nothing_read))]
+    #[tactic(auto, unfolding(crate::specs::Private::Drafts::nothing_read))]
     pub(crate) fn new(alloc: Global) -> Draft
         ensures { result ≡ spec.nothing_read }
     {

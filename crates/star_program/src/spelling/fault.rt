@@ -1,6 +1,6 @@
 // Why a line was not read.
 
-ghost use Rattle.std.specs.Prelude.{◌≡◌};
+ghost use Rattle.star_common.specs.Memory.{TellsMemory};
 ghost use Rattle.star_program.specs.declared.spelling.fault.LineFault.TheVariants.{OutOfMemory};
 ghost use Rattle.star_program.specs.declared.spelling.fault.TextFault.TheVariants as text;
 
@@ -8,14 +8,14 @@ use std::alloc::{AllocError, AllocFailed};
 use std::fmt;
 
 /// Why a line was not read: memory was refused, or it says nothing.
-#[derive(Clone, Copy, Debug, PartialEq, Eq)]
+#[derive(Clone, Copy)]
 pub enum LineFault {
     OutOfMemory,
     Unreadable,
 }
 
 impl From<AllocError> for LineFault {
-    ghost from_gives = { λ _ fault. fault ≡ OutOfMemory };
+    ghost from_gives = { TellsMemory OutOfMemory };
 
     fn from(_error: AllocError) -> LineFault {
         LineFault::OutOfMemory
@@ -23,7 +23,7 @@ impl From<AllocError> for LineFault {
 }
 
 impl<T: Drop> From<AllocFailed<T>> for LineFault {
-    ghost from_gives = { λ _ fault. fault ≡ OutOfMemory };
+    ghost from_gives = { TellsMemory OutOfMemory };
 
     fn from(_error: AllocFailed<T>) -> LineFault {
         LineFault::OutOfMemory
@@ -31,7 +31,7 @@ impl<T: Drop> From<AllocFailed<T>> for LineFault {
 }
 
 /// Why a text is no program. Lines count from 1, blank ones too; a line that is missing at the end has the number after the last.
-#[derive(Clone, Copy, Debug, PartialEq, Eq, Hash)]
+#[derive(Clone, Copy, Debug, PartialEq, Eq)]
 pub enum TextFault {
     /// Memory was refused.
     OutOfMemory,
@@ -46,7 +46,7 @@ pub enum TextFault {
 }
 
 impl From<AllocError> for TextFault {
-    ghost from_gives = { λ _ fault. fault ≡ text.OutOfMemory };
+    ghost from_gives = { TellsMemory text.OutOfMemory };
 
     fn from(_error: AllocError) -> TextFault {
         TextFault::OutOfMemory
@@ -55,11 +55,11 @@ impl From<AllocError> for TextFault {
 
 impl fmt::Display for TextFault {
     ghost use Rattle.std.specs.Prelude.{Some};
-    ghost use Rattle.star_program.specs.FaultTexts.{fault_text};
+    ghost use Rattle.star_program.specs.Text.FaultTexts.{fault_text};
 
     ghost output = { λ fault. Some (fault_text fault) };
 
-    #[tactic(auto, unfolding(crate::specs::FaultTexts::fault_text))]
+    #[tactic(auto, unfolding(crate::specs::Text::FaultTexts::fault_text))]
     fn fmt<W: fmt::Write>(&self, f: &mut fmt::Formatter<W>) -> fmt::Result {
         match self {
             TextFault::OutOfMemory => write!(f, "1 OutOfMemory"),

@@ -2,13 +2,13 @@
 
 ghost use Rattle.std.specs.Prelude.{◌≡◌, ℕ, List, Some, find, nat_eq};
 ghost use Rattle.std.specs.Cmp.Lexicographic.{pointwise};
-ghost use Rattle.star_program.specs.Keywords as spec;
+ghost use Rattle.star_program.specs.Text.Keywords as spec;
 
 use star_schema::{Aggregate, Direction, Shape};
 use std::fmt;
 
 /// The first word of a line, but for a register.
-#[derive(Clone, Copy, Debug, PartialEq, Eq)]
+#[derive(Clone, Copy)]
 pub enum Keyword {
     Star,
     Registers,
@@ -36,7 +36,7 @@ pub static KEYWORDS: [Keyword; 10] = [
 ];
 
 /// What computes the value of a register.
-#[derive(Clone, Copy, Debug, PartialEq, Eq)]
+#[derive(Clone, Copy)]
 pub enum Operator {
     Const,
     Low,
@@ -76,7 +76,7 @@ pub static OPERATORS: [Operator; 16] = [
 ];
 
 impl Keyword {
-    #[tactic(auto, unfolding(crate::specs::Keywords::keyword_name))]
+    #[tactic(auto, unfolding(crate::specs::Text::Keywords::keyword_name))]
     fn name(self) -> &'static str
         ensures { result.now ≡ spec.keyword_name self }
     {
@@ -95,7 +95,7 @@ impl Keyword {
     }
 
     /// The keyword that a word is, if it is one.
-    #[tactic(auto, unfolding(crate::specs::Keywords::keyword_of))]
+    #[tactic(auto, unfolding(crate::specs::Text::Keywords::keyword_of))]
     pub(crate) fn read(word: &[u8]) -> Option<Keyword>
         ensures { result ≡ spec.keyword_of word.now }
     {
@@ -107,7 +107,7 @@ impl Keyword {
 }
 
 impl Operator {
-    #[tactic(auto, unfolding(crate::specs::Keywords::operator_name))]
+    #[tactic(auto, unfolding(crate::specs::Text::Keywords::operator_name))]
     fn name(self) -> &'static str
         ensures { result.now ≡ spec.operator_name self }
     {
@@ -132,7 +132,7 @@ impl Operator {
     }
 
     /// The operator that a word names, if it names one.
-    #[tactic(auto, unfolding(crate::specs::Keywords::operator_of))]
+    #[tactic(auto, unfolding(crate::specs::Text::Keywords::operator_of))]
     pub(crate) fn read(word: &[u8]) -> Option<Operator>
         ensures { result ≡ spec.operator_of word.now }
     {
@@ -151,7 +151,7 @@ impl fmt::Display for Operator {
     }
 }
 
-#[tactic(auto, unfolding(crate::specs::Keywords::shape_name))]
+#[tactic(auto, unfolding(crate::specs::Text::Keywords::shape_name))]
 pub(crate) fn shape_name(shape: Shape) -> &'static str
     ensures { result.now ≡ spec.shape_name shape }
 {
@@ -161,7 +161,7 @@ pub(crate) fn shape_name(shape: Shape) -> &'static str
     }
 }
 
-#[tactic(auto, unfolding(crate::specs::Keywords::shape_of))]
+#[tactic(auto, unfolding(crate::specs::Text::Keywords::shape_of))]
 pub(crate) fn read_shape(word: &[u8]) -> Option<Shape>
     ensures { result ≡ spec.shape_of word.now }
 {
@@ -174,7 +174,7 @@ pub(crate) fn read_shape(word: &[u8]) -> Option<Shape>
     }
 }
 
-#[tactic(auto, unfolding(crate::specs::Keywords::aggregate_name))]
+#[tactic(auto, unfolding(crate::specs::Text::Keywords::aggregate_name))]
 pub(crate) fn aggregate_name(aggregate: Aggregate) -> &'static str
     ensures { result.now ≡ spec.aggregate_name aggregate }
 {
@@ -186,7 +186,7 @@ pub(crate) fn aggregate_name(aggregate: Aggregate) -> &'static str
     }
 }
 
-#[tactic(auto, unfolding(crate::specs::Keywords::aggregate_of))]
+#[tactic(auto, unfolding(crate::specs::Text::Keywords::aggregate_of))]
 pub(crate) fn read_aggregate(word: &[u8]) -> Option<Aggregate>
     ensures { result ≡ spec.aggregate_of word.now }
 {
@@ -203,7 +203,7 @@ pub(crate) fn read_aggregate(word: &[u8]) -> Option<Aggregate>
     }
 }
 
-#[tactic(auto, unfolding(crate::specs::Keywords::direction_name))]
+#[tactic(auto, unfolding(crate::specs::Text::Keywords::direction_name))]
 pub(crate) fn direction_name(direction: Direction) -> &'static str
     ensures { result.now ≡ spec.direction_name direction }
 {
@@ -213,7 +213,7 @@ pub(crate) fn direction_name(direction: Direction) -> &'static str
     }
 }
 
-#[tactic(auto, unfolding(crate::specs::Keywords::direction_of))]
+#[tactic(auto, unfolding(crate::specs::Text::Keywords::direction_of))]
 pub(crate) fn read_direction(word: &[u8]) -> Option<Direction>
     ensures { result ≡ spec.direction_of word.now }
 {

@@ -1,7 +1,7 @@
 // What holds of all texts.
 
-ghost use Rattle.star_program.specs.Spellable.{OnlySpellable, Written, WrittenBack};
-ghost use Rattle.star_program.specs.Spelling.{Faultless, OneProgram};
+ghost use Rattle.star_program.specs.Text.Spellable.{OnlySpellable, Written, WrittenBack};
+ghost use Rattle.star_program.specs.Text.Spelling.{Faultless, OneProgram};
 
 /// No text spells two programs.
 pub fn no_text_spells_two_programs()

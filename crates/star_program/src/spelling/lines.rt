@@ -2,7 +2,8 @@
 
 ghost use Rattle.std.specs.Prelude.{◌≡◌, ◌∷◌, ◌==◌, ◌||◌, ◌<◌, ◌≤◌, ◌+◌, [], IfSome, MatchOption, drop, length, not};
 ghost use Rattle.std.specs.List.{position};
-ghost use Rattle.star_program.specs.Lines as spec;
+ghost use Rattle.star_program.specs.Private.Returns as returns;
+ghost use Rattle.star_program.specs.Text.Lines as spec;
 
 // The bytes from a place on.
 fn from_place(bytes: &[u8], place: usize) -> &[u8]
@@ -20,7 +21,7 @@ fn line_end(text: &[u8]) -> Option<usize>
 
 // A line without the carriage return of its end.
 fn without_return(line: &[u8]) -> &[u8]
-    ensures { result.now ≡ spec.without_return line.now }
+    ensures { result.now ≡ returns.without_return line.now }
 {
     match line.split_last() {
         Some((last, front)) => { if *last == b'\r' { front } else { line } }

@@ -2,18 +2,19 @@
 
 ghost use Rattle.std.specs.Prelude.{◌≡◌, ◌∷◌, ◌<◌, ℕ, List, Option, Some, None, [], IfSome, MatchOption, MatchResult, length, if◌then◌else◌};
 ghost use Rattle.std.specs.Option.{option_map};
-ghost use Rattle.star_program.specs.Keywords as words;
-ghost use Rattle.star_program.specs.Lines.{words_of};
-ghost use Rattle.star_program.specs.Numerals.{register_of};
-ghost use Rattle.star_program.specs.Said as spec;
+ghost use Rattle.star_program.specs.Private.Reading as reading;
+ghost use Rattle.star_program.specs.Text.Keywords as words;
+ghost use Rattle.star_program.specs.Text.Lines.{words_of};
+ghost use Rattle.star_program.specs.Text.Numerals.{register_of};
+ghost use Rattle.star_program.specs.Text.Said as spec;
 
 use crate::group::GroupKey;
-use crate::items::Items;
 use crate::op::Text;
 use crate::spelling::fault::LineFault;
 use crate::spelling::keyword::read_aggregate;
 use crate::spelling::lines::{is_blank, split_word};
 use crate::spelling::numerals::read_register;
+use star_common::Items;
 use star_schema::{Aggregate, ColumnId, TableId, column_named, table_named};
 use std::alloc::Global;
 
@@ -46,7 +47,7 @@ impl Listed for Aggregate {
 impl Listed for GroupKey {
     ghost meaning = { spec.group_key_of };
 
-    #[tactic(auto, unfolding(crate::specs::Said::group_key_of))]
+    #[tactic(auto, unfolding(crate::specs::Text::Said::group_key_of))]
     fn read(word: &[u8]) -> Option<GroupKey> {
         if word == "number".as_bytes() {
             Some(GroupKey::Number)
@@ -72,7 +73,7 @@ pub(crate) fn read_table(word: &[u8]) -> Option<TableId>
 fn read_until_colon<T: Listed>(alloc: Global, line: &[u8]) -> Result<(Items<T>, &[u8]), LineFault>
     ensures { MatchResult result
         (λ parts. spec.until_colon T.meaning (words_of line.now) ≡ Some (parts.0, words_of parts.1.now))
-        (λ fault. spec.IsMissed fault (spec.until_colon T.meaning (words_of line.now))) }
+        (λ fault. reading.IsMissed fault (spec.until_colon T.meaning (words_of line.now))) }
 {
     let mut items = Vec::new(alloc);
     let mut rest = line;
@@ -91,7 +92,7 @@ fn read_until_colon<T: Listed>(alloc: Global, line: &[u8]) -> Result<(Items<T>, 
 
 // The words up to the end of a line.
 fn read_each<T: Listed>(alloc: Global, line: &[u8]) -> Result<Items<T>, LineFault>
-    ensures { spec.Reads result (spec.each T.meaning (words_of line.now)) }
+    ensures { reading.Reads result (spec.each T.meaning (words_of line.now)) }
 {
     let mut items = Vec::new(alloc);
     let mut rest = line;
@@ -110,7 +111,7 @@ pub(crate) fn read_lists<A: Listed, B: Listed>(
     alloc: Global,
     line: &[u8],
 ) -> Result<(Items<A>, Items<B>), LineFault>
-    ensures { spec.Reads result (spec.lists A.meaning B.meaning (words_of line.now)) }
+    ensures { reading.Reads result (spec.lists A.meaning B.meaning (words_of line.now)) }
 {
     let (front, rest) = read_until_colon(alloc, line)?;
     let back = read_each(alloc, rest)?;
@@ -120,7 +121,7 @@ pub(crate) fn read_lists<A: Listed, B: Listed>(
 // The next byte of a text in quotes, and what follows it.
 fn text_byte(quoted: &[u8]) -> Option<(u8, &[u8])>
     ensures byte { MatchOption result
-        (spec.unquoted quoted.now ≡ (if spec.closes quoted.now then Some [] else None))
+        (spec.unquoted quoted.now ≡ (if reading.closes quoted.now then Some [] else None))
         (λ parts. spec.unquoted quoted.now ≡ option_map (λ text. parts.0 ∷ text) (spec.unquoted parts.1.now)) }
     ensures shorter { IfSome result (λ parts. length parts.1.now < length quoted.now) }
 {
@@ -138,7 +139,7 @@ fn text_byte(quoted: &[u8]) -> Option<(u8, &[u8])>
 
 // Whether a text ends here, at a quote after which only spaces follow.
 fn closes(quoted: &[u8]) -> bool
-    ensures { result ≡ spec.closes quoted.now }
+    ensures { result ≡ reading.closes quoted.now }
 {
     match quoted.split_first() {
         Some((first, rest)) => *first == b'\'' && is_blank(rest),
@@ -148,7 +149,7 @@ fn closes(quoted: &[u8]) -> bool
 
 // The text after its opening quote.
 fn read_unquoted(alloc: Global, quoted: &[u8]) -> Result<Text, LineFault>
-    ensures { spec.Reads result (spec.unquoted quoted.now) }
+    ensures { reading.Reads result (spec.unquoted quoted.now) }
 {
     let mut text = Vec::new(alloc);
     let mut rest = quoted;
@@ -165,7 +166,7 @@ fn read_unquoted(alloc: Global, quoted: &[u8]) -> Result<Text, LineFault>
 
 /// A text in quotes.
 pub(crate) fn read_quoted(alloc: Global, word: &[u8]) -> Result<Text, LineFault>
-    ensures { spec.Reads result (spec.quoted_text_of word.now) }
+    ensures { reading.Reads result (spec.quoted_text_of word.now) }
 {
     match word.split_first() {
         Some((first, quoted)) => {

@@ -3,10 +3,10 @@
 ghost use Rattle.std.specs.Prelude.{◌≡◌, ◌<◌, ◌≤◌, ◌^◌, Some, IfSome, neg_ℤ, pos};
 ghost use Rattle.std.specs.Option.{option_map};
 ghost use Rattle.std.specs.List.{list_all};
-ghost use Rattle.star_schema.specs.Numerals.{numeral_of};
-ghost use Rattle.star_program.specs.Numerals as spec;
+ghost use Rattle.star_common.specs.Numerals.{numeral_of};
+ghost use Rattle.star_program.specs.Text.Numerals as spec;
 
-use star_schema::numeral_value;
+use star_common::numeral_value;
 
 // The number that 1 to so many digits write.
 fn numeral(places: usize, word: &[u8]) -> Option<u64>
@@ -21,7 +21,7 @@ fn numeral(places: usize, word: &[u8]) -> Option<u64>
 }
 
 /// The count or the place that a word of 1 to 4 digits writes.
-#[tactic(auto, unfolding(crate::specs::Numerals::count_of))]
+#[tactic(auto, unfolding(crate::specs::Text::Numerals::count_of))]
 pub(crate) fn read_count(word: &[u8]) -> Option<u16>
     ensures value { result ≡ spec.count_of word.now }
 {
@@ -52,7 +52,7 @@ fn positive(magnitude: u64) -> Option<i64>
 }
 
 /// The number that a constant of 64 bits writes.
-#[tactic(auto, unfolding(crate::specs::Numerals::constant_of))]
+#[tactic(auto, unfolding(crate::specs::Text::Numerals::constant_of))]
 pub(crate) fn read_constant(word: &[u8]) -> Option<i64>
     ensures { result ≡ spec.constant_of word.now }
 {
@@ -69,7 +69,7 @@ pub(crate) fn read_constant(word: &[u8]) -> Option<i64>
 }
 
 /// The number of the register that a word names.
-#[tactic(auto, unfolding(crate::specs::Numerals::register_of))]
+#[tactic(auto, unfolding(crate::specs::Text::Numerals::register_of))]
 pub(crate) fn read_register(word: &[u8]) -> Option<u16>
     ensures { result ≡ spec.register_of word.now }
 {
@@ -87,7 +87,7 @@ fn is_of_name_bytes(word: &[u8]) -> bool
 }
 
 /// Whether a word is a name of 1 to 64 bytes.
-#[tactic(auto, unfolding(crate::specs::Numerals::is_name))]
+#[tactic(auto, unfolding(crate::specs::Text::Numerals::is_name))]
 pub(crate) fn is_name(word: &[u8]) -> bool
     ensures { result ≡ spec.is_name word.now }
 {

@@ -1,10 +1,10 @@
 // Programs read from their texts.
 
 ghost use Rattle.std.specs.Prelude.{◌≡◌, None, MatchResult, false};
-ghost use Rattle.star_program.specs.Drafts as spec;
+ghost use Rattle.star_program.specs.Private.Drafts as spec;
 ghost use Rattle.star_program.specs.Limits.{IsWithinLimits};
-ghost use Rattle.star_program.specs.Lines.{is_blank as blank};
-ghost use Rattle.star_program.specs.Spelling.{IsFirstFault, Spells};
+ghost use Rattle.star_program.specs.Text.Lines.{is_blank as blank};
+ghost use Rattle.star_program.specs.Text.Spelling.{IsFirstFault, Spells};
 
 use crate::program::Parts;
 use crate::spelling::draft::Draft;

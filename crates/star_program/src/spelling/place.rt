@@ -1,9 +1,11 @@
 // Where a text stands, and what may follow there.
 
-ghost use Rattle.std.specs.Prelude.{◌≡◌, ◌⊎◌, Ok, Err, None, Some, MatchResult};
-ghost use Rattle.star_program.specs.Lines.{words_of};
-ghost use Rattle.star_program.specs.Said.{said};
-ghost use Rattle.star_program.specs.Places as spec;
+ghost use Rattle.std.specs.Prelude.{◌≡◌, Ok, Err, None, Some, MatchResult};
+ghost use Rattle.star_common.specs.Memory.{UnlessMemory};
+ghost use Rattle.star_program.specs.Private.Within.{IsWithin};
+ghost use Rattle.star_program.specs.Text.Lines.{words_of};
+ghost use Rattle.star_program.specs.Text.Said.{said};
+ghost use Rattle.star_program.specs.Text.Places as spec;
 ghost use Rattle.star_program.specs.declared.spelling.fault.TextFault.TheVariants as faults;
 
 use crate::program::{
@@ -17,7 +19,7 @@ use crate::spelling::statement::Statement;
 use std::alloc::Global;
 
 /// The part of a program that a text is in: the header or the registers are still to come, or others go on.
-#[derive(Clone, Copy, Debug, PartialEq, Eq)]
+#[derive(Clone, Copy)]
 pub enum Stage {
     Header,
     Registers,
@@ -28,7 +30,7 @@ pub enum Stage {
 }
 
 /// Where a text stands: its part, and how many of each kind stood before. `depth` counts the open scans.
-#[derive(Clone, Copy, Debug, PartialEq, Eq)]
+#[derive(Clone, Copy)]
 pub struct Place {
     pub stage: Stage,
     pub groups: u16,
@@ -40,7 +42,7 @@ pub struct Place {
 
 impl Place {
     /// Before the first line.
-    #[tactic(auto, unfolding(crate::specs::Places::start))]
+    #[tactic(auto, unfolding(crate::specs::Text::Places::start))]
     pub(crate) fn start() -> Place
         ensures { result ≡ spec.start }
     {
@@ -56,7 +58,7 @@ impl Place {
 
     // The place after a line of the body.
     fn after_step(self, statement: &Statement) -> Option<Place>
-        requires { spec.IsWithin self }
+        requires { IsWithin self }
         ensures { result ≡ spec.after_step self statement.now }
     {
         match statement {
@@ -97,7 +99,7 @@ impl Place {
 
     // The place after a line among the groups.
     fn after_group(self, statement: &Statement) -> Option<Place>
-        requires { spec.IsWithin self }
+        requires { IsWithin self }
         ensures { result ≡ spec.after_in Stage.Groups self statement.now }
     {
         match statement {
@@ -117,7 +119,7 @@ impl Place {
 
     // The place after a line below the report.
     fn after_show(self, statement: &Statement) -> Option<Place>
-        requires { spec.IsWithin self }
+        requires { IsWithin self }
         ensures { result ≡ spec.after_in Stage.Shows self statement.now }
     {
         match statement {
@@ -135,9 +137,9 @@ impl Place {
     }
 
     // The place after a line, if it may stand here.
-    #[tactic(auto, unfolding(crate::specs::Places::after))]
+    #[tactic(auto, unfolding(crate::specs::Text::Places::after))]
     fn after(self, statement: &Statement) -> Option<Place>
-        requires { spec.IsWithin self }
+        requires { IsWithin self }
         ensures { result ≡ spec.after self statement.now }
     {
         match self.stage {
@@ -175,7 +177,7 @@ impl Place {
     }
 
     fn after_sort(self, statement: &Statement) -> Option<Place>
-        requires { spec.IsWithin self }
+        requires { IsWithin self }
         ensures { result ≡ spec.after_in Stage.Sorts self statement.now }
     {
         match statement {
@@ -187,7 +189,7 @@ impl Place {
         }
     }
 
-    #[tactic(auto, unfolding(crate::specs::Places::is_within))]
+    #[tactic(auto, unfolding(crate::specs::Text::Places::is_within))]
     fn is_within(self) -> bool
         ensures { result ≡ spec.is_within self }
     {
@@ -228,7 +230,7 @@ impl Place {
 }
 
 // Whether a statement by itself is within the limits.
-#[tactic(auto, unfolding(crate::specs::Places::is_small))]
+#[tactic(auto, unfolding(crate::specs::Text::Places::is_small))]
 fn is_small(statement: &Statement) -> bool
     ensures { result ≡ spec.is_small statement.now }
 {
@@ -254,7 +256,7 @@ fn begins_report(line: &[u8]) -> bool
 
 // The place after a statement, or its fault.
 fn reach(place: Place, line: usize, statement: &Statement) -> Result<Place, TextFault>
-    requires { spec.IsWithin place }
+    requires { IsWithin place }
     ensures { result ≡ spec.reached place line statement.now (spec.after place statement.now) }
 {
     match place.after(statement) {
@@ -270,17 +272,17 @@ fn reach(place: Place, line: usize, statement: &Statement) -> Result<Place, Text
 }
 
 /// The place after a line that isn't blank, and what it says; or its fault.
-#[tactic(auto, unfolding(crate::specs::Places::advance))]
+#[tactic(auto, unfolding(crate::specs::Text::Places::advance))]
 pub(crate) fn advance(
     alloc: Global,
     place: Place,
     line: usize,
     text: &[u8],
 ) -> Result<(Place, Statement), TextFault>
-    requires { spec.IsWithin place }
+    requires { IsWithin place }
     ensures { MatchResult result
         (λ (next, statement). (said text.now ≡ Some statement) × (spec.advance place line text.now ≡ Ok next))
-        (λ fault. (fault ≡ faults.OutOfMemory) ⊎ (spec.advance place line text.now ≡ Err fault)) }
+        (λ fault. UnlessMemory faults.OutOfMemory fault (spec.advance place line text.now ≡ Err fault)) }
 {
     if place.depth > 0 && begins_report(text) {
         return Err(TextFault::OpenScan);

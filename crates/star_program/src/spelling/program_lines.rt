@@ -2,14 +2,15 @@
 
 ghost use Rattle.std.specs.Prelude.{◌≡◌, ◌*◌, ◌≤◌, ◌<◌, ◌++◌, Some, OnOk, IfOk, length, replicate, slice_get};
 ghost use Rattle.std.specs.List.{flat_map};
-ghost use Rattle.star_program.specs.Statements as lines;
-ghost use Rattle.star_program.specs.Written as spec;
+ghost use Rattle.star_program.specs.Text.Statements as lines;
+ghost use Rattle.star_program.specs.Text.Written as spec;
 ghost use Rattle.star_program.specs.declared.spelling.statement.Statement.TheVariants as says;
 ghost use Rattle.star_program.specs.Limits.{IsWithinLimits};
 
 use crate::group::GroupDecl;
 use crate::op::Op;
 use crate::program::{Parts, Show};
+use crate::spelling::body_lines::push_body;
 use crate::spelling::writing::{push_group, push_op, push_register, push_show, push_sort};
 use star_schema::{SortKey, TableId};
 use std::alloc::{AllocError, Global};
@@ -27,7 +28,7 @@ fn push_indent(out: &mut Vec<u8>, depth: u8) -> Result<(), AllocError>
 }
 
 /// Adds the line of an instruction.
-#[tactic(auto, unfolding(crate::specs::Written::line_text))]
+#[tactic(auto, unfolding(crate::specs::Text::Written::line_text))]
 pub(crate) fn push_op_line(out: &mut Vec<u8>, depth: u8, op: &Op) -> Result<(), AllocError>
     ensures { OnOk result (out.new.items ≡ out.old.items ++ spec.line_text (lines.line depth (says.Act op.now))) }
 {
@@ -38,7 +39,7 @@ pub(crate) fn push_op_line(out: &mut Vec<u8>, depth: u8, op: &Op) -> Result<(), 
 }
 
 /// Adds the line that begins a scan.
-#[tactic(auto, unfolding(crate::specs::Written::line_text))]
+#[tactic(auto, unfolding(crate::specs::Text::Written::line_text))]
 pub(crate) fn push_scan_line(
     out: &mut Vec<u8>,
     depth: u8,
@@ -56,7 +57,7 @@ pub(crate) fn push_scan_line(
 }
 
 /// Adds the line that ends a scan.
-#[tactic(auto, unfolding(crate::specs::Written::line_text))]
+#[tactic(auto, unfolding(crate::specs::Text::Written::line_text))]
 pub(crate) fn push_end_line(out: &mut Vec<u8>, depth: u8) -> Result<(), AllocError>
     ensures { OnOk result (out.new.items ≡ out.old.items ++ spec.line_text (lines.line depth says.End)) }
 {
@@ -64,7 +65,7 @@ pub(crate) fn push_end_line(out: &mut Vec<u8>, depth: u8) -> Result<(), AllocErr
     out.extend_from_slice(b"end\n")
 }
 
-#[tactic(auto, unfolding(crate::specs::Written::line_text))]
+#[tactic(auto, unfolding(crate::specs::Text::Written::line_text))]
 fn push_head(out: &mut Vec<u8>, registers: u16) -> Result<(), AllocError>
     ensures { OnOk result (out.new.items ≡ out.old.items ++ (spec.line_text (lines.line 0 says.Header) ++ spec.line_text (lines.line 0 (says.Registers registers)))) }
 {
@@ -72,7 +73,7 @@ fn push_head(out: &mut Vec<u8>, registers: u16) -> Result<(), AllocError>
     out.extend_from_slice(text.as_bytes())
 }
 
-#[tactic(auto, unfolding(crate::specs::Written::line_text))]
+#[tactic(auto, unfolding(crate::specs::Text::Written::line_text))]
 fn push_group_line(out: &mut Vec<u8>, place: u16, group: &GroupDecl) -> Result<(), AllocError>
     ensures { OnOk result (out.new.items ≡ out.old.items ++ spec.line_text (lines.line 0 (says.Group place group.now))) }
 {
@@ -98,7 +99,7 @@ fn push_groups(out: &mut Vec<u8>, groups: &[GroupDecl]) -> Result<(), AllocError
     Ok(())
 }
 
-#[tactic(auto, unfolding(crate::specs::Written::line_text))]
+#[tactic(auto, unfolding(crate::specs::Text::Written::line_text))]
 fn push_report(out: &mut Vec<u8>, group: u16) -> Result<(), AllocError>
     ensures { OnOk result (out.new.items ≡ out.old.items ++ spec.line_text (lines.line 0 (says.Report group))) }
 {
@@ -106,7 +107,7 @@ fn push_report(out: &mut Vec<u8>, group: u16) -> Result<(), AllocError>
     out.extend_from_slice(text.as_bytes())
 }
 
-#[tactic(auto, unfolding(crate::specs::Written::line_text))]
+#[tactic(auto, unfolding(crate::specs::Text::Written::line_text))]
 fn push_show_line(out: &mut Vec<u8>, show: &Show) -> Result<(), AllocError>
     ensures { OnOk result (out.new.items ≡ out.old.items ++ spec.line_text (lines.show_line show.now)) }
 {
@@ -124,7 +125,7 @@ fn push_shows(out: &mut Vec<u8>, shows: &[Show]) -> Result<(), AllocError>
     Ok(())
 }
 
-#[tactic(auto, unfolding(crate::specs::Written::line_text))]
+#[tactic(auto, unfolding(crate::specs::Text::Written::line_text))]
 fn push_sort_line(out: &mut Vec<u8>, key: SortKey) -> Result<(), AllocError>
     ensures { OnOk result (out.new.items ≡ out.old.items ++ spec.line_text (lines.sort_line key)) }
 {
@@ -150,7 +151,7 @@ pub(crate) fn write_parts(alloc: Global, parts: &Parts) -> Result<Vec<u8>, Alloc
     let mut out = Vec::new(alloc);
     push_head(&mut out, parts.registers)?;
     push_groups(&mut out, parts.groups.as_slice())?;
-    parts.body.write(&mut out, 0)?;
+    push_body(&mut out, 0, &parts.body)?;
     push_report(&mut out, parts.report)?;
     push_shows(&mut out, parts.shows.as_slice())?;
     push_sorts(&mut out, parts.sorts.as_slice())?;

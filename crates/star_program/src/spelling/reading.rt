@@ -4,14 +4,14 @@ ghost use Rattle.std.specs.Prelude.{◌≡◌, ◌∷◌, [], None, Some, MatchR
 ghost use Rattle.std.specs.List.{list_all};
 ghost use Rattle.std.specs.Option.{option_and_then, option_copied, option_map};
 ghost use Rattle.star_schema.specs.Tables.{is_printable as printable};
-ghost use Rattle.star_program.specs.Keywords as words;
-ghost use Rattle.star_program.specs.Lines.{words_of};
-ghost use Rattle.star_program.specs.Numerals as numerals;
-ghost use Rattle.star_program.specs.Said as spec;
+ghost use Rattle.star_program.specs.Private.Reading.{Reads};
+ghost use Rattle.star_program.specs.Text.Keywords as words;
+ghost use Rattle.star_program.specs.Text.Lines.{words_of};
+ghost use Rattle.star_program.specs.Text.Numerals as numerals;
+ghost use Rattle.star_program.specs.Text.Said as spec;
 ghost use Rattle.star_program.specs.declared.spelling.statement.Statement.TheVariants as says;
 
 use crate::group::GroupDecl;
-use crate::items::Items;
 use crate::op::{Op, Text};
 use crate::program::Show;
 use crate::spelling::fault::LineFault;
@@ -20,6 +20,7 @@ use crate::spelling::lines::split_word;
 use crate::spelling::listed::{read_column, read_lists, read_quoted, read_table};
 use crate::spelling::numerals::{is_name, read_constant, read_count, read_register};
 use crate::spelling::statement::Statement;
+use star_common::Items;
 use star_schema::{ColumnId, Direction, GroupColumn, Shape, SortKey, TableId};
 use std::alloc::Global;
 
@@ -160,7 +161,7 @@ fn two_op(target: u16, operator: Operator, operands: &[u8]) -> Option<Op>
 }
 
 // An operation, but for those with a text.
-#[tactic(auto, unfolding(crate::specs::Said::plain_operation))]
+#[tactic(auto, unfolding(crate::specs::Text::Said::plain_operation))]
 fn plain_operation(target: u16, operator: Operator, operands: &[u8]) -> Option<Op>
     ensures { result ≡ spec.plain_operation target operator (words_of operands.now) }
 {
@@ -234,7 +235,7 @@ fn read_op(target: u16, operands: &[u8]) -> Option<Op>
 
 // What was read, or else that there is nothing to read.
 fn readable<T>(option: Option<T>) -> Result<T, LineFault>
-    ensures { spec.Reads result option }
+    ensures { Reads result option }
 {
     match option {
         Some(value) => Ok(value),
@@ -252,7 +253,7 @@ fn read_first(line: &[u8]) -> Result<(&[u8], &[u8]), LineFault>
 }
 
 fn column_and_text(alloc: Global, line: &[u8]) -> Result<(ColumnId, Text), LineFault>
-    ensures { spec.Reads result (spec.two words.column_of spec.quoted_text_of (words_of line.now)) }
+    ensures { Reads result (spec.two words.column_of spec.quoted_text_of (words_of line.now)) }
 {
     let (first, rest) = read_first(line)?;
     let column = readable(read_column(first))?;
@@ -261,14 +262,14 @@ fn column_and_text(alloc: Global, line: &[u8]) -> Result<(ColumnId, Text), LineF
     Ok((column, text))
 }
 
-#[tactic(auto, unfolding(crate::specs::Said::operation))]
+#[tactic(auto, unfolding(crate::specs::Text::Said::operation))]
 fn operation(
     alloc: Global,
     target: u16,
     operator: Operator,
     operands: &[u8],
 ) -> Result<Op, LineFault>
-    ensures { spec.Reads result (spec.operation target operator (words_of operands.now)) }
+    ensures { Reads result (spec.operation target operator (words_of operands.now)) }
 {
     match operator {
         Operator::Low => {
@@ -293,7 +294,7 @@ fn operation(
 
 // What follows the register that an instruction writes.
 fn read_assigned(alloc: Global, target: u16, line: &[u8]) -> Result<Op, LineFault>
-    ensures { spec.Reads result (spec.assigned target (words_of line.now)) }
+    ensures { Reads result (spec.assigned target (words_of line.now)) }
 {
     let (sign, rest) = read_first(line)?;
     let (name, operands) = read_first(rest)?;
@@ -314,7 +315,7 @@ fn group_head(line: &[u8]) -> Option<(u16, (Shape, &[u8]))>
 }
 
 fn read_group(alloc: Global, line: &[u8]) -> Result<Statement, LineFault>
-    ensures { spec.Reads result (spec.group_of (words_of line.now)) }
+    ensures { Reads result (spec.group_of (words_of line.now)) }
 {
     let (place, (shape, rest)) = readable(group_head(line))?;
     let (keys, aggregates) = read_lists(alloc, rest)?;
@@ -335,7 +336,7 @@ fn put_head(line: &[u8]) -> Option<(u16, &[u8])>
 }
 
 fn read_put(alloc: Global, line: &[u8]) -> Result<Op, LineFault>
-    ensures { spec.Reads result (spec.put_of (words_of line.now)) }
+    ensures { Reads result (spec.put_of (words_of line.now)) }
 {
     let (group, rest) = readable(put_head(line))?;
     let (keys, values) = read_lists(alloc, rest)?;
@@ -347,7 +348,7 @@ fn read_put(alloc: Global, line: &[u8]) -> Result<Op, LineFault>
 }
 
 // A column of a group.
-#[tactic(auto, unfolding(crate::specs::Said::group_column_of))]
+#[tactic(auto, unfolding(crate::specs::Text::Said::group_column_of))]
 fn read_group_column(word: &[u8], place: &[u8]) -> Option<GroupColumn>
     ensures { result ≡ spec.group_column_of word.now place.now }
 {
@@ -399,7 +400,7 @@ fn show_parts(line: &[u8]) -> Option<(&[u8], GroupColumn)>
 }
 
 fn read_show(alloc: Global, line: &[u8]) -> Result<Show, LineFault>
-    ensures { spec.Reads result (spec.show_of (words_of line.now)) }
+    ensures { Reads result (spec.show_of (words_of line.now)) }
 {
     let (word, column) = readable(show_parts(line))?;
     let name = Items::from_vec(Vec::from_slice(alloc, word)?);
@@ -469,9 +470,9 @@ fn read_sort_line(line: &[u8]) -> Option<Statement>
 }
 
 // What follows a keyword.
-#[tactic(auto, unfolding(crate::specs::Said::by_keyword))]
+#[tactic(auto, unfolding(crate::specs::Text::Said::by_keyword))]
 fn by_keyword(alloc: Global, keyword: Keyword, line: &[u8]) -> Result<Statement, LineFault>
-    ensures { spec.Reads result (spec.by_keyword keyword (words_of line.now)) }
+    ensures { Reads result (spec.by_keyword keyword (words_of line.now)) }
 {
     match keyword {
         Keyword::Star => readable(read_header(line)),
@@ -489,15 +490,15 @@ fn by_keyword(alloc: Global, keyword: Keyword, line: &[u8]) -> Result<Statement,
 
 // What an instruction that writes a register says, by its first word and what follows it.
 fn read_instruction(alloc: Global, word: &[u8], line: &[u8]) -> Result<Statement, LineFault>
-    ensures { spec.Reads result (spec.by_first None word.now (words_of line.now)) }
+    ensures { Reads result (spec.by_first None word.now (words_of line.now)) }
 {
     let target = readable(read_register(word))?;
     Ok(Statement::Act(read_assigned(alloc, target, line)?))
 }
 
-#[tactic(auto, unfolding(crate::specs::Said::by_words))]
+#[tactic(auto, unfolding(crate::specs::Text::Said::by_words))]
 fn read_words(alloc: Global, line: &[u8]) -> Result<Statement, LineFault>
-    ensures { spec.Reads result (spec.by_words (words_of line.now)) }
+    ensures { Reads result (spec.by_words (words_of line.now)) }
 {
     let (word, rest) = read_first(line)?;
     match Keyword::read(word) {
@@ -513,9 +514,9 @@ fn is_printable(line: &[u8]) -> bool
 }
 
 /// What a line says, if it says something.
-#[tactic(auto, unfolding(crate::specs::Said::said))]
+#[tactic(auto, unfolding(crate::specs::Text::Said::said))]
 pub(crate) fn read_line(alloc: Global, line: &[u8]) -> Result<Statement, LineFault>
-    ensures { spec.Reads result (spec.said line.now) }
+    ensures { Reads result (spec.said line.now) }
 {
     if is_printable(line) {
         read_words(alloc, line)

@@ -6,7 +6,7 @@ use crate::program::Show;
 use star_schema::{SortKey, TableId};
 
 /// What one line says. A scan's body stands between its line and its `End`.
-#[derive(Debug, Drop)]
+#[derive(Drop)]
 pub enum Statement {
     Header,
     Registers(u16),

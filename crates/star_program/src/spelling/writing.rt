@@ -4,49 +4,18 @@ ghost use Rattle.std.specs.Prelude.{◌≡◌, ◌+◌, ◌*◌, ◌≤◌, ◌+
 ghost use Rattle.std.specs.Fmt.{signed_decimal};
 ghost use Rattle.std.specs.List.{flat_map};
 ghost use Rattle.star_schema.specs.Schema.{column_name, table_name};
-ghost use Rattle.star_program.specs.Written as spec;
+ghost use Rattle.star_common.specs.Quotes.{quoted};
+ghost use Rattle.star_program.specs.Text.Written as spec;
 
 use crate::group::{GroupDecl, GroupKey};
 use crate::op::Op;
 use crate::program::Show;
 use crate::spelling::keyword::{Operator, aggregate_name, direction_name, shape_name};
+use star_common::push_quoted;
 use star_schema::{Aggregate, ColumnId, GroupColumn, SortKey, TableId};
 use std::alloc::AllocError;
 
-// Adds the bytes of a text in quotes.
-fn push_all_doubled(out: &mut Vec<u8>, text: &[u8]) -> Result<(), AllocError>
-    ensures { OnOk result (out.new.items ≡ out.old.items ++ flat_map spec.doubled text.now) }
-{
-    for byte in text {
-        push_doubled(out, *byte)?;
-    }
-    Ok(())
-}
-
-// Adds a text in quotes.
-#[tactic(auto, unfolding(crate::specs::Written::quoted))]
-fn push_quoted(out: &mut Vec<u8>, text: &[u8]) -> Result<(), AllocError>
-    ensures { OnOk result (out.new.items ≡ out.old.items ++ spec.quoted text.now) }
-{
-    out.push(b'\'')?;
-    push_all_doubled(out, text)?;
-    out.push(b'\'')?;
-    Ok(())
-}
-
-// Adds a byte of a text in quotes.
-fn push_doubled(out: &mut Vec<u8>, byte: u8) -> Result<(), AllocError>
-    ensures { OnOk result (out.new.items ≡ out.old.items ++ spec.doubled byte) }
-{
-    if byte == b'\'' {
-        out.extend_from_slice(b"''")
-    } else {
-        out.push(byte)?;
-        Ok(())
-    }
-}
-
-#[tactic(auto, unfolding(crate::specs::Written::register_text))]
+#[tactic(auto, unfolding(crate::specs::Text::Written::register_text))]
 pub(crate) fn push_register(out: &mut Vec<u8>, register: u16) -> Result<(), AllocError>
     ensures { OnOk result (out.new.items ≡ out.old.items ++ spec.register_text register) }
 {
@@ -64,7 +33,7 @@ fn push_registers(out: &mut Vec<u8>, registers: &[u16]) -> Result<(), AllocError
 }
 
 // Adds what begins an instruction that writes a register.
-#[tactic(auto, unfolding(crate::specs::Written::target_text))]
+#[tactic(auto, unfolding(crate::specs::Text::Written::target_text))]
 fn push_target(out: &mut Vec<u8>, target: u16, operator: Operator) -> Result<(), AllocError>
     ensures { OnOk result (out.new.items ≡ out.old.items ++ spec.target_text target operator) }
 {
@@ -102,7 +71,7 @@ fn push_search(
     column: ColumnId,
     text: &[u8],
 ) -> Result<(), AllocError>
-    ensures { OnOk result (out.new.items ≡ out.old.items ++ (spec.target_text target operator ++ (codes " " ++ (column_name column ++ (codes " " ++ spec.quoted text.now))))) }
+    ensures { OnOk result (out.new.items ≡ out.old.items ++ (spec.target_text target operator ++ (codes " " ++ (column_name column ++ (codes " " ++ quoted text.now))))) }
 {
     push_target(out, target, operator)?;
     push_column(out, column)?;
@@ -193,7 +162,7 @@ fn push_keep(out: &mut Vec<u8>, flag: u16) -> Result<(), AllocError>
 }
 
 // Adds an instruction.
-#[tactic(auto, unfolding(crate::specs::Written::op_text))]
+#[tactic(auto, unfolding(crate::specs::Text::Written::op_text))]
 pub(crate) fn push_op(out: &mut Vec<u8>, op: &Op) -> Result<(), AllocError>
     ensures { OnOk result (out.new.items ≡ out.old.items ++ spec.op_text op.now) }
 {
@@ -277,7 +246,7 @@ pub(crate) fn push_op(out: &mut Vec<u8>, op: &Op) -> Result<(), AllocError>
     }
 }
 
-#[tactic(auto, unfolding(crate::specs::Written::key_text))]
+#[tactic(auto, unfolding(crate::specs::Text::Written::key_text))]
 fn push_key(out: &mut Vec<u8>, key: GroupKey) -> Result<(), AllocError>
     ensures { OnOk result (out.new.items ≡ out.old.items ++ spec.key_text key) }
 {
@@ -313,7 +282,7 @@ fn push_aggregates(out: &mut Vec<u8>, aggregates: &[Aggregate]) -> Result<(), Al
 }
 
 // Adds a group by its number.
-#[tactic(auto, unfolding(crate::specs::Written::group_text))]
+#[tactic(auto, unfolding(crate::specs::Text::Written::group_text))]
 pub(crate) fn push_group(out: &mut Vec<u8>, place: u16, group: &GroupDecl) -> Result<(), AllocError>
     ensures { OnOk result (out.new.items ≡ out.old.items ++ spec.group_text place group.now) }
 {
@@ -326,7 +295,7 @@ pub(crate) fn push_group(out: &mut Vec<u8>, place: u16, group: &GroupDecl) -> Re
 }
 
 // Adds which column of a group is meant.
-#[tactic(auto, unfolding(crate::specs::Written::column_text))]
+#[tactic(auto, unfolding(crate::specs::Text::Written::column_text))]
 fn push_place(out: &mut Vec<u8>, column: GroupColumn) -> Result<(), AllocError>
     ensures { OnOk result (out.new.items ≡ out.old.items ++ spec.column_text column) }
 {
@@ -337,7 +306,7 @@ fn push_place(out: &mut Vec<u8>, column: GroupColumn) -> Result<(), AllocError>
     out.extend_from_slice(text.as_bytes())
 }
 
-#[tactic(auto, unfolding(crate::specs::Written::show_text))]
+#[tactic(auto, unfolding(crate::specs::Text::Written::show_text))]
 pub(crate) fn push_show(out: &mut Vec<u8>, show: &Show) -> Result<(), AllocError>
     ensures { OnOk result (out.new.items ≡ out.old.items ++ spec.show_text show.now) }
 {
@@ -346,7 +315,7 @@ pub(crate) fn push_show(out: &mut Vec<u8>, show: &Show) -> Result<(), AllocError
     push_place(out, show.column)
 }
 
-#[tactic(auto, unfolding(crate::specs::Written::sort_text))]
+#[tactic(auto, unfolding(crate::specs::Text::Written::sort_text))]
 pub(crate) fn push_sort(out: &mut Vec<u8>, key: SortKey) -> Result<(), AllocError>
     ensures { OnOk result (out.new.items ≡ out.old.items ++ spec.sort_text key) }
 {

@@ -5,7 +5,7 @@ use Rattle.std.specs.Vec.Iter.{into_iter_items}
 use Rattle.star_reader.specs.declared.column.RawColumn.{RawColumn}
 use Rattle.star_reader.specs.Columns.{kind_of as raw_kind, values as raw_values}
 use Rattle.star_catalogue.specs.declared.columns.Column.{Column}
-use Rattle.star_catalogue.specs.Columns.{kind_of, values}
+use Rattle.star_catalogue.specs.Private.Columns.{kind_of, values}
 use Rattle.star_catalogue.proofs.columns.build_columns.Goals as goal
 
 -- what is said of each column that was built and of each that is left, after one more

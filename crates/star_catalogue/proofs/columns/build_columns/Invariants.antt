@@ -1,7 +1,7 @@
 use Rattle.std.proofs.Common.{◌≡◌, ◌<◌, ◌^◌, ◌++◌, All, length, map}
 use Rattle.std.specs.Vec.Iter.{into_iter_items}
 use Rattle.star_reader.specs.Columns.{kind_of as raw_kind, values as raw_values}
-use Rattle.star_catalogue.specs.Columns.{kind_of, values}
+use Rattle.star_catalogue.specs.Private.Columns.{kind_of, values}
 use Rattle.star_catalogue.proofs.columns.build_columns.Given as goal
 
 abbrev pub invariant-loop-column : goal.invariant-loop-column

@@ -1,7 +1,7 @@
 use Rattle.std.proofs.Common.{◌≡◌, ◌+◌, [], drop, get_or}
 use Rattle.star_schema.specs.declared.table.TableId.TheVariants.{Lineorder}
 use Rattle.star_schema.specs.Database.{rows_in}
-use Rattle.star_schema.specs.First.{first_answer}
+use Rattle.star_common.specs.First.{first_answer}
 use Rattle.star_schema.specs.Loadable.{foreign_keys}
 use Rattle.star_catalogue.specs.Load.{cell_fault, row_fault}
 use Rattle.star_catalogue.proofs.references.check_row.Given as goal

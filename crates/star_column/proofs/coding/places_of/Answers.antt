@@ -1,4 +1,4 @@
-use Rattle.std.proofs.Common.{◌≡◌, ◌<◌, [], length, get_or, map, take, Some, sym, arith}
+use Rattle.std.proofs.Common.{◌≡◌, ◌<◌, length, get_or, map, take, Some, sym, arith}
 use Rattle.std.specs.List.{slice_get}
 use Rattle.std.proofs.Math.ListN.{length-set}
 use Rattle.std.proofs.lemmas.List.{get_or-map, length-map, take_all}

@@ -1,5 +1,5 @@
 use Rattle.std.proofs.Common.{◌≡◌, ◌<◌, ◌+◌, ◌-◌, ℕ, List, zero, suc, sym, ap, ◌∙◌, length, arith, get_or, refl}
-use Rattle.star_flat.specs.Cut.{start_of}
+use Rattle.star_flat.specs.Private.Cut.{start_of}
 use Rattle.star_flat.proofs.CutLemmas.{start_after}
 use Rattle.star_flat.proofs.texts.start_at.Goals as goal
 

@@ -1,5 +1,5 @@
 use Rattle.std.proofs.Common.{◌≡◌, ◌≤◌, ◌<◌, sym, ap, ◌∙◌, length, arith, get_or, subst, slice_range, Some}
-use Rattle.star_flat.specs.Cut.{start_of}
+use Rattle.star_flat.specs.Private.Cut.{start_of}
 use Rattle.star_flat.proofs.CutLemmas.{text_there, begins_before, ends_within}
 use Rattle.star_flat.proofs.texts.text_at.Goals as goal
 

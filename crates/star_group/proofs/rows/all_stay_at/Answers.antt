@@ -1,7 +1,7 @@
 use Rattle.std.proofs.Common.{◌≡◌, ⊎_elim, sym, ◌∙◌, true, false, Some, refl, get_or}
 use Rattle.std.specs.Option.{is_some}
 use Rattle.std.proofs.lemmas.List.Folds.{list_any_at}
-use Rattle.star_group.specs.Rows.{RowStays}
+use Rattle.star_group.specs.Private.Rows.{RowStays}
 use Rattle.star_group.proofs.Lookups.{lookup_same, among_more, stays_next, leaves_next}
 use Rattle.star_group.proofs.Places.{within_at}
 use Rattle.star_group.proofs.rows.all_stay_at.Goals as goal

@@ -1,6 +1,6 @@
 use Rattle.std.proofs.Common.{sym, ◌∙◌, get_or, subst}
 use Rattle.indexmap.specs.IndexMap.{get, keys}
-use Rattle.star_group.specs.Rows.{StaysIn}
+use Rattle.star_group.specs.Private.Rows.{StaysIn}
 use Rattle.star_group.proofs.Lookups.{lookup_same}
 use Rattle.star_group.proofs.Changes.{stays_at, changes_more}
 use Rattle.star_group.proofs.Places.{within_at, same_keys_at, at_now}

@@ -1,6 +1,6 @@
 use Rattle.std.proofs.Common.{◌≡◌, take}
 use Rattle.indexmap.specs.IndexMap.{get, keys}
-use Rattle.star_group.specs.Rows.{ChangesAll}
+use Rattle.star_group.specs.Private.Rows.{ChangesAll}
 use Rattle.star_group.proofs.rows.change_all_at.Given as goal
 
 abbrev pub invariant-loop-index : goal.invariant-loop-index

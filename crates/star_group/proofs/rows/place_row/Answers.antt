@@ -3,7 +3,7 @@ use Rattle.std.proofs.Math.Seq.{take-append_seam}
 use Rattle.std.proofs.lemmas.Grind.{common_steps}
 use Rattle.indexmap.specs.IndexMap.{get, keys}
 use Rattle.indexmap.proofs.CallerLemmas.{insert_entry-new}
-use Rattle.star_group.specs.Rows.{blank}
+use Rattle.star_group.specs.Private.Rows.{blank}
 use Rattle.star_group.proofs.Places.{position_at, key_at, slice_get-seam}
 use Rattle.star_group.proofs.rows.place_row.Goals as goal
 

@@ -3,7 +3,7 @@ use Rattle.std.specs.List.{list_any}
 use Rattle.std.proofs.lemmas.List.Folds.{list_any_more}
 use Rattle.std.proofs.lemmas.Grind.{common_steps}
 use Rattle.indexmap.specs.IndexMap.{get, keys}
-use Rattle.star_group.specs.Rows.{with_blank}
+use Rattle.star_group.specs.Private.Rows.{with_blank}
 use Rattle.star_group.proofs.Lists.{with_blank-again}
 use Rattle.star_group.proofs.Places.{placed_more, PlacedBelow}
 use Rattle.star_group.proofs.rows.place_rows.Goals as goal

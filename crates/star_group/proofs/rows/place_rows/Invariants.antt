@@ -1,7 +1,7 @@
 use Rattle.std.proofs.Common.{◌≡◌, ◌≤◌, take}
 use Rattle.std.specs.List.{list_any}
 use Rattle.indexmap.specs.IndexMap.{get, keys, index_map_len}
-use Rattle.star_group.specs.Rows.{with_blank}
+use Rattle.star_group.specs.Private.Rows.{with_blank}
 use Rattle.star_group.proofs.Places.{PlacedBelow}
 use Rattle.star_group.proofs.rows.place_rows.Given as goal
 

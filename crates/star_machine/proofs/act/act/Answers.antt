@@ -1,6 +1,6 @@
 use Rattle.std.proofs.Common.{sym, subst}
-use Rattle.star_machine.specs.Shown.{held, value_shown}
-use Rattle.star_machine.specs.Sound.{AreSound}
+use Rattle.star_machine.specs.Private.Shown.{held, value_shown}
+use Rattle.star_machine.specs.Private.Sound.{AreSound}
 use Rattle.star_machine.proofs.Performed.{sound_value}
 use Rattle.star_machine.proofs.Registers.{sound_set}
 use Rattle.star_machine.proofs.act.act.Goals as goal

@@ -1,10 +1,10 @@
-use Rattle.std.proofs.Common.{sym, ap, subst}
+use Rattle.std.proofs.Common.{sym, ap, rules, subst}
 use Rattle.std.specs.Prelude.{◌*ℤ◌}
 use Rattle.star_program.specs.Effects.{does}
 use Rattle.star_program.specs.Faults.{target_of}
 use Rattle.star_program.specs.Values.{number_in}
-use Rattle.star_machine.specs.Acts.{IsAnswer}
-use Rattle.star_machine.specs.Shown.{held}
+use Rattle.star_machine.specs.Private.Acts.{IsAnswer}
+use Rattle.star_machine.specs.Private.Shown.{held}
 use Rattle.star_machine.specs.WorldOf.{world_of}
 use Rattle.star_machine.proofs.Performed.{sets_number_of}
 use Rattle.star_machine.proofs.act.perform.Goals as goal
@@ -24,3 +24,6 @@ pub returns-in-Put-clause-does : goal.returns-in-Put-clause-does
 returns-in-Put-clause-does c = λ s done.
     subst (λ op. IsAnswer c.args.catalogue.now c.args.parts.now (held c.args.registers.now) c.update.new.run op (does (world_of c.args.catalogue.now) c.args.parts.now (held c.args.registers.now) s op) c.update.result)
     (sym c.in-Put.is) (c.update.ensures.does (world_of c.args.catalogue.now) c.args.catalogue.now s c.requires.sound done)
+
+pub returns-in-Not-clause-does : goal.returns-in-Not-clause-does
+returns-in-Not-clause-does c = search rules

@@ -1,8 +1,8 @@
-use Rattle.std.proofs.Common.{◌+◌, sym, ap, subst, ◌∙◌}
-use Rattle.star_machine.specs.Acts.{IsStop}
+use Rattle.std.proofs.Common.{◌+◌, sym, ap, rules, subst, ◌∙◌}
+use Rattle.star_machine.specs.Private.Acts.{IsStop}
 use Rattle.star_program.specs.Effects.{puts, update_of}
 use Rattle.star_program.specs.Faults.{group_at}
-use Rattle.star_machine.specs.Shown.{held}
+use Rattle.star_machine.specs.Private.Shown.{held}
 use Rattle.star_machine.proofs.Fine.{sound_keys, sound_update}
 use Rattle.star_machine.proofs.Performed.{put_stops}
 use Rattle.star_machine.proofs.act.update.Goals as goal
@@ -28,3 +28,6 @@ returns-in-Err-clause-does c = λ w database s sound done.
     let d = group_at c.args.parts.now c.args.group in
     subst (IsStop _) (sym c.from.ensures)
     (put_stops d (held c.args.registers.now) s c.args.group (update_of d (held c.args.registers.now) c.args.keys.now c.args.values.now) c.in-Err.fault (c.in-Err.ensures.done s.updates_of done.stores))
+
+pub returns-in-Ok-clause-work : goal.returns-in-Ok-clause-work
+returns-in-Ok-clause-work c = search rules

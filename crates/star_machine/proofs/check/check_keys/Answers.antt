@@ -1,6 +1,6 @@
 use Rattle.std.proofs.Common.{◌∙◌, sym, rules, length}
 use Rattle.star_program.specs.Effects.{kinds_in}
-use Rattle.star_machine.specs.Shown.{held}
+use Rattle.star_machine.specs.Private.Shown.{held}
 use Rattle.star_machine.proofs.Operands.{next_key, fault_here}
 use Rattle.star_machine.proofs.check.check_keys.Goals as goal
 

@@ -1,7 +1,7 @@
 use Rattle.std.proofs.Common.{◌≡◌, length, drop}
 use Rattle.star_program.specs.Effects.{kinds_in}
 use Rattle.star_program.specs.Faults.{keys_fault}
-use Rattle.star_machine.specs.Shown.{held}
+use Rattle.star_machine.specs.Private.Shown.{held}
 use Rattle.star_machine.proofs.check.check_keys.Given as goal
 
 abbrev pub invariant-loop-place : goal.invariant-loop-place

@@ -4,9 +4,9 @@ use Rattle.std.proofs.lemmas.Result.{err_from_is_err_and}
 use Rattle.star_program.specs.Effects.{empty_store}
 use Rattle.star_program.specs.Run.{meaning}
 use Rattle.star_program.specs.Values.{no_registers}
-use Rattle.star_machine.specs.Shown.{held}
+use Rattle.star_machine.specs.Private.Shown.{held}
 use Rattle.star_machine.specs.Trials.{IsFaultOf}
-use Rattle.star_machine.specs.Walks.{Finishes}
+use Rattle.star_machine.specs.Private.Walks.{Finishes}
 use Rattle.star_machine.specs.WorldOf.{world_of}
 use Rattle.star_machine.proofs.Started.{sound_nothing}
 use Rattle.star_machine.proofs.trials.run_through.Goals as goal

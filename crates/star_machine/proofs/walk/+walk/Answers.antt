@@ -7,11 +7,11 @@ use Rattle.star_program.specs.CodeOfSteps.{code_of_steps}
 use Rattle.star_program.specs.Effects.{act}
 use Rattle.star_program.specs.Run.{visited}
 use Rattle.star_program.specs.Values.{Registers, Row, with_entry}
-use Rattle.star_machine.specs.Shown.{held, value_shown}
-use Rattle.star_machine.specs.Sound.{AreSound}
+use Rattle.star_machine.specs.Private.Shown.{held, value_shown}
+use Rattle.star_machine.specs.Private.Sound.{AreSound}
 use Rattle.star_machine.specs.Trials.{IsFaultOf}
-use Rattle.star_machine.specs.Walks.{HasWorked, IsEnd, means, means_at}
-use Rattle.star_machine.specs.Runs.{HasDone}
+use Rattle.star_machine.specs.Private.Walks.{HasWorked, IsEnd, means, means_at}
+use Rattle.star_machine.specs.Private.Runs.{HasDone}
 use Rattle.star_machine.specs.WorldOf.{world_of}
 use Rattle.star_machine.proofs.Registers.{sound_set}
 use Rattle.star_machine.proofs.Turned.{act_follows, after_fault, begin_turn, body_deep, done_visited, drop_past, gone_on, next_act, next_scan, rest_deep, scan_follows, stop_fault, turn_done, turn_ended, turns_fault, worked_act, worked_more}

@@ -6,10 +6,10 @@ use Rattle.star_program.specs.CodeOfSteps.{code_of_steps}
 use Rattle.star_program.specs.Effects.{Store}
 use Rattle.star_program.specs.Run.{turns}
 use Rattle.star_program.specs.Values.{Row}
-use Rattle.star_machine.specs.Runs.{HasDone}
-use Rattle.star_machine.specs.Shown.{held}
-use Rattle.star_machine.specs.Sound.{AreSound}
-use Rattle.star_machine.specs.Walks.{HasWorked, means, means_at, means_turns}
+use Rattle.star_machine.specs.Private.Runs.{HasDone}
+use Rattle.star_machine.specs.Private.Shown.{held}
+use Rattle.star_machine.specs.Private.Sound.{AreSound}
+use Rattle.star_machine.specs.Private.Walks.{HasWorked, means, means_at, means_turns}
 use Rattle.star_machine.proofs.walk.+walk.Given as goal
 
 abbrev pub decreases-walk : goal.decreases-walk

@@ -1,5 +1,5 @@
 use Rattle.std.proofs.Common.{◌≡◌, drop, map}
-use Rattle.star_schema.specs.First.{first_answer}
+use Rattle.star_common.specs.First.{first_answer}
 use Rattle.star_plan.specs.Faults.{key_fault}
 use Rattle.star_plan.proofs.select.check_order.Given as goal
 

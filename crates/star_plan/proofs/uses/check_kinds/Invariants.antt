@@ -1,5 +1,5 @@
 use Rattle.std.proofs.Common.{◌≡◌, drop}
-use Rattle.star_schema.specs.First.{first_answer}
+use Rattle.star_common.specs.First.{first_answer}
 use Rattle.star_plan.specs.Faults.{kind_fault}
 use Rattle.star_plan.proofs.uses.check_kinds.Given as goal
 

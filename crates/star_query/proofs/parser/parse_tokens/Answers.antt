@@ -1,4 +1,4 @@
-use Rattle.star_query.specs.Reads.{spot_of}
+use Rattle.star_query.specs.Private.Reads.{spot_of}
 use Rattle.star_query.proofs.Parsing.{tokens_derive, tokens_read, error_fault, error_no_tree}
 use Rattle.star_query.proofs.parser.parse_tokens.Goals as goal
 

@@ -6,7 +6,7 @@ use Rattle.star_schema.specs.Schema.{kinds_of, table_of}
 use Rattle.star_schema.specs.Tables.{Number}
 use Rattle.star_reader.specs.Columns.{first_rows}
 use Rattle.star_reader.proofs.RowLemmas.{numbers_are}
-use Rattle.star_catalogue.specs.Columns.{values}
+use Rattle.star_catalogue.specs.Private.Columns.{values}
 use Rattle.star_catalogue.proofs.Placed.{column_at, kind_at}
 use Rattle.star_catalogue.proofs.table.LoadedTable.numbers.Goals as goal
 

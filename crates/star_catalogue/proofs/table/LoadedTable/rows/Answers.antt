@@ -1,6 +1,6 @@
 use Rattle.std.proofs.Common.{map, sym}
 use Rattle.star_reader.proofs.RowLemmas.{length-first_rows}
-use Rattle.star_catalogue.specs.Columns.{values}
+use Rattle.star_catalogue.specs.Private.Columns.{values}
 use Rattle.star_catalogue.proofs.table.LoadedTable.rows.Goals as goal
 
 pub returns : goal.returns

@@ -5,7 +5,7 @@ use Rattle.star_schema.specs.Schema.{kinds_of, table_of}
 use Rattle.star_schema.specs.Tables.{Text}
 use Rattle.star_schema.specs.Texts.{texts_at}
 use Rattle.star_reader.specs.Columns.{first_rows}
-use Rattle.star_catalogue.specs.Columns.{values}
+use Rattle.star_catalogue.specs.Private.Columns.{values}
 use Rattle.star_catalogue.proofs.Placed.{column_at, kind_at, texts_are}
 use Rattle.star_catalogue.proofs.table.LoadedTable.texts.Goals as goal
 

@@ -2,7 +2,7 @@ use Rattle.std.proofs.Common.{All}
 use Rattle.star_schema.specs.declared.table.TableId.{TableId}
 use Rattle.star_schema.specs.Database.{rows_in}
 use Rattle.star_schema.specs.Tables.{IsRowOf}
-use Rattle.star_catalogue.specs.FiveTables.{database_kept}
+use Rattle.star_catalogue.specs.Private.FiveTables.{database_kept}
 use Rattle.star_catalogue.proofs.Typed.{of_each}
 use Rattle.star_catalogue.proofs.tables.Tables.law.Goals as goal
 

@@ -1,5 +1,5 @@
 use Rattle.std.proofs.Common.{◌≡◌, ◌++◌, ◌∷◌, [], ◌+◌, List, ℕ, sym, ap, ◌∙◌, length, length-append, arith, if◌then◌else◌, vec_len, subst}
-use Rattle.star_flat.specs.Cut.{IsCut, texts_from}
+use Rattle.star_flat.specs.Private.Cut.{IsCut, texts_from}
 use Rattle.star_flat.proofs.CutLemmas.{cut_more, texts_more}
 use Rattle.star_flat.proofs.texts.FlatTexts.push.Goals as goal
 

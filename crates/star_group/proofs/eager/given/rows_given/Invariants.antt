@@ -1,5 +1,5 @@
 use Rattle.std.proofs.Common.{◌≡◌, take}
-use Rattle.star_group.specs.Given.{rows_given}
+use Rattle.star_group.specs.Private.Given.{rows_given}
 use Rattle.star_group.proofs.eager.given.rows_given.Given as goal
 
 abbrev pub invariant-loop-place : goal.invariant-loop-place

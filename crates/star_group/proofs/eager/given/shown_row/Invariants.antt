@@ -1,4 +1,4 @@
-use Rattle.star_group.specs.Given.{ShownBelow}
+use Rattle.star_group.specs.Private.Given.{ShownBelow}
 use Rattle.star_group.proofs.eager.given.shown_row.Given as goal
 
 abbrev pub invariant-loop-place : goal.invariant-loop-place

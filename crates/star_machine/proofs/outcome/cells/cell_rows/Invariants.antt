@@ -1,5 +1,5 @@
 use Rattle.std.proofs.Common.{◌≡◌, map, take}
-use Rattle.star_machine.specs.Decoded.{row_cells}
+use Rattle.star_machine.specs.Private.Decoded.{row_cells}
 use Rattle.star_machine.specs.WorldOf.{world_of}
 use Rattle.star_machine.proofs.outcome.cells.cell_rows.Given as goal
 

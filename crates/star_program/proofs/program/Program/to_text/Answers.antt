@@ -1,7 +1,7 @@
 use Rattle.std.proofs.Common.{ℕ, List, subst, sym}
 use Rattle.std.proofs.lemmas.Result.{IfOk-weaker}
-use Rattle.star_program.specs.Spelling.{Spells}
-use Rattle.star_program.proofs.Spelled.{written}
+use Rattle.star_program.specs.Text.Spelling.{Spells}
+use Rattle.star_program.proofs.Text.Spelled.{written}
 use Rattle.star_program.proofs.program.Program.to_text.Goals as goal
 
 pub returns-clause-spells : goal.returns-clause-spells

@@ -1,8 +1,8 @@
 use Rattle.std.proofs.Common.{◌≡◌, ◌==◌, ◌∙◌, Some, None, add-one, sym}
 use Rattle.std.specs.List.{position}
 use Rattle.std.proofs.lemmas.List.Quantifiers.{position-Some}
-use Rattle.star_program.proofs.Positions.{position-None}
-use Rattle.star_program.proofs.LineLemmas.{empty_lines, first_line, one_line}
+use Rattle.star_program.proofs.Text.Positions.{position-None}
+use Rattle.star_program.proofs.Text.LineLemmas.{empty_lines, first_line, one_line}
 use Rattle.star_program.proofs.spelling.lines.split_line.Goals as goal
 
 pub returns-then-is_empty-clause-line : goal.returns-then-is_empty-clause-line

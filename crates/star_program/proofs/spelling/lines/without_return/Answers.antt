@@ -1,6 +1,6 @@
 use Rattle.std.proofs.Common.{◌≡◌, ◌==◌, ◌∙◌, ◌∷◌, ◌++◌, [], true, false, refl, sym}
 use Rattle.std.proofs.lemmas.Bool.{eq-eqb, ne_eqb}
-use Rattle.star_program.proofs.LineLemmas.{without_return-push}
+use Rattle.star_program.proofs.Text.LineLemmas.{without_return-push}
 use Rattle.star_program.proofs.spelling.lines.without_return.Goals as goal
 
 pub returns-then-last-eq13 : goal.returns-then-last-eq13

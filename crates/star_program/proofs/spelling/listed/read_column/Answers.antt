@@ -1,8 +1,8 @@
 use Rattle.star_schema.specs.declared.column.TheConstants.{COLUMNS}
 use Rattle.star_schema.specs.Schema.{column_name}
 use Rattle.star_schema.proofs.NamesApart.{column_by_name}
-use Rattle.star_program.specs.Keywords.{column_of}
-use Rattle.star_program.proofs.ByName.{named_is_found}
+use Rattle.star_program.specs.Text.Keywords.{column_of}
+use Rattle.star_program.proofs.Text.ByName.{named_is_found}
 use Rattle.star_program.proofs.spelling.listed.read_column.Goals as goal
 
 pub returns : goal.returns

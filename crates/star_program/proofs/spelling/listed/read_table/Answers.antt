@@ -1,8 +1,8 @@
 use Rattle.star_schema.specs.declared.table.TheConstants.{TABLES}
 use Rattle.star_schema.specs.Schema.{table_name}
 use Rattle.star_schema.proofs.NamesApart.{table_by_name}
-use Rattle.star_program.specs.Keywords.{table_of}
-use Rattle.star_program.proofs.ByName.{named_is_found}
+use Rattle.star_program.specs.Text.Keywords.{table_of}
+use Rattle.star_program.proofs.Text.ByName.{named_is_found}
 use Rattle.star_program.proofs.spelling.listed.read_table.Goals as goal
 
 pub returns : goal.returns

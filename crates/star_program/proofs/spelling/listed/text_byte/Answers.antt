@@ -1,5 +1,5 @@
 use Rattle.std.proofs.Common.{◌≡◌, ◌∷◌}
-use Rattle.star_program.proofs.Quotes.{closing_quote, doubled_quote, empty_stops, last_quote, plain_byte}
+use Rattle.star_program.proofs.Text.Quotes.{closing_quote, doubled_quote, empty_stops, last_quote, plain_byte}
 use Rattle.star_program.proofs.spelling.listed.text_byte.Goals as goal
 
 pub returns-in_err-byte-clause-byte : goal.returns-in_err-byte-clause-byte

@@ -1,5 +1,5 @@
 use Rattle.std.proofs.Common.{length, arith}
-use Rattle.star_schema.proofs.NumeralLemmas.{some_below_power}
+use Rattle.star_common.proofs.NumeralLemmas.{some_below_power}
 use Rattle.star_program.proofs.spelling.numerals.numeral.Goals as goal
 
 pub returns-clause-bound : goal.returns-clause-bound

@@ -1,8 +1,8 @@
 -- The lines so far have no fault, and say what the draft says.
 use Rattle.std.proofs.Common.{◌≡◌, ◌≤◌, ◌+◌, ◌++◌, Some, length, map}
-use Rattle.star_program.specs.Drafts.{IsAt, lines_say, told}
-use Rattle.star_program.specs.Lines.{lines_of}
-use Rattle.star_program.specs.Places.{fault_from, start}
+use Rattle.star_program.specs.Private.Drafts.{IsAt, lines_say, told}
+use Rattle.star_program.specs.Text.Lines.{lines_of}
+use Rattle.star_program.specs.Text.Places.{fault_from, start}
 use Rattle.star_program.proofs.spelling.parsing.read_parts.Given as goal
 
 abbrev pub invariant-loop-first : goal.invariant-loop-first

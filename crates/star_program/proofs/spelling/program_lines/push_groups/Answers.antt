@@ -1,4 +1,4 @@
-use Rattle.star_program.proofs.WrittenLemmas.{group_more}
+use Rattle.star_program.proofs.Text.WrittenLemmas.{group_more}
 use Rattle.star_program.proofs.spelling.program_lines.push_groups.Goals as goal
 
 pub loop-place-preserved : goal.loop-place-preserved

@@ -1,8 +1,8 @@
 -- What was added so far.
 use Rattle.std.proofs.Common.{◌≡◌, ◌++◌, take}
 use Rattle.std.specs.List.{flat_map}
-use Rattle.star_program.specs.Statements.{sort_line}
-use Rattle.star_program.specs.Written.{line_text}
+use Rattle.star_program.specs.Text.Statements.{sort_line}
+use Rattle.star_program.specs.Text.Written.{line_text}
 use Rattle.star_program.proofs.spelling.program_lines.push_sorts.Given as goal
 
 abbrev pub invariant-loop-key : goal.invariant-loop-key

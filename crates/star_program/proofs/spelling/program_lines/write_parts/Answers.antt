@@ -1,5 +1,5 @@
 use Rattle.std.proofs.Common.{◌∙◌, sym}
-use Rattle.star_program.proofs.WrittenLemmas.{chained, parts_text}
+use Rattle.star_program.proofs.Text.WrittenLemmas.{chained, parts_text}
 use Rattle.star_program.proofs.spelling.program_lines.write_parts.Goals as goal
 
 pub returns : goal.returns
@@ -7,7 +7,7 @@ returns c =
     chained _ _ _ _ _ _ _ _ _ _ _ _
     (rw c.new-out.ensures.items at c.in_ok-push_head.ensures)
     (rw c.as_slice.ensures at c.in_ok-push_groups.ensures)
-    c.in_ok-write.ensures
+    c.in_ok-push_body.ensures
     c.in_ok-push_report.ensures
     (rw c.as_slice-2.ensures at c.in_ok-push_shows.ensures)
     (rw c.as_slice-3.ensures at c.in_ok-push_sorts.ensures)

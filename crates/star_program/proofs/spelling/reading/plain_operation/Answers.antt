@@ -1,8 +1,8 @@
 use Rattle.std.proofs.Common.{◌≡◌, ◌≢◌, ◌∙◌, ℕ, List, refl}
 use Rattle.std.specs.Option.{option_and_then}
-use Rattle.star_program.specs.Lines.{words_of}
-use Rattle.star_program.specs.Numerals.{register_of}
-use Rattle.star_program.specs.Said.{of_two, plain_operation, two}
+use Rattle.star_program.specs.Text.Lines.{words_of}
+use Rattle.star_program.specs.Text.Numerals.{register_of}
+use Rattle.star_program.specs.Text.Said.{of_two, plain_operation, two}
 use Rattle.star_program.specs.declared.spelling.keyword.Operator.{Operator}
 use Rattle.star_program.specs.declared.spelling.keyword.Operator.TheVariants as operator
 use Rattle.star_program.proofs.spelling.reading.plain_operation.Goals as goal

@@ -1,7 +1,7 @@
 -- What was added so far.
 use Rattle.std.proofs.Common.{◌≡◌, ◌++◌, take}
 use Rattle.std.specs.List.{flat_map}
-use Rattle.star_program.specs.Written.{register_text}
+use Rattle.star_program.specs.Text.Written.{register_text}
 use Rattle.star_program.proofs.spelling.writing.push_registers.Given as goal
 
 abbrev pub invariant-loop-register : goal.invariant-loop-register

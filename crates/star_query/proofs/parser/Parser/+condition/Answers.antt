@@ -3,8 +3,8 @@ use Rattle.star_query.specs.Symbols.{sign, keyword}
 use Rattle.star_query.specs.declared.token.Sign.TheVariants.{Open}
 use Rattle.star_query.specs.declared.token.Keyword.TheVariants.{Not}
 use Rattle.star_query.specs.Grammar.{lone_conj, lone_unit}
-use Rattle.star_query.specs.Machine.{unit_wanted, first_unit, first_conj}
-use Rattle.star_query.specs.Reads.{spot_of, verdict}
+use Rattle.star_query.specs.Private.Machine.{unit_wanted, first_unit, first_conj}
+use Rattle.star_query.specs.Private.Reads.{spot_of, verdict}
 use Rattle.star_query.proofs.Tokens.{shorter}
 use Rattle.star_query.proofs.Descent.{opened, not_opened}
 use Rattle.star_query.proofs.Conditions.{read_not, read_group, named_unit, one_more_unit, one_more_conj}
@@ -24,7 +24,7 @@ pub conjunction-loop-self-preserved : goal.conjunction-loop-self-preserved
 conjunction-loop-self-preserved t c =
     let left = shorter c.loop-self.self c.take_keyword.new.self _ _ c.loop-self-test.ensures.taken in
     record {
-      reads = one_more_unit (λ h. verdict (spot_of c.args.self.now) (unit_wanted (first_unit h))) (spot_of c.loop-self.self) (spot_of c.take_keyword.new.self) (spot_of c.unit-in-loop-self.new.self) c.args.depth c.loop-self.all c.in_ok-new.field-0.value c.in_ok-next.next c.in_ok-new-2.field-0.value c.loop-self.invariant.reads c.loop-self-test.ensures.taken c.requires c.in_ok-new.ensures.ok c.in_ok-new-2.ensures.ok c.in_ok-next.ensures.reads;
+      reads = one_more_unit (λ h. verdict (spot_of c.args.self.now) (unit_wanted (first_unit h))) (spot_of c.loop-self.self) (spot_of c.take_keyword.new.self) (spot_of c.unit-in-loop-self.new.self) c.args.depth c.loop-self.all c.in_ok-next.next c.in_ok-all-2.all c.loop-self.invariant.reads c.loop-self-test.ensures.taken c.requires c.in_ok-all-2.ensures c.in_ok-next.ensures.reads;
       shorter = omega (arith, left, c.in_ok-next.ensures.shorter, c.loop-self.invariant.shorter);
     }
 
@@ -32,7 +32,7 @@ pub condition-loop-self-preserved : goal.condition-loop-self-preserved
 condition-loop-self-preserved t c =
     let left = shorter c.loop-self.self c.take_keyword.new.self _ _ c.loop-self-test.ensures.taken in
     record {
-      reads = one_more_conj (λ h. verdict (spot_of c.args.self.now) (unit_wanted (first_unit (first_conj h)))) (spot_of c.loop-self.self) (spot_of c.take_keyword.new.self) (spot_of c.conjunction-in-loop-self.new.self) c.args.depth c.loop-self.any c.in_ok-new.field-0.value c.in_ok-next.next c.in_ok-new-2.field-0.value c.loop-self.invariant.reads c.loop-self-test.ensures.taken c.requires c.in_ok-new.ensures.ok c.in_ok-new-2.ensures.ok c.in_ok-next.ensures.reads;
+      reads = one_more_conj (λ h. verdict (spot_of c.args.self.now) (unit_wanted (first_unit (first_conj h)))) (spot_of c.loop-self.self) (spot_of c.take_keyword.new.self) (spot_of c.conjunction-in-loop-self.new.self) c.args.depth c.loop-self.any c.in_ok-next.next c.in_ok-any-2.any c.loop-self.invariant.reads c.loop-self-test.ensures.taken c.requires c.in_ok-any-2.ensures c.in_ok-next.ensures.reads;
       ends = c.in_ok-next.ensures.ends;
       shorter = omega (arith, left, c.in_ok-next.ensures.shorter, c.loop-self.invariant.shorter);
     }

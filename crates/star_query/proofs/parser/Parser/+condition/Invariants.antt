@@ -1,8 +1,8 @@
 use Rattle.std.proofs.Common.{◌≡◌, ◌≤◌, ◌-◌, ◌*◌, ◌+◌, length}
 use Rattle.star_query.specs.Grammar.{Cond, Conj, cond_tree, conj_tree}
-use Rattle.star_query.specs.Machine.{CondHole, ConjHole, cond_depth, conj_depth, unit_wanted, first_unit, first_conj, conj_had, cond_had}
+use Rattle.star_query.specs.Private.Machine.{CondHole, ConjHole, cond_depth, conj_depth, unit_wanted, first_unit, first_conj, conj_had, cond_had}
 use Rattle.star_query.specs.Views.{condition_view}
-use Rattle.star_query.specs.Reads.{spot_of, verdict, NoAnd}
+use Rattle.star_query.specs.Private.Reads.{spot_of, verdict, NoAnd}
 use Rattle.star_query.proofs.parser.Parser.+condition.Given as goal
 
 abbrev pub decreases-condition : goal.decreases-condition

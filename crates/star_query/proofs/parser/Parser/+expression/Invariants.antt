@@ -1,8 +1,8 @@
 use Rattle.std.proofs.Common.{◌≡◌, ◌≤◌, ◌-◌, ◌*◌, ◌+◌, length}
 use Rattle.star_query.specs.Grammar.{Expr, Term, expr_tree, term_tree}
-use Rattle.star_query.specs.Machine.{ExprHole, TermHole, expr_depth, term_depth, factor_wanted, first_factor, first_term, term_had, expr_had}
+use Rattle.star_query.specs.Private.Machine.{ExprHole, TermHole, expr_depth, term_depth, factor_wanted, first_factor, first_term, term_had, expr_had}
 use Rattle.star_query.specs.Views.{expression_view}
-use Rattle.star_query.specs.Reads.{spot_of, verdict, NoTimes}
+use Rattle.star_query.specs.Private.Reads.{spot_of, verdict, NoTimes}
 use Rattle.star_query.proofs.parser.Parser.+expression.Given as goal
 
 abbrev pub decreases-expression : goal.decreases-expression

@@ -1,6 +1,6 @@
 use Rattle.std.proofs.Common.{◌∙◌, ◌∷◌, ◌++◌, [], ap, arith, Err}
 use Rattle.std.proofs.lemmas.Result.{err_from_is_err_and}
-use Rattle.star_query.specs.Reads.{spot_of}
+use Rattle.star_query.specs.Private.Reads.{spot_of}
 use Rattle.star_query.proofs.Tokens.{shorter}
 use Rattle.star_query.proofs.Queries.{first_column, next_column, bad_first_column, bad_next_column}
 use Rattle.star_query.proofs.parser.Parser.columns.Goals as goal

@@ -1,4 +1,4 @@
-use Rattle.star_query.specs.Reads.{spot_of}
+use Rattle.star_query.specs.Private.Reads.{spot_of}
 use Rattle.star_query.proofs.Conditions.{read_compare_between, read_compare_related}
 use Rattle.star_query.proofs.parser.Parser.compare.Goals as goal
 

@@ -1,4 +1,4 @@
-use Rattle.star_query.specs.Reads.{spot_of}
+use Rattle.star_query.specs.Private.Reads.{spot_of}
 use Rattle.star_query.proofs.Conditions.{read_pair, read_equal}
 use Rattle.star_query.proofs.parser.Parser.equal.Goals as goal
 

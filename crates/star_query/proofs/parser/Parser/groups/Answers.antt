@@ -1,6 +1,6 @@
 use Rattle.std.proofs.Common.{◌∙◌, ap, Err}
 use Rattle.std.proofs.lemmas.Result.{err_from_is_err_and}
-use Rattle.star_query.specs.Reads.{spot_of}
+use Rattle.star_query.specs.Private.Reads.{spot_of}
 use Rattle.star_query.proofs.Queries.{read_cube, read_plain, bad_plain, bad_cube_columns, bad_cube_close}
 use Rattle.star_query.proofs.parser.Parser.groups.Goals as goal
 

@@ -1,8 +1,8 @@
 use Rattle.std.proofs.Common.{◌≡◌, ◌≤◌, None, map, length}
 use Rattle.star_query.specs.Grammar.{Several, Item, item_tree, listed}
-use Rattle.star_query.specs.Machine.{item_wanted, items_had}
+use Rattle.star_query.specs.Private.Machine.{item_wanted, items_had}
 use Rattle.star_query.specs.Views.{item_view}
-use Rattle.star_query.specs.Reads.{spot_of, verdict}
+use Rattle.star_query.specs.Private.Reads.{spot_of, verdict}
 use Rattle.star_query.proofs.parser.Parser.items.Given as goal
 
 abbrev pub invariant-loop-self : goal.invariant-loop-self

@@ -1,4 +1,4 @@
-use Rattle.star_query.specs.Reads.{spot_of}
+use Rattle.star_query.specs.Private.Reads.{spot_of}
 use Rattle.star_query.proofs.Queries.{read_descending, read_ascending, read_unmarked}
 use Rattle.star_query.proofs.parser.Parser.key.Goals as goal
 

@@ -1,8 +1,8 @@
 use Rattle.std.proofs.Common.{◌≡◌, ◌≤◌, None, map, length}
 use Rattle.star_query.specs.Grammar.{Several, Key, key_tree, listed}
-use Rattle.star_query.specs.Machine.{Grouped, key_wanted, keys_had}
+use Rattle.star_query.specs.Private.Machine.{Grouped, key_wanted, keys_had}
 use Rattle.star_query.specs.Views.{key_view}
-use Rattle.star_query.specs.Reads.{spot_of, verdict}
+use Rattle.star_query.specs.Private.Reads.{spot_of, verdict}
 use Rattle.star_query.proofs.parser.Parser.key_list.Given as goal
 
 abbrev pub invariant-loop-self : goal.invariant-loop-self

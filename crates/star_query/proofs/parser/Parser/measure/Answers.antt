@@ -1,4 +1,4 @@
-use Rattle.star_query.specs.Reads.{spot_of}
+use Rattle.star_query.specs.Private.Reads.{spot_of}
 use Rattle.star_query.proofs.Queries.{folded_measure, counted_measure}
 use Rattle.star_query.proofs.parser.Parser.measure.Goals as goal
 

@@ -1,6 +1,6 @@
 use Rattle.std.proofs.Common.{◌∙◌, ap, Err}
 use Rattle.std.proofs.lemmas.Result.{err_from_is_err_and}
-use Rattle.star_query.specs.Reads.{spot_of}
+use Rattle.star_query.specs.Private.Reads.{spot_of}
 use Rattle.star_query.proofs.Descent.{read_column, read_constant, read_negative, bad_column, bad_negative, bad_constant}
 use Rattle.star_query.proofs.parser.Parser.operand.Goals as goal
 

@@ -1,7 +1,7 @@
 use Rattle.std.proofs.Common.{◌∙◌, ap, Err, None}
 use Rattle.std.proofs.lemmas.Result.{err_from_is_err_and}
-use Rattle.star_query.specs.Reads.{spot_of}
-use Rattle.star_query.specs.Machine.{item_wanted, items_had, table_wanted, tables_had, filtered_had, grouped_had, done, filtered_by, grouped_by}
+use Rattle.star_query.specs.Private.Reads.{spot_of}
+use Rattle.star_query.specs.Private.Machine.{item_wanted, items_had, table_wanted, tables_had, filtered_had, grouped_had, done, filtered_by, grouped_by}
 use Rattle.star_query.proofs.Queries.{past_select, past_from, bad_from, bad_query, read_query}
 use Rattle.star_query.proofs.parser.Parser.query.Goals as goal
 

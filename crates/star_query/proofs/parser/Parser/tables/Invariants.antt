@@ -1,9 +1,9 @@
 use Rattle.std.proofs.Common.{◌≡◌, ◌≤◌, None, map, length}
 use Rattle.star_query.specs.Tree.{Name}
 use Rattle.star_query.specs.Grammar.{Several, Item, names}
-use Rattle.star_query.specs.Machine.{table_wanted, tables_had}
+use Rattle.star_query.specs.Private.Machine.{table_wanted, tables_had}
 use Rattle.star_query.specs.Views.{name_view}
-use Rattle.star_query.specs.Reads.{spot_of, verdict}
+use Rattle.star_query.specs.Private.Reads.{spot_of, verdict}
 use Rattle.star_query.proofs.parser.Parser.tables.Given as goal
 
 abbrev pub invariant-loop-self : goal.invariant-loop-self

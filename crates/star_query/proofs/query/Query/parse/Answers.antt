@@ -2,7 +2,7 @@ use Rattle.std.proofs.Common.{◌∙◌, List, map, sym, ap, subst, Err}
 use Rattle.std.proofs.lemmas.Result.{err_from_is_err_and}
 use Rattle.star_query.specs.declared.token.Token.{Token}
 use Rattle.star_query.specs.Symbols.{symbols}
-use Rattle.star_query.specs.Lexed.{placed}
+use Rattle.star_query.specs.Private.Lexed.{placed}
 use Rattle.star_query.specs.Derives.{Derives}
 use Rattle.star_query.specs.Views.{tree_view}
 use Rattle.star_query.specs.Shown.{IsRead}

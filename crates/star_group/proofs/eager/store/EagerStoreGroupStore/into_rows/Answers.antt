@@ -1,6 +1,6 @@
 use Rattle.std.proofs.Common.{sym, ap, ◌∙◌, subst}
 use Rattle.star_group.specs.Eager.{group_of}
-use Rattle.star_group.specs.Given.{rows_given}
+use Rattle.star_group.specs.Private.Given.{rows_given}
 use Rattle.star_group.specs.Shown.{AreRows}
 use Rattle.star_group.proofs.Contents.{if_ok}
 use Rattle.star_group.proofs.GivenGroups.{given_are_rows}

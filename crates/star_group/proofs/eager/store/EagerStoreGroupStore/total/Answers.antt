@@ -1,7 +1,7 @@
 use Rattle.std.proofs.Common.{Some, None, sym, ap, ◌∙◌, get_or}
 use Rattle.std.proofs.lemmas.List.{get_or_default}
 use Rattle.star_schema.specs.declared.group.Aggregate.TheVariants.{Count}
-use Rattle.star_group.specs.Cells.{shown}
+use Rattle.star_group.specs.Private.Given.{shown}
 use Rattle.star_group.specs.Eager.{group_of, look}
 use Rattle.star_group.proofs.Totals.{total_found}
 use Rattle.star_group.proofs.eager.store.EagerStoreGroupStore.total.Goals as goal

@@ -1,0 +1,12 @@
+mod WorkedRefusals
+mod Numbers
+mod TallyOrder
+mod Tallied
+mod Instructions
+mod Turns
+mod Sound
+mod Runs
+mod Always
+mod Refused
+mod Scopes
+mod Told

@@ -1,0 +1,40 @@
+-- What a verifier's yes is worth.
+use Rattle.std.specs.Prelude.{ℕ, ◌^◌, ◌≤◌, ℤ, List, Option, Some, None, slice_index_or}
+use Rattle.star_schema.specs.declared.group.Aggregate.TheVariants.{Count}
+use Rattle.star_schema.specs.Groups.{members, aggregate, numbers_for}
+use Rattle.star_interval.specs.Range.{Range, Holds}
+use Rattle.star_program.specs.declared.key.KeyValue.{KeyValue}
+use Rattle.star_program.specs.declared.program.Parts.{Parts}
+use Rattle.star_program.specs.Limits.{IsWithinLimits}
+use Rattle.star_program.specs.World.{World, IsLoaded}
+use Rattle.star_program.specs.Keys.{value_cmp}
+use Rattle.star_program.specs.Faults.{group_at}
+use Rattle.star_program.specs.Effects.{Store}
+use Rattle.star_program.specs.Run.{End, EndsWith}
+use Rattle.star_admission.specs.Tallies.{aggregate_range}
+use Rattle.star_admission.specs.Quote.{quote}
+use Rattle.star_admission.specs.Admissible.{IsAdmissible}
+use Rattle.star_admission.specs.Moments.{whole_gain}
+
+-- a program is admissible over a loaded catalogue, and no more visits are quoted than any run may make
+pub record IsAccepted (w : World) (parts : Parts) : Type 0 where
+  pub loaded : IsLoaded w
+  pub limits : IsWithinLimits parts
+  pub admissible : IsAdmissible w parts
+  pub cheap : quote w.size parts ≤ 10 ^ 15
+
+-- with no trap, and with no more visits than these
+abbrev pub EndsWithin : ℕ → End → Type 0
+EndsWithin visits end = EndsWith end (λ s. s.visits ≤ visits)
+
+-- a number that isn't NULL lies in a range
+abbrev pub TotalLies : Option Range → Option ℤ → Type 0
+TotalLies o None = Unit {0}
+TotalLies None (Some z) = ⊥
+TotalLies (Some r) (Some z) = Holds r z
+
+-- each aggregate of each group of updates lies in its range
+abbrev pub TotalsLie : World → Parts → Store → Type 0
+TotalsLie w parts s = (g place : ℕ) (keys : List (Option KeyValue))
+    → TotalLies (aggregate_range (slice_index_or (group_at parts g).aggregates place Count) (whole_gain w parts g place))
+    (aggregate (slice_index_or (group_at parts g).aggregates place Count) (numbers_for place (members value_cmp keys (s.updates_of g))))

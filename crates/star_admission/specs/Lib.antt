@@ -1,0 +1,9 @@
+pub mod Ranges
+pub mod Tallies
+pub mod Quote
+pub mod Contexts
+pub mod Refusals
+pub mod Admissible
+pub mod Moments
+pub mod Laws
+pub mod Standing

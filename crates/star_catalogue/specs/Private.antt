@@ -1,0 +1,4 @@
+pub mod Columns
+pub mod Keys
+pub mod Kept
+pub mod FiveTables

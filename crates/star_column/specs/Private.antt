@@ -1,0 +1,4 @@
+pub mod Bounds
+pub mod Codes
+pub mod Edge
+pub mod Order

@@ -1,0 +1,5 @@
+pub mod First
+pub mod Numerals
+pub mod Out
+pub mod Quotes
+pub mod Memory

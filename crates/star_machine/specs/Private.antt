@@ -1,0 +1,10 @@
+-- What the contracts of functions that are not public cite.
+pub mod Checked
+pub mod Sound
+pub mod Shown
+pub mod Stops
+pub mod Runs
+pub mod Acts
+pub mod Walks
+pub mod RowOrder
+pub mod Decoded

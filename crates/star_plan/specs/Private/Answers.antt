@@ -1,0 +1,17 @@
+-- What the calls of this crate answer.
+use Rattle.std.specs.Prelude.{◌≡◌, List, map, Option, None, Some, Result, Ok, Err, Vec}
+use Rattle.std.specs.Global.{Global}
+use Rattle.star_common.specs.Memory.{UnlessMemory}
+use Rattle.star_plan.specs.declared.fault.PlanFault.{PlanFault}
+use Rattle.star_plan.specs.declared.fault.PlanFault.TheVariants.{OutOfMemory}
+use Rattle.star_plan.specs.declared.tree.Condition as of_plan
+use Rattle.star_plan.specs.Meaning.{Condition}
+use Rattle.star_plan.specs.Shown.{condition_shown}
+
+-- the answer tells the fault that there is, or want of memory
+abbrev pub Tells : {X : Type 0} → Option PlanFault → Result X PlanFault → Type 0
+Tells fault (Ok x) = fault ≡ None
+Tells fault (Err e) = UnlessMemory OutOfMemory e (fault ≡ Some e)
+
+abbrev pub conditions_shown : Vec of_plan.Condition Global → List Condition
+conditions_shown cs = map condition_shown cs.items

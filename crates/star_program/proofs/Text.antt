@@ -1,0 +1,18 @@
+-- Lemmas on the text of programs.
+mod WorkedTexts
+pub mod Positions
+pub mod LineLemmas
+pub mod WordLemmas
+pub mod WrittenLemmas
+pub mod Depths
+pub mod Quotes
+pub mod ListLemmas
+pub mod ByName
+pub mod OneProgram
+pub mod FaultLemmas
+pub mod DraftLemmas
+pub mod NoFault
+pub mod SpelledWords
+pub mod Spelled
+pub mod Sayable
+pub mod Faultless

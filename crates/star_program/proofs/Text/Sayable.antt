@@ -1,0 +1,440 @@
+-- What a line says can be said: its numbers are short, its names and texts have the right bytes.
+use Rattle.std.specs.Prelude.{codes, filter, nat_le, not, pos, neg_ℤ, if◌then◌else◌}
+use Rattle.std.proofs.Common.{◌≡◌, ◌==◌, ◌&&◌, ◌<◌, ◌≤◌, ◌^◌, ◌∷◌, [], ℕ, zero, suc, Bool, true, false, List, Option, Some, None, All, drop, length, map, arith, ap, refl, subst, inl, inr}
+use Rattle.std.specs.Char.{is_ascii_digit}
+use Rattle.std.specs.List.{list_all}
+use Rattle.std.specs.Option.{option_and_then, option_map}
+use Rattle.std.specs.Str.Parse.{AllDigits, digits_value, starts_with_minus}
+use Rattle.std.proofs.lemmas.Bool.{and_parts, cases_Bool, leb-true}
+use Rattle.std.proofs.lemmas.Int.Digits.{digits_value-lt}
+use Rattle.std.proofs.lemmas.Str.{digit_value_digit}
+use Rattle.std.proofs.lemmas.List.Elements.{All-cons}
+use Rattle.star_schema.specs.Records.{is_filled, with_first}
+use Rattle.star_schema.specs.Tables.{is_printable}
+use Rattle.star_schema.specs.declared.column.ColumnId.{ColumnId}
+use Rattle.star_schema.specs.declared.group.GroupColumn.{GroupColumn}
+use Rattle.star_schema.specs.declared.group.GroupColumn.TheVariants as column
+use Rattle.star_schema.specs.declared.group.SortKey.{SortKey}
+use Rattle.star_program.specs.Text.Keywords.{aggregate_of, column_of, direction_of, keyword_of, operator_of, same, shape_of, table_of}
+use Rattle.star_program.specs.Text.Lines.{begins_with, is_blank, lines_of, pieces_of, words_of}
+use Rattle.star_common.specs.Numerals.{numeral_of}
+use Rattle.star_program.specs.Text.Numerals.{constant_of, count_of, is_name, register_of, up_to}
+use Rattle.star_program.specs.Text.Said.{assigned, both, by_first, by_keyword, by_words, each, end_of, group_column_of, group_head, group_key_of, group_of, header_of, lists, name_of, of_two, one, only, operation, plain_operation, put_head, put_of, quoted_text_of, said, show_of, sort_of, test_of_two, three, two, unquoted, until_colon}
+use Rattle.star_program.specs.Text.Spellable.{IsConstant, IsPrinted, IsSayable, IsShort, IsShortColumn, IsSpellableOp, OnlySpellable}
+use Rattle.star_program.specs.Text.Spelling.{Spells, statements_of}
+use Rattle.star_program.specs.declared.op.Op.{Op}
+use Rattle.star_program.specs.declared.op.Op.TheVariants as op
+use Rattle.star_program.specs.declared.program.Show.{Show}
+use Rattle.star_program.specs.declared.spelling.keyword.Keyword.{Keyword}
+use Rattle.star_program.specs.declared.spelling.keyword.Keyword.TheVariants as keyword
+use Rattle.star_program.specs.declared.spelling.keyword.Operator.{Operator}
+use Rattle.star_program.specs.declared.spelling.keyword.Operator.TheVariants as operator
+use Rattle.star_program.specs.declared.spelling.statement.Statement.{Statement}
+use Rattle.star_program.specs.declared.spelling.statement.Statement.TheVariants as says
+use Rattle.star_common.proofs.NumeralLemmas.{below_power, digit_bounds}
+
+-- ---- what an answer came from
+
+mapped : {A B : Type 0} (f : A → B) (o : Option A) (y : B) → option_map f o ≡ Some y → (x : A) × (o ≡ Some x) × (f x ≡ y)
+mapped f None y h = let bad : ⊥ = cc in absurd bad
+mapped f (Some x) y h = let is : f x ≡ y = cc in (x, refl, is)
+
+chained : {A B : Type 0} (f : A → Option B) (o : Option A) (y : B) → option_and_then f o ≡ Some y → (x : A) × (o ≡ Some x) × (f x ≡ Some y)
+chained f None y h = let bad : ⊥ = cc in absurd bad
+chained f (Some x) y h = (x, refl, h)
+
+paired : {A B : Type 0} (a : Option A) (b : Option B) (p : A × B) → both a b ≡ Some p → (a ≡ Some p.0) × (b ≡ Some p.1)
+paired None b p h = let bad : ⊥ = cc in absurd bad
+paired (Some x) None p h = let bad : ⊥ = cc in absurd bad
+paired (Some x) (Some y) p h = let is : (x, y) ≡ p = cc in (ap (λ q. Some q.0) is, ap (λ q. Some q.1) is)
+
+chosen : {A : Type 0} (b : Bool) (o : Option A) (y : A) → (if b then o else None) ≡ Some y → (b ≡ true) × (o ≡ Some y)
+chosen true o y h = (refl, h)
+chosen false o y h = let bad : ⊥ = cc in absurd bad
+
+-- each answer of a reader of words is so
+abbrev Gives : {A : Type 0} → (List ℕ → Option A) → (A → Type 0) → Type 0
+Gives {A} f P = (w : List ℕ) (x : A) → f w ≡ Some x → P x
+
+one_gives : {A : Type 0} (f : List ℕ → Option A) (P : A → Type 0) (ws : List (List ℕ)) (x : A) → Gives f P → one f ws ≡ Some x → P x
+one_gives f P ws x gives h = let c = chained f (only ws) x h in gives c.0 x c.2
+
+two_gives : {A B : Type 0} (f : List ℕ → Option A) (g : List ℕ → Option B) (P : A → Type 0) (Q : B → Type 0) (ws : List (List ℕ)) (p : A × B) → Gives f P → Gives g Q → two f g ws ≡ Some p
+    → P p.0 × Q p.1
+two_gives f g P Q [] p first second h = let bad : ⊥ = cc in absurd bad
+two_gives f g P Q (w ∷ ws) p first second h =
+    let parts = paired (f w) (one g ws) p h in
+    (first w p.0 parts.0, one_gives g Q ws p.1 second parts.1)
+
+three_gives : {A B C : Type 0} (f : List ℕ → Option A) (g : List ℕ → Option B) (k : List ℕ → Option C) (P : A → Type 0) (Q : B → Type 0) (R : C → Type 0) (ws : List (List ℕ)) (p : A × (B × C))
+    → Gives f P → Gives g Q → Gives k R → three f g k ws ≡ Some p → P p.0 × Q p.1.0 × R p.1.1
+three_gives f g k P Q R [] p first second third h = let bad : ⊥ = cc in absurd bad
+three_gives f g k P Q R (w ∷ ws) p first second third h =
+    let parts = paired (f w) (two g k ws) p h in
+    let rest = two_gives g k Q R ws p.1 second third parts.1 in
+    (first w p.0 parts.0, rest.0, rest.1)
+
+each_gives : {A : Type 0} (f : List ℕ → Option A) (P : A → Type 0) (ws : List (List ℕ)) (xs : List A) → Gives f P → each f ws ≡ Some xs → All P xs
+each_gives f P [] xs gives h =
+    let is : [] ≡ xs = cc in
+    subst (All P) is (λ k d small. absurd (omega arith))
+each_gives f P (w ∷ ws) xs gives h =
+    let c = mapped (λ (y, ys). y ∷ ys) (both (f w) (each f ws)) xs h in
+    let parts = paired (f w) (each f ws) c.0 c.1 in
+    subst (All P) c.2 (All-cons P c.0.0 c.0.1 (gives w c.0.0 parts.0) (each_gives f P ws c.0.1 gives parts.1))
+
+until_colon_gives : {A : Type 0} (f : List ℕ → Option A) (P : A → Type 0) (ws : List (List ℕ)) (r : List A × List (List ℕ)) → Gives f P → until_colon f ws ≡ Some r → All P r.0
+until_colon_gives f P [] r gives h = let bad : ⊥ = cc in absurd bad
+until_colon_gives f P (w ∷ ws) r gives h = elim (cases_Bool (same w (codes ":"))) [
+  | inl colon ↦
+      let there = rw colon at h in
+      let is : ([], ws) ≡ r = cc in
+      subst (λ q. All P q.0) is (λ k d small. absurd (omega arith))
+  | inr other ↦
+      let c = mapped (λ (x, (xs, rest)). (x ∷ xs, rest)) (both (f w) (until_colon f ws)) r (rw other at h) in
+      let parts = paired (f w) (until_colon f ws) c.0 c.1 in
+      subst (λ q. All P q.0) c.2 (All-cons P c.0.0 c.0.1.0 (gives w c.0.0 parts.0) (until_colon_gives f P ws c.0.1 gives parts.1))
+]
+
+lists_gives : {A B : Type 0} (f : List ℕ → Option A) (g : List ℕ → Option B) (P : A → Type 0) (Q : B → Type 0) (ws : List (List ℕ)) (r : List A × List B) → Gives f P → Gives g Q → lists f g ws ≡ Some r
+    → All P r.0 × All Q r.1
+lists_gives f g P Q ws r first second h =
+    let c = chained (λ (xs, rest). option_map (λ ys. (xs, ys)) (each g rest)) (until_colon f ws) r h in
+    let d = mapped (λ ys. (c.0.0, ys)) (each g c.0.1) r c.2 in
+    (subst (λ q. All P q.0) d.2 (until_colon_gives f P ws c.0 first c.1), subst (λ q. All Q q.1) d.2 (each_gives g Q c.0.1 d.0 second d.1))
+
+-- anything
+abbrev Any : {A : Type 0} → A → Type 0
+Any x = Unit {0}
+
+-- ---- numbers
+
+all_digits : (w : List ℕ) → list_all is_ascii_digit w ≡ true → AllDigits 10 w
+all_digits [] h = tt
+all_digits (d ∷ w) h =
+    let parts = and_parts (is_ascii_digit d) (list_all is_ascii_digit w) h in
+    let bounds = digit_bounds d parts.0 in
+    let value = digit_value_digit d bounds in
+    (omega (arith, bounds.0, bounds.1, value), all_digits w parts.1)
+
+numeral_below : (places : ℕ) (w : List ℕ) (n : ℕ) → numeral_of places w ≡ Some n → n < 10 ^ places
+numeral_below places w n h =
+    let tests = chosen (nat_le 1 (length w) && nat_le (length w) places && list_all is_ascii_digit w) (Some (digits_value 10 w)) n h in
+    let parts = and_parts (nat_le 1 (length w) && nat_le (length w) places) (list_all is_ascii_digit w) tests.0 in
+    let most : length w ≤ places = leb-true (length w) places (and_parts (nat_le 1 (length w)) (nat_le (length w) places) parts.0).1 in
+    let is : digits_value 10 w ≡ n = cc (tests.1) in
+    let small : n < 10 ^ length w = rw is at (digits_value-lt 10 w (all_digits w parts.1)) in
+    below_power (length w) places n small most
+
+count_short : Gives count_of IsShort
+unfolding count_of
+count_short w n h =
+    let below : n < 10 ^ 4 = numeral_below 4 w n h in
+    let big : 10 ^ 4 ≡ 10000 = refl in
+    omega (arith, below, big)
+
+register_short : Gives register_of IsShort
+unfolding register_of
+register_short w n h = count_short (drop 1 w) n (chosen (begins_with 114 w) (count_of (drop 1 w)) n h).1
+
+up_to_within : (most : ℕ) (o : Option ℕ) (n : ℕ) → up_to most o ≡ Some n → n ≤ most
+up_to_within most None n h = let bad : ⊥ = cc in absurd bad
+up_to_within most (Some m) n h =
+    let tests = chosen (nat_le m most) (Some m) n h in
+    let is : m ≡ n = cc (tests.1) in
+    subst (λ k. k ≤ most) is (leb-true m most tests.0)
+
+negative_fits : (n : ℕ) → n ≤ 9223372036854775808 → IsConstant (neg_ℤ (pos n))
+negative_fits zero h = omega arith
+negative_fits (suc n) h = omega arith
+
+constant_fits : Gives constant_of IsConstant
+unfolding constant_of
+constant_fits w z h = elim (cases_Bool (starts_with_minus w)) [
+  | inl minus ↦
+      let c = mapped (λ n. neg_ℤ (pos n)) (up_to 9223372036854775808 (numeral_of 19 (drop 1 w))) z (rw minus at h) in
+      subst IsConstant c.2 (negative_fits c.0 (up_to_within 9223372036854775808 (numeral_of 19 (drop 1 w)) c.0 c.1))
+  | inr plain ↦
+      let c = mapped pos (up_to 9223372036854775807 (numeral_of 19 w)) z (rw plain at h) in
+      subst IsConstant c.2 (up_to_within 9223372036854775807 (numeral_of 19 w) c.0 c.1)
+]
+
+-- ---- texts
+
+abbrev all_printed : List (List ℕ) → Bool
+all_printed ws = list_all (λ w. list_all is_printable w) ws
+
+first_printed : (b : ℕ) (ws : List (List ℕ)) → is_printable b ≡ true → all_printed ws ≡ true → all_printed (with_first b ws) ≡ true
+first_printed b [] h all = rw h refl
+first_printed b (w ∷ ws) h all = rw h all
+
+pieces_printed : (line : List ℕ) → IsPrinted line → all_printed (pieces_of line) ≡ true
+unfolding pieces_of
+pieces_printed [] h = refl
+pieces_printed (b ∷ line) h =
+    let parts = and_parts (is_printable b) (list_all is_printable line) h in
+    elim (cases_Bool (b == 39)) [
+      | inl quote ↦ rw (quote, parts.0, parts.1) refl
+      | inr other ↦ elim (cases_Bool (b == 32)) [
+        | inl space ↦ rw (other, space) (pieces_printed line parts.1)
+        | inr plain ↦ rw (other, plain) (first_printed b (pieces_of line) parts.0 (pieces_printed line parts.1))
+      ]
+    ]
+
+filled_printed : (ws : List (List ℕ)) → all_printed ws ≡ true → all_printed (filter is_filled ws) ≡ true
+filled_printed [] h = refl
+filled_printed ([] ∷ ws) h = filled_printed ws h
+filled_printed ((b ∷ w) ∷ ws) h =
+    let parts = and_parts (list_all is_printable (b ∷ w)) (all_printed ws) h in
+    rw parts.0 (filled_printed ws parts.1)
+
+words_printed : (line : List ℕ) → IsPrinted line → all_printed (words_of line) ≡ true
+unfolding words_of
+words_printed line h = filled_printed (pieces_of line) (pieces_printed line h)
+
+unquoted_printed : (q text : List ℕ) → unquoted q ≡ Some text → IsPrinted q → IsPrinted text
+unfolding unquoted
+unquoted_printed [] text h printed = let bad : ⊥ = cc in absurd bad
+unquoted_printed (b ∷ []) text h printed =
+    let c = chosen (b == 39) (Some []) text h in
+    let is : [] ≡ text = cc (c.1) in
+    subst IsPrinted is refl
+unquoted_printed (b ∷ d ∷ rest) text h printed =
+    let parts = and_parts (is_printable b) (list_all is_printable (d ∷ rest)) printed in
+    let later = and_parts (is_printable d) (list_all is_printable rest) parts.1 in
+    elim (cases_Bool ((b == 39) && (d == 39))) [
+      | inl quotes ↦
+          let c = mapped (λ t. 39 ∷ t) (unquoted rest) text (rw quotes at h) in
+          subst IsPrinted c.2 (unquoted_printed rest c.0 c.1 later.1)
+      | inr others ↦ elim (cases_Bool (b == 39)) [
+        | inl quote ↦
+            let there = rw (others, quote) at h in
+            let e = chosen (is_blank (d ∷ rest)) (Some []) text there in
+            let is : [] ≡ text = cc (e.1) in
+            subst IsPrinted is refl
+        | inr plain ↦
+            let c = mapped (λ t. b ∷ t) (unquoted (d ∷ rest)) text (rw (others, plain) at h) in
+            let rest_printed : IsPrinted c.0 = unquoted_printed (d ∷ rest) c.0 c.1 parts.1 in
+            let all : IsPrinted (b ∷ c.0) = rw (parts.0, rest_printed) refl in
+            subst IsPrinted c.2 all
+      ]
+    ]
+
+quoted_printed : (w text : List ℕ) → quoted_text_of w ≡ Some text → IsPrinted w → IsPrinted text
+quoted_printed [] text h printed = let bad : ⊥ = cc in absurd bad
+quoted_printed (b ∷ rest) text h printed =
+    let c = chosen (b == 39) (unquoted rest) text h in
+    unquoted_printed rest text c.1 (and_parts (is_printable b) (list_all is_printable rest) printed).1
+
+only_printed : (ws : List (List ℕ)) (w : List ℕ) → only ws ≡ Some w → all_printed ws ≡ true → IsPrinted w
+only_printed [] w h all = let bad : ⊥ = cc in absurd bad
+only_printed (v ∷ []) w h all =
+    let is : v ≡ w = cc in
+    subst IsPrinted is (and_parts (list_all is_printable v) true all).0
+only_printed (v ∷ u ∷ ws) w h all = let bad : ⊥ = cc in absurd bad
+
+-- a column and a text
+search_printed : (ws : List (List ℕ)) (p : ColumnId × List ℕ) → two column_of quoted_text_of ws ≡ Some p → all_printed ws ≡ true → IsPrinted p.1
+search_printed [] p h all = let bad : ⊥ = cc in absurd bad
+search_printed (w ∷ ws) p h all =
+    let parts = paired (column_of w) (one quoted_text_of ws) p h in
+    let c = chained quoted_text_of (only ws) p.1 parts.1 in
+    quoted_printed c.0 p.1 c.2 (only_printed ws c.0 c.1 (and_parts (list_all is_printable w) (all_printed ws) all).1)
+
+-- ---- instructions
+
+any_column : Gives column_of Any
+any_column w c h = tt
+
+any_table : Gives table_of Any
+any_table w t h = tt
+
+-- two registers as operands
+two_short : (ws : List (List ℕ)) (p : ℕ × ℕ) → two register_of register_of ws ≡ Some p → IsShort p.0 × IsShort p.1
+two_short ws p h = two_gives register_of register_of IsShort IsShort ws p register_short register_short h
+
+test_spellable : (t : ℕ) (o : Operator) (a b : ℕ) (x : Op) → IsShort t → IsShort a × IsShort b → test_of_two t o a b ≡ Some x → IsSpellableOp x
+test_spellable t operator.Less a b x short both h = let is : op.Less t a b ≡ x = cc in subst IsSpellableOp is (short, both.0, both.1)
+test_spellable t operator.LessOrEqual a b x short both h = let is : op.LessOrEqual t a b ≡ x = cc in subst IsSpellableOp is (short, both.0, both.1)
+test_spellable t operator.Equal a b x short both h = let is : op.Equal t a b ≡ x = cc in subst IsSpellableOp is (short, both.0, both.1)
+test_spellable t operator.And a b x short both h = let is : op.And t a b ≡ x = cc in subst IsSpellableOp is (short, both.0, both.1)
+test_spellable t operator.Or a b x short both h = let is : op.Or t a b ≡ x = cc in subst IsSpellableOp is (short, both.0, both.1)
+test_spellable t o a b x short both h = let bad : ⊥ = cc in absurd bad
+
+two_spellable : (t : ℕ) (o : Operator) (a b : ℕ) (x : Op) → IsShort t → IsShort a × IsShort b → of_two t o a b ≡ Some x → IsSpellableOp x
+two_spellable t operator.Add a b x short both h = let is : op.Add t a b ≡ x = cc in subst IsSpellableOp is (short, both.0, both.1)
+two_spellable t operator.Sub a b x short both h = let is : op.Sub t a b ≡ x = cc in subst IsSpellableOp is (short, both.0, both.1)
+two_spellable t operator.Mul a b x short both h = let is : op.Mul t a b ≡ x = cc in subst IsSpellableOp is (short, both.0, both.1)
+two_spellable t o a b x short both h = test_spellable t o a b x short both h
+
+plain_spellable : (t : ℕ) (o : Operator) (ws : List (List ℕ)) (x : Op) → IsShort t → plain_operation t o ws ≡ Some x → IsSpellableOp x
+unfolding plain_operation
+plain_spellable t operator.Const ws x short h =
+    let c = mapped (λ n. op.Const t n) (one constant_of ws) x h in
+    subst IsSpellableOp c.2 (short, one_gives constant_of IsConstant ws c.0 constant_fits c.1)
+plain_spellable t operator.Low ws x short h = let bad : ⊥ = cc in absurd bad
+plain_spellable t operator.High ws x short h = let bad : ⊥ = cc in absurd bad
+plain_spellable t operator.Load ws x short h =
+    let c = mapped (λ (k, row). op.Load t k row) (two column_of register_of ws) x h in
+    subst IsSpellableOp c.2 (short, (two_gives column_of register_of Any IsShort ws c.0 any_column register_short c.1).1)
+plain_spellable t operator.Find ws x short h =
+    let c = mapped (λ (table, k). op.Find t table k) (two table_of register_of ws) x h in
+    subst IsSpellableOp c.2 (short, (two_gives table_of register_of Any IsShort ws c.0 any_table register_short c.1).1)
+plain_spellable t operator.Within ws x short h =
+    let c = mapped (λ (y, (a, b)). op.Within t y a b) (three register_of register_of register_of ws) x h in
+    let d = three_gives register_of register_of register_of IsShort IsShort IsShort ws c.0 register_short register_short register_short c.1 in
+    subst IsSpellableOp c.2 (short, d.0, d.1, d.2)
+plain_spellable t operator.Not ws x short h =
+    let c = mapped (λ f. op.Not t f) (one register_of ws) x h in
+    subst IsSpellableOp c.2 (short, one_gives register_of IsShort ws c.0 register_short c.1)
+plain_spellable t operator.Read ws x short h =
+    let c = mapped (λ (g, (a, n)). op.Read t g a n) (three count_of count_of constant_of ws) x h in
+    let d = three_gives count_of count_of constant_of IsShort IsShort IsConstant ws c.0 count_short count_short constant_fits c.1 in
+    subst IsSpellableOp c.2 (short, d.0, d.1, d.2)
+plain_spellable t o ws x short h =
+    let c = chained (λ (a, b). of_two t o a b) (two register_of register_of ws) x h in
+    two_spellable t o c.0.0 c.0.1 x short (two_short ws c.0 c.1) c.2
+
+spellable : (t : ℕ) (o : Operator) (ws : List (List ℕ)) (x : Op) → IsShort t → all_printed ws ≡ true → operation t o ws ≡ Some x → IsSpellableOp x
+unfolding operation
+spellable t operator.Low ws x short all h =
+    let c = mapped (λ (k, text). op.Low t k text) (two column_of quoted_text_of ws) x h in
+    subst IsSpellableOp c.2 (short, search_printed ws c.0 c.1 all)
+spellable t operator.High ws x short all h =
+    let c = mapped (λ (k, text). op.High t k text) (two column_of quoted_text_of ws) x h in
+    subst IsSpellableOp c.2 (short, search_printed ws c.0 c.1 all)
+spellable t o ws x short all h = plain_spellable t o ws x short h
+
+assigned_spellable : (t : ℕ) (ws : List (List ℕ)) (x : Op) → IsShort t → all_printed ws ≡ true → assigned t ws ≡ Some x → IsSpellableOp x
+assigned_spellable t [] x short all h = let bad : ⊥ = cc in absurd bad
+assigned_spellable t (w ∷ []) x short all h = let bad : ⊥ = cc in absurd bad
+assigned_spellable t (w ∷ name ∷ ws) x short all h =
+    let c = chosen (same w (codes "=")) (option_and_then (λ o. operation t o ws) (operator_of name)) x h in
+    let d = chained (λ o. operation t o ws) (operator_of name) x c.1 in
+    let rest = and_parts (list_all is_printable name) (all_printed ws) (and_parts (list_all is_printable w) (all_printed (name ∷ ws)) all).1 in
+    spellable t d.0 ws x short rest.1 d.2
+
+put_spellable : (ws : List (List ℕ)) (x : Op) → put_of ws ≡ Some x → IsSpellableOp x
+put_spellable [] x h = let bad : ⊥ = cc in absurd bad
+put_spellable (w ∷ ws) x h =
+    let c = chained (λ (group, rest). option_map (λ (keys, values). op.Put group keys values) (lists register_of register_of rest)) (put_head (w ∷ ws)) x h in
+    let head = paired (count_of w) (Some ws) c.0 c.1 in
+    let d = mapped (λ (keys, values). op.Put c.0.0 keys values) (lists register_of register_of c.0.1) x c.2 in
+    let items = lists_gives register_of register_of IsShort IsShort c.0.1 d.0 register_short register_short d.1 in
+    subst IsSpellableOp d.2 (count_short w c.0.0 head.0, items.0, items.1)
+
+-- ---- statements
+
+header_sayable : (ws : List (List ℕ)) (s : Statement) → header_of ws ≡ Some s → IsSayable s
+header_sayable [] s h = let bad : ⊥ = cc in absurd bad
+header_sayable (w ∷ ws) s h =
+    let c = chosen (same w (codes "program")) (option_and_then (λ version. if same version (codes "1") then Some says.Header else None) (only ws)) s h in
+    let d = chained (λ version. if same version (codes "1") then Some says.Header else None) (only ws) s c.1 in
+    let e = chosen (same d.0 (codes "1")) (Some says.Header) s d.2 in
+    let is : says.Header ≡ s = cc (e.1) in
+    subst IsSayable is tt
+
+group_sayable : (ws : List (List ℕ)) (s : Statement) → group_of ws ≡ Some s → IsSayable s
+group_sayable [] s h = let bad : ⊥ = cc in absurd bad
+group_sayable (w ∷ []) s h = let bad : ⊥ = cc in absurd bad
+group_sayable (w ∷ v ∷ ws) s h =
+    let c = chained (λ (place, (shape, rest)). option_map (λ (keys, aggregates). says.Group place (record { shape = shape; keys = keys; aggregates = aggregates })) (lists group_key_of aggregate_of rest))
+    (group_head (w ∷ v ∷ ws)) s h in
+    let head = paired (count_of w) (both (shape_of v) (Some ws)) c.0 c.1 in
+    let d = mapped (λ (keys, aggregates). says.Group c.0.0 (record { shape = c.0.1.0; keys = keys; aggregates = aggregates })) (lists group_key_of aggregate_of c.0.1.1) s c.2 in
+    subst IsSayable d.2 (count_short w c.0.0 head.0)
+
+end_sayable : (ws : List (List ℕ)) (s : Statement) → end_of ws ≡ Some s → IsSayable s
+end_sayable [] s h = let is : says.End ≡ s = cc in subst IsSayable is tt
+end_sayable (w ∷ ws) s h = let bad : ⊥ = cc in absurd bad
+
+column_short : (word place : List ℕ) (c : GroupColumn) → group_column_of word place ≡ Some c → IsShortColumn c
+unfolding group_column_of
+column_short word place c h = elim (cases_Bool (same word (codes "key"))) [
+  | inl is ↦
+      let d = mapped column.Key (count_of place) c (rw is at h) in
+      subst IsShortColumn d.2 (count_short place d.0 d.1)
+  | inr other ↦
+      let there = rw other at h in
+      let e = chosen (same word (codes "aggregate")) (option_map column.Aggregate (count_of place)) c there in
+      let d = mapped column.Aggregate (count_of place) c e.1 in
+      subst IsShortColumn d.2 (count_short place d.0 d.1)
+]
+
+show_sayable : (ws : List (List ℕ)) (s : Show) → show_of ws ≡ Some s → IsSayable (says.Show s)
+show_sayable [] s h = let bad : ⊥ = cc in absurd bad
+show_sayable (name ∷ []) s h = let bad : ⊥ = cc in absurd bad
+show_sayable (name ∷ word ∷ ws) s h =
+    let c = mapped (λ (n, k). record { name = n; column = k }) (both (name_of name) (option_and_then (group_column_of word) (only ws))) s h in
+    let parts = paired (name_of name) (option_and_then (group_column_of word) (only ws)) c.0 c.1 in
+    let d = chained (group_column_of word) (only ws) c.0.1 parts.1 in
+    let e = chosen (is_name name) (Some name) c.0.0 parts.0 in
+    let same_name : name ≡ c.0.0 = cc (e.1) in
+    subst (λ x. IsSayable (says.Show x)) c.2 (subst (λ n. is_name n ≡ true) same_name e.0, column_short word d.0 c.0.1 d.2)
+
+sort_sayable : (ws : List (List ℕ)) (k : SortKey) → sort_of ws ≡ Some k → IsSayable (says.Sort k)
+sort_sayable [] k h = let bad : ⊥ = cc in absurd bad
+sort_sayable (word ∷ []) k h = let bad : ⊥ = cc in absurd bad
+sort_sayable (word ∷ place ∷ ws) k h =
+    let c = mapped (λ (e, d). record { column = e; direction = d }) (both (group_column_of word place) (one direction_of ws)) k h in
+    let parts = paired (group_column_of word place) (one direction_of ws) c.0 c.1 in
+    subst (λ x. IsSayable (says.Sort x)) c.2 (column_short word place c.0.0 parts.0)
+
+by_keyword_sayable : (k : Keyword) (ws : List (List ℕ)) (s : Statement) → by_keyword k ws ≡ Some s → IsSayable s
+unfolding by_keyword
+by_keyword_sayable keyword.Star ws s h = header_sayable ws s h
+by_keyword_sayable keyword.Registers ws s h =
+    let c = mapped says.Registers (one count_of ws) s h in
+    subst IsSayable c.2 (one_gives count_of IsShort ws c.0 count_short c.1)
+by_keyword_sayable keyword.Group ws s h = group_sayable ws s h
+by_keyword_sayable keyword.Keep ws s h =
+    let c = mapped (λ f. says.Act (op.Keep f)) (one register_of ws) s h in
+    subst IsSayable c.2 (one_gives register_of IsShort ws c.0 register_short c.1)
+by_keyword_sayable keyword.Put ws s h =
+    let c = mapped says.Act (put_of ws) s h in
+    subst IsSayable c.2 (put_spellable ws c.0 c.1)
+by_keyword_sayable keyword.Scan ws s h =
+    let c = mapped (λ (table, t). says.Scan table t) (two table_of register_of ws) s h in
+    subst IsSayable c.2 (two_gives table_of register_of Any IsShort ws c.0 any_table register_short c.1).1
+by_keyword_sayable keyword.End ws s h = end_sayable ws s h
+by_keyword_sayable keyword.Report ws s h =
+    let c = mapped says.Report (one count_of ws) s h in
+    subst IsSayable c.2 (one_gives count_of IsShort ws c.0 count_short c.1)
+by_keyword_sayable keyword.Show ws s h =
+    let c = mapped says.Show (show_of ws) s h in
+    subst IsSayable c.2 (show_sayable ws c.0 c.1)
+by_keyword_sayable keyword.Sort ws s h =
+    let c = mapped says.Sort (sort_of ws) s h in
+    subst IsSayable c.2 (sort_sayable ws c.0 c.1)
+
+by_first_sayable : (k : Option Keyword) (w : List ℕ) (ws : List (List ℕ)) (s : Statement) → all_printed ws ≡ true → by_first k w ws ≡ Some s → IsSayable s
+by_first_sayable (Some k) w ws s all h = by_keyword_sayable k ws s h
+by_first_sayable None w ws s all h =
+    let c = chained (λ t. option_map says.Act (assigned t ws)) (register_of w) s h in
+    let d = mapped says.Act (assigned c.0 ws) s c.2 in
+    subst IsSayable d.2 (assigned_spellable c.0 ws d.0 (register_short w c.0 c.1) all d.1)
+
+by_words_sayable : (ws : List (List ℕ)) (s : Statement) → all_printed ws ≡ true → by_words ws ≡ Some s → IsSayable s
+unfolding by_words
+by_words_sayable [] s all h = let bad : ⊥ = cc in absurd bad
+by_words_sayable (w ∷ ws) s all h = by_first_sayable (keyword_of w) w ws s (and_parts (list_all is_printable w) (all_printed ws) all).1 h
+
+said_sayable : (line : List ℕ) (s : Statement) → said line ≡ Some s → IsSayable s
+unfolding said
+said_sayable line s h =
+    let c = chosen (list_all is_printable line) (by_words (words_of line)) s h in
+    by_words_sayable (words_of line) s (words_printed line c.0) c.1
+
+-- ---- programs
+
+all_sayable : (texts : List (List ℕ)) (ss : List Statement) → map said texts ≡ map Some ss → All IsSayable ss
+all_sayable texts [] h = λ k d small. absurd (omega arith)
+all_sayable [] (s ∷ ss) h = let bad : ⊥ = cc in absurd bad
+all_sayable (text ∷ texts) (s ∷ ss) h =
+    let here : said text ≡ Some s = cc in
+    let rest : map said texts ≡ map Some ss = cc in
+    All-cons IsSayable s ss (said_sayable text s here) (all_sayable texts ss rest)
+
+pub only_spellable : OnlySpellable
+unfolding Spells
+only_spellable text p spells = all_sayable (filter (λ line. not (is_blank line)) (lines_of text)) (statements_of p) spells

@@ -1,0 +1,390 @@
+-- The text of a program that can be spelled spells it.
+use Rattle.std.specs.Prelude.{codes, decimal, filter, nat_le, not}
+use Rattle.std.proofs.Common.{◌≡◌, ◌==◌, ◌&&◌, ◌≤◌, ◌*◌, ◌∙◌, ◌∷◌, ◌++◌, [], ℕ, zero, suc, true, false, List, Option, Some, None, All, append_assoc, append-nil, map, arith, ap, refl, sym, replicate, slice_index_or}
+use Rattle.std.specs.Fmt.{signed_decimal}
+use Rattle.std.specs.List.{flat_map, list_all}
+use Rattle.std.proofs.lemmas.Bool.{and_parts, leb-true, ne_eqb}
+use Rattle.std.proofs.lemmas.List.Concat.{flat_map-append}
+use Rattle.std.proofs.lemmas.List.Elements.{All-head, All-tail}
+use Rattle.std.proofs.lemmas.List.Folds.{list_all-append}
+use Rattle.star_schema.specs.Records.{with_first}
+use Rattle.star_schema.specs.Schema.{column_name, column_of as schema_column, table_name}
+use Rattle.star_schema.specs.Tables.{is_printable}
+use Rattle.star_schema.specs.declared.column.ColumnId.{ColumnId}
+use Rattle.star_schema.specs.declared.group.Direction.{Direction}
+use Rattle.star_schema.specs.declared.group.GroupColumn.{GroupColumn}
+use Rattle.star_schema.specs.declared.group.GroupColumn.TheVariants as column
+use Rattle.star_program.specs.Text.Keywords.{aggregate_name, aggregate_of, column_of, direction_name, keyword_name, keyword_of, operator_name, same, shape_name}
+use Rattle.star_program.specs.Text.Lines.{is_blank, lines_of, words_of}
+use Rattle.star_program.specs.Text.Numerals.{is_name, register_of}
+use Rattle.star_program.specs.Text.Said.{by_keyword, by_words, each, group_column_of, group_key_of, lists, operation, plain_operation, said, until_colon}
+use Rattle.star_program.specs.Text.Spellable.{IsPrinted, IsSayable, IsShort, IsShortColumn, IsSpellableOp, Written}
+use Rattle.star_program.specs.Text.Spelling.{Spells}
+use Rattle.star_program.specs.Text.Statements.{Line, lines_of_program}
+use Rattle.star_common.specs.Quotes.{doubled, quoted}
+use Rattle.star_program.specs.Text.Written.{aggregate_text, column_text, group_text, key_text, line_text, op_text, register_text, show_text, sort_text, statement_text, target_text, text_of}
+use Rattle.star_schema.specs.declared.table.TableId.{TableId}
+use Rattle.star_program.specs.declared.group.GroupDecl.{GroupDecl}
+use Rattle.star_program.specs.declared.group.GroupKey.{GroupKey}
+use Rattle.star_program.specs.declared.group.GroupKey.TheVariants as key
+use Rattle.star_program.specs.declared.op.Op.{Op}
+use Rattle.star_program.specs.declared.op.Op.TheVariants as op
+use Rattle.star_program.specs.declared.spelling.keyword.Operator.{Operator}
+use Rattle.star_program.specs.declared.spelling.keyword.Operator.TheVariants as operator
+use Rattle.star_program.specs.declared.spelling.statement.Statement.{Statement}
+use Rattle.star_program.specs.declared.spelling.statement.Statement.TheVariants as says
+use Rattle.star_program.proofs.Text.LineLemmas.{goes_on, no_lines}
+use Rattle.star_program.proofs.Text.SpelledWords.{aggregate_read, aggregate_word, behind, column_apart, column_read, column_word, constant_decimal, constant_word, count_decimal, count_word, direction_read, direction_word, is_word, is_word_byte, name_word, operator_read, operator_word, quote_printable, quoted_printable, quoted_read, register_is_word, register_no_keyword, register_read, register_word, shape_read, shape_word, table_read, table_word, words_before_quote, words_behind, words_printable}
+use Rattle.star_program.proofs.Text.WordLemmas.{space_first}
+use Rattle.star_program.proofs.Text.WrittenLemmas.{flat_map_map}
+
+-- ---- a statement and its text
+
+-- the text of a statement is printable, begins with no space and says the statement
+record IsSpoken (s : Statement) : Type 0 where
+  printable : IsPrinted (statement_text s)
+  starts : is_blank (statement_text s) ≡ false
+  means : by_words (words_of (statement_text s)) ≡ Some s
+
+word_starts : (w t : List ℕ) → is_word w ≡ true → is_blank (w ++ t) ≡ false
+word_starts [] t h = let bad : ⊥ = cc in absurd bad
+word_starts (b ∷ w) t h =
+    let bytes = and_parts (is_word_byte b) (list_all is_word_byte w) h in
+    let low : 33 ≤ b = leb-true 33 b (and_parts (nat_le 33 b) (nat_le b 126) (and_parts (nat_le 33 b && nat_le b 126) (not (b == 39)) bytes.0).0).0 in
+    rw (ne_eqb b 32 (λ e. absurd (omega arith))) refl
+
+spoken : (s : Statement) (w : List ℕ) (ws : List (List ℕ)) → statement_text s ≡ w ++ behind ws → is_word w ≡ true → list_all is_word ws ≡ true → by_words (w ∷ ws) ≡ Some s → IsSpoken s
+spoken s w ws is h all means = record {
+  printable = rw is (words_printable w ws h all);
+  starts = rw is (word_starts w (behind ws) h);
+  means = rw (is, words_behind w ws h all) means;
+}
+
+spoken_quote : (s : Statement) (w : List ℕ) (ws : List (List ℕ)) (q : List ℕ) → statement_text s ≡ w ++ (behind ws ++ 32 ∷ 39 ∷ q) → is_word w ≡ true → list_all is_word ws ≡ true → IsPrinted (39 ∷ q)
+    → by_words (w ∷ (ws ++ (39 ∷ q) ∷ [])) ≡ Some s → IsSpoken s
+spoken_quote s w ws q is h all printed means = record {
+  printable = rw is (quote_printable w ws (39 ∷ q) h all printed);
+  starts = rw is (word_starts w (behind ws ++ 32 ∷ 39 ∷ q) h);
+  means = rw (is, words_before_quote w ws q h all) means;
+}
+
+-- one, two or three words after the first
+one_behind : (w : List ℕ) → 32 ∷ w ≡ behind (w ∷ [])
+one_behind w = ap (λ t. 32 ∷ t) (sym (append-nil w))
+
+two_behind : (v w : List ℕ) → 32 ∷ (v ++ 32 ∷ w) ≡ behind (v ∷ w ∷ [])
+two_behind v w = ap (λ t. 32 ∷ (v ++ 32 ∷ t)) (sym (append-nil w))
+
+three_behind : (u v w : List ℕ) → 32 ∷ (u ++ 32 ∷ (v ++ 32 ∷ w)) ≡ behind (u ∷ v ∷ w ∷ [])
+three_behind u v w = ap (λ t. 32 ∷ (u ++ 32 ∷ (v ++ 32 ∷ t))) (sym (append-nil w))
+
+-- ---- instructions that write a register
+
+by_target : (t : ℕ) (o : Operator) (operands : List (List ℕ)) (x : Op) → IsShort t → operation t o operands ≡ Some x
+    → by_words (register_word t ∷ codes "=" ∷ operator_name o ∷ operands) ≡ Some (says.Act x)
+unfolding by_words
+by_target t o operands x h is = rw (register_no_keyword t h, register_read t h, operator_read o, is) refl
+
+target_words : (t : ℕ) (o : Operator) (rest : List ℕ) → target_text t o ++ rest ≡ register_word t ++ (behind (codes "=" ∷ operator_name o ∷ []) ++ rest)
+unfolding target_text
+target_words t o rest =
+    let end : operator_name o ++ rest ≡ (operator_name o ++ []) ++ rest = ap (λ x. x ++ rest) (sym (append-nil (operator_name o))) in
+    ap (λ x. 114 ∷ x) (append_assoc (decimal t) (32 ∷ 61 ∷ 32 ∷ operator_name o) rest) ∙ ap (λ x. 114 ∷ (decimal t ++ 32 ∷ 61 ∷ 32 ∷ x)) end
+
+spoken_target : (t : ℕ) (o : Operator) (operands : List (List ℕ)) (x : Op) → IsShort t → op_text x ≡ target_text t o ++ behind operands → list_all is_word operands ≡ true
+    → operation t o operands ≡ Some x → IsSpoken (says.Act x)
+spoken_target t o operands x h is all means =
+    let parted : behind (codes "=" ∷ operator_name o ∷ []) ++ behind operands ≡ behind (codes "=" ∷ operator_name o ∷ operands) = sym (flat_map-append (λ w. 32 ∷ w) (codes "=" ∷ operator_name o ∷ []) operands) in
+    spoken (says.Act x) (register_word t) (codes "=" ∷ operator_name o ∷ operands)
+    (is ∙ target_words t o (behind operands) ∙ ap (λ y. register_word t ++ y) parted)
+    (register_is_word t h) (rw (operator_word o, all) refl) (by_target t o operands x h means)
+
+spoken_search : (t : ℕ) (o : Operator) (c : ColumnId) (text : List ℕ) (x : Op) → IsShort t → IsPrinted text → op_text x ≡ target_text t o ++ (32 ∷ (column_name c ++ (32 ∷ quoted text)))
+    → operation t o (column_name c ∷ quoted text ∷ []) ≡ Some x → IsSpoken (says.Act x)
+unfolding quoted
+spoken_search t o c text x h printed is means =
+    let ws : List (List ℕ) = codes "=" ∷ operator_name o ∷ column_name c ∷ [] in
+    let end : 32 ∷ (column_name c ++ (32 ∷ quoted text)) ≡ behind (column_name c ∷ []) ++ 32 ∷ quoted text = ap (λ y. 32 ∷ (y ++ 32 ∷ quoted text)) (sym (append-nil (column_name c))) in
+    let parted : behind (codes "=" ∷ operator_name o ∷ []) ++ (behind (column_name c ∷ []) ++ 32 ∷ quoted text) ≡ behind ws ++ 32 ∷ quoted text =
+    sym (append_assoc (behind (codes "=" ∷ operator_name o ∷ [])) (behind (column_name c ∷ [])) (32 ∷ quoted text))
+    ∙ ap (λ y. y ++ 32 ∷ quoted text) (sym (flat_map-append (λ w. 32 ∷ w) (codes "=" ∷ operator_name o ∷ []) (column_name c ∷ []))) in
+    let text_is : op_text x ≡ register_word t ++ (behind ws ++ 32 ∷ quoted text) =
+    is ∙ ap (λ y. target_text t o ++ y) end ∙ target_words t o (behind (column_name c ∷ []) ++ 32 ∷ quoted text) ∙ ap (λ y. register_word t ++ y) parted in
+    spoken_quote (says.Act x) (register_word t) ws (flat_map doubled text ++ 39 ∷ []) text_is
+    (register_is_word t h) (rw (operator_word o, column_word c) refl) (quoted_printable text printed)
+    (by_target t o (column_name c ∷ quoted text ∷ []) x h means)
+
+two_are_words : (a b : ℕ) → IsShort a → IsShort b → list_all is_word (register_word a ∷ register_word b ∷ []) ≡ true
+two_are_words a b h g = rw (register_is_word a h, register_is_word b g) refl
+
+-- two registers as operands
+spoken_two : (t : ℕ) (o : Operator) (a b : ℕ) (x : Op) → IsShort t → IsShort a → IsShort b → op_text x ≡ target_text t o ++ (register_text a ++ register_text b)
+    → operation t o (register_word a ∷ register_word b ∷ []) ≡ Some x → IsSpoken (says.Act x)
+unfolding register_text
+spoken_two t o a b x h f g is means =
+    spoken_target t o (register_word a ∷ register_word b ∷ []) x h (is ∙ ap (λ y. target_text t o ++ y) (two_behind (register_word a) (register_word b))) (two_are_words a b f g) means
+
+-- ---- lists parted by a colon
+
+-- a word is read as something, and is no colon
+abbrev IsItem : {A : Type 0} → (List ℕ → Option A) → (A → List ℕ) → A → Type 0
+IsItem f word x = (f (word x) ≡ Some x) × (same (word x) (codes ":") ≡ false)
+
+until_colon_read : {A : Type 0} (f : List ℕ → Option A) (word : A → List ℕ) (xs : List A) (rest : List (List ℕ)) → All (IsItem f word) xs
+    → until_colon f (map word xs ++ codes ":" ∷ rest) ≡ Some (xs, rest)
+until_colon_read f word [] rest h = refl
+until_colon_read f word (x ∷ xs) rest h =
+    let here = All-head (IsItem f word) x xs h in
+    let reads : f (word x) ≡ Some x = here.0 in
+    let other : same (word x) (codes ":") ≡ false = here.1 in
+    let later : until_colon f (map word xs ++ codes ":" ∷ rest) ≡ Some (xs, rest) = until_colon_read f word xs rest (All-tail (IsItem f word) x xs h) in
+    rw (other, reads, later) refl
+
+each_read : {A : Type 0} (f : List ℕ → Option A) (word : A → List ℕ) (xs : List A) → All (λ x. f (word x) ≡ Some x) xs → each f (map word xs) ≡ Some xs
+each_read f word [] h = refl
+each_read f word (x ∷ xs) h =
+    let reads : f (word x) ≡ Some x = All-head (λ y. f (word y) ≡ Some y) x xs h in
+    let later : each f (map word xs) ≡ Some xs = each_read f word xs (All-tail (λ y. f (word y) ≡ Some y) x xs h) in
+    rw (reads, later) refl
+
+lists_read : {A B : Type 0} (f : List ℕ → Option A) (g : List ℕ → Option B) (v : A → List ℕ) (w : B → List ℕ) (xs : List A) (ys : List B) → All (IsItem f v) xs → All (λ y. g (w y) ≡ Some y) ys
+    → lists f g (map v xs ++ codes ":" ∷ map w ys) ≡ Some (xs, ys)
+lists_read f g v w xs ys front back =
+    let first : until_colon f (map v xs ++ codes ":" ∷ map w ys) ≡ Some (xs, map w ys) = until_colon_read f v xs (map w ys) front in
+    let second : each g (map w ys) ≡ Some ys = each_read g w ys back in
+    rw (first, second) refl
+
+words_all : {A : Type 0} (word : A → List ℕ) (xs : List A) → All (λ x. is_word (word x) ≡ true) xs → list_all is_word (map word xs) ≡ true
+words_all word [] h = refl
+words_all word (x ∷ xs) h =
+    let here : is_word (word x) ≡ true = All-head (λ y. is_word (word y) ≡ true) x xs h in
+    let later : list_all is_word (map word xs) ≡ true = words_all word xs (All-tail (λ y. is_word (word y) ≡ true) x xs h) in
+    rw (here, later) refl
+
+lists_are_words : {A B : Type 0} (v : A → List ℕ) (w : B → List ℕ) (xs : List A) (ys : List B) → All (λ x. is_word (v x) ≡ true) xs → All (λ y. is_word (w y) ≡ true) ys
+    → list_all is_word (map v xs ++ codes ":" ∷ map w ys) ≡ true
+lists_are_words v w xs ys front back =
+    rw (list_all-append is_word (map v xs) (codes ":" ∷ map w ys), words_all v xs front, words_all w ys back) refl
+
+-- both lists as they are written
+lists_text : {A B : Type 0} (v : A → List ℕ) (w : B → List ℕ) (xs : List A) (ys : List B)
+    → flat_map (λ x. 32 ∷ v x) xs ++ (32 ∷ 58 ∷ flat_map (λ y. 32 ∷ w y) ys) ≡ behind (map v xs ++ codes ":" ∷ map w ys)
+lists_text v w xs ys =
+    sym (flat_map-append (λ u. 32 ∷ u) (map v xs) (codes ":" ∷ map w ys)
+    ∙ ap (λ t. t ++ (32 ∷ 58 ∷ behind (map w ys))) (flat_map_map (λ u. 32 ∷ u) v xs)
+    ∙ ap (λ t. flat_map (λ x. 32 ∷ v x) xs ++ (32 ∷ 58 ∷ t)) (flat_map_map (λ u. 32 ∷ u) w ys))
+
+register_items : (rs : List ℕ) → All IsShort rs → All (IsItem register_of register_word) rs
+register_items rs h k d small = (register_read (slice_index_or rs k d) (h k d small), refl)
+
+spoken_put : (g : ℕ) (keys values : List ℕ) → IsShort g → All IsShort keys → All IsShort values → IsSpoken (says.Act (op.Put g keys values))
+unfolding op_text register_text by_words by_keyword keyword_of keyword_name
+spoken_put g keys values h front back =
+    let ws : List (List ℕ) = map register_word keys ++ codes ":" ∷ map register_word values in
+    let read : lists register_of register_of ws ≡ Some (keys, values) =
+    lists_read register_of register_of register_word register_word keys values (register_items keys front) (λ k d small. register_read (slice_index_or values k d) (back k d small)) in
+    let all : list_all is_word ws ≡ true =
+    lists_are_words register_word register_word keys values (λ k d small. register_is_word (slice_index_or keys k d) (front k d small)) (λ k d small. register_is_word (slice_index_or values k d) (back k d small)) in
+    spoken (says.Act (op.Put g keys values)) (codes "put") (decimal g ∷ ws) (ap (λ y. codes "put " ++ (decimal g ++ y)) (lists_text register_word register_word keys values)) refl
+    (rw (count_word g h, all) refl) (rw (count_decimal g h, read) refl)
+
+spoken_keep : (f : ℕ) → IsShort f → IsSpoken (says.Act (op.Keep f))
+unfolding op_text register_text by_words by_keyword keyword_of keyword_name
+spoken_keep f h =
+    spoken (says.Act (op.Keep f)) (codes "keep") (register_word f ∷ []) (ap (λ y. codes "keep" ++ y) (one_behind (register_word f))) refl
+    (rw (register_is_word f h) refl) (rw (register_read f h) refl)
+
+-- ---- any instruction
+
+spoken_op : (o : Op) → IsSpellableOp o → IsSpoken (says.Act o)
+unfolding op_text operation plain_operation register_text
+spoken_op (op.Const t n) h =
+    spoken_target t operator.Const (signed_decimal n ∷ []) (op.Const t n) h.0 (ap (λ y. target_text t operator.Const ++ y) (one_behind (signed_decimal n)))
+    (rw (constant_word n h.1) refl) (rw (constant_decimal n h.1) refl)
+spoken_op (op.Low t c text) h = spoken_search t operator.Low c text (op.Low t c text) h.0 h.1 refl (rw (column_read c, quoted_read text) refl)
+spoken_op (op.High t c text) h = spoken_search t operator.High c text (op.High t c text) h.0 h.1 refl (rw (column_read c, quoted_read text) refl)
+spoken_op (op.Load t c row) h =
+    spoken_target t operator.Load (column_name c ∷ register_word row ∷ []) (op.Load t c row) h.0 (ap (λ y. target_text t operator.Load ++ y) (two_behind (column_name c) (register_word row)))
+    (rw (column_word c, register_is_word row h.1) refl) (rw (column_read c, register_read row h.1) refl)
+spoken_op (op.Find t table k) h =
+    spoken_target t operator.Find (table_name table ∷ register_word k ∷ []) (op.Find t table k) h.0 (ap (λ y. target_text t operator.Find ++ y) (two_behind (table_name table) (register_word k)))
+    (rw (table_word table, register_is_word k h.1) refl) (rw (table_read table, register_read k h.1) refl)
+spoken_op (op.Add t a b) h = spoken_two t operator.Add a b (op.Add t a b) h.0 h.1 h.2 refl (rw (register_read a h.1, register_read b h.2) refl)
+spoken_op (op.Sub t a b) h = spoken_two t operator.Sub a b (op.Sub t a b) h.0 h.1 h.2 refl (rw (register_read a h.1, register_read b h.2) refl)
+spoken_op (op.Mul t a b) h = spoken_two t operator.Mul a b (op.Mul t a b) h.0 h.1 h.2 refl (rw (register_read a h.1, register_read b h.2) refl)
+spoken_op (op.Less t a b) h = spoken_two t operator.Less a b (op.Less t a b) h.0 h.1 h.2 refl (rw (register_read a h.1, register_read b h.2) refl)
+spoken_op (op.LessOrEqual t a b) h = spoken_two t operator.LessOrEqual a b (op.LessOrEqual t a b) h.0 h.1 h.2 refl (rw (register_read a h.1, register_read b h.2) refl)
+spoken_op (op.Equal t a b) h = spoken_two t operator.Equal a b (op.Equal t a b) h.0 h.1 h.2 refl (rw (register_read a h.1, register_read b h.2) refl)
+spoken_op (op.And t a b) h = spoken_two t operator.And a b (op.And t a b) h.0 h.1 h.2 refl (rw (register_read a h.1, register_read b h.2) refl)
+spoken_op (op.Or t a b) h = spoken_two t operator.Or a b (op.Or t a b) h.0 h.1 h.2 refl (rw (register_read a h.1, register_read b h.2) refl)
+spoken_op (op.Within t x a b) h =
+    spoken_target t operator.Within (register_word x ∷ register_word a ∷ register_word b ∷ []) (op.Within t x a b) h.0
+    (ap (λ y. target_text t operator.Within ++ y) (three_behind (register_word x) (register_word a) (register_word b)))
+    (rw (register_is_word x h.1, register_is_word a h.2, register_is_word b h.3) refl) (rw (register_read x h.1, register_read a h.2, register_read b h.3) refl)
+spoken_op (op.Not t f) h =
+    spoken_target t operator.Not (register_word f ∷ []) (op.Not t f) h.0 (ap (λ y. target_text t operator.Not ++ y) (one_behind (register_word f)))
+    (rw (register_is_word f h.1) refl) (rw (register_read f h.1) refl)
+spoken_op (op.Read t g a n) h =
+    spoken_target t operator.Read (decimal g ∷ decimal a ∷ signed_decimal n ∷ []) (op.Read t g a n) h.0
+    (ap (λ y. target_text t operator.Read ++ y) (three_behind (decimal g) (decimal a) (signed_decimal n)))
+    (rw (count_word g h.1, count_word a h.2, constant_word n h.3) refl) (rw (count_decimal g h.1, count_decimal a h.2, constant_decimal n h.3) refl)
+spoken_op (op.Keep f) h = spoken_keep f h
+spoken_op (op.Put g keys values) h = spoken_put g keys values h.0 h.1 h.2
+
+-- ---- groups
+
+key_word : GroupKey → List ℕ
+key_word key.Number = codes "number"
+key_word (key.Text c) = column_name c
+
+key_text_is : (k : GroupKey) → key_text k ≡ 32 ∷ key_word k
+unfolding key_text key_word
+key_text_is key.Number = refl
+key_text_is (key.Text c) = refl
+
+keys_text : (ks : List GroupKey) → flat_map key_text ks ≡ flat_map (λ k. 32 ∷ key_word k) ks
+keys_text [] = refl
+keys_text (k ∷ ks) = rw (key_text_is k, keys_text ks) refl
+
+number_no_column : column_of (codes "number") ≡ None
+unfolding column_of schema_column
+number_no_column = refl
+
+colon_no_column : column_of (codes ":") ≡ None
+unfolding column_of schema_column
+colon_no_column = refl
+
+key_item : (k : GroupKey) → IsItem group_key_of key_word k
+unfolding group_key_of key_word
+key_item key.Number = (refl, refl)
+key_item (key.Text c) = (rw (column_apart c (codes "number") number_no_column, column_read c) refl, column_apart c (codes ":") colon_no_column)
+
+key_is_word : (k : GroupKey) → is_word (key_word k) ≡ true
+unfolding key_word
+key_is_word key.Number = refl
+key_is_word (key.Text c) = column_word c
+
+spoken_group : (place : ℕ) (group : GroupDecl) → IsShort place → IsSpoken (says.Group place group)
+unfolding group_text by_words by_keyword keyword_of keyword_name
+spoken_group place group h =
+    let ws : List (List ℕ) = map key_word group.keys ++ codes ":" ∷ map aggregate_name group.aggregates in
+    let read : lists group_key_of aggregate_of ws ≡ Some (group.keys, group.aggregates) =
+    lists_read group_key_of aggregate_of key_word aggregate_name group.keys group.aggregates (λ k d small. key_item (slice_index_or group.keys k d)) (λ k d small. aggregate_read (slice_index_or group.aggregates k d)) in
+    let all : list_all is_word ws ≡ true =
+    lists_are_words key_word aggregate_name group.keys group.aggregates (λ k d small. key_is_word (slice_index_or group.keys k d)) (λ k d small. aggregate_word (slice_index_or group.aggregates k d)) in
+    let text_is : group_text place group ≡ codes "group" ++ behind (decimal place ∷ shape_name group.shape ∷ ws) =
+    ap (λ y. codes "group " ++ (decimal place ++ 32 ∷ (shape_name group.shape ++ y)))
+    (ap (λ y. y ++ (32 ∷ 58 ∷ flat_map aggregate_text group.aggregates)) (keys_text group.keys) ∙ lists_text key_word aggregate_name group.keys group.aggregates) in
+    spoken (says.Group place group) (codes "group") (decimal place ∷ shape_name group.shape ∷ ws) text_is refl
+    (rw (count_word place h, shape_word group.shape, all) refl) (rw (count_decimal place h, shape_read group.shape, read) refl)
+
+-- ---- the other statements
+
+spoken_header : IsSpoken says.Header
+unfolding by_words by_keyword keyword_of keyword_name
+spoken_header = spoken says.Header (codes "star") (codes "program" ∷ codes "1" ∷ []) refl refl refl refl
+
+spoken_end : IsSpoken says.End
+unfolding by_words by_keyword keyword_of keyword_name
+spoken_end = spoken says.End (codes "end") [] refl refl refl refl
+
+spoken_registers : (n : ℕ) → IsShort n → IsSpoken (says.Registers n)
+unfolding by_words by_keyword keyword_of keyword_name
+spoken_registers n h =
+    spoken (says.Registers n) (codes "registers") (decimal n ∷ []) (ap (λ y. codes "registers" ++ y) (one_behind (decimal n))) refl (rw (count_word n h) refl) (rw (count_decimal n h) refl)
+
+spoken_report : (n : ℕ) → IsShort n → IsSpoken (says.Report n)
+unfolding by_words by_keyword keyword_of keyword_name
+spoken_report n h =
+    spoken (says.Report n) (codes "report") (decimal n ∷ []) (ap (λ y. codes "report" ++ y) (one_behind (decimal n))) refl (rw (count_word n h) refl) (rw (count_decimal n h) refl)
+
+spoken_scan : (table : TableId) (t : ℕ) → IsShort t → IsSpoken (says.Scan table t)
+unfolding by_words by_keyword keyword_of keyword_name register_text
+spoken_scan table t h =
+    spoken (says.Scan table t) (codes "scan") (table_name table ∷ register_word t ∷ []) (ap (λ y. codes "scan" ++ y) (two_behind (table_name table) (register_word t))) refl
+    (rw (table_word table, register_is_word t h) refl) (rw (table_read table, register_read t h) refl)
+
+spoken_show : (name : List ℕ) (c : GroupColumn) → is_name name ≡ true → IsShortColumn c → IsSpoken (says.Show (record { name = name; column = c }))
+unfolding by_words by_keyword keyword_of keyword_name show_text column_text group_column_of
+spoken_show name (column.Key k) named h =
+    spoken (says.Show (record { name = name; column = column.Key k })) (codes "show") (name ∷ codes "key" ∷ decimal k ∷ []) (ap (λ y. codes "show" ++ y) (three_behind name (codes "key") (decimal k))) refl
+    (rw (name_word name named, count_word k h) refl) (rw (named, count_decimal k h) refl)
+spoken_show name (column.Aggregate a) named h =
+    spoken (says.Show (record { name = name; column = column.Aggregate a })) (codes "show") (name ∷ codes "aggregate" ∷ decimal a ∷ []) (ap (λ y. codes "show" ++ y) (three_behind name (codes "aggregate") (decimal a))) refl
+    (rw (name_word name named, count_word a h) refl) (rw (named, count_decimal a h) refl)
+
+spoken_sort : (c : GroupColumn) (d : Direction) → IsShortColumn c → IsSpoken (says.Sort (record { column = c; direction = d }))
+unfolding by_words by_keyword keyword_of keyword_name sort_text column_text group_column_of
+spoken_sort (column.Key k) d h =
+    spoken (says.Sort (record { column = column.Key k; direction = d })) (codes "sort") (codes "key" ∷ decimal k ∷ direction_name d ∷ []) (ap (λ y. codes "sort" ++ y) (three_behind (codes "key") (decimal k) (direction_name d))) refl
+    (rw (count_word k h, direction_word d) refl) (rw (count_decimal k h, direction_read d) refl)
+spoken_sort (column.Aggregate a) d h =
+    spoken (says.Sort (record { column = column.Aggregate a; direction = d })) (codes "sort") (codes "aggregate" ∷ decimal a ∷ direction_name d ∷ [])
+    (ap (λ y. codes "sort" ++ y) (three_behind (codes "aggregate") (decimal a) (direction_name d))) refl
+    (rw (count_word a h, direction_word d) refl) (rw (count_decimal a h, direction_read d) refl)
+
+spoken_statement : (s : Statement) → IsSayable s → IsSpoken s
+spoken_statement says.Header h = spoken_header
+spoken_statement (says.Registers n) h = spoken_registers n h
+spoken_statement (says.Group place group) h = spoken_group place group h
+spoken_statement (says.Act o) h = spoken_op o h
+spoken_statement (says.Scan table t) h = spoken_scan table t h
+spoken_statement says.End h = spoken_end
+spoken_statement (says.Report g) h = spoken_report g h
+spoken_statement (says.Show show) h = spoken_show show.name show.column h.0 h.1
+spoken_statement (says.Sort key) h = spoken_sort key.column key.direction h
+
+-- ---- lines
+
+line_cut : (content rest : List ℕ) → IsPrinted content → lines_of (content ++ 10 ∷ rest) ≡ content ∷ lines_of rest
+unfolding lines_of
+line_cut [] rest h = refl
+line_cut (b ∷ content) rest h =
+    let parts = and_parts (is_printable b) (list_all is_printable content) h in
+    let low : 32 ≤ b = leb-true 32 b (and_parts (nat_le 32 b) (nat_le b 126) parts.0).0 in
+    let other : (b == 10) ≡ false = ne_eqb b 10 (λ e. absurd (omega arith)) in
+    let plain : (b == 13) ≡ false = ne_eqb b 13 (λ e. absurd (omega arith)) in
+    goes_on b (content ++ 10 ∷ rest) other (rw plain refl) ∙ ap (with_first b) (line_cut content rest parts.1)
+
+abbrev content_of : Line → List ℕ
+content_of l = replicate (2 * l.depth) 32 ++ statement_text l.says
+
+spaces_printable : (k : ℕ) → list_all is_printable (replicate k 32) ≡ true
+spaces_printable zero = refl
+spaces_printable (suc k) = spaces_printable k
+
+spaces_words : (k : ℕ) (t : List ℕ) → words_of (replicate k 32 ++ t) ≡ words_of t
+spaces_words zero t = refl
+spaces_words (suc k) t = space_first (replicate k 32 ++ t) ∙ spaces_words k t
+
+spaces_blank : (k : ℕ) (t : List ℕ) → is_blank (replicate k 32 ++ t) ≡ is_blank t
+spaces_blank zero t = refl
+spaces_blank (suc k) t = spaces_blank k t
+
+indented_printable : (k : ℕ) (t : List ℕ) → IsPrinted t → IsPrinted (replicate k 32 ++ t)
+indented_printable k t h = rw (list_all-append is_printable (replicate k 32) t, spaces_printable k, h) refl
+
+said_line : (l : Line) → IsSpoken l.says → said (content_of l) ≡ Some l.says
+unfolding said
+said_line l h = rw (indented_printable (2 * l.depth) (statement_text l.says) h.printable, spaces_words (2 * l.depth) (statement_text l.says)) h.means
+
+line_first : (l : Line) (rest : List ℕ) → IsSpoken l.says → lines_of (line_text l ++ rest) ≡ content_of l ∷ lines_of rest
+unfolding line_text
+line_first l rest h =
+    let spaces : List ℕ = replicate (2 * l.depth) 32 in
+    let text : List ℕ = statement_text l.says in
+    let regrouped : (spaces ++ (text ++ 10 ∷ [])) ++ rest ≡ (spaces ++ text) ++ 10 ∷ rest = simp append_assoc in
+    ap lines_of regrouped ∙ line_cut (spaces ++ text) rest (indented_printable (2 * l.depth) text h.printable)
+
+lines_said : (ls : List Line) → All IsSayable (map (λ l. l.says) ls)
+    → map said (filter (λ line. not (is_blank line)) (lines_of (flat_map line_text ls))) ≡ map Some (map (λ l. l.says) ls)
+lines_said [] h = rw no_lines refl
+lines_said (l ∷ ls) h =
+    let here : IsSpoken l.says = spoken_statement l.says (All-head IsSayable l.says (map (λ k. k.says) ls) h) in
+    let filled : is_blank (content_of l) ≡ false = spaces_blank (2 * l.depth) (statement_text l.says) ∙ here.starts in
+    let later = lines_said ls (All-tail IsSayable l.says (map (λ k. k.says) ls) h) in
+    rw (line_first l (flat_map line_text ls) here, filled, said_line l here, later) refl
+
+pub written : Written
+unfolding Spells text_of
+written p h = lines_said (lines_of_program p) h

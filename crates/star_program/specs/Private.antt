@@ -1,0 +1,8 @@
+-- What no public clause speaks of.
+pub mod StoredCode
+pub mod Smaller
+pub mod Followed
+pub mod Returns
+pub mod Within
+pub mod Reading
+pub mod Drafts

@@ -1,0 +1,138 @@
+-- A program as far as its text was read, and what that much of the text says.
+use Rattle.std.specs.Prelude.{◌≡◌, ℕ, ◌+◌, ◌≤◌, List, [], ◌∷◌, ◌++◌, All, Option, Some, filter, length, map, not}
+use Rattle.star_common.specs.Memory.{UnlessMemory}
+use Rattle.star_program.specs.Code.{Code, Stop, Then, Each, code_size, scan_depth}
+use Rattle.star_program.specs.Private.Followed.{followed}
+use Rattle.star_program.specs.Limits.{IsSmall}
+use Rattle.star_program.specs.Text.Lines.{is_blank}
+use Rattle.star_program.specs.Private.Within.{IsWithin}
+use Rattle.star_program.specs.Text.Places.{fault_from}
+use Rattle.star_program.specs.Text.Said.{said}
+use Rattle.star_program.specs.declared.group.GroupDecl.{GroupDecl}
+use Rattle.star_program.specs.declared.program.Parts.{Parts}
+use Rattle.star_program.specs.declared.spelling.draft.Draft.{Draft}
+use Rattle.star_program.specs.declared.spelling.draft.OpenScan.{OpenScan}
+use Rattle.star_program.specs.declared.spelling.fault.TextFault.{TextFault}
+use Rattle.star_program.specs.declared.spelling.fault.TextFault.TheVariants as fault
+use Rattle.star_program.specs.declared.spelling.place.Place.{Place}
+use Rattle.star_program.specs.declared.spelling.place.Stage.{Stage}
+use Rattle.star_program.specs.declared.spelling.place.Stage.TheVariants as stage
+use Rattle.star_program.specs.declared.spelling.statement.Statement.{Statement}
+use Rattle.star_program.specs.declared.spelling.statement.Statement.TheVariants as says
+
+-- ---- what the parts of a program say
+
+abbrev pub code_says : Code → List Statement
+code_says Stop = []
+code_says (Then op rest) = says.Act op ∷ code_says rest
+code_says (Each t r body rest) = says.Scan t r ∷ (code_says body ++ says.End ∷ code_says rest)
+
+-- the groups, numbered from a number on
+abbrev pub groups_say : ℕ → List GroupDecl → List Statement
+groups_say n [] = []
+groups_say n (g ∷ gs) = says.Group n g ∷ groups_say (n + 1) gs
+
+-- the open scans, each with the steps before it
+abbrev pub opens_say : List OpenScan → List Statement
+opens_say [] = []
+opens_say (scan ∷ scans) = code_says scan.before ++ says.Scan scan.table scan.target ∷ opens_say scans
+
+-- ---- what a draft says
+
+-- up to the body
+abbrev pub begun : Draft → List Statement
+begun d = says.Header ∷ says.Registers d.registers ∷ (groups_say 0 d.groups ++ (opens_say d.scans ++ code_says d.body))
+
+-- up to the end
+abbrev pub whole : Draft → List Statement
+whole d =
+    says.Header ∷ says.Registers d.registers
+    ∷ (groups_say 0 d.groups ++ (code_says d.body ++ says.Report d.report ∷ (map says.Show d.shows ++ map says.Sort d.sorts)))
+
+abbrev pub told : Stage → Draft → List Statement
+told stage.Header d = []
+told stage.Registers d = says.Header ∷ []
+told stage.Groups d = begun d
+told stage.Body d = begun d
+told stage.Shows d = whole d
+told stage.Sorts d = whole d
+
+-- ---- one statement more
+
+unfoldable pub nothing_read : Draft
+nothing_read = record { registers = 0; groups = []; scans = []; body = Stop; report = 0; shows = []; sorts = [] }
+
+-- the innermost scan is closed: it and its body go behind the steps before it
+pub record IsClosed (d e : Draft) : Type 0 where
+  pub scan : OpenScan
+  pub scans : d.scans ≡ e.scans ++ scan ∷ []
+  pub body : e ≡ record d { scans = e.scans; body = followed scan.before (Each scan.table scan.target d.body Stop) }
+
+-- the draft with a statement more
+abbrev pub IsAdded : Draft → Statement → Draft → Type 0
+IsAdded d says.Header e = e ≡ d
+IsAdded d (says.Registers n) e = e ≡ record d { registers = n }
+IsAdded d (says.Group place group) e = e ≡ record d { groups = d.groups ++ group ∷ [] }
+IsAdded d (says.Act op) e = e ≡ record d { body = followed d.body (Then op Stop) }
+IsAdded d (says.Scan t r) e = e ≡ record d { scans = d.scans ++ record { before = d.body; table = t; target = r } ∷ []; body = Stop }
+IsAdded d says.End e = IsClosed d e
+IsAdded d (says.Report g) e = e ≡ record d { report = g }
+IsAdded d (says.Show show) e = e ≡ record d { shows = d.shows ++ show ∷ [] }
+IsAdded d (says.Sort key) e = e ≡ record d { sorts = d.sorts ++ key ∷ [] }
+
+-- ---- a draft at a place of its text
+
+-- the body, if every open scan ended here
+abbrev pub closed : List OpenScan → Code → Code
+closed [] body = body
+closed (scan ∷ scans) body = followed scan.before (Each scan.table scan.target (closed scans body) Stop)
+
+-- what comes later in a text is still empty, and no scan is open behind the body
+abbrev pub IsInOrder : Stage → Draft → Type 0
+IsInOrder stage.Header d = (d.groups ≡ []) × (d.scans ≡ []) × (d.body ≡ Stop) × (d.shows ≡ []) × (d.sorts ≡ [])
+IsInOrder stage.Registers d = (d.groups ≡ []) × (d.scans ≡ []) × (d.body ≡ Stop) × (d.shows ≡ []) × (d.sorts ≡ [])
+IsInOrder stage.Groups d = (d.scans ≡ []) × (d.body ≡ Stop) × (d.shows ≡ []) × (d.sorts ≡ [])
+IsInOrder stage.Body d = (d.shows ≡ []) × (d.sorts ≡ [])
+IsInOrder stage.Shows d = (d.scans ≡ []) × (d.sorts ≡ [])
+IsInOrder stage.Sorts d = d.scans ≡ []
+
+-- how many of each kind the draft has, and that they are small
+pub record Counts (groups instructions depth shows sorts : ℕ) (d : Draft) : Type 0 where
+  pub registers : d.registers ≤ 4096
+  pub groups_are : length d.groups ≡ groups
+  pub each_group : All IsSmall d.groups
+  pub scans_are : length d.scans ≡ depth
+  pub instructions_are : code_size (closed d.scans d.body) ≡ instructions
+  pub nested : scan_depth (closed d.scans d.body) ≤ 3
+  pub shows_are : length d.shows ≡ shows
+  pub sorts_are : length d.sorts ≡ sorts
+
+pub record IsAt (p : Place) (d : Draft) : Type 0 where
+  pub within : IsWithin p
+  pub counts : Counts p.groups p.instructions p.depth p.shows p.sorts d
+  pub order : IsInOrder p.stage d
+
+-- what the lines that aren't blank say, as far as they say something
+abbrev pub lines_say : List (List ℕ) → List (Option Statement)
+lines_say texts = map said (filter (λ line. not (is_blank line)) texts)
+
+-- a line was read: the place and the draft after it
+pub record IsPassed (p : Place) (d : Draft) (line : ℕ) (text : List ℕ) (q : Place) (e : Draft) : Type 0 where
+  pub at : IsAt q e
+  pub faults : (texts : List (List ℕ)) → fault_from p line (text ∷ texts) ≡ fault_from q (line + 1) texts
+  pub says : (texts : List (List ℕ)) → map Some (told p.stage d) ++ lines_say (text ∷ texts) ≡ map Some (told q.stage e) ++ lines_say texts
+
+-- a line was refused: there was no memory, or whatever follows it, its fault is the first of the text
+abbrev pub IsRefused : TextFault → Place → ℕ → List ℕ → Type 0
+IsRefused f p line text = UnlessMemory fault.OutOfMemory f ((texts : List (List ℕ)) → fault_from p line (text ∷ texts) ≡ Some f)
+
+-- the program that a draft is when its text has ended
+abbrev pub finished : Draft → Parts
+finished d = record {
+  registers = d.registers;
+  groups = d.groups;
+  body = d.body;
+  report = d.report;
+  shows = d.shows;
+  sorts = d.sorts;
+}

@@ -1,0 +1,12 @@
+-- A step alone as code, and a code with another after it.
+use Rattle.star_program.specs.Code.{Code, Stop, Then, Each}
+use Rattle.star_program.specs.CodeOfSteps.{before}
+use Rattle.star_program.specs.declared.body.Step.{Step}
+
+abbrev pub code_of_step : Step → Code
+code_of_step step = before step Stop
+
+abbrev pub followed : Code → Code → Code
+followed Stop d = d
+followed (Then op c) d = Then op (followed c d)
+followed (Each t r b c) d = Each t r b (followed c d)

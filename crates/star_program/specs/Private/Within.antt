@@ -1,0 +1,10 @@
+-- The limits of a program, as far as a place in its text tells them.
+use Rattle.std.specs.Prelude.{◌≤◌}
+use Rattle.star_program.specs.declared.spelling.place.Place.{Place}
+
+pub record IsWithin (p : Place) : Type 0 where
+  pub groups : p.groups ≤ 8
+  pub instructions : p.instructions ≤ 4096
+  pub depth : p.depth ≤ 3
+  pub shows : p.shows ≤ 16
+  pub sorts : p.sorts ≤ 16

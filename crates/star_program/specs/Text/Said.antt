@@ -1,0 +1,196 @@
+-- What a line of a program says, by its words.
+use Rattle.std.specs.Prelude.{ℕ, ◌==◌, ◌&&◌, if◌then◌else◌, List, [], ◌∷◌, Option, Some, None, codes}
+use Rattle.std.specs.List.{list_all}
+use Rattle.std.specs.Option.{option_and_then, option_map}
+use Rattle.star_schema.specs.Tables.{is_printable}
+use Rattle.star_schema.specs.declared.group.GroupColumn.{GroupColumn}
+use Rattle.star_schema.specs.declared.group.GroupColumn.TheVariants as column
+use Rattle.star_schema.specs.declared.group.Shape.{Shape}
+use Rattle.star_schema.specs.declared.group.SortKey.{SortKey}
+use Rattle.star_program.specs.Text.Keywords.{aggregate_of, column_of, direction_of, keyword_of, operator_of, same, shape_of, table_of}
+use Rattle.star_program.specs.Text.Lines.{is_blank, words_of}
+use Rattle.star_program.specs.Text.Numerals.{constant_of, count_of, is_name, register_of}
+use Rattle.star_program.specs.declared.group.GroupKey.{GroupKey}
+use Rattle.star_program.specs.declared.group.GroupKey.TheVariants as key
+use Rattle.star_program.specs.declared.op.Op.{Op}
+use Rattle.star_program.specs.declared.op.Op.TheVariants as op
+use Rattle.star_program.specs.declared.program.Show.{Show}
+use Rattle.star_program.specs.declared.spelling.keyword.Keyword.{Keyword}
+use Rattle.star_program.specs.declared.spelling.keyword.Keyword.TheVariants as keyword
+use Rattle.star_program.specs.declared.spelling.keyword.Operator.{Operator}
+use Rattle.star_program.specs.declared.spelling.keyword.Operator.TheVariants as operator
+use Rattle.star_program.specs.declared.spelling.statement.Statement.{Statement}
+use Rattle.star_program.specs.declared.spelling.statement.Statement.TheVariants as says
+
+-- ---- words read one after another, up to the end of the line
+
+abbrev pub both : {A B : Type 0} → Option A → Option B → Option (A × B)
+both None b = None
+both (Some x) None = None
+both (Some x) (Some y) = Some (x, y)
+
+-- the only word
+abbrev pub only : List (List ℕ) → Option (List ℕ)
+only [] = None
+only (w ∷ []) = Some w
+only (w ∷ v ∷ ws) = None
+
+abbrev pub one : {A : Type 0} → (List ℕ → Option A) → List (List ℕ) → Option A
+one f ws = option_and_then f (only ws)
+
+abbrev pub two : {A B : Type 0} → (List ℕ → Option A) → (List ℕ → Option B) → List (List ℕ) → Option (A × B)
+two f g [] = None
+two f g (w ∷ ws) = both (f w) (one g ws)
+
+abbrev pub three : {A B C : Type 0} → (List ℕ → Option A) → (List ℕ → Option B) → (List ℕ → Option C) → List (List ℕ) → Option (A × (B × C))
+three f g h [] = None
+three f g h (w ∷ ws) = both (f w) (two g h ws)
+
+-- each word
+abbrev pub each : {A : Type 0} → (List ℕ → Option A) → List (List ℕ) → Option (List A)
+each f [] = Some []
+each f (w ∷ ws) = option_map (λ (x, xs). x ∷ xs) (both (f w) (each f ws))
+
+-- each word up to a colon, and the words after it
+abbrev pub until_colon : {A : Type 0} → (List ℕ → Option A) → List (List ℕ) → Option (List A × List (List ℕ))
+until_colon f [] = None
+until_colon f (w ∷ ws) =
+    if same w (codes ":") then Some ([], ws)
+    else option_map (λ (x, (xs, rest)). (x ∷ xs, rest)) (both (f w) (until_colon f ws))
+
+-- two lists parted by a colon
+abbrev pub lists : {A B : Type 0} → (List ℕ → Option A) → (List ℕ → Option B) → List (List ℕ) → Option (List A × List B)
+lists f g ws = option_and_then (λ (xs, rest). option_map (λ ys. (xs, ys)) (each g rest)) (until_colon f ws)
+
+-- ---- quoted texts
+
+-- what stands before the quote that closes a text; two quotes are one of the text's
+unfoldable pub unquoted : List ℕ → Option (List ℕ)
+unquoted [] = None
+unquoted (b ∷ []) = if b == 39 then Some [] else option_map (λ text. b ∷ text) None
+unquoted (b ∷ c ∷ rest) =
+    if (b == 39) && (c == 39) then option_map (λ text. 39 ∷ text) (unquoted rest)
+    else if b == 39 then (if is_blank (c ∷ rest) then Some [] else None)
+    else option_map (λ text. b ∷ text) (unquoted (c ∷ rest))
+
+-- a text in quotes, in which a quote is doubled
+abbrev pub quoted_text_of : List ℕ → Option (List ℕ)
+quoted_text_of [] = None
+quoted_text_of (b ∷ rest) = if b == 39 then unquoted rest else None
+
+-- ---- statements
+
+-- a test of two registers
+abbrev pub test_of_two : ℕ → Operator → ℕ → ℕ → Option Op
+test_of_two t operator.Less a b = Some (op.Less t a b)
+test_of_two t operator.LessOrEqual a b = Some (op.LessOrEqual t a b)
+test_of_two t operator.Equal a b = Some (op.Equal t a b)
+test_of_two t operator.And a b = Some (op.And t a b)
+test_of_two t operator.Or a b = Some (op.Or t a b)
+test_of_two t o a b = None
+
+-- an operation on two registers
+abbrev pub of_two : ℕ → Operator → ℕ → ℕ → Option Op
+of_two t operator.Add a b = Some (op.Add t a b)
+of_two t operator.Sub a b = Some (op.Sub t a b)
+of_two t operator.Mul a b = Some (op.Mul t a b)
+of_two t o a b = test_of_two t o a b
+
+-- the operations without texts
+unfoldable pub plain_operation : ℕ → Operator → List (List ℕ) → Option Op
+plain_operation t operator.Const ws = option_map (λ n. op.Const t n) (one constant_of ws)
+plain_operation t operator.Low ws = None
+plain_operation t operator.High ws = None
+plain_operation t operator.Load ws = option_map (λ (c, row). op.Load t c row) (two column_of register_of ws)
+plain_operation t operator.Find ws = option_map (λ (table, k). op.Find t table k) (two table_of register_of ws)
+plain_operation t operator.Within ws = option_map (λ (x, (a, b)). op.Within t x a b) (three register_of register_of register_of ws)
+plain_operation t operator.Not ws = option_map (λ f. op.Not t f) (one register_of ws)
+plain_operation t operator.Read ws = option_map (λ (g, (a, n)). op.Read t g a n) (three count_of count_of constant_of ws)
+plain_operation t o ws = option_and_then (λ (a, b). of_two t o a b) (two register_of register_of ws)
+
+unfoldable pub operation : ℕ → Operator → List (List ℕ) → Option Op
+operation t operator.Low ws = option_map (λ (c, text). op.Low t c text) (two column_of quoted_text_of ws)
+operation t operator.High ws = option_map (λ (c, text). op.High t c text) (two column_of quoted_text_of ws)
+operation t o ws = plain_operation t o ws
+
+-- what follows the register that an instruction writes: an equals sign, an operator, operands
+abbrev pub assigned : ℕ → List (List ℕ) → Option Op
+assigned t [] = None
+assigned t (w ∷ []) = None
+assigned t (w ∷ name ∷ ws) = if same w (codes "=") then option_and_then (λ o. operation t o ws) (operator_of name) else None
+
+unfoldable pub group_key_of : List ℕ → Option GroupKey
+group_key_of word = if same word (codes "number") then Some key.Number else option_map key.Text (column_of word)
+
+-- the number of a group, its shape and the words after them
+abbrev pub group_head : List (List ℕ) → Option (ℕ × (Shape × List (List ℕ)))
+group_head [] = None
+group_head (w ∷ []) = None
+group_head (w ∷ v ∷ ws) = both (count_of w) (both (shape_of v) (Some ws))
+
+abbrev pub group_of : List (List ℕ) → Option Statement
+group_of ws = option_and_then (λ (place, (shape, rest)).
+    option_map (λ (keys, aggregates). says.Group place (record { shape = shape; keys = keys; aggregates = aggregates })) (lists group_key_of aggregate_of rest))
+    (group_head ws)
+
+-- the number of a group and the words after it
+abbrev pub put_head : List (List ℕ) → Option (ℕ × List (List ℕ))
+put_head [] = None
+put_head (w ∷ ws) = both (count_of w) (Some ws)
+
+abbrev pub put_of : List (List ℕ) → Option Op
+put_of ws = option_and_then (λ (group, rest). option_map (λ (keys, values). op.Put group keys values) (lists register_of register_of rest)) (put_head ws)
+
+abbrev pub name_of : List ℕ → Option (List ℕ)
+name_of word = if is_name word then Some word else None
+
+-- which column of a group
+unfoldable pub group_column_of : List ℕ → List ℕ → Option GroupColumn
+group_column_of word place =
+    if same word (codes "key") then option_map column.Key (count_of place)
+    else if same word (codes "aggregate") then option_map column.Aggregate (count_of place)
+    else None
+
+abbrev pub show_of : List (List ℕ) → Option Show
+show_of [] = None
+show_of (name ∷ []) = None
+show_of (name ∷ word ∷ ws) = option_map (λ (n, c). record { name = n; column = c }) (both (name_of name) (option_and_then (group_column_of word) (only ws)))
+
+abbrev pub sort_of : List (List ℕ) → Option SortKey
+sort_of [] = None
+sort_of (word ∷ []) = None
+sort_of (word ∷ place ∷ ws) = option_map (λ (c, d). record { column = c; direction = d }) (both (group_column_of word place) (one direction_of ws))
+
+abbrev pub header_of : List (List ℕ) → Option Statement
+header_of [] = None
+header_of (program ∷ ws) = if same program (codes "program") then option_and_then (λ version. if same version (codes "1") then Some says.Header else None) (only ws) else None
+
+abbrev pub end_of : List (List ℕ) → Option Statement
+end_of [] = Some says.End
+end_of (w ∷ ws) = None
+
+-- what follows a keyword
+unfoldable pub by_keyword : Keyword → List (List ℕ) → Option Statement
+by_keyword keyword.Star ws = header_of ws
+by_keyword keyword.Registers ws = option_map says.Registers (one count_of ws)
+by_keyword keyword.Group ws = group_of ws
+by_keyword keyword.Keep ws = option_map (λ f. says.Act (op.Keep f)) (one register_of ws)
+by_keyword keyword.Put ws = option_map says.Act (put_of ws)
+by_keyword keyword.Scan ws = option_map (λ (table, t). says.Scan table t) (two table_of register_of ws)
+by_keyword keyword.End ws = end_of ws
+by_keyword keyword.Report ws = option_map says.Report (one count_of ws)
+by_keyword keyword.Show ws = option_map says.Show (show_of ws)
+by_keyword keyword.Sort ws = option_map says.Sort (sort_of ws)
+
+-- a keyword and what follows it, or the register that an instruction writes
+abbrev pub by_first : Option Keyword → List ℕ → List (List ℕ) → Option Statement
+by_first (Some k) w ws = by_keyword k ws
+by_first None w ws = option_and_then (λ t. option_map says.Act (assigned t ws)) (register_of w)
+
+unfoldable pub by_words : List (List ℕ) → Option Statement
+by_words [] = None
+by_words (w ∷ ws) = by_first (keyword_of w) w ws
+
+-- what a line says, if it says something: its bytes are printable
+unfoldable pub said : List ℕ → Option Statement
+said line = if list_all is_printable line then by_words (words_of line) else None

@@ -1,0 +1,95 @@
+-- How a program is written.
+use Rattle.std.specs.Prelude.{ℕ, ◌*◌, List, [], ◌∷◌, ◌++◌, ◌==◌, if◌then◌else◌, codes, decimal, replicate}
+use Rattle.std.specs.Fmt.{signed_decimal}
+use Rattle.std.specs.List.{flat_map}
+use Rattle.star_common.specs.Quotes.{quoted}
+use Rattle.star_schema.specs.Schema.{column_name, table_name}
+use Rattle.star_schema.specs.declared.group.Aggregate.{Aggregate as Aggregation}
+use Rattle.star_schema.specs.declared.group.GroupColumn.{GroupColumn}
+use Rattle.star_schema.specs.declared.group.GroupColumn.TheVariants.{Key, Aggregate}
+use Rattle.star_schema.specs.declared.group.SortKey.{SortKey}
+use Rattle.star_program.specs.Text.Keywords.{aggregate_name, direction_name, operator_name, shape_name}
+use Rattle.star_program.specs.Text.Statements.{Line, lines_of_program}
+use Rattle.star_program.specs.declared.group.GroupDecl.{GroupDecl}
+use Rattle.star_program.specs.declared.group.GroupKey.{GroupKey}
+use Rattle.star_program.specs.declared.group.GroupKey.TheVariants.{Number, Text}
+use Rattle.star_program.specs.declared.op.Op.{Op}
+use Rattle.star_program.specs.declared.op.Op.TheVariants as op
+use Rattle.star_program.specs.declared.program.Parts.{Parts}
+use Rattle.star_program.specs.declared.program.Show.{Show}
+use Rattle.star_program.specs.declared.spelling.keyword.Operator.{Operator}
+use Rattle.star_program.specs.declared.spelling.keyword.Operator.TheVariants as operator
+use Rattle.star_program.specs.declared.spelling.statement.Statement.{Statement}
+use Rattle.star_program.specs.declared.spelling.statement.Statement.TheVariants as says
+
+-- a register after a space
+unfoldable pub register_text : ℕ → List ℕ
+register_text r = codes " r" ++ decimal r
+
+-- what begins an instruction that writes a register
+unfoldable pub target_text : ℕ → Operator → List ℕ
+target_text t o = codes "r" ++ (decimal t ++ (codes " = " ++ operator_name o))
+
+abbrev two_operands : ℕ → Operator → ℕ → ℕ → List ℕ
+two_operands t o a b = target_text t o ++ (register_text a ++ register_text b)
+
+unfoldable pub op_text : Op → List ℕ
+op_text (op.Const t n) = target_text t operator.Const ++ (codes " " ++ signed_decimal n)
+op_text (op.Low t c text) = target_text t operator.Low ++ (codes " " ++ (column_name c ++ (codes " " ++ quoted text)))
+op_text (op.High t c text) = target_text t operator.High ++ (codes " " ++ (column_name c ++ (codes " " ++ quoted text)))
+op_text (op.Load t c row) = target_text t operator.Load ++ (codes " " ++ (column_name c ++ register_text row))
+op_text (op.Find t table key) = target_text t operator.Find ++ (codes " " ++ (table_name table ++ register_text key))
+op_text (op.Add t a b) = two_operands t operator.Add a b
+op_text (op.Sub t a b) = two_operands t operator.Sub a b
+op_text (op.Mul t a b) = two_operands t operator.Mul a b
+op_text (op.Less t a b) = two_operands t operator.Less a b
+op_text (op.LessOrEqual t a b) = two_operands t operator.LessOrEqual a b
+op_text (op.Equal t a b) = two_operands t operator.Equal a b
+op_text (op.Within t x a b) = target_text t operator.Within ++ (register_text x ++ (register_text a ++ register_text b))
+op_text (op.And t a b) = two_operands t operator.And a b
+op_text (op.Or t a b) = two_operands t operator.Or a b
+op_text (op.Not t f) = target_text t operator.Not ++ register_text f
+op_text (op.Keep f) = codes "keep" ++ register_text f
+op_text (op.Put g keys values) = codes "put " ++ (decimal g ++ (flat_map register_text keys ++ (codes " :" ++ flat_map register_text values)))
+op_text (op.Read t g a n) = target_text t operator.Read ++ (codes " " ++ (decimal g ++ (codes " " ++ (decimal a ++ (codes " " ++ signed_decimal n)))))
+
+unfoldable pub key_text : GroupKey → List ℕ
+key_text Number = codes " number"
+key_text (Text c) = codes " " ++ column_name c
+
+abbrev pub aggregate_text : Aggregation → List ℕ
+aggregate_text a = 32 ∷ aggregate_name a
+
+unfoldable pub group_text : ℕ → GroupDecl → List ℕ
+group_text place group =
+    codes "group " ++ (decimal place ++ (codes " " ++ (shape_name group.shape
+    ++ (flat_map key_text group.keys ++ (codes " :" ++ flat_map aggregate_text group.aggregates)))))
+
+unfoldable pub column_text : GroupColumn → List ℕ
+column_text (Key k) = codes " key " ++ decimal k
+column_text (Aggregate a) = codes " aggregate " ++ decimal a
+
+unfoldable pub show_text : Show → List ℕ
+show_text show = codes "show " ++ (show.name ++ column_text show.column)
+
+unfoldable pub sort_text : SortKey → List ℕ
+sort_text key = codes "sort" ++ (column_text key.column ++ (codes " " ++ direction_name key.direction))
+
+abbrev pub statement_text : Statement → List ℕ
+statement_text says.Header = codes "star program 1"
+statement_text (says.Registers n) = codes "registers " ++ decimal n
+statement_text (says.Group place group) = group_text place group
+statement_text (says.Act o) = op_text o
+statement_text (says.Scan table t) = codes "scan " ++ (table_name table ++ register_text t)
+statement_text says.End = codes "end"
+statement_text (says.Report g) = codes "report " ++ decimal g
+statement_text (says.Show show) = show_text show
+statement_text (says.Sort key) = sort_text key
+
+-- two spaces for each scan round it, the statement, and a line feed
+unfoldable pub line_text : Line → List ℕ
+line_text l = replicate (2 * l.depth) 32 ++ (statement_text l.says ++ 10 ∷ [])
+
+-- the text of a program
+unfoldable pub text_of : Parts → List ℕ
+text_of p = flat_map line_text (lines_of_program p)

@@ -1,0 +1,5 @@
+pub mod Lexed
+pub mod Machine
+pub mod Reads
+pub mod Clauses
+pub mod TokenFaults

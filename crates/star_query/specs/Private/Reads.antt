@@ -1,0 +1,170 @@
+-- What the parser's functions do, by the machine.
+use Rattle.std.specs.Prelude.{◌≡◌, ℕ, ◌<◌, ◌≤◌, Bool, true, false, ◌||◌, List, [], ◌∷◌, map, Option, Some, None, Result, Ok, Err}
+use Rattle.star_query.specs.declared.token.Digits.{Digits}
+use Rattle.star_query.specs.declared.token.Keyword.TheVariants as k
+use Rattle.star_query.specs.declared.token.Sign.TheVariants as s
+use Rattle.star_query.specs.declared.token.Additive.{Additive}
+use Rattle.star_query.specs.declared.counts.Part.{Part}
+use Rattle.star_query.specs.declared.counts.Counts.{Counts}
+use Rattle.star_query.specs.declared.fault.Fault.TheVariants.{Unexpected, TooDeep, TooMany}
+use Rattle.star_query.specs.declared.fault.ParseError.{ParseError}
+use Rattle.star_query.specs.declared.fault.ParseError.TheVariants as errors
+use Rattle.star_query.specs.declared.parser.Parser.{Parser}
+use Rattle.star_query.specs.declared.tree.Name.{Name}
+use Rattle.star_query.specs.declared.tree.Expression.{Expression}
+use Rattle.star_query.specs.declared.tree.Literal.{Literal}
+use Rattle.star_query.specs.declared.tree.Condition.{Condition}
+use Rattle.std.specs.declared.alloc.Global.{Global}
+use Rattle.std.specs.declared.vec.Vec.{Vec}
+use Rattle.star_query.specs.Symbols.{Symbol, keyword, sign, additive, name, number, text}
+use Rattle.star_query.specs.Private.Lexed.{symbol_of}
+use Rattle.star_query.specs.Derives.{limit}
+use Rattle.star_query.specs.Grammar.{ident, factor_tree, term_tree, expr_tree, lit_tree, unit_tree, conj_tree, cond_tree}
+use Rattle.star_query.specs.Private.Machine.{UnitHole, factor_depth, term_depth, expr_depth, lit_depth, unit_depth, conj_depth, cond_depth, first_factor, first_term, first_unit, first_conj, State, factor_wanted, give_factor, term_had, expr_had, lit_wanted, give_lit, unit_wanted, give_unit, conj_had, cond_had, Verdict, Bad, number_of, bump, plus, is_over, is_long, run}
+use Rattle.star_query.specs.Views.{name_view, expression_view, literal_view, condition_view}
+
+-- where the parser is: what is left, and how much was counted
+pub record Spot : Type 0 where
+  pub left : List Symbol
+  pub counts : Counts
+
+abbrev pub spot_of : Parser → Spot
+spot_of parser = record { left = map (λ t. symbol_of t.kind t.place) parser.left.now; counts = parser.counts }
+
+abbrev pub head_of : List Symbol → Option Symbol
+head_of [] = None
+head_of (x ∷ xs) = Some x
+
+-- this symbol isn't next
+abbrev pub No : Symbol → Spot → Type 0
+No x spot = head_of spot.left ≡ Some x → ⊥
+
+-- the machine's verdict from a spot
+abbrev pub verdict : Spot → State → Verdict
+verdict spot from = run spot.left from spot.counts
+
+-- the machine ends with this fault here
+abbrev pub EndsBad : ParseError → Spot → Verdict → Type 0
+EndsBad errors.OutOfMemory new v = Unit {0}
+EndsBad (errors.Fault f) new v = v ≡ Bad f new.left
+
+-- a symbol is passed at which these parts begin, within the limits
+pub record Takes (old new : Spot) (x : Symbol) (ps : List Part) : Type 0 where
+  pub next : old.left ≡ x ∷ new.left
+  pub counts : new.counts ≡ plus old.counts ps
+  pub few : is_over (plus old.counts ps) ps ≡ false
+  pub short : is_long x ≡ false
+
+-- a symbol that has to be next
+abbrev pub Expects : {A : Type 0} → Symbol → Spot → Spot → Result A ParseError → Type 0
+Expects x old new (Ok u) = Takes old new x []
+Expects x old new (Err e) = (e ≡ errors.Fault Unexpected) × No x old × (new ≡ old)
+
+-- one more of a part
+abbrev pub Counted : {A : Type 0} → Part → Spot → Spot → Result A ParseError → Type 0
+Counted p old new (Ok u) = (number_of old.counts p < limit p) × (new ≡ record old { counts = bump p old.counts })
+Counted p old new (Err e) = (e ≡ errors.Fault TooMany) × (limit p ≤ number_of old.counts p) × (new ≡ old)
+
+-- no name is next
+abbrev pub NoName : List Symbol → Type 0
+NoName (name t p ∷ xs) = ⊥
+NoName xs = Unit {0}
+
+abbrev pub IsName : List Symbol → Type 0
+IsName (name t p ∷ xs) = Unit {0}
+IsName xs = ⊥
+
+abbrev pub IsNumber : List Symbol → Type 0
+IsNumber (number n ∷ xs) = Unit {0}
+IsNumber xs = ⊥
+
+-- no number is next
+abbrev pub NoNumber : List Symbol → Type 0
+NoNumber (number n ∷ xs) = ⊥
+NoNumber xs = Unit {0}
+
+-- no text is next
+abbrev pub NoText : List Symbol → Type 0
+NoText (text t ∷ xs) = ⊥
+NoText xs = Unit {0}
+
+-- the next symbol, at which these parts begin, is beyond a limit
+abbrev pub IsBeyond : List Part → Counts → List Symbol → Type 0
+IsBeyond ps n [] = ⊥
+IsBeyond ps n (x ∷ xs) = is_over (plus n ps) ps || is_long x ≡ true
+
+abbrev pub ReadsName : List Part → Spot → Spot → Result Name ParseError → Type 0
+ReadsName ps old new (Ok n) = Takes old new (ident (name_view n)) ps
+ReadsName ps old new (Err errors.OutOfMemory) = Unit {0}
+ReadsName ps old new (Err (errors.Fault Unexpected)) = NoName old.left × (new ≡ old)
+ReadsName ps old new (Err (errors.Fault TooDeep)) = ⊥
+ReadsName ps old new (Err (errors.Fault TooMany)) = IsBeyond ps old.counts old.left × (new.left ≡ old.left) × IsName old.left
+
+abbrev pub ReadsNumber : List Part → Spot → Spot → Result Digits ParseError → Type 0
+ReadsNumber ps old new (Ok digits) = Takes old new (number digits.value) ps
+ReadsNumber ps old new (Err errors.OutOfMemory) = ⊥
+ReadsNumber ps old new (Err (errors.Fault Unexpected)) = NoNumber old.left × (new ≡ old)
+ReadsNumber ps old new (Err (errors.Fault TooDeep)) = ⊥
+ReadsNumber ps old new (Err (errors.Fault TooMany)) = IsBeyond ps old.counts old.left × (new.left ≡ old.left) × IsNumber old.left
+
+abbrev pub ReadsText : Spot → Spot → Result (Vec ℕ Global) ParseError → Type 0
+ReadsText old new (Ok v) = Takes old new (text v.items) []
+ReadsText old new (Err errors.OutOfMemory) = Unit {0}
+ReadsText old new (Err (errors.Fault Unexpected)) = NoText old.left × (new ≡ old)
+ReadsText old new (Err (errors.Fault f)) = ⊥
+
+-- a nesting, if it is opened by this symbol, at which these parts begin
+abbrev pub Nests : Symbol → List Part → ℕ → Spot → Spot → Result Bool ParseError → Type 0
+Nests x ps d old new (Ok true) = (d < 32) × Takes old new x ps
+Nests x ps d old new (Ok false) = No x old × (new ≡ old)
+Nests x ps d old new (Err errors.OutOfMemory) = ⊥
+Nests x ps d old new (Err (errors.Fault Unexpected)) = ⊥
+Nests x ps d old new (Err (errors.Fault TooDeep)) = (32 ≤ d) × (head_of old.left ≡ Some x) × (new ≡ old)
+Nests x ps d old new (Err (errors.Fault TooMany)) = (d < 32) × (head_of old.left ≡ Some x) × IsBeyond ps old.counts old.left × (new ≡ old)
+
+-- a phrase is read wherever one is wanted, or the machine ends with the fault
+abbrev pub ReadsPhrase : {A T P H : Type 0} → (A → T) → (P → T) → (H → Type 0) → (H → State) → (P → H → State) → Spot → Spot → Result A ParseError → Type 0
+ReadsPhrase {A} {T} {P} {H} view tree IsHole wanted given old new (Ok x) =
+    (p : P) × (tree p ≡ view x) × ((h : H) → IsHole h → verdict old (wanted h) ≡ verdict new (given p h))
+ReadsPhrase {A} {T} {P} {H} view tree IsHole wanted given old new (Err e) = (h : H) → IsHole h → EndsBad e new (verdict old (wanted h))
+
+abbrev pub ReadsFactor : ℕ → Spot → Spot → Result Expression ParseError → Type 0
+ReadsFactor d = ReadsPhrase expression_view factor_tree (λ h. factor_depth h ≡ d) factor_wanted give_factor
+
+abbrev pub ReadsTerm : ℕ → Spot → Spot → Result Expression ParseError → Type 0
+ReadsTerm d = ReadsPhrase expression_view term_tree (λ h. term_depth h ≡ d) (λ h. factor_wanted (first_factor h)) term_had
+
+abbrev pub ReadsExpr : ℕ → Spot → Spot → Result Expression ParseError → Type 0
+ReadsExpr d = ReadsPhrase expression_view expr_tree (λ h. expr_depth h ≡ d) (λ h. factor_wanted (first_factor (first_term h))) expr_had
+
+abbrev pub ReadsOperand : Spot → Spot → Result Expression ParseError → Type 0
+ReadsOperand = ReadsPhrase expression_view factor_tree (λ h. factor_depth h ≤ 32) factor_wanted give_factor
+
+-- no operator goes on with a term, or with an expression
+abbrev pub NoTimes : Spot → Type 0
+NoTimes spot = No (sign s.Star) spot
+
+abbrev pub NoOperator : Spot → Type 0
+NoOperator spot = No (sign s.Star) spot × ((q : Additive) → No (additive q) spot)
+
+abbrev pub ReadsLit : Spot → Spot → Result Literal ParseError → Type 0
+ReadsLit = ReadsPhrase literal_view lit_tree (λ h. lit_depth h ≤ 32) lit_wanted give_lit
+
+abbrev pub ReadsUnit : ℕ → Spot → Spot → Result Condition ParseError → Type 0
+ReadsUnit d = ReadsPhrase condition_view unit_tree (λ h. unit_depth h ≡ d) unit_wanted give_unit
+
+-- a comparison from behind its column, from behind BETWEEN, and from behind its relation
+abbrev pub ReadsNamed : (UnitHole → State) → Spot → Spot → Result Condition ParseError → Type 0
+ReadsNamed wanted = ReadsPhrase condition_view unit_tree (λ h. unit_depth h ≤ 32) wanted give_unit
+
+abbrev pub ReadsConj : ℕ → Spot → Spot → Result Condition ParseError → Type 0
+ReadsConj d = ReadsPhrase condition_view conj_tree (λ h. conj_depth h ≡ d) (λ h. unit_wanted (first_unit h)) conj_had
+
+abbrev pub ReadsCond : ℕ → Spot → Spot → Result Condition ParseError → Type 0
+ReadsCond d = ReadsPhrase condition_view cond_tree (λ h. cond_depth h ≡ d) (λ h. unit_wanted (first_unit (first_conj h))) cond_had
+
+abbrev pub NoAnd : Spot → Type 0
+NoAnd spot = No (keyword k.And) spot
+
+abbrev pub NoLogic : Spot → Type 0
+NoLogic spot = No (keyword k.And) spot × No (keyword k.Or) spot

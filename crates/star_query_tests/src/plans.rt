@@ -1,0 +1,317 @@
+// Plans of small queries, and the first fault of each kind.
+
+use crate::plan_tree::write_plan;
+use star_plan::{PlanFault, PlanTree, plan};
+use star_query::Query;
+use std::alloc::{AllocError, Global};
+use std::test::Fail;
+
+fn plan_text(alloc: Global, tree: &PlanTree) -> Result<String, Fail> {
+    let mut out = String::new(alloc);
+    write_plan(&mut out, tree)?;
+    Ok(out)
+}
+
+fn printed_plan(alloc: Global, query: &Query) -> Result<String, Fail> {
+    let plan = plan(alloc, query)?;
+    plan_text(alloc, plan.tree())
+}
+
+// The printed plan of a text, which has one.
+pub(crate) fn printed(alloc: Global, text: &str) -> Result<String, Fail> {
+    let query = Query::parse(alloc, text.as_bytes())?;
+    printed_plan(alloc, &query)
+}
+
+fn fault_of_query(alloc: Global, query: &Query) -> Result<Option<PlanFault>, Fail> {
+    match plan(alloc, query) {
+        Ok(_) => Ok(None),
+        Err(PlanFault::OutOfMemory) => Err(Fail::from(AllocError)),
+        Err(fault) => Ok(Some(fault)),
+    }
+}
+
+// The first fault of a text, which is a query; none where it has a plan.
+fn fault_of(alloc: Global, text: &str) -> Result<Option<PlanFault>, Fail> {
+    let query = Query::parse(alloc, text.as_bytes())?;
+    fault_of_query(alloc, &query)
+}
+
+#[test]
+fn names_are_resolved(rt: HostRuntime) -> Result<(), Fail> {
+    for (text, plan) in [
+        (
+            "select count(*), Sum(LO_Tax), min(lo_tax) as n, max(lo_tax * -2) from LineOrder order by count1, N desc",
+            concat!(
+                "plain\n",
+                "count1 = count\n",
+                "sum2 = sum lo_tax\n",
+                "n = min lo_tax\n",
+                "max4 = max (lo_tax * -2)\n",
+                "show aggregate 0\n",
+                "show aggregate 1\n",
+                "show aggregate 2\n",
+                "show aggregate 3\n",
+                "sort aggregate 0 ascending\n",
+                "sort aggregate 2 descending\n",
+            ),
+        ),
+        (
+            "select lo_tax, lo_tax, sum(lo_tax) as lo_discount from lineorder group by cube(lo_quantity, lo_tax) order by lo_quantity desc, lo_quantity",
+            concat!(
+                "cube lo_quantity lo_tax\n",
+                "lo_discount = sum lo_tax\n",
+                "show key 1\n",
+                "show key 1\n",
+                "show aggregate 0\n",
+                "sort key 0 descending\n",
+                "sort key 0 ascending\n",
+            ),
+        ),
+    ] {
+        let found = printed(rt.alloc(), text)?;
+        assert_eq!(rt; found.as_str(), plan, "{text}");
+    }
+    Ok(())
+}
+
+#[test]
+fn joins_stand_apart_from_the_other_conjuncts(rt: HostRuntime) -> Result<(), Fail> {
+    for (text, plan) in [
+        (
+            "select count(*) from date, lineorder where (d_datekey = lo_commitdate and not lo_tax = 1) and lo_tax < 5",
+            concat!(
+                "join lo_commitdate = d_datekey\n",
+                "keep not lo_tax = 1\n",
+                "keep lo_tax < 5\n",
+                "plain\n",
+                "count1 = count\n",
+                "show aggregate 0\n",
+            ),
+        ),
+        (
+            "select count(*) as n from lineorder, part where lo_tax = 1 and (lo_tax = 2 or lo_tax > 3 and p_name <> 'it''s') and lo_partkey = p_partkey",
+            concat!(
+                "join lo_partkey = p_partkey\n",
+                "keep lo_tax = 1\n",
+                "keep (lo_tax = 2 or (lo_tax > 3 and p_name <> \"it's\"))\n",
+                "plain\n",
+                "n = count\n",
+                "show aggregate 0\n",
+            ),
+        ),
+    ] {
+        let found = printed(rt.alloc(), text)?;
+        assert_eq!(rt; found.as_str(), plan, "{text}");
+    }
+    Ok(())
+}
+
+#[test]
+fn the_names_of_from_come_first(rt: HostRuntime) -> Result<(), Fail> {
+    for (text, fault) in [
+        (
+            "select count(*) from lineorder, x",
+            PlanFault::UnknownName { at: 32 },
+        ),
+        (
+            "select x from lineorders",
+            PlanFault::UnknownName { at: 14 },
+        ),
+        ("select x from date", PlanFault::NoFactTable),
+        (
+            "select count(*) from supplier, date where x = 1",
+            PlanFault::NoFactTable,
+        ),
+        (
+            "select d_year, count(*) from lineorder, lineorder",
+            PlanFault::TableTwice { at: 40 },
+        ),
+        (
+            "select count(*) from lineorder, date, date, x",
+            PlanFault::TableTwice { at: 38 },
+        ),
+    ] {
+        let found = fault_of(rt.alloc(), text)?;
+        assert!(rt; found == Some(fault), "{text}");
+    }
+    Ok(())
+}
+
+#[test]
+fn then_the_names_of_columns(rt: HostRuntime) -> Result<(), Fail> {
+    for (text, fault) in [
+        (
+            "select sum(lo_x) from lineorder",
+            PlanFault::UnknownName { at: 11 },
+        ),
+        (
+            "select count(*) from lineorder where lo_tax = lo_tax and lo_tax = 'a' group by x",
+            PlanFault::UnknownName { at: 79 },
+        ),
+        (
+            "select count(*) from lineorder where lo_tax = x",
+            PlanFault::UnknownName { at: 46 },
+        ),
+        (
+            "select d_year, count(*) from lineorder",
+            PlanFault::TableNotNamed { at: 7 },
+        ),
+        (
+            "select lo_tax from lineorder, date where s_region = 1 group by x",
+            PlanFault::TableNotNamed { at: 41 },
+        ),
+        (
+            "select count(*) from lineorder group by cube(lo_tax, d_year)",
+            PlanFault::TableNotNamed { at: 53 },
+        ),
+    ] {
+        let found = fault_of(rt.alloc(), text)?;
+        assert!(rt; found == Some(fault), "{text}");
+    }
+    Ok(())
+}
+
+#[test]
+fn then_the_comparisons_of_two_columns(rt: HostRuntime) -> Result<(), Fail> {
+    for (text, fault) in [
+        (
+            "select count(*) from lineorder, date",
+            PlanFault::JoinMissing { at: 32 },
+        ),
+        (
+            "select sum(p_name) from part, lineorder, date where lo_orderdate = d_datekey",
+            PlanFault::JoinMissing { at: 24 },
+        ),
+        (
+            "select count(*) from lineorder, date where lo_orderdate = d_datekey and lo_commitdate = d_datekey",
+            PlanFault::JoinTwice { at: 72 },
+        ),
+        (
+            "select count(*) from lineorder, date, part where lo_orderdate = d_datekey and d_datekey = lo_orderdate",
+            PlanFault::JoinTwice { at: 78 },
+        ),
+        (
+            "select count(*) from lineorder, date where lo_orderdate = d_datekey or lo_tax = 1",
+            PlanFault::NotAKeyPair { at: 43 },
+        ),
+        (
+            "select count(*) from lineorder, date where lo_tax = 1 and (lo_tax = 2 or (lo_orderdate = d_datekey))",
+            PlanFault::NotAKeyPair { at: 74 },
+        ),
+        (
+            "select count(*) from lineorder, date where not not (lo_orderdate = d_datekey)",
+            PlanFault::NotAKeyPair { at: 52 },
+        ),
+        (
+            "select count(*) from lineorder where lo_tax = lo_tax and lo_tax = 'a'",
+            PlanFault::NotAKeyPair { at: 37 },
+        ),
+        (
+            "select count(*) from lineorder, supplier where lo_custkey = s_suppkey",
+            PlanFault::NotAKeyPair { at: 47 },
+        ),
+    ] {
+        let found = fault_of(rt.alloc(), text)?;
+        assert!(rt; found == Some(fault), "{text}");
+    }
+    Ok(())
+}
+
+#[test]
+fn then_the_kinds_of_columns(rt: HostRuntime) -> Result<(), Fail> {
+    for (text, fault) in [
+        (
+            "select sum(lo_revenue) from lineorder where lo_quantity = 'x'",
+            PlanFault::WrongKind { at: 44 },
+        ),
+        (
+            "select count(*) from lineorder where lo_tax between 1 and 'a' group by lo_tax, lo_tax",
+            PlanFault::WrongKind { at: 37 },
+        ),
+        (
+            "select count(*) from lineorder where lo_tax = 1 and lo_shipmode >= 5",
+            PlanFault::WrongKind { at: 52 },
+        ),
+        (
+            "select lo_tax, min(lo_tax + lo_shipmode) from lineorder",
+            PlanFault::WrongKind { at: 28 },
+        ),
+    ] {
+        let found = fault_of(rt.alloc(), text)?;
+        assert!(rt; found == Some(fault), "{text}");
+    }
+    Ok(())
+}
+
+#[test]
+fn then_the_groups_and_the_items(rt: HostRuntime) -> Result<(), Fail> {
+    for (text, fault) in [
+        (
+            "select lo_quantity from lineorder group by lo_tax, lo_tax",
+            PlanFault::DuplicateGroup { at: 51 },
+        ),
+        (
+            "select count(*) from lineorder group by cube(lo_tax, lo_quantity, lo_tax)",
+            PlanFault::DuplicateGroup { at: 66 },
+        ),
+        (
+            "select count(*), lo_tax from lineorder order by x",
+            PlanFault::NotGrouped { at: 17 },
+        ),
+        (
+            "select lo_tax, lo_quantity, count(*) as lo_tax from lineorder group by lo_tax",
+            PlanFault::NotGrouped { at: 15 },
+        ),
+        (
+            "select count(*) as n, count(*) as n from lineorder",
+            PlanFault::DuplicateAlias { at: 34 },
+        ),
+        (
+            "select sum(lo_tax) as count2, count(*), lo_tax from lineorder",
+            PlanFault::DuplicateAlias { at: 30 },
+        ),
+        (
+            "select lo_tax, sum(lo_tax) as lo_tax from lineorder group by lo_tax",
+            PlanFault::DuplicateAlias { at: 30 },
+        ),
+        (
+            "select count(*), min(lo_tax) as count1 from lineorder order by x",
+            PlanFault::DuplicateAlias { at: 32 },
+        ),
+        (
+            "select lo_tax from lineorder group by lo_tax",
+            PlanFault::NoAggregate,
+        ),
+        (
+            "select lo_tax, lo_tax from lineorder group by lo_tax order by lo_quantity",
+            PlanFault::NoAggregate,
+        ),
+    ] {
+        let found = fault_of(rt.alloc(), text)?;
+        assert!(rt; found == Some(fault), "{text}");
+    }
+    Ok(())
+}
+
+#[test]
+fn and_at_last_the_order(rt: HostRuntime) -> Result<(), Fail> {
+    for (text, fault) in [
+        (
+            "select count(*) as n from lineorder order by n, count1",
+            PlanFault::UnknownOrderKey { at: 48 },
+        ),
+        (
+            "select count(*) from lineorder group by lo_tax order by lo_tax, lo_quantity",
+            PlanFault::UnknownOrderKey { at: 64 },
+        ),
+        (
+            "select count(*), max(lo_tax) from lineorder order by max2, count1, max1",
+            PlanFault::UnknownOrderKey { at: 67 },
+        ),
+    ] {
+        let found = fault_of(rt.alloc(), text)?;
+        assert!(rt; found == Some(fault), "{text}");
+    }
+    Ok(())
+}

@@ -1,0 +1,398 @@
+// Texts: their trees as the grammar groups them, their first fault, and each limit at and one past it.
+
+use crate::query_tree::write_tree;
+use star_query::{Query, QueryFault, Tree};
+use std::alloc::{AllocError, Global};
+use std::test::Fail;
+
+fn tree_text(alloc: Global, tree: &Tree) -> Result<String, Fail> {
+    let mut out = String::new(alloc);
+    write_tree(&mut out, tree)?;
+    Ok(out)
+}
+
+// The printed tree of a text, which is a query.
+fn printed(alloc: Global, text: &str) -> Result<String, Fail> {
+    let query = Query::parse(alloc, text.as_bytes())?;
+    tree_text(alloc, query.tree())
+}
+
+// The first fault of a text; none where it is a query.
+fn fault_of(alloc: Global, text: &str) -> Result<Option<QueryFault>, AllocError> {
+    match Query::parse(alloc, text.as_bytes()) {
+        Ok(_) => Ok(None),
+        Err(QueryFault::OutOfMemory) => Err(AllocError),
+        Err(fault) => Ok(Some(fault)),
+    }
+}
+
+// The front, so many times the middle, and the end.
+fn repeated(
+    alloc: Global,
+    front: &str,
+    middle: &str,
+    count: u32,
+    end: &str,
+) -> Result<String, AllocError> {
+    let mut text = String::new(alloc);
+    text.push_str(front)?;
+    for _ in 0..count {
+        text.push_str(middle)?;
+    }
+    text.push_str(end)?;
+    Ok(text)
+}
+
+fn fault_of_repeated(
+    alloc: Global,
+    front: &str,
+    middle: &str,
+    count: u32,
+    end: &str,
+) -> Result<Option<QueryFault>, AllocError> {
+    let text = repeated(alloc, front, middle, count, end)?;
+    fault_of(alloc, text.as_str())
+}
+
+#[test]
+fn operators_group_as_the_grammar_says(rt: HostRuntime) -> Result<(), Fail> {
+    for (text, tree) in [
+        (
+            "select sum(a - b - 2 * c + -3) from t",
+            "select sum@7 (((a@11 - b@15) - (2 * c@23)) + -3) from t@36 group by ",
+        ),
+        (
+            "select min((a - (b - c)) * d * 4) as low from t",
+            "select min@7 (((a@12 - (b@17 - c@21)) * d@27) * 4) as low@37 from t@46 group by ",
+        ),
+        (
+            "select d, count(*) from t where a = 1 or b <> 2 and not c < 3 or d = 'x'",
+            "select d@7, count@10 from t@24 where ((a@32 = 1 or (b@41 <> 2 and not c@56 < 3)) or d@65 = \"x\") group by ",
+        ),
+        (
+            "select count(*) from t where not (a <= -1 or b > 5) and (c >= 6 and a = b)",
+            "select count@7 from t@21 where (not (a@34 <= -1 or b@45 > 5) and (c@57 >= 6 and a@68 = b@72)) group by ",
+        ),
+        (
+            "select max(a) from t where a between -1 and 2 and b between 'a''b' and '' and not not a = 1",
+            "select max@7 a@11 from t@19 where ((a@27 between -1 and 2 and b@50 between \"a'b\" and \"\") and not not a@86 = 1) group by ",
+        ),
+    ] {
+        let found = printed(rt.alloc(), text)?;
+        assert_eq!(rt; found.as_str(), tree, "{text}");
+    }
+    Ok(())
+}
+
+#[test]
+fn case_and_white_space_make_no_difference(rt: HostRuntime) -> Result<(), Fail> {
+    for (text, tree) in [
+        (
+            "SELECT D_Year,\tsum( A )\r\nAs Rev FROM T , u group By CUBE( d_year, e ) Order by rev DESC, d_year asc, e ;",
+            "select d_year@7, sum@15 a@20 as rev@28 from t@37, u@41 group by cube d_year@58, e@66 order by rev@79 desc, d_year@89 asc, e@101 asc",
+        ),
+        (
+            "select _a from t group by _a,b order by b",
+            "select _a@7 from t@15 group by _a@26, b@29 order by b@40 asc",
+        ),
+        (
+            "select\t_a\nfrom\rt\n group  by\n\n_a,b\torder\rby b\n",
+            "select _a@7 from t@15 group by _a@29, b@32 order by b@43 asc",
+        ),
+    ] {
+        let found = printed(rt.alloc(), text)?;
+        assert_eq!(rt; found.as_str(), tree, "{text}");
+    }
+    Ok(())
+}
+
+#[test]
+fn a_number_has_at_most_18_digits(rt: HostRuntime) -> Result<(), Fail> {
+    let most = "select sum(999999999999999999) from t where a = -000000000000000001";
+    let found = printed(rt.alloc(), most)?;
+    let tree = "select sum@7 999999999999999999 from t@36 where a@44 = -1 group by ";
+    assert_eq!(rt; found.as_str(), tree);
+    let past = fault_of(rt.alloc(), "select sum(0000000000000000001) from t")?;
+    assert!(rt; past == Some(QueryFault::BadNumber { at: 11 }));
+    Ok(())
+}
+
+const A_COLUMN: &str = "select count(*) from t where a ";
+
+// Behind each front, no query goes on with the token at this place; where there is none, the text is a query.
+const TOKENS: [(&str, &str, Option<usize>); 20] = [
+    // Thirteen signs: the front takes the first that is left, so the fault tells where the next begins.
+    (A_COLUMN, "<= >= <> < > =,()*+-;", Some(34)),
+    (A_COLUMN, ">= <> < > =,()*+-;", Some(34)),
+    (A_COLUMN, "<> < > =,()*+-;", Some(34)),
+    (A_COLUMN, "< > =,()*+-;", Some(33)),
+    (A_COLUMN, "> =,()*+-;", Some(33)),
+    (A_COLUMN, "=,()*+-;", Some(32)),
+    ("select a", ",()*+-;", Some(9)),
+    ("select sum", "()*+-;", Some(11)),
+    ("select sum(a", ")*+-;", Some(13)),
+    ("select sum(a", "*+-;", Some(13)),
+    // A minus may follow a plus, so the fault is behind both.
+    ("select sum(a", "+-;", Some(14)),
+    ("select sum(a", "-;", Some(13)),
+    ("select count(*) from t", ";", None),
+    (A_COLUMN, "<=>=<>", Some(33)),
+    (A_COLUMN, ">=<>", Some(33)),
+    (A_COLUMN, "<>", Some(33)),
+    (A_COLUMN, "= 'a''b'", None),
+    (A_COLUMN, "= 'a' 'b'", Some(37)),
+    ("", " SeLeCt\ta_1\r\n,\nfrom ", Some(15)),
+    ("", " SeLeCt\ta_1\r\n\nfrom ", Some(19)),
+];
+
+#[test]
+fn tokens_are_as_long_as_they_can_be(rt: HostRuntime) -> Result<(), Fail> {
+    for (front, tail, place) in TOKENS {
+        let found = fault_of_repeated(rt.alloc(), front, tail, 1, "")?;
+        let fault = place.map(|at| QueryFault::Unexpected { at });
+        assert!(rt; found == fault, "{front}{tail}");
+    }
+    Ok(())
+}
+
+#[test]
+fn a_token_that_no_query_goes_on_with_is_told_at_its_place(rt: HostRuntime) -> Result<(), Fail> {
+    for (text, at) in [
+        ("", 0),
+        ("select count(*) from", 20),
+        ("select count(*) from lineorder; x", 32),
+        ("select count(*) from lineorder;;", 31),
+        ("select lo_tax as t from lineorder", 14),
+        ("select sum(-lo_tax) from lineorder", 12),
+        ("select sum(-(1)) from lineorder", 12),
+        ("select sum(--5) from lineorder", 12),
+        ("select sum() from lineorder", 11),
+        ("select count(lo_tax) from lineorder", 13),
+        ("select count(*) from lineorder where 1 = lo_tax", 37),
+        ("select count(*) from lineorder where lo_tax <> lo_tax", 47),
+        ("select count(*) from lineorder where lo_tax = 'a' 'b'", 50),
+        (
+            "select count(*) from lineorder where lo_tax between 1 or 2",
+            54,
+        ),
+        ("select count(*) from lineorder group by cube lo_tax", 45),
+        ("select count(*) from lineorder group by rollup(lo_tax)", 40),
+        (
+            "select count(*) from lineorder order by lo_tax asc desc",
+            51,
+        ),
+    ] {
+        let found = fault_of(rt.alloc(), text)?;
+        assert!(rt; found == Some(QueryFault::Unexpected { at }), "{text}");
+    }
+    Ok(())
+}
+
+#[test]
+fn faults_of_tokens_come_first_from_the_left(rt: HostRuntime) -> Result<(), Fail> {
+    for (text, fault) in [
+        ("select count(*)\0", QueryFault::BadCharacter { at: 15 }),
+        ("select from 'a\n", QueryFault::BadCharacter { at: 14 }),
+        ("select a.b from 1x", QueryFault::BadCharacter { at: 8 }),
+        ("select sum(1x)", QueryFault::BadNumber { at: 11 }),
+        (
+            "from 1234567890123456789 '",
+            QueryFault::BadNumber { at: 5 },
+        ),
+        (
+            "select count(*) from lineorder where lo_tax = 'a",
+            QueryFault::OpenText { at: 46 },
+        ),
+        ("from 'it''s", QueryFault::OpenText { at: 5 }),
+        ("'a''", QueryFault::OpenText { at: 0 }),
+    ] {
+        let found = fault_of(rt.alloc(), text)?;
+        assert!(rt; found == Some(fault), "{text}");
+    }
+    Ok(())
+}
+
+// At this count of the middle the text is a query, and one more is too many.
+const LIMITS: [(&str, &str, u16, &str); 12] = [
+    ("select a", ", a", 15, " from t"),
+    ("select count(*)", ", count(*)", 7, " from t"),
+    ("select count(*) from t group by a", ", b", 5, ""),
+    ("select count(*) from t group by cube(a", ", b", 5, ")"),
+    ("select count(*) from t order by a", ", b desc", 15, ""),
+    ("select count(*) from t where a = b", " and a = 1", 255, ""),
+    (
+        "select count(*) from t where a = b",
+        " or not a = 1",
+        127,
+        " and a = 1",
+    ),
+    ("select sum(a", " + 1", 511, ") from t"),
+    ("select min(-1), max(a", " * b", 510, ") from t"),
+    ("select ", "n", 64, " from t"),
+    ("select count(*) from ", "n", 64, ""),
+    ("select count(*) as ", "n", 64, " from t"),
+];
+
+#[test]
+fn each_count_has_its_limit(rt: HostRuntime) -> Result<(), Fail> {
+    for (front, middle, count, end) in LIMITS {
+        let most = u32::from(count);
+        let at = fault_of_repeated(rt.alloc(), front, middle, most, end)?;
+        assert!(rt; at.is_none(), "{front}{middle}{end}");
+        let past = fault_of_repeated(rt.alloc(), front, middle, most + 1, end)?;
+        assert!(rt; past == Some(QueryFault::TooMany), "{front}{middle}{end}");
+    }
+    Ok(())
+}
+
+const MANY: QueryFault = QueryFault::TooMany;
+
+// The first fault of the front, so many times the middle, and the end.
+const COUNTED: [(&str, &str, u32, &str, QueryFault); 8] = [
+    // The 17th item and the 257th comparison, though the text goes wrong behind them, and what can't begin one.
+    ("select a", ", a", 15, ", a b", MANY),
+    (
+        "select a",
+        ", a",
+        15,
+        ", from t",
+        QueryFault::Unexpected { at: 55 },
+    ),
+    (
+        "select count(*) from t where a = b",
+        " and a = 1",
+        255,
+        " and a a",
+        MANY,
+    ),
+    (
+        "select count(*) from t where a = b",
+        " and a = 1",
+        255,
+        " and 1",
+        QueryFault::Unexpected { at: 2_589 },
+    ),
+    (
+        "select count(*) from t where a = b",
+        " and a = 1",
+        255,
+        " and not",
+        MANY,
+    ),
+    // A minus is no operand.
+    (
+        "select sum(a",
+        " + 1",
+        511,
+        " + -) from t",
+        QueryFault::Unexpected { at: 2_060 },
+    ),
+    ("select sum(a", " + 1", 511, " + -1) from t", MANY),
+    // A long name where no name may stand.
+    (
+        "select count(*) ",
+        "n",
+        65,
+        " from t",
+        QueryFault::Unexpected { at: 16 },
+    ),
+];
+
+#[test]
+fn what_begins_at_a_token_is_counted_there(rt: HostRuntime) -> Result<(), Fail> {
+    for (front, middle, count, end, fault) in COUNTED {
+        let found = fault_of_repeated(rt.alloc(), front, middle, count, end)?;
+        assert!(rt; found == Some(fault), "{front}{middle}{end}");
+    }
+    Ok(())
+}
+
+fn fault_of_many(
+    alloc: Global,
+    comparisons: u32,
+    nots: u32,
+) -> Result<Option<QueryFault>, AllocError> {
+    let front = "select count(*) from t where a = b";
+    let begun = repeated(alloc, front, " and a = 1", comparisons, " and ")?;
+    fault_of_repeated(alloc, begun.as_str(), "not ", nots, "a = 1")
+}
+
+#[test]
+fn too_deep_is_told_before_too_many(rt: HostRuntime) -> Result<(), Fail> {
+    for (comparisons, nots, fault) in [
+        (223, 32, QueryFault::TooMany),
+        (223, 33, QueryFault::TooDeep),
+        (224, 33, QueryFault::TooMany),
+    ] {
+        let found = fault_of_many(rt.alloc(), comparisons, nots)?;
+        assert!(rt; found == Some(fault), "{comparisons} and {nots}");
+    }
+    Ok(())
+}
+
+// What stands between two ends, and is opened and closed as often as it is nested.
+#[derive(Clone, Copy)]
+struct Nest {
+    front: &'static str,
+    opened: &'static str,
+    middle: &'static str,
+    closed: &'static str,
+    end: &'static str,
+}
+
+const NESTS: [Nest; 3] = [
+    Nest {
+        front: "select count(*) from lineorder where ",
+        opened: "(",
+        middle: "lo_tax = 1",
+        closed: ")",
+        end: "",
+    },
+    Nest {
+        front: "select sum(",
+        opened: "(",
+        middle: "a",
+        closed: ")",
+        end: ") from t",
+    },
+    Nest {
+        front: "select count(*) from t where ",
+        opened: "not ",
+        middle: "a = 1",
+        closed: "",
+        end: "",
+    },
+];
+
+fn fault_of_nested(
+    alloc: Global,
+    nest: Nest,
+    count: u32,
+) -> Result<Option<QueryFault>, AllocError> {
+    let begun = repeated(alloc, nest.front, nest.opened, count, nest.middle)?;
+    fault_of_repeated(alloc, begun.as_str(), nest.closed, count, nest.end)
+}
+
+#[test]
+fn nesting_has_its_limit(rt: HostRuntime) -> Result<(), Fail> {
+    for nest in NESTS {
+        let at = fault_of_nested(rt.alloc(), nest, 32)?;
+        assert!(rt; at.is_none(), "{}", nest.front);
+        let past = fault_of_nested(rt.alloc(), nest, 33)?;
+        assert!(rt; past == Some(QueryFault::TooDeep), "{}", nest.front);
+    }
+    Ok(())
+}
+
+#[test]
+fn a_text_has_at_most_65536_bytes(rt: HostRuntime) -> Result<(), Fail> {
+    for (front, fault) in [
+        ("", QueryFault::Unexpected { at: 65_536 }),
+        (" ", QueryFault::TooLong),
+        ("1x", QueryFault::TooLong),
+    ] {
+        let found = fault_of_repeated(rt.alloc(), front, "  ", 32_768, "")?;
+        assert!(rt; found == Some(fault), "{front}");
+    }
+    Ok(())
+}

@@ -1,0 +1,4 @@
+pub mod Bars
+pub mod Extended
+pub mod Lines
+pub mod Steps

@@ -1,0 +1,138 @@
+// Worked table files, each public call of the reader with ample memory, and many rows.
+
+ghost use Rattle.std.specs.Prelude.{◌≡◌, ◌<◌, length};
+ghost use Rattle.star_schema.specs.Schema.{kind_of, table_of};
+
+use star_reader::{RawTable, ReadFault, read_table};
+use star_schema::{ColumnId, Kind, Limits, TableId, place_of};
+use std::alloc::{AllocError, Global};
+use std::fmt::Write;
+use std::process::Abort;
+use std::test::Fail;
+
+const SUPPLIER: &str = concat!(
+    "1|Supplier#000000001|b1|UNITED KI5|UNITED KINGDOM|EUROPE|33-444-444-4444|\n",
+    "2|Supplier#000000002|b2|UNITED ST4|UNITED STATES|AMERICA|34-555-555-5555|\n",
+);
+
+// How many suppliers a text has, or its fault.
+fn read_suppliers(
+    alloc: Global,
+    text: &[u8],
+    limits: Limits,
+) -> Result<Result<u32, ReadFault>, AllocError> {
+    match read_table(alloc, text, TableId::Supplier, limits) {
+        Ok(raw) => Ok(Ok(raw.rows())),
+        Err(ReadFault::OutOfMemory) => Err(AllocError),
+        Err(fault) => Ok(Err(fault)),
+    }
+}
+
+// A prefix of the suppliers is a table where its last record has a last field, and a phone number may be cut short.
+#[test]
+fn reads_prefixes(rt: HostRuntime) -> Result<(), Fail> {
+    for length in 0..SUPPLIER.len() + 1 {
+        let expected = match length {
+            0 => Ok(0),
+            1..57 => Err(ReadFault::FieldCount { at_row: 1 }),
+            57..75 => Ok(1),
+            75..131 => Err(ReadFault::FieldCount { at_row: 2 }),
+            _ => Ok(2),
+        };
+        let prefix = &SUPPLIER.as_bytes()[..length];
+        let got = read_suppliers(rt.alloc(), prefix, Limits::widest())?;
+        assert_eq!(rt; got, expected, "at {length}");
+    }
+    Ok(())
+}
+
+#[test]
+fn tells_the_first_fault(rt: HostRuntime) -> Result<(), Fail> {
+    let field = |field| ReadFault::BadByte { at_row: 1, field };
+    let number = |at_row| ReadFault::BadNumber { at_row, field: 1 };
+    let count = |at_row| ReadFault::FieldCount { at_row };
+    let cases: [(&[u8], Result<u32, ReadFault>); 14] = [
+        (b"", Ok(0)),
+        (b"\r\n\n\r", Ok(0)),
+        (b"1|a|b|c|d|e|f", Ok(1)),
+        (b"\n1|a|b|c|d|e|\r\n\r\n-0|||||||", Ok(2)),
+        (b"1|a|b|c|d|e|f||", Err(count(1))),
+        (b" ", Err(count(1))),
+        (b"x|a\t|b|c|d|e", Err(count(1))),
+        (b"x|a\t|b|c|d|e|f", Err(number(1))),
+        (b"1|a\t|b|c|d|e|\x7f", Err(field(2))),
+        (b"|a|b|c|d|e|f", Err(number(1))),
+        (b"+5|a|b|c|d|e|f", Err(number(1))),
+        (
+            b"123456789012345678|||||||\n1234567890123456789|||||||",
+            Err(number(2)),
+        ),
+        (b"\xef\xbb\xbf1|a|b|c|d|e|f", Err(ReadFault::ByteOrderMark)),
+        (b"1|a|b|c|d|e|\xef\xbb\xbf", Err(field(7))),
+    ];
+    for (text, expected) in cases {
+        let got = read_suppliers(rt.alloc(), text, Limits::widest())?;
+        assert_eq!(rt; got, expected, "{text:?}");
+    }
+    Ok(())
+}
+
+const MANY: u32 = 100_000;
+
+fn many_suppliers(alloc: Global) -> Result<String, AllocError> {
+    let mut text = String::new(alloc);
+    for row in 0..MANY {
+        writeln!(text, "-{row}|name {row}|||||")?;
+    }
+    Ok(text)
+}
+
+fn number_of(raw: &RawTable, column: ColumnId, row: u32) -> i64
+    requires table { raw.now.table ≡ table_of column }
+    requires kind { kind_of column ≡ Kind.Number }
+    requires row { row < length raw.now.rows }
+{
+    raw.number(row, place_of(column))
+}
+
+fn count_of(raw: &RawTable, column: ColumnId) -> usize
+    requires table { raw.now.table ≡ table_of column }
+    requires kind { kind_of column ≡ Kind.Number }
+{
+    raw.numbers(place_of(column)).len()
+}
+
+fn text_of(raw: &RawTable, column: ColumnId, row: u32) -> &[u8]
+    requires table { raw.now.table ≡ table_of column }
+    requires kind { kind_of column ≡ Kind.Text }
+    requires row { row < length raw.now.rows }
+{
+    raw.text(row, place_of(column))
+}
+
+// The numbers and the names of many suppliers.
+#[tactic(auto, unfolding(star_schema::specs::Schema::column_of))]
+fn check_many_suppliers(rt: &impl Abort, alloc: Global, raw: &RawTable) -> Result<(), AllocError> {
+    assert_eq!(rt; raw.table(), TableId::Supplier);
+    for row in 0..raw.rows() {
+        assert_eq!(rt; number_of(raw, ColumnId::SSuppkey, row), -i64::from(row));
+        let name = format!(in alloc; "name {row}")?;
+        assert_eq!(rt; text_of(raw, ColumnId::SName, row), name.as_bytes());
+    }
+    assert_eq!(rt; count_of(raw, ColumnId::SSuppkey), 100_000);
+    Ok(())
+}
+
+#[test]
+fn reads_many_rows_back(rt: HostRuntime) -> Result<(), Fail> {
+    let text = many_suppliers(rt.alloc())?;
+    let limits = Limits::new(MANY, 0).ok_or("limits")?;
+    match read_table(rt.alloc(), text.as_bytes(), TableId::Supplier, limits) {
+        Ok(raw) => check_many_suppliers(&rt, rt.alloc(), &raw)?,
+        Err(fault) => return Err(Fail::from(format_args!("{fault:?}"))),
+    }
+    let few = Limits::new(MANY - 1, 0).ok_or("limits")?;
+    let refused = read_suppliers(rt.alloc(), text.as_bytes(), few)?;
+    assert_eq!(rt; refused, Err(ReadFault::TooManyRows));
+    Ok(())
+}

@@ -1,0 +1,330 @@
+// Programs with worked answers, each kind of trap, and bounds at and one below what is needed.
+
+use crate::programs_at_hand::{
+    ABOVE_AVERAGE, ABSENT_KEY, DISCOUNTED_REVENUE, MISPLACED, NESTED, NO_TEXTS, READ_INSIDE, UNSET,
+    counting, read,
+};
+use crate::samples::loaded;
+use star_catalogue::{Catalogue, Texts, sample};
+use star_machine::{Cell, Outcome, TrialFault, trial};
+use star_schema::MOST_VISITS;
+use std::alloc::{AllocError, Global};
+use std::fmt::Write;
+use std::test::Fail;
+
+// The text of a program, a bound on visits, and what a trial answers.
+type Case = (&'static str, u64, &'static str);
+
+fn push_cell(text: &mut String, cell: &Cell) -> Result<(), Fail> {
+    match cell {
+        Cell::Number(number) => write!(text, "{number}")?,
+        Cell::Text(bytes) => write!(text, "[{}]", str::from_utf8(bytes.as_slice())?)?,
+        Cell::All => text.push_str("ALL")?,
+        Cell::Null => text.push_str("NULL")?,
+    }
+    Ok(())
+}
+
+// The names, a line for each row with a bar after each cell, and the three counts. Texts stand in brackets, so that none looks like ALL.
+fn told(alloc: Global, outcome: &Outcome) -> Result<String, Fail> {
+    let mut text = String::new(alloc);
+    for name in outcome.names.as_slice() {
+        text.push_str(str::from_utf8(name.as_slice())?)?;
+        text.push('|')?;
+    }
+    for row in outcome.rows.as_slice() {
+        text.push('\n')?;
+        for cell in row.as_slice() {
+            push_cell(&mut text, cell)?;
+            text.push('|')?;
+        }
+    }
+    write!(
+        text,
+        "\nvisits {} lookups {} updates {}",
+        outcome.visits, outcome.lookups, outcome.updates
+    )?;
+    Ok(text)
+}
+
+// What a trial answers, want of memory aside.
+fn tried(alloc: Global, catalogue: &Catalogue, text: &str, visits: u64) -> Result<String, Fail> {
+    let program = read(alloc, text.as_bytes())??;
+    match trial(alloc, catalogue, &program, visits.min(MOST_VISITS)) {
+        Ok(outcome) => told(alloc, &outcome),
+        Err(TrialFault::OutOfMemory) => Err(Fail::from(AllocError)),
+        Err(fault) => Ok(format!(in alloc; "{fault}")?),
+    }
+}
+
+fn agree(
+    alloc: Global,
+    catalogue: &Catalogue,
+    text: &str,
+    visits: u64,
+    expected: &str,
+) -> Result<(), Fail> {
+    let answer = tried(alloc, catalogue, text, visits)?;
+    if answer.as_str() == expected {
+        Ok(())
+    } else {
+        Err(Fail::from(format_args!("{answer} where {expected} is expected of {text}")))
+    }
+}
+
+// Whether each program answers what is expected.
+fn all_agree(alloc: Global, catalogue: &Catalogue, cases: &[Case]) -> Result<(), Fail> {
+    for (text, visits, expected) in cases {
+        agree(alloc, catalogue, text, *visits, expected)?;
+    }
+    Ok(())
+}
+
+// Whether programs of these lines, with three registers, that count their puts answer what is expected.
+fn all_counting_agree(alloc: Global, catalogue: &Catalogue, cases: &[Case]) -> Result<(), Fail> {
+    for (lines, visits, expected) in cases {
+        let text = counting(alloc, lines)?;
+        agree(alloc, catalogue, text.as_str(), *visits, expected)?;
+    }
+    Ok(())
+}
+
+// A cube of years and regions, the greatest revenue first.
+const REVENUES: &str = concat!(
+    "star program 1\nregisters 8\ngroup 0 cube number s_region : sum count\nscan lineorder r0\n",
+    "r1 = load lo_orderdate r0\nr2 = find date r1\nr3 = load d_year r2\n",
+    "r4 = load lo_suppkey r0\nr5 = find supplier r4\nr6 = load s_region r5\n",
+    "r7 = load lo_revenue r0\nput 0 r3 r6 : r7\nend\n",
+    "report 0\nshow y key 0\nshow r key 1\nshow s aggregate 0\nshow n aggregate 1\nsort aggregate 0 descending\n",
+);
+
+// One put into a cube of two numbers.
+const ONE_PUT: &str = concat!(
+    "star program 1\nregisters 3\ngroup 0 cube number number : sum count\n",
+    "r0 = const 1\nr1 = const 2\nr2 = const 7\nput 0 r0 r1 : r2\n",
+    "report 0\nshow a key 0\nshow b key 1\nshow s aggregate 0\nshow n aggregate 1\n",
+);
+
+const WORKED: &[Case] = &[
+    (
+        ABOVE_AVERAGE,
+        MOST_VISITS,
+        "n|\n2|\nvisits 10 lookups 0 updates 7",
+    ),
+    (ABOVE_AVERAGE, 10, "n|\n2|\nvisits 10 lookups 0 updates 7"),
+    (ABOVE_AVERAGE, 9, "limit"),
+    (ABOVE_AVERAGE, 0, "limit"),
+    (
+        DISCOUNTED_REVENUE,
+        MOST_VISITS,
+        "revenue|\n2000|\nvisits 5 lookups 5 updates 1",
+    ),
+    (
+        REVENUES,
+        MOST_VISITS,
+        concat!(
+            "y|r|s|n|\nALL|ALL|7045|5|\nALL|[AMERICA]|4475|3|\n1997|ALL|3630|2|\n1997|[AMERICA]|3000|1|\n",
+            "1993|ALL|2920|2|\nALL|[EUROPE]|2570|2|\n1993|[EUROPE]|1940|1|\n1993|[AMERICA]|980|1|\n",
+            "1997|[EUROPE]|630|1|\n1994|[AMERICA]|495|1|\n1994|ALL|495|1|\n",
+            "visits 5 lookups 10 updates 5",
+        ),
+    ),
+    (
+        ONE_PUT,
+        0,
+        concat!(
+            "a|b|s|n|\n1|2|7|1|\n1|ALL|7|1|\nALL|2|7|1|\nALL|ALL|7|1|\n",
+            "visits 0 lookups 0 updates 1",
+        ),
+    ),
+];
+
+#[test]
+fn worked_programs_have_their_outcomes(rt: HostRuntime) -> Result<(), Fail> {
+    let catalogue = loaded(rt.alloc(), &sample())?;
+    all_agree(rt.alloc(), &catalogue, WORKED)
+}
+
+// A register is written twice, and put.
+const WRITTEN_TWICE: &str = concat!(
+    "star program 1\nregisters 1\ngroup 0 plain : sum\n",
+    "r0 = const 1\nr0 = const 2\nput 0 : r0\n",
+    "report 0\nshow s aggregate 0\n",
+);
+
+// A register that is written before a scan is written again in each turn, and put there and after the scan.
+const WRITTEN_IN_A_SCAN: &str = concat!(
+    "star program 1\nregisters 2\ngroup 0 plain number : count\n",
+    "r0 = const 1\nscan date r1\nr0 = const 2\nput 0 r0 :\nend\nput 0 r0 :\n",
+    "report 0\nshow r key 0\nshow n aggregate 0\n",
+);
+
+// In each turn it is put, and then written again.
+const WRITTEN_AFTER_A_PUT: &str = concat!(
+    "star program 1\nregisters 2\ngroup 0 plain number : count\n",
+    "r0 = const 1\nscan date r1\nput 0 r0 :\nr0 = const 2\nend\nput 0 r0 :\n",
+    "report 0\nshow r key 0\nshow n aggregate 0\n",
+);
+
+const WRITTEN: &[Case] = &[
+    (WRITTEN_TWICE, 0, "s|\n2|\nvisits 0 lookups 0 updates 1"),
+    (
+        WRITTEN_IN_A_SCAN,
+        3,
+        "r|n|\n1|1|\n2|3|\nvisits 3 lookups 0 updates 4",
+    ),
+    (
+        WRITTEN_AFTER_A_PUT,
+        3,
+        "r|n|\n1|4|\nvisits 3 lookups 0 updates 4",
+    ),
+];
+
+#[test]
+fn a_written_register_has_its_last_value_until_the_turn_ends(rt: HostRuntime) -> Result<(), Fail> {
+    let catalogue = loaded(rt.alloc(), &sample())?;
+    all_agree(rt.alloc(), &catalogue, WRITTEN)
+}
+
+// Lines by the region of their supplier, in a cube.
+const REGIONS: &str = concat!(
+    "star program 1\nregisters 4\ngroup 0 cube s_region : count\nscan lineorder r0\n",
+    "r1 = load lo_suppkey r0\nr2 = find supplier r1\nr3 = load s_region r2\nput 0 r3 :\nend\n",
+    "report 0\nshow s_region key 0\nshow n aggregate 0\n",
+);
+
+// The suppliers of the sample, in the regions `ALL` and `'x`.
+const ODD_REGIONS: &str = concat!(
+    "1|Supplier#000000001|b1|UNITED KI5|UNITED KINGDOM|ALL|33-444-444-4444|\n",
+    "2|Supplier#000000002|b2|UNITED ST4|UNITED STATES|'x|34-555-555-5555|\n",
+);
+
+#[test]
+fn a_text_that_reads_all_stands_beside_all(rt: HostRuntime) -> Result<(), Fail> {
+    let odd = Texts {
+        supplier: ODD_REGIONS.as_bytes(),
+        ..sample()
+    };
+    let catalogue = loaded(rt.alloc(), &odd)?;
+    let rows = "s_region|n|\n['x]|3|\n[ALL]|2|\nALL|5|\nvisits 5 lookups 5 updates 5";
+    all_agree(rt.alloc(), &catalogue, &[(REGIONS, 5, rows)])
+}
+
+// Lines of programs that count: what they answer under a bound, or how they are trapped.
+const COUNTING: &[Case] = &[
+    (NESTED, 9, "n|\n6|\nvisits 9 lookups 0 updates 6"),
+    (NESTED, 8, "limit"),
+    (READ_INSIDE, 5, "n|\n5|\nvisits 5 lookups 0 updates 5"),
+    (READ_INSIDE, 4, "limit"),
+    ("", 0, "n|\n0|\nvisits 0 lookups 0 updates 0"),
+    (ABSENT_KEY, MOST_VISITS, "trap AbsentKey at 3"),
+    (MISPLACED, 0, "trap Misplaced at 3"),
+    (UNSET, 3, "trap Unset at 3"),
+    ("r3 = const 1\n", 0, "trap BadRegister at 1"),
+    ("scan date r3\nend\n", 3, "trap BadRegister at 1"),
+    (
+        "r0 = const 1\nr1 = eq r0 r0\nr2 = find date r1\n",
+        0,
+        "trap WrongKind at 3",
+    ),
+    ("r0 = low d_year 'x'\n", 0, "trap BadColumn at 1"),
+    (
+        "scan date r0\nr1 = load s_region r0\nend\n",
+        3,
+        "trap BadColumn at 2",
+    ),
+    ("put 1 :\n", 0, "trap BadGroup at 1"),
+    (
+        "r0 = const 9223372036854775807\nr1 = const -1\nr2 = sub r0 r1\n",
+        0,
+        "trap Overflow at 3",
+    ),
+];
+
+#[test]
+fn counting_programs_answer_or_are_trapped(rt: HostRuntime) -> Result<(), Fail> {
+    let catalogue = loaded(rt.alloc(), &sample())?;
+    all_counting_agree(rt.alloc(), &catalogue, COUNTING)
+}
+
+#[test]
+fn empty_tables_have_no_turns(rt: HostRuntime) -> Result<(), Fail> {
+    let catalogue = loaded(rt.alloc(), &NO_TEXTS)?;
+    let none = "y|r|s|n|\nALL|ALL|NULL|0|\nvisits 0 lookups 0 updates 0";
+    all_agree(rt.alloc(), &catalogue, &[(REVENUES, 0, none)])?;
+    let counting = [
+        (NESTED, 0, "n|\n0|\nvisits 0 lookups 0 updates 0"),
+        ("scan date r3\nend\n", 0, "trap BadRegister at 1"),
+    ];
+    all_counting_agree(rt.alloc(), &catalogue, counting.as_slice())
+}
+
+// Reports of columns that the group hasn't, of nothing, and of a group that is not there.
+const NOT_THERE: &[&str] = &[
+    "report 0\nshow n key 0\n",
+    "report 0\nshow n aggregate 1\n",
+    "report 0\n",
+    "report 0\nshow n aggregate 0\nsort key 0 ascending\n",
+    "report 1\nshow n aggregate 0\n",
+];
+
+#[test]
+fn a_report_of_what_is_not_there_traps_first(rt: HostRuntime) -> Result<(), Fail> {
+    let catalogue = loaded(rt.alloc(), &sample())?;
+    for report in NOT_THERE {
+        let text = format!(in rt.alloc();
+            "star program 1\nregisters 3\ngroup 0 plain : count\nr3 = const 1\n{report}"
+        )?;
+        agree(
+            rt.alloc(),
+            &catalogue,
+            text.as_str(),
+            0,
+            "trap BadGroup at 0",
+        )?;
+    }
+    Ok(())
+}
+
+// The sum of two numbers under two keys leaves 64 bits, though that of each key doesn't.
+const TWO_KEYS: &str = concat!(
+    "star program 1\nregisters 3\ngroup 0 plain number : sum\n",
+    "r0 = const 1\nr1 = const 2\nr2 = const 9000000000000000000\nput 0 r0 : r2\nput 0 r1 : r2\n",
+    "report 0\nshow s aggregate 0\n",
+);
+
+// Twice by how much a sum of prices is below 9,000,000,000,000,000,000.
+const BELOW_NINE: &str = concat!(
+    "star program 1\nregisters 10\ngroup 0 plain : sum\ngroup 1 plain : max\n",
+    "scan lineorder r0\nr1 = load lo_linenumber r0\nr2 = const 1\nr3 = eq r1 r2\nkeep r3\n",
+    "r4 = load lo_extendedprice r0\nput 0 : r4\nend\n",
+    "r5 = read 0 0 0\nr6 = const 9000000000000000000\nr7 = sub r5 r6\nr8 = const 2\nr9 = mul r7 r8\nput 1 : r9\n",
+    "report 1\nshow m aggregate 0\n",
+);
+
+// Ten lines of one order, all dear.
+fn dear_lines(alloc: Global) -> Result<String, Fail> {
+    let mut lines = String::new(alloc);
+    for number in 1..11 {
+        writeln!(
+            lines,
+            "1|{number}|1|1|2|19930210|2-HIGH|0|10|900000000000000000|3000|2|980|600|2|19940105|MAIL|"
+        )?;
+    }
+    Ok(lines)
+}
+
+#[test]
+fn numbers_that_leave_64_bits_trap(rt: HostRuntime) -> Result<(), Fail> {
+    let lines = dear_lines(rt.alloc())?;
+    let dear = Texts {
+        lineorder: lines.as_bytes(),
+        ..sample()
+    };
+    let catalogue = loaded(rt.alloc(), &dear)?;
+    let leaving = [
+        (BELOW_NINE, MOST_VISITS, "trap Overflow at 12"),
+        (TWO_KEYS, 0, "trap Overflow at 5"),
+    ];
+    all_agree(rt.alloc(), &catalogue, leaving.as_slice())
+}
