@@ -1,4 +1,8 @@
+mod Words
 mod WorkedRefusals
+mod WorkedConditions
+mod WorkedFinds
+mod WorkedRanges
 mod Numbers
 mod TallyOrder
 mod Tallied

@@ -15,15 +15,18 @@ cheap : (visits : ℕ) (b : Bool) → cost_refusal visits b ≡ None → b ≡ t
 cheap visits true e = refl
 cheap visits false e = absurd (cc)
 
-pub is_admissible : (w : World) (most : ℕ) (parts : Parts) → first_refusal w most parts ≡ None → IsAdmissible w parts × (quote w.size parts ≤ most)
+pub is_admissible : (w : World) (most : ℕ) (parts : Parts) → first_refusal w most parts ≡ None
+    → IsAdmissible w parts × (quote w.size parts ≤ most)
 is_admissible w most parts e =
-    let p = neither_none (cost_refusal (quote w.size parts) (nat_le (quote w.size parts) most)) _ e in
+    let p = neither_none (cost_refusal (quote w.size parts) (nat_le (quote w.size parts) most)) _
+    e in
     let q = neither_none (option_map Refused (first_reason w parts at_first 1 parts.body)) _ p.1 in (
       record { instructions = unmapped_none Refused _ q.0; report = unmapped_none BadShow _ q.1 },
       leb-true (quote w.size parts) most (cheap (quote w.size parts) _ p.0),
     )
 
-pub not_refused : (w : World) (most : ℕ) (parts : Parts) → IsAdmissible w parts × (quote w.size parts ≤ most) → first_refusal w most parts ≡ None
+pub not_refused : (w : World) (most : ℕ) (parts : Parts)
+    → IsAdmissible w parts × (quote w.size parts ≤ most) → first_refusal w most parts ≡ None
 not_refused w most parts h =
     both_none _ _ (ap (cost_refusal (quote w.size parts)) (le-leb (quote w.size parts) most h.1))
     (both_none _ _ (ap (option_map Refused) h.0.instructions) (ap (option_map BadShow) h.0.report))

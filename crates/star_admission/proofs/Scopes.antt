@@ -29,7 +29,8 @@ AreBelow n ss = AllByRecursion (λ s. s.number < n) ss
 
 pub below_more : (m n : ℕ) (ss : List Enclosing) → m ≤ n → AreBelow m ss → AreBelow n ss
 below_more m n [] more h = tt
-below_more m n (s ∷ ss) more h = (let less = h.0 in omega (arith, more, less), below_more m n ss more h.1)
+below_more m n (s ∷ ss) more h =
+    (let less = h.0 in omega (arith, more, less), below_more m n ss more h.1)
 
 apart : (a b : ℕ) → a < b → nat_eq a b ≡ false
 apart a b less = ne_eqb a b (λ e. omega (arith, e, less))
@@ -42,27 +43,34 @@ none_above n [] h = refl
 none_above n (s ∷ ss) h = ap (λ b. b || has_scan ss n) (apart s.number n h.0) ∙ none_above n ss h.1
 
 -- among the scans with one more of a later number
-same_with : (new : Enclosing) (scans : List Enclosing) (n : ℕ) → n < new.number → has_scan (new ∷ scans) n ≡ has_scan scans n
+same_with : (new : Enclosing) (scans : List Enclosing) (n : ℕ) → n < new.number
+    → has_scan (new ∷ scans) n ≡ has_scan scans n
 same_with new scans n less = ap (λ b. b || has_scan scans n) (apart_back n new.number less)
 
 pub all_with : (new : Enclosing) (scans ss : List Enclosing) → AreBelow new.number ss
-    → list_all (λ s. has_scan (new ∷ scans) s.number) ss ≡ list_all (λ s. has_scan scans s.number) ss
+    → list_all (λ s. has_scan (new ∷ scans) s.number) ss
+    ≡ list_all (λ s. has_scan scans s.number) ss
 all_with new scans [] h = refl
 all_with new scans (s ∷ ss) h =
-    ap (λ b. b && list_all (λ t. has_scan (new ∷ scans) t.number) ss) (same_with new scans s.number h.0)
+    ap (λ b. b && list_all (λ t. has_scan (new ∷ scans) t.number) ss)
+    (same_with new scans s.number h.0)
     ∙ ap (λ b. has_scan scans s.number && b) (all_with new scans ss h.1)
 
 pub any_with : (new : Enclosing) (scans ss : List Enclosing) → AreBelow new.number ss
-    → list_any (λ s. has_scan (new ∷ scans) s.number) ss ≡ list_any (λ s. has_scan scans s.number) ss
+    → list_any (λ s. has_scan (new ∷ scans) s.number) ss
+    ≡ list_any (λ s. has_scan scans s.number) ss
 any_with new scans [] h = refl
 any_with new scans (s ∷ ss) h =
-    ap (λ b. b || list_any (λ t. has_scan (new ∷ scans) t.number) ss) (same_with new scans s.number h.0)
+    ap (λ b. b || list_any (λ t. has_scan (new ∷ scans) t.number) ss)
+    (same_with new scans s.number h.0)
     ∙ ap (λ b. has_scan scans s.number || b) (any_with new scans ss h.1)
 
-all_in : (scans ss : List Enclosing) → ((n : ℕ) → has_scan ss n ≡ true → has_scan scans n ≡ true) → list_all (λ s. has_scan scans s.number) ss ≡ true
+all_in : (scans ss : List Enclosing) → ((n : ℕ) → has_scan ss n ≡ true → has_scan scans n ≡ true)
+    → list_all (λ s. has_scan scans s.number) ss ≡ true
 all_in scans [] among = refl
 all_in scans (s ∷ ss) among =
-    ap (λ b. b && list_all (λ t. has_scan scans t.number) ss) (among s.number (ap (λ b. b || has_scan ss s.number) (eq-eqb s.number s.number refl)))
+    ap (λ b. b && list_all (λ t. has_scan scans t.number) ss)
+    (among s.number (ap (λ b. b || has_scan ss s.number) (eq-eqb s.number s.number refl)))
     ∙ all_in scans ss (λ n h. among n (or_true (nat_eq s.number n) (has_scan ss n) h))
 
 -- all scans are among themselves
@@ -70,85 +78,117 @@ pub all_there : (scans : List Enclosing) → list_all (λ s. has_scan scans s.nu
 all_there scans = all_in scans scans (λ n h. h)
 
 -- one of them is missing
-pub not_all : (scans ss : List Enclosing) (n : ℕ) → has_scan scans n ≡ false → has_scan ss n ≡ true → list_all (λ s. has_scan scans s.number) ss ≡ false
+pub not_all : (scans ss : List Enclosing) (n : ℕ) → has_scan scans n ≡ false → has_scan ss n ≡ true
+    → list_all (λ s. has_scan scans s.number) ss ≡ false
 not_all scans [] n none has = absurd (cc)
 not_all scans (s ∷ ss) n none has = go (nat_eq s.number n) refl (λ h. not_all scans ss n none h)
   where
-    go : (b : Bool) → nat_eq s.number n ≡ b → (has_scan ss n ≡ true → list_all (λ t. has_scan scans t.number) ss ≡ false)
+    go : (b : Bool) → nat_eq s.number n ≡ b
+        → (has_scan ss n ≡ true → list_all (λ t. has_scan scans t.number) ss ≡ false)
         → list_all (λ t. has_scan scans t.number) (s ∷ ss) ≡ false
-    go true e rest = ap (λ b. b && list_all (λ t. has_scan scans t.number) ss) (ap (has_scan scans) (eqb-true s.number n e) ∙ none)
-    go false e rest = and_false (has_scan scans s.number) (list_all (λ t. has_scan scans t.number) ss) (rest (ap (λ b. b || has_scan ss n) (sym e) ∙ has))
+    go true e rest =
+        ap (λ b. b && list_all (λ t. has_scan scans t.number) ss)
+        (ap (has_scan scans) (eqb-true s.number n e) ∙ none)
+    go false e rest =
+        and_false (has_scan scans s.number) (list_all (λ t. has_scan scans t.number) ss)
+        (rest (ap (λ b. b || has_scan ss n) (sym e) ∙ has))
 
 -- one of them is there
-pub any_has : (scans ss : List Enclosing) (n : ℕ) → has_scan scans n ≡ true → has_scan ss n ≡ true → list_any (λ s. has_scan scans s.number) ss ≡ true
+pub any_has : (scans ss : List Enclosing) (n : ℕ) → has_scan scans n ≡ true → has_scan ss n ≡ true
+    → list_any (λ s. has_scan scans s.number) ss ≡ true
 any_has scans [] n there has = absurd (cc)
 any_has scans (s ∷ ss) n there has = go (nat_eq s.number n) refl (λ h. any_has scans ss n there h)
   where
-    go : (b : Bool) → nat_eq s.number n ≡ b → (has_scan ss n ≡ true → list_any (λ t. has_scan scans t.number) ss ≡ true)
+    go : (b : Bool) → nat_eq s.number n ≡ b
+        → (has_scan ss n ≡ true → list_any (λ t. has_scan scans t.number) ss ≡ true)
         → list_any (λ t. has_scan scans t.number) (s ∷ ss) ≡ true
-    go true e rest = ap (λ b. b || list_any (λ t. has_scan scans t.number) ss) (ap (has_scan scans) (eqb-true s.number n e) ∙ there)
-    go false e rest = or_true (has_scan scans s.number) (list_any (λ t. has_scan scans t.number) ss) (rest (ap (λ b. b || has_scan ss n) (sym e) ∙ has))
+    go true e rest =
+        ap (λ b. b || list_any (λ t. has_scan scans t.number) ss)
+        (ap (has_scan scans) (eqb-true s.number n e) ∙ there)
+    go false e rest =
+        or_true (has_scan scans s.number) (list_any (λ t. has_scan scans t.number) ss)
+        (rest (ap (λ b. b || has_scan ss n) (sym e) ∙ has))
 
 -- ---- each of some instructions
 
 abbrev pub EachOf : (Standing → Type 0) → List Standing → Type 0
 EachOf P is = AllByRecursion P is
 
-pub each_both : (P : Standing → Type 0) (xs ys : List Standing) → EachOf P xs → EachOf P ys → EachOf P (xs ++ ys)
+pub each_both : (P : Standing → Type 0) (xs ys : List Standing) → EachOf P xs → EachOf P ys
+    → EachOf P (xs ++ ys)
 each_both P [] ys h k = k
 each_both P (x ∷ xs) ys h k = (h.0, each_both P xs ys h.1 k)
 
-pub each_so : (P Q : Standing → Type 0) (xs : List Standing) → ((i : Standing) → P i → Q i) → EachOf P xs → EachOf Q xs
+pub each_so : (P Q : Standing → Type 0) (xs : List Standing) → ((i : Standing) → P i → Q i)
+    → EachOf P xs → EachOf Q xs
 each_so P Q [] so h = tt
 each_so P Q (x ∷ xs) so h = (so x h.0, each_so P Q xs so h.1)
 
-pub same_filter : (p q : Standing → Bool) (is : List Standing) → EachOf (λ i. p i ≡ q i) is → filter p is ≡ filter q is
+pub same_filter : (p q : Standing → Bool) (is : List Standing) → EachOf (λ i. p i ≡ q i) is
+    → filter p is ≡ filter q is
 same_filter p q [] h = refl
-same_filter p q (i ∷ is) h = ap (λ b. if b then i ∷ filter p is else filter p is) h.0 ∙ ap (λ js. if q i then i ∷ js else js) (same_filter p q is h.1)
+same_filter p q (i ∷ is) h =
+    ap (λ b. if b then i ∷ filter p is else filter p is) h.0
+    ∙ ap (λ js. if q i then i ∷ js else js) (same_filter p q is h.1)
 
-pub same_any : (p q : Standing → Bool) (is : List Standing) → EachOf (λ i. p i ≡ q i) is → list_any p is ≡ list_any q is
+pub same_any : (p q : Standing → Bool) (is : List Standing) → EachOf (λ i. p i ≡ q i) is
+    → list_any p is ≡ list_any q is
 same_any p q [] h = refl
-same_any p q (i ∷ is) h = ap (λ b. b || list_any p is) h.0 ∙ ap (λ b. q i || b) (same_any p q is h.1)
+same_any p q (i ∷ is) h =
+    ap (λ b. b || list_any p is) h.0 ∙ ap (λ b. q i || b) (same_any p q is h.1)
 
 -- ---- where the instructions of some code stand
 
 -- in each scan that stands round the code
-pub stand_in : (w : World) (parts : Parts) (c : Code) (round : List Enclosing) (x : Context) (at n : ℕ) → has_scan round n ≡ true
+pub stand_in : (w : World) (parts : Parts) (c : Code) (round : List Enclosing) (x : Context)
+    (at n : ℕ) → has_scan round n ≡ true
     → EachOf (λ i. has_scan i.round n ≡ true) (standing w parts round x at c)
 stand_in w parts Stop round x at n h = tt
-stand_in w parts (Then op rest) round x at n h = (h, stand_in w parts rest round (after_op w parts x op) (at + 1) n h)
+stand_in w parts (Then op rest) round x at n h =
+    (h, stand_in w parts rest round (after_op w parts x op) (at + 1) n h)
 stand_in w parts (Each table r body rest) round x at n h =
     let inner = in_scan w x table r body rest in
     let new : Enclosing = record { number = at; table = table } in (
       h,
       each_both _ (standing w parts (new ∷ round) inner (at + 1) body) _
-          (stand_in w parts body (new ∷ round) inner (at + 1) n (or_true (nat_eq at n) (has_scan round n) h))
-          (stand_in w parts rest round (after_scan x r body (times_all (w.size table) (gain w parts inner body))) (at + 1 + code_size body) n h),
+          (stand_in w parts body (new ∷ round) inner (at + 1) n
+          (or_true (nat_eq at n) (has_scan round n) h))
+          (stand_in w parts rest round
+          (after_scan x r body (times_all (w.size table) (gain w parts inner body)))
+          (at + 1 + code_size body) n h),
     )
 
 -- and their registers are in scope there alone
-pub scoped_in : (w : World) (parts : Parts) (c : Code) (round : List Enclosing) (x : Context) (at n : ℕ) → has_scan round n ≡ true
+pub scoped_in : (w : World) (parts : Parts) (c : Code) (round : List Enclosing) (x : Context)
+    (at n : ℕ) → has_scan round n ≡ true
     → EachOf (λ i. has_scan (scope_of i) n ≡ true) (standing w parts round x at c)
 scoped_in w parts Stop round x at n h = tt
-scoped_in w parts (Then op rest) round x at n h = (h, scoped_in w parts rest round (after_op w parts x op) (at + 1) n h)
+scoped_in w parts (Then op rest) round x at n h =
+    (h, scoped_in w parts rest round (after_op w parts x op) (at + 1) n h)
 scoped_in w parts (Each table r body rest) round x at n h =
     let inner = in_scan w x table r body rest in
     let new : Enclosing = record { number = at; table = table } in (
       or_true (nat_eq at n) (has_scan round n) h,
       each_both _ (standing w parts (new ∷ round) inner (at + 1) body) _
-          (scoped_in w parts body (new ∷ round) inner (at + 1) n (or_true (nat_eq at n) (has_scan round n) h))
-          (scoped_in w parts rest round (after_scan x r body (times_all (w.size table) (gain w parts inner body))) (at + 1 + code_size body) n h),
+          (scoped_in w parts body (new ∷ round) inner (at + 1) n
+          (or_true (nat_eq at n) (has_scan round n) h))
+          (scoped_in w parts rest round
+          (after_scan x r body (times_all (w.size table) (gain w parts inner body)))
+          (at + 1 + code_size body) n h),
     )
 
 -- in scans whose numbers are below the next one after the code
-pub scoped_below : (w : World) (parts : Parts) (c : Code) (round : List Enclosing) (x : Context) (at : ℕ) → AreBelow at round
+pub scoped_below : (w : World) (parts : Parts) (c : Code) (round : List Enclosing) (x : Context)
+    (at : ℕ) → AreBelow at round
     → EachOf (λ i. AreBelow (at + code_size c) (scope_of i)) (standing w parts round x at c)
 scoped_below w parts Stop round x at h = tt
 scoped_below w parts (Then op rest) round x at h = (
   below_more at (at + (1 + code_size rest)) round (omega arith) h,
   each_so _ _ (standing w parts round (after_op w parts x op) (at + 1) rest)
-      (λ i b. below_more (at + 1 + code_size rest) (at + (1 + code_size rest)) (scope_of i) (omega arith) b)
-      (scoped_below w parts rest round (after_op w parts x op) (at + 1) (below_more at (at + 1) round (omega arith) h)),
+      (λ i b. below_more (at + 1 + code_size rest) (at + (1 + code_size rest)) (scope_of i)
+      (omega arith) b)
+      (scoped_below w parts rest round (after_op w parts x op) (at + 1)
+      (below_more at (at + 1) round (omega arith) h)),
 )
 scoped_below w parts (Each table r body rest) round x at h =
     let inner = in_scan w x table r body rest in
@@ -159,38 +199,52 @@ scoped_below w parts (Each table r body rest) round x at h =
       each_both _ (standing w parts (new ∷ round) inner (at + 1) body) _
           (each_so _ _ (standing w parts (new ∷ round) inner (at + 1) body)
           (λ i b. below_more (at + 1 + code_size body) end (scope_of i) (omega arith) b)
-          (scoped_below w parts body (new ∷ round) inner (at + 1) (omega arith, below_more at (at + 1) round (omega arith) h)))
+          (scoped_below w parts body (new ∷ round) inner (at + 1)
+          (omega arith, below_more at (at + 1) round (omega arith) h)))
           (each_so _ _ (standing w parts round later (at + 1 + code_size body) rest)
-          (λ i b. below_more (at + 1 + code_size body + code_size rest) end (scope_of i) (omega arith) b)
-          (scoped_below w parts rest round later (at + 1 + code_size body) (below_more at (at + 1 + code_size body) round (omega arith) h))),
+          (λ i b. below_more (at + 1 + code_size body + code_size rest) end (scope_of i)
+          (omega arith) b)
+          (scoped_below w parts rest round later (at + 1 + code_size body)
+          (below_more at (at + 1 + code_size body) round (omega arith) h))),
     )
 
 -- ---- the last that writes a register in scope
 
-last_or_both : (o : Option Standing) (xs ys : List Standing) → last_or o (xs ++ ys) ≡ last_or (last_or o xs) ys
+last_or_both : (o : Option Standing) (xs ys : List Standing) → last_or o (xs ++ ys)
+    ≡ last_or (last_or o xs) ys
 last_or_both o [] ys = refl
 last_or_both o (x ∷ xs) ys = last_or_both (Some x) xs ys
 
-last_or_one : (b : Bool) (o : Option Standing) (i : Standing) → last_or o (if b then i ∷ [] else []) ≡ (if b then Some i else o)
+last_or_one : (b : Bool) (o : Option Standing) (i : Standing) → last_or o (if b then i ∷ [] else [])
+    ≡ (if b then Some i else o)
 last_or_one true o i = refl
 last_or_one false o i = refl
 
 -- with one more instruction it is this one or the one before
 pub last_then : (scans : List Enclosing) (r : ℕ) (is : List Standing) (i : Standing)
-    → last_writer scans r (is ++ i ∷ []) ≡ (if writes_to r i && in_scope scans i then Some i else last_writer scans r is)
+    → last_writer scans r (is ++ i ∷ [])
+    ≡ (if writes_to r i && in_scope scans i then Some i else last_writer scans r is)
 last_then scans r is i =
     ap (last_or None) (filter-append (λ j. writes_to r j && in_scope scans j) is (i ∷ []))
-    ∙ last_or_both None (filter (λ j. writes_to r j && in_scope scans j) is) (if writes_to r i && in_scope scans i then i ∷ [] else [])
+    ∙ last_or_both None (filter (λ j. writes_to r j && in_scope scans j) is)
+    (if writes_to r i && in_scope scans i then i ∷ [] else [])
     ∙ last_or_one (writes_to r i && in_scope scans i) (last_writer scans r is) i
 
-no_writer : (scans : List Enclosing) (r : ℕ) (is : List Standing) → EachOf (λ i. in_scope scans i ≡ false) is → filter (λ j. writes_to r j && in_scope scans j) is ≡ []
+no_writer : (scans : List Enclosing) (r : ℕ) (is : List Standing)
+    → EachOf (λ i. in_scope scans i ≡ false) is
+    → filter (λ j. writes_to r j && in_scope scans j) is ≡ []
 no_writer scans r [] h = refl
 no_writer scans r (i ∷ is) h =
-    ap (λ b. if b then i ∷ filter (λ j. writes_to r j && in_scope scans j) is else filter (λ j. writes_to r j && in_scope scans j) is) (and_false (writes_to r i) (in_scope scans i) h.0)
+    ap (λ b. if b
+    then i ∷ filter (λ j. writes_to r j && in_scope scans j) is
+    else filter (λ j. writes_to r j && in_scope scans j) is)
+    (and_false (writes_to r i) (in_scope scans i) h.0)
     ∙ no_writer scans r is h.1
 
 -- what is out of scope changes nothing
-pub last_past : (scans : List Enclosing) (r : ℕ) (xs ys : List Standing) → EachOf (λ i. in_scope scans i ≡ false) ys → last_writer scans r (xs ++ ys) ≡ last_writer scans r xs
+pub last_past : (scans : List Enclosing) (r : ℕ) (xs ys : List Standing)
+    → EachOf (λ i. in_scope scans i ≡ false) ys
+    → last_writer scans r (xs ++ ys) ≡ last_writer scans r xs
 last_past scans r xs ys h =
     ap (last_or None)
     (filter-append (λ j. writes_to r j && in_scope scans j) xs ys
@@ -198,8 +252,11 @@ last_past scans r xs ys h =
     ∙ append-nil (filter (λ j. writes_to r j && in_scope scans j) xs))
 
 -- nor do scans of later numbers
-pub last_within : (new : Enclosing) (scans : List Enclosing) (r : ℕ) (is : List Standing) → EachOf (λ i. AreBelow new.number (scope_of i)) is → last_writer (new ∷ scans) r is ≡ last_writer scans r is
+pub last_within : (new : Enclosing) (scans : List Enclosing) (r : ℕ) (is : List Standing)
+    → EachOf (λ i. AreBelow new.number (scope_of i)) is
+    → last_writer (new ∷ scans) r is ≡ last_writer scans r is
 last_within new scans r is h =
     ap (last_or None)
-    (same_filter (λ j. writes_to r j && in_scope (new ∷ scans) j) (λ j. writes_to r j && in_scope scans j) is
+    (same_filter (λ j. writes_to r j && in_scope (new ∷ scans) j)
+    (λ j. writes_to r j && in_scope scans j) is
     (each_so _ _ is (λ i b. ap (λ t. writes_to r i && t) (all_with new scans (scope_of i) b)) h))

@@ -24,13 +24,20 @@ quoted-times : (w : World) (n : ℕ) (c : Code) → turns_met w.size n c ≡ n *
 quoted-times w n Stop = omega arith
 quoted-times w n (Then op rest) = quoted-times w n rest
 quoted-times w n (Each t r body rest) =
-    each_times n (w.size t) _ _ _ _ (turns_met w.size 1 body) (quoted-times w (n * w.size t) body) (quoted-times w (1 * w.size t) body) (quoted-times w n rest)
+    each_times n (w.size t) _ _ _ _ (turns_met w.size 1 body) (quoted-times w (n * w.size t) body)
+    (quoted-times w (1 * w.size t) body) (quoted-times w n rest)
   where
-    each_times : (n s b b1 r r1 q : ℕ) → b ≡ n * s * q → b1 ≡ 1 * s * q → r ≡ n * r1 → n * s + b + r ≡ n * (1 * s + b1 + r1)
-    each_times n s b b1 r r1 q e e1 e2 = let h : n * b1 ≡ n * (1 * s * q) = ap (λ z. n * z) e1 in omega arith
+    each_times : (n s b b1 r r1 q : ℕ) → b ≡ n * s * q → b1 ≡ 1 * s * q → r ≡ n * r1
+        → n * s + b + r ≡ n * (1 * s + b1 + r1)
+    each_times n s b b1 r r1 q e e1 e2 = let h : n * b1 ≡ n * (1 * s * q) =
+        ap (λ z. n * z) e1 in omega arith
 
-pub quoted_each : (w : World) (table : TableId) (r : ℕ) (body rest : Code) → turns_met w.size 1 (Each table r body rest) ≡ w.size table * (turns_met w.size 1 body + 1) + turns_met w.size 1 rest
-quoted_each w table r body rest = go (w.size table) (turns_met w.size (1 * w.size table) body) (turns_met w.size 1 body) (turns_met w.size 1 rest) (quoted-times w (1 * w.size table) body)
+pub quoted_each : (w : World) (table : TableId) (r : ℕ) (body rest : Code)
+    → turns_met w.size 1 (Each table r body rest)
+    ≡ w.size table * (turns_met w.size 1 body + 1) + turns_met w.size 1 rest
+quoted_each w table r body rest =
+    go (w.size table) (turns_met w.size (1 * w.size table) body) (turns_met w.size 1 body)
+    (turns_met w.size 1 rest) (quoted-times w (1 * w.size table) body)
   where
     go : (s b q r : ℕ) → b ≡ 1 * s * q → 1 * s + b + r ≡ s * (q + 1) + r
     go s b q r e = omega arith
@@ -53,19 +60,25 @@ if_false : (b : Bool) (t : Tally) → b ≡ false → AtMost (if b then t else n
 if_false true t e = absurd (cc)
 if_false false t e = at_most_refl no_tally
 
-op_adds_nothing : (parts : Parts) (x : Context) (op : Op) (g a : ℕ) → op_puts_to g op ≡ false → AtMost (op_gain parts x op g a) no_tally
-op_adds_nothing parts x (Put h ks vs) g a e = if_false (nat_eq g h) (put_tally (group_at parts h) x.known vs a) e
+op_adds_nothing : (parts : Parts) (x : Context) (op : Op) (g a : ℕ) → op_puts_to g op ≡ false
+    → AtMost (op_gain parts x op g a) no_tally
+op_adds_nothing parts x (Put h ks vs) g a e =
+    if_false (nat_eq g h) (put_tally (group_at parts h) x.known vs a) e
 op_adds_nothing parts x _ g a e = at_most_refl no_tally
 
-adds_nothing : (w : World) (parts : Parts) (x : Context) (c : Code) (g a : ℕ) → puts_to g c ≡ false → AtMost (gain w parts x c g a) no_tally
+adds_nothing : (w : World) (parts : Parts) (x : Context) (c : Code) (g a : ℕ) → puts_to g c ≡ false
+    → AtMost (gain w parts x c g a) no_tally
 adds_nothing w parts x Stop g a e = at_most_refl no_tally
 adds_nothing w parts x (Then op rest) g a e =
-    at_most_both _ no_tally _ no_tally (op_adds_nothing parts x op g a (or_false_left (op_puts_to g op) (puts_to g rest) e))
+    at_most_both _ no_tally _ no_tally
+    (op_adds_nothing parts x op g a (or_false_left (op_puts_to g op) (puts_to g rest) e))
     (adds_nothing w parts _ rest g a (or_false_right (op_puts_to g op) (puts_to g rest) e))
 adds_nothing w parts x (Each t r body rest) g a e =
     at_most_both _ no_tally _ no_tally
     (at_most_trans _ (times (w.size t) no_tally) no_tally
-    (at_most_times_both (w.size t) _ no_tally (adds_nothing w parts (in_scan w x t r body rest) body g a (or_false_left (puts_to g body) (puts_to g rest) e)))
+    (at_most_times_both (w.size t) _ no_tally
+    (adds_nothing w parts (in_scan w x t r body rest) body g a
+    (or_false_left (puts_to g body) (puts_to g rest) e)))
     (record { above = omega arith; below = omega arith; many = omega arith; each = tt }))
     (adds_nothing w parts _ rest g a (or_false_right (puts_to g body) (puts_to g rest) e))
 
@@ -74,66 +87,97 @@ adds_nothing w parts x (Each t r body rest) g a e =
 abbrev pub SumsFit : Parts → Tallies → Type 0
 SumsFit parts y = (g : ℕ) → sums_fit (group_at parts g).aggregates 0 (y g) ≡ true
 
-op_fits : (w : World) (parts : Parts) (x : Context) (op : Op) → known_reason w parts x op ≡ None → SumsFit parts x.so_far → SumsFit parts (after_op w parts x op).so_far
+op_fits : (w : World) (parts : Parts) (x : Context) (op : Op) → known_reason w parts x op ≡ None
+    → SumsFit parts x.so_far → SumsFit parts (after_op w parts x op).so_far
 op_fits w parts x (Put h ks vs) e fit g = go (nat_eq g h) refl
   where
-    go : (b : Bool) → nat_eq g h ≡ b → sums_fit (group_at parts g).aggregates 0 (plus_all x.so_far (times_all x.met (op_gain parts x (Put h ks vs))) g) ≡ true
-    go true p = subst (λ z. sums_fit (group_at parts z).aggregates 0 (plus_all x.so_far (times_all x.met (op_gain parts x (Put h ks vs))) z) ≡ true) (sym (eqb-true g h p)) (sums_fit_64 w (group_at parts h).aggregates 0 _ e)
+    go : (b : Bool) → nat_eq g h ≡ b
+        → sums_fit (group_at parts g).aggregates 0
+        (plus_all x.so_far (times_all x.met (op_gain parts x (Put h ks vs))) g) ≡ true
+    go true p = subst
+        (λ z. sums_fit (group_at parts z).aggregates 0
+        (plus_all x.so_far (times_all x.met (op_gain parts x (Put h ks vs))) z) ≡ true)
+        (sym (eqb-true g h p)) (sums_fit_64 w (group_at parts h).aggregates 0 _ e)
     go false p = sums_fit_less (group_at parts g).aggregates 0 _ (x.so_far g)
-        (λ a. subst (λ b. AtMost (plus (x.so_far g a) (times x.met (if b then put_tally (group_at parts h) x.known vs a else no_tally))) (x.so_far g a)) (sym p) (at_most_nothing x.met (x.so_far g a)))
+        (λ a. subst (λ b. AtMost
+        (plus (x.so_far g a)
+        (times x.met (if b then put_tally (group_at parts h) x.known vs a else no_tally)))
+        (x.so_far g a)) (sym p) (at_most_nothing x.met (x.so_far g a)))
         (fit g)
-op_fits w parts x _ e fit g = sums_fit_less (group_at parts g).aggregates 0 _ (x.so_far g) (λ a. at_most_nothing x.met (x.so_far g a)) (fit g)
+op_fits w parts x _ e fit g =
+    sums_fit_less (group_at parts g).aggregates 0 _ (x.so_far g)
+    (λ a. at_most_nothing x.met (x.so_far g a)) (fit g)
 
-pub ends_fitting : (w : World) (parts : Parts) (x : Context) (at : ℕ) (c : Code) → first_reason w parts x at c ≡ None → SumsFit parts x.so_far → SumsFit parts (plus_all x.so_far (times_all x.met (gain w parts x c)))
+pub ends_fitting : (w : World) (parts : Parts) (x : Context) (at : ℕ) (c : Code)
+    → first_reason w parts x at c ≡ None → SumsFit parts x.so_far
+    → SumsFit parts (plus_all x.so_far (times_all x.met (gain w parts x c)))
 ends_fitting w parts x at Stop e fit g =
-    sums_fit_less (group_at parts g).aggregates 0 _ (x.so_far g) (λ a. at_most_nothing x.met (x.so_far g a)) (fit g)
+    sums_fit_less (group_at parts g).aggregates 0 _ (x.so_far g)
+    (λ a. at_most_nothing x.met (x.so_far g a)) (fit g)
 ends_fitting w parts x at (Then op rest) e fit g =
     let p = neither_none _ _ e in
-    let q = neither_none (kind_reason parts (before rest x) op) (known_reason w parts (before rest x) op) (at_place_none at _ p.0) in
+    let q = neither_none (kind_reason parts (before rest x) op)
+    (known_reason w parts (before rest x) op) (at_place_none at _ p.0) in
     sums_fit_less (group_at parts g).aggregates 0 _ _ (λ a. at_most_spread x.met (x.so_far g a) _ _)
-    (ends_fitting w parts (after_op w parts x op) (at + 1) rest p.1 (op_fits w parts (before rest x) op q.1 fit) g)
+    (ends_fitting w parts (after_op w parts x op) (at + 1) rest p.1
+    (op_fits w parts (before rest x) op q.1 fit) g)
 ends_fitting w parts x at (Each t r body rest) e fit g =
     let inner = in_scan w x t r body rest in
     let p = neither_none _ _ e in
     let q = neither_none (first_reason w parts inner (at + 1) body) _ p.1 in
     let after_body = ends_fitting w parts inner (at + 1) body q.0 fit in
-    let before_rest : SumsFit parts (plus_all x.so_far (times_all x.met (times_all (w.size t) (gain w parts inner body)))) =
-    λ h. sums_fit_less (group_at parts h).aggregates 0 _ _ (λ a. at_most_product x.met (w.size t) (x.so_far h a) _) (after_body h) in
+    let before_rest : SumsFit parts
+    (plus_all x.so_far (times_all x.met (times_all (w.size t) (gain w parts inner body)))) =
+    λ h. sums_fit_less (group_at parts h).aggregates 0 _ _
+    (λ a. at_most_product x.met (w.size t) (x.so_far h a) _) (after_body h) in
     sums_fit_less (group_at parts g).aggregates 0 _ _ (λ a. at_most_spread x.met (x.so_far g a) _ _)
-    (ends_fitting w parts (after_scan x r body (times_all (w.size t) (gain w parts inner body))) (at + 1 + code_size body) rest q.1 before_rest g)
+    (ends_fitting w parts (after_scan x r body (times_all (w.size t) (gain w parts inner body)))
+    (at + 1 + code_size body) rest q.1 before_rest g)
 
 -- ---- the run
 
 pub met_once : (n rows j : ℕ) → 1 ≤ n → j < rows → 1 ≤ n * rows
 met_once n rows j some lt = let h : 1 * rows ≤ n * rows = mul-le-mul_right rows some in omega arith
 
-pub in_time : (start visits inner later rows j k : ℕ) → j < rows → visits ≤ start + j * (inner + 1) + 1 → k < visits + inner → k < start + (rows * (inner + 1) + later)
+pub in_time : (start visits inner later rows j k : ℕ) → j < rows
+    → visits ≤ start + j * (inner + 1) + 1 → k < visits + inner
+    → k < start + (rows * (inner + 1) + later)
 in_time start visits inner later rows j k lt b h =
-    let room : (j + 1) * (inner + 1) ≤ rows * (inner + 1) = mul-le-mul_right (inner + 1) (omega arith) in omega arith
+    let room : (j + 1) * (inner + 1) ≤ rows * (inner + 1) =
+    mul-le-mul_right (inner + 1) (omega arith) in omega arith
 
--- where no instruction is refused, what is known before some code, and what is put so far: at most y, in groups that aren't open at most what is known, and with all that the code adds at most m
-pub record IsReady (w : World) (parts : Parts) (m : Tallies) (x : Context) (y : Tallies) (at : ℕ) (c : Code) : Type 0 where
+-- where no instruction is refused, what is known before some code, and what is put so far: at most
+-- y, in groups that aren't open at most what is known, and with all that the code adds at most m
+pub record IsReady (w : World) (parts : Parts) (m : Tallies) (x : Context) (y : Tallies) (at : ℕ)
+    (c : Code) : Type 0 where
   pub some : 1 ≤ x.met
   pub accepted : first_reason w parts x at c ≡ None
   pub closed : (g a : ℕ) → x.open_groups g ≡ false → AtMost (y g a) (x.so_far g a)
   pub room : (g a : ℕ) → AtMost (plus (y g a) (gain w parts x c g a)) (m g a)
 
 -- after an instruction
-pub ready_then : (w : World) (parts : Parts) (m : Tallies) (x : Context) (y : Tallies) (at : ℕ) (op : Op) (rest : Code) → IsReady w parts m x y at (Then op rest)
+pub ready_then : (w : World) (parts : Parts) (m : Tallies) (x : Context) (y : Tallies) (at : ℕ)
+    (op : Op) (rest : Code) → IsReady w parts m x y at (Then op rest)
     → IsReady w parts m (after_op w parts x op) (plus_all y (op_gain parts x op)) (at + 1) rest
 ready_then w parts m x y at op rest ready =
     let add = op_gain parts x op in
     record {
       some = ready.some;
-      accepted = (neither_none (at_place at (op_reason w parts (before rest x) op)) _ ready.accepted).1;
-      closed = λ g a o. at_most_both (y g a) (x.so_far g a) (add g a) (times x.met (add g a)) (ready.closed g a o) (at_most_once x.met (add g a) ready.some);
-      room = λ g a. at_most_trans _ _ _ (at_most_assoc (y g a) (add g a) (gain w parts (after_op w parts x op) rest g a)) (ready.room g a);
+      accepted = (neither_none (at_place at (op_reason w parts (before rest x) op)) _
+          ready.accepted).1;
+      closed = λ g a o. at_most_both (y g a) (x.so_far g a) (add g a) (times x.met (add g a))
+          (ready.closed g a o) (at_most_once x.met (add g a) ready.some);
+      room = λ g a. at_most_trans _ _ _
+          (at_most_assoc (y g a) (add g a) (gain w parts (after_op w parts x op) rest g a))
+          (ready.room g a);
     }
 
 -- in a scan, before turn j
-pub ready_in : (w : World) (parts : Parts) (m : Tallies) (x : Context) (y : Tallies) (at : ℕ) (table : TableId) (r : ℕ) (body rest : Code) → IsReady w parts m x y at (Each table r body rest)
+pub ready_in : (w : World) (parts : Parts) (m : Tallies) (x : Context) (y : Tallies) (at : ℕ)
+    (table : TableId) (r : ℕ) (body rest : Code) → IsReady w parts m x y at (Each table r body rest)
     → (j : ℕ) → j < w.size table
-    → IsReady w parts m (in_scan w x table r body rest) (plus_all y (times_all j (gain w parts (in_scan w x table r body rest) body))) (at + 1) body
+    → IsReady w parts m (in_scan w x table r body rest)
+    (plus_all y (times_all j (gain w parts (in_scan w x table r body rest) body))) (at + 1) body
 ready_in w parts m x y at table r body rest ready j lt =
     let inner = in_scan w x table r body rest in
     let add = gain w parts inner body in
@@ -143,21 +187,35 @@ ready_in w parts m x y at table r body rest ready j lt =
     record {
       some = met_once x.met rows j ready.some lt;
       accepted = (neither_none (first_reason w parts inner (at + 1) body) _ p.1).0;
-      closed = λ g a o. at_most_trans (plus (y g a) (times j (add g a))) (plus (y g a) (times j no_tally)) (x.so_far g a)
-          (at_most_both (y g a) (y g a) (times j (add g a)) (times j no_tally) (at_most_refl (y g a))
-          (at_most_times_both j (add g a) no_tally (adds_nothing w parts inner body g a (or_false_left (puts_to g body) (puts_to g rest) (or_false_right (x.open_groups g) _ o)))))
-          (at_most_trans (plus (y g a) (times j no_tally)) (y g a) (x.so_far g a) (at_most_nothing j (y g a)) (ready.closed g a (or_false_left (x.open_groups g) _ o)));
+      closed = λ g a o. at_most_trans (plus (y g a) (times j (add g a)))
+          (plus (y g a) (times j no_tally)) (x.so_far g a)
+          (at_most_both (y g a) (y g a) (times j (add g a)) (times j no_tally)
+          (at_most_refl (y g a))
+          (at_most_times_both j (add g a) no_tally
+          (adds_nothing w parts inner body g a
+          (or_false_left (puts_to g body) (puts_to g rest)
+          (or_false_right (x.open_groups g) _ o)))))
+          (at_most_trans (plus (y g a) (times j no_tally)) (y g a) (x.so_far g a)
+          (at_most_nothing j (y g a)) (ready.closed g a (or_false_left (x.open_groups g) _ o)));
       room = λ g a. at_most_trans _ _ _ (at_most_turn j (y g a) (add g a))
-          (at_most_trans _ _ _ (at_most_both (y g a) (y g a) (times (j + 1) (add g a)) (plus (times rows (add g a)) (more g a)) (at_most_refl (y g a))
-          (at_most_trans _ _ _ (at_most_times (j + 1) rows (add g a) (next_below j rows lt)) (at_most_plus (times rows (add g a)) (more g a)))) (ready.room g a));
+          (at_most_trans _ _ _
+          (at_most_both (y g a) (y g a) (times (j + 1) (add g a))
+          (plus (times rows (add g a)) (more g a)) (at_most_refl (y g a))
+          (at_most_trans _ _ _ (at_most_times (j + 1) rows (add g a) (next_below j rows lt))
+          (at_most_plus (times rows (add g a)) (more g a)))) (ready.room g a));
     }
   where
     next_below : (j rows : ℕ) → j < rows → j + 1 ≤ rows
     next_below j rows h = omega arith
 
 -- after a scan
-pub ready_after : (w : World) (parts : Parts) (m : Tallies) (x : Context) (y : Tallies) (at : ℕ) (table : TableId) (r : ℕ) (body rest : Code) → IsReady w parts m x y at (Each table r body rest)
-    → IsReady w parts m (after_scan x r body (times_all (w.size table) (gain w parts (in_scan w x table r body rest) body))) (plus_all y (times_all (w.size table) (gain w parts (in_scan w x table r body rest) body))) (at + 1 + code_size body) rest
+pub ready_after : (w : World) (parts : Parts) (m : Tallies) (x : Context) (y : Tallies) (at : ℕ)
+    (table : TableId) (r : ℕ) (body rest : Code) → IsReady w parts m x y at (Each table r body rest)
+    → IsReady w parts m
+    (after_scan x r body
+    (times_all (w.size table) (gain w parts (in_scan w x table r body rest) body)))
+    (plus_all y (times_all (w.size table) (gain w parts (in_scan w x table r body rest) body)))
+    (at + 1 + code_size body) rest
 ready_after w parts m x y at table r body rest ready =
     let inner = in_scan w x table r body rest in
     let add = times_all (w.size table) (gain w parts inner body) in
@@ -165,12 +223,20 @@ ready_after w parts m x y at table r body rest ready =
     record {
       some = ready.some;
       accepted = (neither_none (first_reason w parts inner (at + 1) body) _ p.1).1;
-      closed = λ g a o. at_most_both (y g a) (x.so_far g a) (add g a) (times x.met (add g a)) (ready.closed g a o) (at_most_once x.met (add g a) ready.some);
-      room = λ g a. at_most_trans _ _ _ (at_most_assoc (y g a) (add g a) (gain w parts (after_scan x r body add) rest g a)) (ready.room g a);
+      closed = λ g a o. at_most_both (y g a) (x.so_far g a) (add g a) (times x.met (add g a))
+          (ready.closed g a o) (at_most_once x.met (add g a) ready.some);
+      room = λ g a. at_most_trans _ _ _
+          (at_most_assoc (y g a) (add g a) (gain w parts (after_scan x r body add) rest g a))
+          (ready.room g a);
     }
 
 -- the instruction itself
-pub op_room : (w : World) (parts : Parts) (m : Tallies) (x : Context) (y : Tallies) (at : ℕ) (op : Op) (rest : Code) → IsReady w parts m x y at (Then op rest) → (g a : ℕ) → AtMost (plus (y g a) (op_gain parts x op g a)) (m g a)
+pub op_room : (w : World) (parts : Parts) (m : Tallies) (x : Context) (y : Tallies) (at : ℕ)
+    (op : Op) (rest : Code) → IsReady w parts m x y at (Then op rest)
+    → (g a : ℕ) → AtMost (plus (y g a) (op_gain parts x op g a)) (m g a)
 op_room w parts m x y at op rest ready g a =
     let more = gain w parts (after_op w parts x op) rest in
-    at_most_trans _ _ _ (at_most_both (y g a) (y g a) (op_gain parts x op g a) (plus (op_gain parts x op g a) (more g a)) (at_most_refl (y g a)) (at_most_plus (op_gain parts x op g a) (more g a))) (ready.room g a)
+    at_most_trans _ _ _
+    (at_most_both (y g a) (y g a) (op_gain parts x op g a)
+    (plus (op_gain parts x op g a) (more g a)) (at_most_refl (y g a))
+    (at_most_plus (op_gain parts x op g a) (more g a))) (ready.room g a)

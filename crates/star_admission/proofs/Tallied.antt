@@ -70,15 +70,25 @@ all_in_wider s t [] p h = tt
 all_in_wider s t (v ∷ vs) p h = (in_wider s t v p h.0, all_in_wider s t vs p h.1)
 
 pub tallied_more : (t u : Tally) (vs : List ℤ) → AtMost t u → IsTallied t vs → IsTallied u vs
-tallied_more t u vs p w = record { above = omega arith; below = omega arith; many = omega arith; each = all_in_wider t.each u.each vs p.each w.each }
+tallied_more t u vs p w =
+    record {
+      above = omega arith;
+      below = omega arith;
+      many = omega arith;
+      each = all_in_wider t.each u.each vs p.each w.each;
+    }
 
 -- with one number more
-pub tallied_put : (t : Tally) (r : Range) (reach : Reach) (v : ℤ) (vs : List ℤ) → IsTallied t vs → Holds r v → IsTallied (plus t (once r reach)) (v ∷ vs)
+pub tallied_put : (t : Tally) (r : Range) (reach : Reach) (v : ℤ) (vs : List ℤ) → IsTallied t vs
+    → Holds r v → IsTallied (plus t (once r reach)) (v ∷ vs)
 tallied_put t r reach v vs w h = record {
   above = omega (arith, (up_grows v r.high h.to).0);
   below = omega (arith, (up_grows r.low v h.from).1);
   many = omega arith;
-  each = (in_wider (Some r) (joined_range t.each (Some r)) v (lies_in_right t.each (Some r)) h, all_in_wider t.each (joined_range t.each (Some r)) vs (lies_in_left t.each (Some r)) w.each);
+  each = (
+    in_wider (Some r) (joined_range t.each (Some r)) v (lies_in_right t.each (Some r)) h,
+    all_in_wider t.each (joined_range t.each (Some r)) vs (lies_in_left t.each (Some r)) w.each,
+  );
 }
 
 -- ---- what fits
@@ -102,18 +112,21 @@ abbrev pub tallies_fit : List Aggregate → ℕ → (ℕ → Tally) → Bool
 tallies_fit [] a t = true
 tallies_fit (g ∷ gs) a t = counted_fits g (t a) && tallies_fit gs (suc a) t
 
-tally_fit : (g : Aggregate) (t : Tally) → aggregate_fits g t ≡ true → t.many < 2 ^ 63 → counted_fits g t ≡ true
+tally_fit : (g : Aggregate) (t : Tally) → aggregate_fits g t ≡ true → t.many < 2 ^ 63
+    → counted_fits g t ≡ true
 tally_fit Sum t e h = e
 tally_fit Count t e h = lt-ltb t.many (2 ^ 63) h
 tally_fit Min t e h = refl
 tally_fit Max t e h = refl
 
 -- where the sums fit, few numbers make the counts fit too
-pub tallies_fit_few : (gs : List Aggregate) (a : ℕ) (t : ℕ → Tally) → sums_fit gs a t ≡ true → ((k : ℕ) → (t k).many < 2 ^ 63) → tallies_fit gs a t ≡ true
+pub tallies_fit_few : (gs : List Aggregate) (a : ℕ) (t : ℕ → Tally) → sums_fit gs a t ≡ true
+    → ((k : ℕ) → (t k).many < 2 ^ 63) → tallies_fit gs a t ≡ true
 tallies_fit_few [] a t e h = refl
 tallies_fit_few (g ∷ gs) a t e h =
     let p = and_parts (aggregate_fits g (t a)) (sums_fit gs (suc a) t) e in
-    and_from (counted_fits g (t a)) (tallies_fit gs (suc a) t) (tally_fit g (t a) p.0 (h a)) (tallies_fit_few gs (suc a) t p.1 h)
+    and_from (counted_fits g (t a)) (tallies_fit gs (suc a) t) (tally_fit g (t a) p.0 (h a))
+    (tallies_fit_few gs (suc a) t p.1 h)
 
 sum_ends : (t : Tally) → sum_fits t ≡ true → (t.below ≤ 2 ^ 63) × (t.above < 2 ^ 63)
 sum_ends t e =
@@ -123,36 +136,47 @@ sum_ends t e =
 sum_fits_less : (t u : Tally) → AtMost t u → sum_fits u ≡ true → sum_fits t ≡ true
 sum_fits_less t u p e =
     let q = sum_ends u e in
-    and_from (nat_le t.below (2 ^ 63)) (nat_lt t.above (2 ^ 63)) (le-leb t.below (2 ^ 63) (omega (arith, q.0))) (lt-ltb t.above (2 ^ 63) (omega (arith, q.1)))
+    and_from (nat_le t.below (2 ^ 63)) (nat_lt t.above (2 ^ 63))
+    (le-leb t.below (2 ^ 63) (omega (arith, q.0)))
+    (lt-ltb t.above (2 ^ 63) (omega (arith, q.1)))
 
-fits_less : (g : Aggregate) (t u : Tally) → AtMost t u → aggregate_fits g u ≡ true → aggregate_fits g t ≡ true
+fits_less : (g : Aggregate) (t u : Tally) → AtMost t u → aggregate_fits g u ≡ true
+    → aggregate_fits g t ≡ true
 fits_less Sum t u p e = sum_fits_less t u p e
 fits_less Count t u p e = refl
 fits_less Min t u p e = refl
 fits_less Max t u p e = refl
 
-pub sums_fit_less : (gs : List Aggregate) (a : ℕ) (t u : ℕ → Tally) → ((k : ℕ) → AtMost (t k) (u k)) → sums_fit gs a u ≡ true → sums_fit gs a t ≡ true
+pub sums_fit_less : (gs : List Aggregate) (a : ℕ) (t u : ℕ → Tally) → ((k : ℕ) → AtMost (t k) (u k))
+    → sums_fit gs a u ≡ true → sums_fit gs a t ≡ true
 sums_fit_less [] a t u p e = refl
 sums_fit_less (g ∷ gs) a t u p e =
     let q = and_parts (aggregate_fits g (u a)) (sums_fit gs (suc a) u) e in
-    and_from (aggregate_fits g (t a)) (sums_fit gs (suc a) t) (fits_less g (t a) (u a) (p a) q.0) (sums_fit_less gs (suc a) t u p q.1)
+    and_from (aggregate_fits g (t a)) (sums_fit gs (suc a) t) (fits_less g (t a) (u a) (p a) q.0)
+    (sums_fit_less gs (suc a) t u p q.1)
 
-counted_less : (g : Aggregate) (t u : Tally) → AtMost t u → counted_fits g u ≡ true → counted_fits g t ≡ true
+counted_less : (g : Aggregate) (t u : Tally) → AtMost t u → counted_fits g u ≡ true
+    → counted_fits g t ≡ true
 counted_less Sum t u p e = sum_fits_less t u p e
 counted_less Count t u p e = lt-ltb t.many (2 ^ 63) (omega (arith, ltb-true u.many (2 ^ 63) e))
 counted_less Min t u p e = refl
 counted_less Max t u p e = refl
 
-pub tallies_fit_less : (gs : List Aggregate) (a : ℕ) (t u : ℕ → Tally) → ((k : ℕ) → AtMost (t k) (u k)) → tallies_fit gs a u ≡ true → tallies_fit gs a t ≡ true
+pub tallies_fit_less : (gs : List Aggregate) (a : ℕ) (t u : ℕ → Tally)
+    → ((k : ℕ) → AtMost (t k) (u k)) → tallies_fit gs a u ≡ true → tallies_fit gs a t ≡ true
 tallies_fit_less [] a t u p e = refl
 tallies_fit_less (g ∷ gs) a t u p e =
     let q = and_parts (counted_fits g (u a)) (tallies_fit gs (suc a) u) e in
-    and_from (counted_fits g (t a)) (tallies_fit gs (suc a) t) (counted_less g (t a) (u a) (p a) q.0) (tallies_fit_less gs (suc a) t u p q.1)
+    and_from (counted_fits g (t a)) (tallies_fit gs (suc a) t)
+    (counted_less g (t a) (u a) (p a) q.0) (tallies_fit_less gs (suc a) t u p q.1)
 
-pub nothing_fits : (gs : List Aggregate) (a : ℕ) (t : ℕ → Tally) → ((k : ℕ) → ((t k).below ≡ 0) × ((t k).above ≡ 0)) → sums_fit gs a t ≡ true
+pub nothing_fits : (gs : List Aggregate) (a : ℕ) (t : ℕ → Tally)
+    → ((k : ℕ) → ((t k).below ≡ 0) × ((t k).above ≡ 0)) → sums_fit gs a t ≡ true
 nothing_fits [] a t e = refl
 nothing_fits (Sum ∷ gs) a t e = and_from (sum_fits (t a)) (sums_fit gs (suc a) t)
-    (and_from (nat_le (t a).below (2 ^ 63)) (nat_lt (t a).above (2 ^ 63)) (le-leb (t a).below (2 ^ 63) (omega (arith, (e a).0))) (lt-ltb (t a).above (2 ^ 63) (omega (arith, (e a).1))))
+    (and_from (nat_le (t a).below (2 ^ 63)) (nat_lt (t a).above (2 ^ 63))
+    (le-leb (t a).below (2 ^ 63) (omega (arith, (e a).0)))
+    (lt-ltb (t a).above (2 ^ 63) (omega (arith, (e a).1))))
     (nothing_fits gs (suc a) t e)
 nothing_fits (Count ∷ gs) a t e = nothing_fits gs (suc a) t e
 nothing_fits (Min ∷ gs) a t e = nothing_fits gs (suc a) t e
@@ -164,7 +188,8 @@ joined_sum : (v : ℤ) (vs : List ℤ) → joined (λ x y. x +ℤ y) (v ∷ vs) 
 joined_sum v [] = let e : v ≡ v +ℤ pos 0 = omega (arith, ints) in ap Some e
 joined_sum v (w ∷ ws) = ap (joined_with (λ x y. x +ℤ y) v) (joined_sum w ws)
 
-sum_fits_64 : (t : Tally) (vs : List ℤ) → IsTallied t vs → sum_fits t ≡ true → is_i64 (sum_of vs) ≡ true
+sum_fits_64 : (t : Tally) (vs : List ℤ) → IsTallied t vs → sum_fits t ≡ true
+    → is_i64 (sum_of vs) ≡ true
 sum_fits_64 t vs w e =
     let q = sum_ends t e in
     let s = sum_between vs in
@@ -174,10 +199,12 @@ count_fits_64 : (n : ℕ) → n < 2 ^ 63 → is_i64 (pos n) ≡ true
 unfolding is_i64
 count_fits_64 n h = lt-ltb n (2 ^ 63) h
 
-stays : (g : Aggregate) (t : Tally) (vs : List ℤ) → IsTallied t vs → counted_fits g t ≡ true → leaves g (aggregate g vs) ≡ false
+stays : (g : Aggregate) (t : Tally) (vs : List ℤ) → IsTallied t vs → counted_fits g t ≡ true
+    → leaves g (aggregate g vs) ≡ false
 stays Sum t [] w e = refl
 stays Sum t (v ∷ vs) w e = ap (leaves Sum) (joined_sum v vs) ∙ ap not (sum_fits_64 t (v ∷ vs) w e)
-stays Count t vs w e = ap not (count_fits_64 (length vs) (omega (arith, w.many, ltb-true t.many (2 ^ 63) e)))
+stays Count t vs w e =
+    ap not (count_fits_64 (length vs) (omega (arith, w.many, ltb-true t.many (2 ^ 63) e)))
 stays Min t vs w e = refl
 stays Max t vs w e = refl
 
@@ -185,11 +212,14 @@ neither : (a b : Bool) → a ≡ false → b ≡ false → (a || b) ≡ false
 neither true b p q = p
 neither false b p q = q
 
-all_stay : (gs : List Aggregate) (a : ℕ) (t : ℕ → Tally) (us : List Update) → ((k : ℕ) → IsTallied (t k) (numbers_for k us)) → tallies_fit gs a t ≡ true → some_leaves gs a us ≡ false
+all_stay : (gs : List Aggregate) (a : ℕ) (t : ℕ → Tally) (us : List Update)
+    → ((k : ℕ) → IsTallied (t k) (numbers_for k us)) → tallies_fit gs a t ≡ true
+    → some_leaves gs a us ≡ false
 all_stay [] a t us w e = refl
 all_stay (g ∷ gs) a t us w e =
     let p = and_parts (counted_fits g (t a)) (tallies_fit gs (suc a) t) e in
-    neither (leaves g (aggregate g (numbers_for a us))) (some_leaves gs (suc a) us) (stays g (t a) (numbers_for a us) (w a) p.0) (all_stay gs (suc a) t us w p.1)
+    neither (leaves g (aggregate g (numbers_for a us))) (some_leaves gs (suc a) us)
+    (stays g (t a) (numbers_for a us) (w a) p.0) (all_stay gs (suc a) t us w p.1)
 
 -- ---- the members of a group are some of the updates
 
@@ -199,68 +229,108 @@ pub record IsNoMore (o : Option Range) (ws vs : List ℤ) : Type 0 where
   pub many : length ws ≤ length vs
   pub each : AllInRange o vs → AllInRange o ws
 
-one_more : (b : Bool) (o : Option Range) (a : ℕ) (u : Update) (us ms : List Update) → IsNoMore o (numbers_for a ms) (numbers_for a us)
+one_more : (b : Bool) (o : Option Range) (a : ℕ) (u : Update) (us ms : List Update)
+    → IsNoMore o (numbers_for a ms) (numbers_for a us)
     → IsNoMore o (numbers_for a (cond b (u ∷ ms) ms)) (numbers_for a (u ∷ us))
-one_more true o a u us ms p = record { above = omega (arith, p.above); below = omega (arith, p.below); many = omega (arith, p.many); each = λ h. (h.0, p.each h.1) }
-one_more false o a u us ms p = record { above = omega (arith, p.above); below = omega (arith, p.below); many = omega (arith, p.many); each = λ h. p.each h.1 }
+one_more true o a u us ms p =
+    record {
+      above = omega (arith, p.above);
+      below = omega (arith, p.below);
+      many = omega (arith, p.many);
+      each = λ h. (h.0, p.each h.1);
+    }
+one_more false o a u us ms p =
+    record {
+      above = omega (arith, p.above);
+      below = omega (arith, p.below);
+      many = omega (arith, p.many);
+      each = λ h. p.each h.1;
+    }
 
-fewer : (o : Option Range) (a : ℕ) (m : List (Option KeyValue)) (us : List Update) → IsNoMore o (numbers_for a (members value_cmp m us)) (numbers_for a us)
-fewer o a m [] = record { above = omega arith; below = omega arith; many = omega arith; each = λ h. h }
-fewer o a m (u ∷ us) = one_more (belongs value_cmp m u.keys) o a u us (members value_cmp m us) (fewer o a m us)
+fewer : (o : Option Range) (a : ℕ) (m : List (Option KeyValue)) (us : List Update)
+    → IsNoMore o (numbers_for a (members value_cmp m us)) (numbers_for a us)
+fewer o a m [] =
+    record { above = omega arith; below = omega arith; many = omega arith; each = λ h. h }
+fewer o a m (u ∷ us) =
+    one_more (belongs value_cmp m u.keys) o a u us (members value_cmp m us) (fewer o a m us)
 
-pub tallied_members : (t : Tally) (a : ℕ) (m : List (Option KeyValue)) (us : List Update) → IsTallied t (numbers_for a us) → IsTallied t (numbers_for a (members value_cmp m us))
+pub tallied_members : (t : Tally) (a : ℕ) (m : List (Option KeyValue)) (us : List Update)
+    → IsTallied t (numbers_for a us) → IsTallied t (numbers_for a (members value_cmp m us))
 tallied_members t a m us w =
     let p = fewer t.each a m us in
-    record { above = omega (arith, p.above, w.above); below = omega (arith, p.below, w.below); many = omega (arith, p.many, w.many); each = p.each w.each }
+    record {
+      above = omega (arith, p.above, w.above);
+      below = omega (arith, p.below, w.below);
+      many = omega (arith, p.many, w.many);
+      each = p.each w.each;
+    }
 
 -- no SUM and no COUNT of a group leaves 64 bits where the tallies fit
-pub no_overflow : (gs : List Aggregate) (t : ℕ → Tally) (us : List Update) (ms : List (List (Option KeyValue))) → ((k : ℕ) → IsTallied (t k) (numbers_for k us)) → tallies_fit gs 0 t ≡ true
+pub no_overflow : (gs : List Aggregate) (t : ℕ → Tally) (us : List Update)
+    (ms : List (List (Option KeyValue))) → ((k : ℕ) → IsTallied (t k) (numbers_for k us))
+    → tallies_fit gs 0 t ≡ true
     → list_any (λ keys. some_leaves gs 0 (members value_cmp keys us)) ms ≡ false
 no_overflow gs t us [] w e = refl
 no_overflow gs t us (m ∷ ms) w e =
-    neither (some_leaves gs 0 (members value_cmp m us)) (list_any (λ keys. some_leaves gs 0 (members value_cmp keys us)) ms)
+    neither (some_leaves gs 0 (members value_cmp m us))
+    (list_any (λ keys. some_leaves gs 0 (members value_cmp keys us)) ms)
     (all_stay gs 0 t (members value_cmp m us) (λ k. tallied_members (t k) k m us (w k)) e)
     (no_overflow gs t us ms w e)
 
 -- ---- a read
 
-of_two : (r : Range) (f : ℤ → ℤ → ℤ) → ((x y : ℤ) → Holds r x → Holds r y → Holds r (f x y)) → (v : ℤ) → Holds r v → (o : Option ℤ) → TotalLies (Some r) o → TotalLies (Some r) (joined_with f v o)
+of_two : (r : Range) (f : ℤ → ℤ → ℤ) → ((x y : ℤ) → Holds r x → Holds r y → Holds r (f x y))
+    → (v : ℤ) → Holds r v → (o : Option ℤ) → TotalLies (Some r) o
+    → TotalLies (Some r) (joined_with f v o)
 of_two r f keeps v h None p = h
 of_two r f keeps v h (Some z) p = keeps v z h p
 
-joined_lies : (r : Range) (f : ℤ → ℤ → ℤ) → ((x y : ℤ) → Holds r x → Holds r y → Holds r (f x y)) → (vs : List ℤ) → AllInRange (Some r) vs → TotalLies (Some r) (joined f vs)
+joined_lies : (r : Range) (f : ℤ → ℤ → ℤ) → ((x y : ℤ) → Holds r x → Holds r y → Holds r (f x y))
+    → (vs : List ℤ) → AllInRange (Some r) vs → TotalLies (Some r) (joined f vs)
 joined_lies r f keeps [] h = tt
-joined_lies r f keeps (v ∷ vs) h = of_two r f keeps v h.0 (joined f vs) (joined_lies r f keeps vs h.1)
+joined_lies r f keeps (v ∷ vs) h =
+    of_two r f keeps v h.0 (joined f vs) (joined_lies r f keeps vs h.1)
 
-extreme_lies : (f : ℤ → ℤ → ℤ) → ((r : Range) (x y : ℤ) → Holds r x → Holds r y → Holds r (f x y)) → (o : Option Range) (vs : List ℤ) → AllInRange o vs → TotalLies o (joined f vs)
+extreme_lies : (f : ℤ → ℤ → ℤ) → ((r : Range) (x y : ℤ) → Holds r x → Holds r y → Holds r (f x y))
+    → (o : Option Range) (vs : List ℤ) → AllInRange o vs → TotalLies o (joined f vs)
 extreme_lies f keeps None [] h = tt
 extreme_lies f keeps None (v ∷ vs) h = absurd h.0
 extreme_lies f keeps (Some r) vs h = joined_lies r f (keeps r) vs h
 
 min_keeps : (r : Range) (x y : ℤ) → Holds r x → Holds r y → Holds r (int_min x y)
-min_keeps r x y p q = record { from = omega (arith, ints, clamps); to = omega (arith, ints, clamps) }
+min_keeps r x y p q =
+    record { from = omega (arith, ints, clamps); to = omega (arith, ints, clamps) }
 
 max_keeps : (r : Range) (x y : ℤ) → Holds r x → Holds r y → Holds r (int_max x y)
-max_keeps r x y p q = record { from = omega (arith, ints, clamps); to = omega (arith, ints, clamps) }
+max_keeps r x y p q =
+    record { from = omega (arith, ints, clamps); to = omega (arith, ints, clamps) }
 
-pub sums_lie : (t : Tally) (vs : List ℤ) → sum_up vs ≤ t.above → sum_down vs ≤ t.below → Holds (sum_range t) (sum_of vs)
+pub sums_lie : (t : Tally) (vs : List ℤ) → sum_up vs ≤ t.above → sum_down vs ≤ t.below
+    → Holds (sum_range t) (sum_of vs)
 sums_lie t vs p q =
     let s = sum_between vs in
     record { from = omega (arith, ints, s.0, s.1, q); to = omega (arith, ints, s.0, s.1, p) }
 
 -- an aggregate of tallied numbers lies in its range, where it is there
-pub aggregate_lies : (g : Aggregate) (t : Tally) (vs : List ℤ) → IsTallied t vs → TotalLies (aggregate_range g t) (aggregate g vs)
+pub aggregate_lies : (g : Aggregate) (t : Tally) (vs : List ℤ) → IsTallied t vs
+    → TotalLies (aggregate_range g t) (aggregate g vs)
 aggregate_lies Sum t [] w = tt
-aggregate_lies Sum t (v ∷ vs) w = subst (TotalLies (Some (sum_range t))) (sym (joined_sum v vs)) (sums_lie t (v ∷ vs) w.above w.below)
-aggregate_lies Count t vs w = record { from = omega (arith, ints); to = omega (arith, ints, w.many) }
+aggregate_lies Sum t (v ∷ vs) w =
+    subst (TotalLies (Some (sum_range t))) (sym (joined_sum v vs))
+    (sums_lie t (v ∷ vs) w.above w.below)
+aggregate_lies Count t vs w =
+    record { from = omega (arith, ints); to = omega (arith, ints, w.many) }
 aggregate_lies Min t vs w = extreme_lies int_min min_keeps t.each vs w.each
 aggregate_lies Max t vs w = extreme_lies int_max max_keeps t.each vs w.each
 
-read_lies : (o : Option Range) (z : Option ℤ) (default : ℤ) → TotalLies o z → Holds (hull_with o (only default)) (unwrap_or z default)
+read_lies : (o : Option Range) (z : Option ℤ) (default : ℤ) → TotalLies o z
+    → Holds (hull_with o (only default)) (unwrap_or z default)
 read_lies None None default h = holds_itself default
 read_lies None (Some z) default h = absurd h
 read_lies (Some r) None default h = holds_hull_right r (only default) default (holds_itself default)
 read_lies (Some r) (Some z) default h = holds_hull_left r (only default) z h
 
-pub read_holds : (g : Aggregate) (t : Tally) (default : ℤ) (vs : List ℤ) → IsTallied t vs → Holds (read_range g t (only default)) (unwrap_or (aggregate g vs) default)
-read_holds g t default vs w = read_lies (aggregate_range g t) (aggregate g vs) default (aggregate_lies g t vs w)
+pub read_holds : (g : Aggregate) (t : Tally) (default : ℤ) (vs : List ℤ) → IsTallied t vs
+    → Holds (read_range g t (only default)) (unwrap_or (aggregate g vs) default)
+read_holds g t default vs w =
+    read_lies (aggregate_range g t) (aggregate g vs) default (aggregate_lies g t vs w)

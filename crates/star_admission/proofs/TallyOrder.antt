@@ -50,13 +50,31 @@ lies_in_both (Some r) (Some s) None p q = p
 lies_in_both (Some r) (Some s) (Some t) p q = hull_within r s t p q
 
 pub at_most_refl : (t : Tally) → AtMost t t
-at_most_refl t = record { above = omega arith; below = omega arith; many = omega arith; each = lies_in_refl t.each }
+at_most_refl t =
+    record {
+      above = omega arith;
+      below = omega arith;
+      many = omega arith;
+      each = lies_in_refl t.each;
+    }
 
 pub at_most_trans : (t u v : Tally) → AtMost t u → AtMost u v → AtMost t v
-at_most_trans t u v p q = record { above = omega arith; below = omega arith; many = omega arith; each = lies_in_trans t.each u.each v.each p.each q.each }
+at_most_trans t u v p q =
+    record {
+      above = omega arith;
+      below = omega arith;
+      many = omega arith;
+      each = lies_in_trans t.each u.each v.each p.each q.each;
+    }
 
 pub at_most_plus : (t u : Tally) → AtMost t (plus t u)
-at_most_plus t u = record { above = omega arith; below = omega arith; many = omega arith; each = lies_in_left t.each u.each }
+at_most_plus t u =
+    record {
+      above = omega arith;
+      below = omega arith;
+      many = omega arith;
+      each = lies_in_left t.each u.each;
+    }
 
 -- sums may be grouped either way
 pub at_most_assoc : (t u v : Tally) → AtMost (plus (plus t u) v) (plus t (plus u v))
@@ -64,10 +82,16 @@ at_most_assoc t u v = record {
   above = omega arith;
   below = omega arith;
   many = omega arith;
-  each = lies_in_both (joined_range t.each u.each) v.each (joined_range t.each (joined_range u.each v.each))
-      (lies_in_both t.each u.each (joined_range t.each (joined_range u.each v.each)) (lies_in_left t.each (joined_range u.each v.each))
-      (lies_in_trans u.each (joined_range u.each v.each) (joined_range t.each (joined_range u.each v.each)) (lies_in_left u.each v.each) (lies_in_right t.each (joined_range u.each v.each))))
-      (lies_in_trans v.each (joined_range u.each v.each) (joined_range t.each (joined_range u.each v.each)) (lies_in_right u.each v.each) (lies_in_right t.each (joined_range u.each v.each)));
+  each = lies_in_both (joined_range t.each u.each) v.each
+      (joined_range t.each (joined_range u.each v.each))
+      (lies_in_both t.each u.each (joined_range t.each (joined_range u.each v.each))
+      (lies_in_left t.each (joined_range u.each v.each))
+      (lies_in_trans u.each (joined_range u.each v.each)
+      (joined_range t.each (joined_range u.each v.each)) (lies_in_left u.each v.each)
+      (lies_in_right t.each (joined_range u.each v.each))))
+      (lies_in_trans v.each (joined_range u.each v.each)
+      (joined_range t.each (joined_range u.each v.each)) (lies_in_right u.each v.each)
+      (lies_in_right t.each (joined_range u.each v.each)));
 }
 
 -- after a first sum, a second at most
@@ -77,17 +101,21 @@ at_most_both t t' u u' p q = record {
   below = omega arith;
   many = omega arith;
   each = lies_in_both t.each u.each (joined_range t'.each u'.each)
-      (lies_in_trans t.each t'.each (joined_range t'.each u'.each) p.each (lies_in_left t'.each u'.each))
-      (lies_in_trans u.each u'.each (joined_range t'.each u'.each) q.each (lies_in_right t'.each u'.each));
+      (lies_in_trans t.each t'.each (joined_range t'.each u'.each) p.each
+      (lies_in_left t'.each u'.each))
+      (lies_in_trans u.each u'.each (joined_range t'.each u'.each) q.each
+      (lies_in_right t'.each u'.each));
 }
 
 -- one more turn
-pub at_most_turn : (k : ℕ) (t u : Tally) → AtMost (plus (plus t (times k u)) u) (plus t (times (k + 1) u))
+pub at_most_turn : (k : ℕ) (t u : Tally)
+    → AtMost (plus (plus t (times k u)) u) (plus t (times (k + 1) u))
 at_most_turn k t u = record {
   above = omega arith;
   below = omega arith;
   many = omega arith;
-  each = lies_in_both (joined_range t.each u.each) u.each (joined_range t.each u.each) (lies_in_refl (joined_range t.each u.each)) (lies_in_right t.each u.each);
+  each = lies_in_both (joined_range t.each u.each) u.each (joined_range t.each u.each)
+      (lies_in_refl (joined_range t.each u.each)) (lies_in_right t.each u.each);
 }
 
 pub at_most_times : (k n : ℕ) (t : Tally) → k ≤ n → AtMost (times k t) (times n t)
@@ -99,27 +127,59 @@ at_most_times k n t h = record {
 }
 
 pub at_most_once : (n : ℕ) (t : Tally) → 1 ≤ n → AtMost t (times n t)
-at_most_once n t h = let one = at_most_times 1 n t h in record { above = omega (arith, one.above); below = omega (arith, one.below); many = omega (arith, one.many); each = lies_in_refl t.each }
+at_most_once n t h = let one =
+    at_most_times 1 n t h in
+    record {
+      above = omega (arith, one.above);
+      below = omega (arith, one.below);
+      many = omega (arith, one.many);
+      each = lies_in_refl t.each;
+    }
 
 -- what is added n times in two parts
-pub at_most_spread : (n : ℕ) (t u v : Tally) → AtMost (plus t (times n (plus u v))) (plus (plus t (times n u)) (times n v))
+pub at_most_spread : (n : ℕ) (t u v : Tally)
+    → AtMost (plus t (times n (plus u v))) (plus (plus t (times n u)) (times n v))
 at_most_spread n t u v = record {
   above = omega arith;
   below = omega arith;
   many = omega arith;
-  each = lies_in_both t.each (joined_range u.each v.each) (joined_range (joined_range t.each u.each) v.each)
-      (lies_in_trans t.each (joined_range t.each u.each) (joined_range (joined_range t.each u.each) v.each) (lies_in_left t.each u.each) (lies_in_left (joined_range t.each u.each) v.each))
+  each = lies_in_both t.each (joined_range u.each v.each)
+      (joined_range (joined_range t.each u.each) v.each)
+      (lies_in_trans t.each (joined_range t.each u.each)
+      (joined_range (joined_range t.each u.each) v.each) (lies_in_left t.each u.each)
+      (lies_in_left (joined_range t.each u.each) v.each))
       (lies_in_both u.each v.each (joined_range (joined_range t.each u.each) v.each)
-      (lies_in_trans u.each (joined_range t.each u.each) (joined_range (joined_range t.each u.each) v.each) (lies_in_right t.each u.each) (lies_in_left (joined_range t.each u.each) v.each))
+      (lies_in_trans u.each (joined_range t.each u.each)
+      (joined_range (joined_range t.each u.each) v.each) (lies_in_right t.each u.each)
+      (lies_in_left (joined_range t.each u.each) v.each))
       (lies_in_right (joined_range t.each u.each) v.each));
 }
 
-pub at_most_product : (n k : ℕ) (t u : Tally) → AtMost (plus t (times n (times k u))) (plus t (times (n * k) u))
-at_most_product n k t u = record { above = omega arith; below = omega arith; many = omega arith; each = lies_in_refl (joined_range t.each u.each) }
+pub at_most_product : (n k : ℕ) (t u : Tally)
+    → AtMost (plus t (times n (times k u))) (plus t (times (n * k) u))
+at_most_product n k t u =
+    record {
+      above = omega arith;
+      below = omega arith;
+      many = omega arith;
+      each = lies_in_refl (joined_range t.each u.each);
+    }
 
 pub at_most_times_both : (n : ℕ) (t u : Tally) → AtMost t u → AtMost (times n t) (times n u)
-at_most_times_both n t u p = record { above = mul-le-mul_left n p.above; below = mul-le-mul_left n p.below; many = mul-le-mul_left n p.many; each = p.each }
+at_most_times_both n t u p =
+    record {
+      above = mul-le-mul_left n p.above;
+      below = mul-le-mul_left n p.below;
+      many = mul-le-mul_left n p.many;
+      each = p.each;
+    }
 
 -- nothing is added
 pub at_most_nothing : (n : ℕ) (t : Tally) → AtMost (plus t (times n no_tally)) t
-at_most_nothing n t = record { above = omega arith; below = omega arith; many = omega arith; each = lies_in_both t.each None t.each (lies_in_refl t.each) tt }
+at_most_nothing n t =
+    record {
+      above = omega arith;
+      below = omega arith;
+      many = omega arith;
+      each = lies_in_both t.each None t.each (lies_in_refl t.each) tt;
+    }

@@ -9,11 +9,13 @@ use Rattle.star_schema.specs.declared.group.Aggregate.TheVariants as aggregate
 use Rattle.star_schema.specs.Schema.{column_of}
 use Rattle.star_interval.specs.Range.{Range, only, is_i64}
 use Rattle.star_program.specs.declared.op.Op.TheVariants as op
+use Rattle.star_program.specs.declared.op.Operation.TheVariants as operation
+use Rattle.star_program.specs.declared.op.Operator.TheVariants as operator
 use Rattle.star_program.specs.declared.program.Parts.{Parts}
 use Rattle.star_program.specs.Code.{Stop, Then, Each}
 use Rattle.star_program.specs.Faults.{WrittenTwice, Misplaced}
 use Rattle.star_program.specs.World.{World}
-use Rattle.star_program.proofs.Sample.{sample, great_prices, plain, program, above_average, find_by_quantity, read_while_putting, written_twice, keep_outside, shows_no_key, scan_in_scan, doubled_difference}
+use Rattle.star_program.proofs.Sample.{sample, great_prices, plain, program, assign, above_average, find_by_quantity, read_while_putting, written_twice, keep_outside, shows_no_key, scan_in_scan, doubled_difference}
 use Rattle.star_admission.specs.Quote.{quote}
 use Rattle.star_admission.specs.Refusals.{Faulty, NotAForeignKey, OpenGroup, Overflow, reached}
 use Rattle.star_admission.specs.Admissible.{TooCostly, Refused, BadShow, first_refusal}
@@ -40,12 +42,12 @@ widest_price = record sample { bounds = widest_bounds }
 abbrev first_lines : Parts
 first_lines = program 10 (plain (aggregate.Sum ∷ []) ∷ []) 0
     (Each Lineorder 0
-    (Then (op.Load 1 LoLinenumber 0) (Then (op.Const 2 (pos 1)) (Then (op.Equal 3 1 2) (Then (op.Keep 3)
-    (Then (op.Load 4 LoExtendedprice 0) (Then (op.Put 0 [] (4 ∷ [])) Stop)))))) Stop)
+    (assign 1 (operation.Load LoLinenumber 0) (assign 2 (operation.Const (pos 1)) (assign 3 (operation.Binary operator.Equal 1 2) (Then (op.Keep 3)
+    (assign 4 (operation.Load LoExtendedprice 0) (Then (op.Put 0 [] (4 ∷ [])) Stop)))))) Stop)
 
 abbrev squared_price : Parts
 squared_price = program 10 (plain (aggregate.Sum ∷ []) ∷ []) 0
-    (Each Lineorder 0 (Then (op.Load 1 LoExtendedprice 0) (Then (op.Mul 2 1 1) (Then (op.Put 0 [] (2 ∷ [])) Stop))) Stop)
+    (Each Lineorder 0 (assign 1 (operation.Load LoExtendedprice 0) (assign 2 (operation.Binary operator.Mul 1 1) (Then (op.Put 0 [] (2 ∷ [])) Stop))) Stop)
 
 -- ---- refusals
 
@@ -56,15 +58,18 @@ above_average_accepted = refl
 above_average_too_costly : first_refusal sample 9 above_average ≡ Some (TooCostly 10)
 above_average_too_costly = refl
 
-find_by_quantity_refused : first_refusal sample 5 find_by_quantity ≡ Some (Refused (3, NotAForeignKey))
+find_by_quantity_refused : first_refusal sample 5 find_by_quantity
+    ≡ Some (Refused (3, NotAForeignKey))
 unfolding column_of is_i64 reached
 find_by_quantity_refused = refl
 
-read_while_putting_refused : first_refusal sample 5 read_while_putting ≡ Some (Refused (3, OpenGroup))
+read_while_putting_refused : first_refusal sample 5 read_while_putting
+    ≡ Some (Refused (3, OpenGroup))
 unfolding column_of is_i64 reached
 read_while_putting_refused = refl
 
-written_twice_refused : first_refusal sample 0 written_twice ≡ Some (Refused (2, Faulty WrittenTwice))
+written_twice_refused : first_refusal sample 0 written_twice
+    ≡ Some (Refused (2, Faulty WrittenTwice))
 written_twice_refused = refl
 
 keep_outside_refused : first_refusal sample 0 keep_outside ≡ Some (Refused (3, Faulty Misplaced))
@@ -77,13 +82,19 @@ scan_in_scan_quoted : quote sample.size scan_in_scan ≡ 9
 scan_in_scan_quoted = refl
 
 -- nothing is reached through a read, so no columns are named
-doubled_difference_refused : first_refusal great_prices 10 doubled_difference ≡ Some (Refused (12, Overflow (record { low = neg_ℤ (pos 18000000000000000000); high = pos 0 }) []))
+doubled_difference_refused : first_refusal great_prices 10 doubled_difference
+    ≡ Some (Refused
+    (12, Overflow (record { low = neg_ℤ (pos 18000000000000000000); high = pos 0 }) []))
 unfolding column_of is_i64 reached
 doubled_difference_refused = refl
 
 -- the filter narrows no range: all eleven prices count
 first_lines_refused : first_refusal one_line_more 11 first_lines
-    ≡ Some (Refused (7, Overflow (record { low = pos 0; high = pos 9900000000000000000 }) ((LoExtendedprice, only (pos 900000000000000000)) ∷ [])))
+    ≡ Some (Refused (
+      7,
+      Overflow (record { low = pos 0; high = pos 9900000000000000000 })
+          ((LoExtendedprice, only (pos 900000000000000000)) ∷ []),
+    ))
 unfolding column_of is_i64 reached
 first_lines_refused = refl
 
@@ -92,6 +103,10 @@ unfolding column_of is_i64 reached
 first_lines_accepted = refl
 
 squared_price_refused : first_refusal widest_price 5 squared_price
-    ≡ Some (Refused (3, Overflow (record { low = pos 250000; high = pos 999999999999999998000000000000000001 }) ((LoExtendedprice, record { low = pos 500; high = pos 999999999999999999 }) ∷ [])))
+    ≡ Some (Refused (
+      3,
+      Overflow (record { low = pos 250000; high = pos 999999999999999998000000000000000001 })
+          ((LoExtendedprice, record { low = pos 500; high = pos 999999999999999999 }) ∷ []),
+    ))
 unfolding column_of is_i64 reached
 squared_price_refused = refl

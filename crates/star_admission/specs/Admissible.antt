@@ -18,7 +18,8 @@ pub data Refusal : Type 0 where
   TooCostly : ℕ → Refusal
   -- an instruction, by its number
   Refused : ℕ × Reason → Refusal
-  -- a line of the report: 0 for its group or where it shows nothing, else its number among the show and then the sort lines
+  -- a line of the report: 0 for its group or where it shows nothing, else its number among the show
+  -- and then the sort lines
   BadShow : ℕ → Refusal
 
 abbrev pub cost_refusal : ℕ → Bool → Option Refusal

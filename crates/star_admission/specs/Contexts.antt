@@ -1,18 +1,20 @@
 -- What stands round an instruction and before it, and so what is known there before a run.
-use Rattle.std.specs.Prelude.{ℕ, ◌*◌, pos, ◌+ℤ◌, ◌-ℤ◌, ◌*ℤ◌, Bool, true, false, ◌||◌, nat_eq, List, map, slice_index_or, Option, Some, None, if◌then◌else◌}
+use Rattle.std.specs.Prelude.{ℕ, ◌*◌, pos, Bool, true, false, ◌||◌, nat_eq, List, map, slice_index_or, Option, Some, None, if◌then◌else◌}
 use Rattle.star_schema.specs.declared.table.TableId.{TableId}
 use Rattle.star_schema.specs.declared.group.Aggregate.TheVariants.{Count}
 use Rattle.star_interval.specs.Range.{only}
 use Rattle.star_program.specs.declared.group.GroupDecl.{GroupDecl}
 use Rattle.star_program.specs.declared.op.Op.{Op}
-use Rattle.star_program.specs.declared.op.Op.TheVariants.{Const, Low, High, Load, Find, Add, Sub, Mul, Put, Read}
+use Rattle.star_program.specs.declared.op.Op.TheVariants.{Assign, Put}
+use Rattle.star_program.specs.declared.op.Operation.{Operation}
+use Rattle.star_program.specs.declared.op.Operation.TheVariants.{Const, Edge, Load, Find, Binary, Read}
 use Rattle.star_program.specs.declared.program.Parts.{Parts}
 use Rattle.star_program.specs.Code.{Code, Stop, Then, Each}
 use Rattle.star_program.specs.World.{World, is_text}
 use Rattle.star_program.specs.Values.{with_entry}
 use Rattle.star_program.specs.Faults.{group_at, target_of}
 use Rattle.star_program.specs.Puts.{aligned}
-use Rattle.star_admission.specs.Ranges.{Known, KnownPlace, KnownRow, KnownFlag, Table, range_at, reach_at, given, loaded_known, computed}
+use Rattle.star_admission.specs.Ranges.{Known, KnownPlace, KnownRow, KnownFlag, Table, range_at, reach_at, given, loaded_known, answer_known}
 use Rattle.star_admission.specs.Tallies.{Tally, no_tally, once, Tallies, no_tallies, plus_all, times_all, read_range}
 
 pub record Context : Type 0 where
@@ -31,7 +33,14 @@ pub record Context : Type 0 where
 
 -- at the first instruction
 abbrev pub at_first : Context
-at_first = record { inside = false; met = 1; known = λ r. None; written = λ r. false; so_far = no_tallies; open_groups = λ g. false }
+at_first = record {
+  inside = false;
+  met = 1;
+  known = λ r. None;
+  written = λ r. false;
+  so_far = no_tallies;
+  open_groups = λ g. false;
+}
 
 -- ---- puts
 
@@ -57,22 +66,25 @@ put_tally d known values a = known_tally (slice_index_or (put_known d known valu
 
 -- what an instruction adds each time
 abbrev pub op_gain : Parts → Context → Op → Tallies
-op_gain parts x (Put g ks vs) h a = if nat_eq h g then put_tally (group_at parts g) x.known vs a else no_tally
+op_gain parts x (Put g ks vs) h a =
+    if nat_eq h g then put_tally (group_at parts g) x.known vs a else no_tally
 op_gain parts x _ h a = no_tally
 
 -- ---- after an instruction
 
+-- what is known of what an operation makes
+abbrev pub operation_known : World → Parts → Context → Operation → Known
+operation_known w parts x (Const n) = given (only n)
+operation_known w parts x (Edge e c text) = KnownPlace c
+operation_known w parts x (Load c r) = loaded_known w c (is_text c)
+operation_known w parts x (Find table k) = KnownRow table
+operation_known w parts x (Binary o l r) = answer_known o (x.known l) (x.known r)
+operation_known w parts x (Read g a n) = given (read_range (slice_index_or (group_at parts g).aggregates a Count) (x.so_far g a) (only n))
+operation_known w parts x _ = KnownFlag
+
 -- what is known of its target
 abbrev pub result_known : World → Parts → Context → Op → Known
-result_known w parts x (Const t n) = given (only n)
-result_known w parts x (Low t c text) = KnownPlace c
-result_known w parts x (High t c text) = KnownPlace c
-result_known w parts x (Load t c r) = loaded_known w c (is_text c)
-result_known w parts x (Find t table k) = KnownRow table
-result_known w parts x (Add t l r) = computed ◌+ℤ◌ (x.known l) (x.known r)
-result_known w parts x (Sub t l r) = computed ◌-ℤ◌ (x.known l) (x.known r)
-result_known w parts x (Mul t l r) = computed ◌*ℤ◌ (x.known l) (x.known r)
-result_known w parts x (Read t g a n) = given (read_range (slice_index_or (group_at parts g).aggregates a Count) (x.so_far g a) (only n))
+result_known w parts x (Assign t o) = operation_known w parts x o
 result_known w parts x _ = KnownFlag
 
 abbrev pub learned : Table → Option ℕ → Known → Table
@@ -118,7 +130,8 @@ after_scan x r body gained = record x {
 -- what some code adds, each time that it is met
 abbrev pub gain : World → Parts → Context → Code → Tallies
 gain w parts x Stop = no_tallies
-gain w parts x (Then op rest) = plus_all (op_gain parts x op) (gain w parts (after_op w parts x op) rest)
+gain w parts x (Then op rest) =
+    plus_all (op_gain parts x op) (gain w parts (after_op w parts x op) rest)
 gain w parts x (Each table r body rest) =
     let turns = times_all (w.size table) (gain w parts (in_scan w x table r body rest) body) in
     plus_all turns (gain w parts (after_scan x r body turns) rest)

@@ -16,7 +16,8 @@ use Rattle.star_admission.specs.Quote.{quote}
 use Rattle.star_admission.specs.Admissible.{IsAdmissible}
 use Rattle.star_admission.specs.Moments.{whole_gain}
 
--- a program is admissible over a loaded catalogue, and no more visits are quoted than any run may make
+-- a program is admissible over a loaded catalogue, and no more visits are quoted than any run may
+-- make
 pub record IsAccepted (w : World) (parts : Parts) : Type 0 where
   pub loaded : IsLoaded w
   pub limits : IsWithinLimits parts
@@ -36,5 +37,7 @@ TotalLies (Some r) (Some z) = Holds r z
 -- each aggregate of each group of updates lies in its range
 abbrev pub TotalsLie : World → Parts → Store → Type 0
 TotalsLie w parts s = (g place : ℕ) (keys : List (Option KeyValue))
-    → TotalLies (aggregate_range (slice_index_or (group_at parts g).aggregates place Count) (whole_gain w parts g place))
-    (aggregate (slice_index_or (group_at parts g).aggregates place Count) (numbers_for place (members value_cmp keys (s.updates_of g))))
+    → TotalLies (aggregate_range (slice_index_or (group_at parts g).aggregates place Count)
+    (whole_gain w parts g place))
+    (aggregate (slice_index_or (group_at parts g).aggregates place Count)
+    (numbers_for place (members value_cmp keys (s.updates_of g))))

@@ -4,11 +4,13 @@ use Rattle.star_schema.specs.declared.table.TableId.{TableId}
 use Rattle.star_program.specs.declared.program.Parts.{Parts}
 use Rattle.star_program.specs.Code.{Code, Stop, Then, Each}
 
--- the turns of what is met so many times: for each scan the product of its rows and of those of the scans round it
+-- the turns of what is met so many times: for each scan the product of its rows and of those of the
+-- scans round it
 abbrev pub turns_met : (TableId → ℕ) → ℕ → Code → ℕ
 turns_met size times Stop = 0
 turns_met size times (Then op rest) = turns_met size times rest
-turns_met size times (Each table r body rest) = times * size table + turns_met size (times * size table) body + turns_met size times rest
+turns_met size times (Each table r body rest) =
+    times * size table + turns_met size (times * size table) body + turns_met size times rest
 
 abbrev pub quote : (TableId → ℕ) → Parts → ℕ
 quote size parts = turns_met size 1 parts.body

@@ -1,9 +1,11 @@
 -- What is known of a register before a run: its kind, and of a number its range.
-use Rattle.std.specs.Prelude.{ℕ, ℤ, pos, Bool, true, false, ◌||◌, Option, Some, None}
+use Rattle.std.specs.Prelude.{ℕ, ℤ, pos, ◌+ℤ◌, ◌-ℤ◌, ◌*ℤ◌, Bool, true, false, ◌||◌, Option, Some, None}
 use Rattle.std.specs.Option.{option_map}
 use Rattle.star_schema.specs.declared.table.TableId.{TableId}
 use Rattle.star_schema.specs.declared.column.ColumnId.{ColumnId}
 use Rattle.star_interval.specs.Range.{Range, only, corner_range}
+use Rattle.star_program.specs.declared.op.Operator.{Operator}
+use Rattle.star_program.specs.declared.op.Operator.TheVariants.{Add, Sub, Mul}
 use Rattle.star_program.specs.World.{World, is_column}
 use Rattle.star_program.specs.Values.{Kind, NumberKind, TextKind, PlaceKind, RowKind, FlagKind}
 use Rattle.star_program.specs.Faults.{Kinds}
@@ -18,7 +20,8 @@ no_reach c = false
 abbrev pub joined_reach : Reach → Reach → Reach
 joined_reach a b c = a c || b c
 
--- of a number its range, the columns that it is computed from, and the column that it was loaded from, if it was
+-- of a number its range, the columns that it is computed from, and the column that it was loaded
+-- from, if it was
 pub data Known : Type 0 where
   KnownNumber : Range → Reach → Option ColumnId → Known
   KnownText : ColumnId → Known
@@ -66,3 +69,10 @@ loaded_known w c false = KnownNumber (w.bounds c) (is_column c) (Some c)
 -- a result of arithmetic: the least and the greatest result over the ends of the operands' ranges
 abbrev pub computed : (ℤ → ℤ → ℤ) → Option Known → Option Known → Known
 computed operation l r = KnownNumber (corner_range operation (range_at l) (range_at r)) (joined_reach (reach_at l) (reach_at r)) None
+
+-- an operator's answer
+abbrev pub answer_known : Operator → Option Known → Option Known → Known
+answer_known Add l r = computed ◌+ℤ◌ l r
+answer_known Sub l r = computed ◌-ℤ◌ l r
+answer_known Mul l r = computed ◌*ℤ◌ l r
+answer_known _ l r = KnownFlag

@@ -1,4 +1,5 @@
--- The instructions of a program in the order of their numbers, each in its context, and what tells that context.
+-- The instructions of a program in the order of their numbers, each in its context, and what tells
+-- that context.
 use Rattle.std.specs.Prelude.{◌≡◌, ℕ, ◌+◌, ◌*◌, Bool, false, ◌&&◌, ◌||◌, nat_eq, nat_lt, List, [], ◌∷◌, ◌++◌, length, filter, fold, Option, Some, None}
 use Rattle.std.specs.List.{last_or, list_all, list_any}
 use Rattle.std.specs.Option.{option_map}
@@ -38,9 +39,16 @@ standing w parts round x at (Then op rest) =
     ∷ standing w parts round (after_op w parts x op) (at + 1) rest
 standing w parts round x at (Each table r body rest) =
     let inner = in_scan w x table r body rest in
-    record { number = at; round = round; context = before (Each table r body rest) x; item = Scan table r }
+    record {
+      number = at;
+      round = round;
+      context = before (Each table r body rest) x;
+      item = Scan table r;
+    }
     ∷ (standing w parts (record { number = at; table = table } ∷ round) inner (at + 1) body
-    ++ standing w parts round (after_scan x r body (times_all (w.size table) (gain w parts inner body))) (at + 1 + code_size body) rest)
+    ++ standing w parts round
+    (after_scan x r body (times_all (w.size table) (gain w parts inner body)))
+    (at + 1 + code_size body) rest)
 
 abbrev pub instructions_of : World → Parts → List Standing
 instructions_of w parts = standing w parts [] at_first 1 parts.body
@@ -118,23 +126,30 @@ in_scope scans i = list_all (λ s. has_scan scans s.number) (scope_of i)
 abbrev pub in_one_of : List Enclosing → Standing → Bool
 in_one_of scans i = list_any (λ s. has_scan scans s.number) i.round
 
--- ---- the context, as the scans round an instruction and the instructions before and after it tell it
+-- ---- the context, as the scans round an instruction and the instructions before and after it tell
+-- it
 
 -- the last of some instructions that writes the register, where that is in scope
 abbrev pub last_writer : List Enclosing → ℕ → List Standing → Option Standing
 last_writer scans r is = last_or None (filter (λ j. writes_to r j && in_scope scans j) is)
 
-pub record IsTold (w : World) (parts : Parts) (earlier : List Standing) (i : Standing) (later : List Standing) : Type 0 where
+pub record IsTold (w : World) (parts : Parts) (earlier : List Standing) (i : Standing)
+    (later : List Standing) : Type 0 where
   pub number : i.number ≡ length earlier + 1
   pub inside : i.context.inside ≡ nat_lt 0 (length i.round)
   pub met : i.context.met ≡ rows_together w i.round
   -- in scope or not
   pub written : (r : ℕ) → i.context.written r ≡ list_any (writes_to r) earlier
-  pub known : (r : ℕ) → i.context.known r ≡ option_map (result_of w parts) (last_writer i.round r earlier)
+  pub known : (r : ℕ) → i.context.known r
+      ≡ option_map (result_of w parts) (last_writer i.round r earlier)
   pub so_far : (g place : ℕ) → i.context.so_far g place ≡ added parts earlier g place
   -- later, or in a scan round it
-  pub open_groups : (g : ℕ) → i.context.open_groups g ≡ (list_any (puts_to g) later || list_any (λ j. puts_to g j && in_one_of i.round j) (earlier ++ i ∷ []))
+  pub open_groups : (g : ℕ) → i.context.open_groups g
+      ≡ (list_any (puts_to g) later
+      || list_any (λ j. puts_to g j && in_one_of i.round j) (earlier ++ i ∷ []))
 
 -- each instruction is told so
 abbrev pub AreTold : World → Parts → Type 0
-AreTold w parts = (earlier later : List Standing) (i : Standing) → instructions_of w parts ≡ earlier ++ i ∷ later → IsTold w parts earlier i later
+AreTold w parts =
+    (earlier later : List Standing) (i : Standing) → instructions_of w parts ≡ earlier ++ i ∷ later
+    → IsTold w parts earlier i later

@@ -22,9 +22,11 @@ pub record Tally : Type 0 where
 abbrev pub no_tally : Tally
 no_tally = record { below = 0; above = 0; many = 0; each = None; reach = no_reach }
 
--- one number of this range: it adds up to no less than the range's low end or 0, and to no more than its high end or 0. `down` is how far a number lies below 0, and `up` how far above
+-- one number of this range: it adds up to no less than the range's low end or 0, and to no more
+-- than its high end or 0. `down` is how far a number lies below 0, and `up` how far above
 abbrev pub once : Range → Reach → Tally
-once r reach = record { below = down r.low; above = up r.high; many = 1; each = Some r; reach = reach }
+once r reach =
+    record { below = down r.low; above = up r.high; many = 1; each = Some r; reach = reach }
 
 abbrev pub joined_range : Option Range → Option Range → Option Range
 joined_range None s = s
@@ -32,10 +34,22 @@ joined_range (Some r) None = Some r
 joined_range (Some r) (Some s) = Some (hull r s)
 
 abbrev pub plus : Tally → Tally → Tally
-plus a b = record { below = a.below + b.below; above = a.above + b.above; many = a.many + b.many; each = joined_range a.each b.each; reach = joined_reach a.reach b.reach }
+plus a b = record {
+  below = a.below + b.below;
+  above = a.above + b.above;
+  many = a.many + b.many;
+  each = joined_range a.each b.each;
+  reach = joined_reach a.reach b.reach;
+}
 
 abbrev pub times : ℕ → Tally → Tally
-times n a = record { below = n * a.below; above = n * a.above; many = n * a.many; each = a.each; reach = a.reach }
+times n a = record {
+  below = n * a.below;
+  above = n * a.above;
+  many = n * a.many;
+  each = a.each;
+  reach = a.reach;
+}
 
 -- one for each group and each of its aggregates, by their numbers
 abbrev pub Tallies : Type 0

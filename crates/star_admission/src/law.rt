@@ -15,7 +15,8 @@ ghost use Rattle.star_admission.specs.Standing.{AreTold, instructions_of, reason
 
 /// An admissible program runs to its end with no trap, over any loaded catalogue.
 ///
-/// It visits at most what is quoted, a bound of at least that never stops it, and at every moment its numbers and the sums of its updates lie in their ranges; so do all totals at the end.
+/// It visits at most what is quoted, a bound of at least that never stops it, and at every moment
+/// its numbers and the sums of its updates lie in their ranges; so do all totals at the end.
 pub fn admissible_programs_never_trap()
     ensures ends { (w : World) (parts : Parts)
         → IsAccepted w parts → EndsWithin (quote w.size parts) (run_of w parts) }
@@ -27,15 +28,23 @@ pub fn admissible_programs_never_trap()
         → IsAccepted w parts → EndsWith (run_of w parts) (TotalsLie w parts) }
 {}
 
-/// Nothing refuses a program exactly where it is admissible and its quote is within the limit on visits.
+/// Nothing refuses a program exactly where it is admissible and its quote is within the limit on
+/// visits.
 pub fn admissible_programs_within_the_limit_are_not_refused()
     ensures { (w : World) (most : ℕ) (parts : Parts)
-        → (first_refusal w most parts ≡ None) ↔ (IsAdmissible w parts × (quote w.size parts ≤ most)) }
+        → (first_refusal w most parts ≡ None)
+        ↔ (IsAdmissible w parts × (quote w.size parts ≤ most)) }
 {}
 
-/// The context of each instruction is told by the scans round it and the instructions before and after it, and the first that is refused in its context decides.
+/// The context of each instruction is told by the scans round it and the instructions before and
+/// after it, and the first that is refused in its context decides.
 ///
-/// Instructions are numbered in the order of the text. What is known of a register is what the last instruction before that writes it in scope makes, and where there is none nothing is known; what is written is in scope where all scans stand round that stand round its instruction, and a scan's row in the scan. What a group can add up to is the sum, over the puts before, of as often as each is met times what it adds; how often that is is the product of the row counts of the scans round it. A group is open where a later instruction puts to it, or one in a scan round.
+/// Instructions are numbered in the order of the text. What is known of a register is what the last
+/// instruction before that writes it in scope makes, and where there is none nothing is known; what
+/// is written is in scope where all scans stand round that stand round its instruction, and a
+/// scan's row in the scan. What a group can add up to is the sum, over the puts before, of as often
+/// as each is met times what it adds; how often that is is the product of the row counts of the
+/// scans round it. A group is open where a later instruction puts to it, or one in a scan round.
 pub fn instructions_are_judged_in_their_contexts()
     ensures told { (w : World) (parts : Parts) → AreTold w parts }
     ensures first { (w : World) (parts : Parts)

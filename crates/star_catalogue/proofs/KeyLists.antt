@@ -26,22 +26,26 @@ one n = n ∷ []
 abbrev pub two : ℤ × ℤ → List ℤ
 two p = p.0 ∷ p.1 ∷ []
 
-pub length-numbers_at : (place : ℕ) (rows : List (List Value)) → length (numbers_at place rows) ≡ length rows
+pub length-numbers_at : (place : ℕ) (rows : List (List Value)) → length (numbers_at place rows)
+    ≡ length rows
 unfolding numbers_at
 length-numbers_at place [] = refl
 length-numbers_at place (row ∷ rows) = ap suc (length-numbers_at place rows)
 
-pub length-texts_at : (place : ℕ) (rows : List (List Value)) → length (texts_at place rows) ≡ length rows
+pub length-texts_at : (place : ℕ) (rows : List (List Value)) → length (texts_at place rows)
+    ≡ length rows
 unfolding texts_at
 length-texts_at place [] = refl
 length-texts_at place (row ∷ rows) = ap suc (length-texts_at place rows)
 
-pub keys_of_one : (t : TableId) (c : ColumnId) (rows : List (List Value)) → key_of t ≡ One c → keys_of t rows ≡ map one (numbers_at (place_of c) rows)
+pub keys_of_one : (t : TableId) (c : ColumnId) (rows : List (List Value)) → key_of t ≡ One c
+    → keys_of t rows ≡ map one (numbers_at (place_of c) rows)
 unfolding keys_of numbers_at
 keys_of_one t c [] e = refl
 keys_of_one t c (row ∷ rows) e = λ i. key_numbers (e i) row ∷ keys_of_one t c rows e i
 
-pub keys_of_two : (t : TableId) (c d : ColumnId) (rows : List (List Value)) → key_of t ≡ Two c d → keys_of t rows ≡ map two (zip (numbers_at (place_of c) rows) (numbers_at (place_of d) rows))
+pub keys_of_two : (t : TableId) (c d : ColumnId) (rows : List (List Value)) → key_of t ≡ Two c d
+    → keys_of t rows ≡ map two (zip (numbers_at (place_of c) rows) (numbers_at (place_of d) rows))
 unfolding keys_of numbers_at
 keys_of_two t c d [] e = refl
 keys_of_two t c d (row ∷ rows) e = λ i. key_numbers (e i) row ∷ keys_of_two t c d rows e i
@@ -56,27 +60,49 @@ same_one m n = and_true (int_eq m n)
 same_two : (p q : ℤ × ℤ) → same_key (two p) (two q) ≡ same_pair p q
 same_two p q = ap (λ b. int_eq p.0 q.0 && b) (and_true (int_eq p.1 q.1))
 
-pub fault_of_one : (t : TableId) (c : ColumnId) (rows : List (List Value)) → key_of t ≡ One c → keys_fault t rows ≡ option_map (DuplicateKey t) (first_repeat int_eq (numbers_at (place_of c) rows))
-fault_of_one t c rows e = ap (option_map (DuplicateKey t)) (ap (first_repeat same_key) (keys_of_one t c rows e) ∙ first_repeat-map int_eq same_key one same_one (numbers_at (place_of c) rows))
+pub fault_of_one : (t : TableId) (c : ColumnId) (rows : List (List Value)) → key_of t ≡ One c
+    → keys_fault t rows
+    ≡ option_map (DuplicateKey t) (first_repeat int_eq (numbers_at (place_of c) rows))
+fault_of_one t c rows e =
+    ap (option_map (DuplicateKey t))
+    (ap (first_repeat same_key) (keys_of_one t c rows e)
+    ∙ first_repeat-map int_eq same_key one same_one (numbers_at (place_of c) rows))
 
 pub fault_of_two : (t : TableId) (c d : ColumnId) (rows : List (List Value)) → key_of t ≡ Two c d
-    → keys_fault t rows ≡ option_map (DuplicateKey t) (first_repeat same_pair (zip (numbers_at (place_of c) rows) (numbers_at (place_of d) rows)))
+    → keys_fault t rows
+    ≡ option_map (DuplicateKey t)
+    (first_repeat same_pair (zip (numbers_at (place_of c) rows) (numbers_at (place_of d) rows)))
 fault_of_two t c d rows e =
-    ap (option_map (DuplicateKey t)) (ap (first_repeat same_key) (keys_of_two t c d rows e) ∙ first_repeat-map same_pair same_key two same_two (zip (numbers_at (place_of c) rows) (numbers_at (place_of d) rows)))
+    ap (option_map (DuplicateKey t))
+    (ap (first_repeat same_key) (keys_of_two t c d rows e)
+    ∙ first_repeat-map same_pair same_key two same_two
+    (zip (numbers_at (place_of c) rows) (numbers_at (place_of d) rows)))
 
-pub apart_of_one : (t : TableId) (c : ColumnId) (rows : List (List Value)) → key_of t ≡ One c → AllPairs (λ a b. a ≢ b) (numbers_at (place_of c) rows) → HasDistinctKeys t rows
-apart_of_one t c rows e h = rw (keys_of_one t c rows e) (apart-map one (λ m n same. cc) (numbers_at (place_of c) rows) h)
+pub apart_of_one : (t : TableId) (c : ColumnId) (rows : List (List Value)) → key_of t ≡ One c
+    → AllPairs (λ a b. a ≢ b) (numbers_at (place_of c) rows) → HasDistinctKeys t rows
+apart_of_one t c rows e h =
+    rw (keys_of_one t c rows e) (apart-map one (λ m n same. cc) (numbers_at (place_of c) rows) h)
 
-pub apart_of_two : (t : TableId) (c d : ColumnId) (rows : List (List Value)) → key_of t ≡ Two c d → AllPairs (λ a b. a ≢ b) (zip (numbers_at (place_of c) rows) (numbers_at (place_of d) rows)) → HasDistinctKeys t rows
-apart_of_two t c d rows e h = rw (keys_of_two t c d rows e) (apart-map two pair_is (zip (numbers_at (place_of c) rows) (numbers_at (place_of d) rows)) h)
+pub apart_of_two : (t : TableId) (c d : ColumnId) (rows : List (List Value)) → key_of t ≡ Two c d
+    → AllPairs (λ a b. a ≢ b) (zip (numbers_at (place_of c) rows) (numbers_at (place_of d) rows))
+    → HasDistinctKeys t rows
+apart_of_two t c d rows e h =
+    rw (keys_of_two t c d rows e)
+    (apart-map two pair_is (zip (numbers_at (place_of c) rows) (numbers_at (place_of d) rows)) h)
   where
     pair_is : (p q : ℤ × ℤ) → two p ≡ two q → p ≡ q
-    pair_is p q same = let first : p.0 ≡ q.0 = cc in let second : p.1 ≡ q.1 = cc in λ i. (first i, second i)
+    pair_is p q same = let first : p.0 ≡ q.0 = cc in let second : p.1 ≡ q.1 =
+        cc in λ i. (first i, second i)
 
-pub length_of_two : (t : TableId) (c d : ColumnId) (rows : List (List Value)) → key_of t ≡ Two c d → All (λ key. length key ≡ 2) (keys_of t rows)
+pub length_of_two : (t : TableId) (c d : ColumnId) (rows : List (List Value)) → key_of t ≡ Two c d
+    → All (λ key. length key ≡ 2) (keys_of t rows)
 length_of_two t c d rows e =
-    rw (keys_of_two t c d rows e) (All-map (λ (key : List ℤ). length key ≡ 2) two (zip (numbers_at (place_of c) rows) (numbers_at (place_of d) rows)) (λ k p within. refl))
+    rw (keys_of_two t c d rows e)
+    (All-map (λ (key : List ℤ). length key ≡ 2) two
+    (zip (numbers_at (place_of c) rows) (numbers_at (place_of d) rows)) (λ k p within. refl))
 
 -- different keys have no fault
-pub distinct_no_fault : (t : TableId) (rows : List (List Value)) → HasDistinctKeys t rows → keys_fault t rows ≡ None
-distinct_no_fault t rows h = ap (option_map (DuplicateKey t)) (apart_no_repeat same_key signed_items (keys_of t rows) h)
+pub distinct_no_fault : (t : TableId) (rows : List (List Value)) → HasDistinctKeys t rows
+    → keys_fault t rows ≡ None
+distinct_no_fault t rows h =
+    ap (option_map (DuplicateKey t)) (apart_no_repeat same_key signed_items (keys_of t rows) h)

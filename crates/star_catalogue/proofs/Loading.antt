@@ -13,10 +13,13 @@ use Rattle.star_catalogue.proofs.KeyLists.{distinct_no_fault}
 use Rattle.star_catalogue.proofs.Refers.{none_absent, sound_none_absent}
 
 -- a table whose keys differ has no fault
-pub table_none : (t : TableId) (most : ℕ) (text : List ℕ) → IsTable t most text → HasDistinctKeys t (rows_of t text) → table_fault t most text ≡ None
-table_none t most text is_table distinct = rw (table_complete t most text is_table) (distinct_no_fault t (rows_of t text) distinct)
+pub table_none : (t : TableId) (most : ℕ) (text : List ℕ) → IsTable t most text
+    → HasDistinctKeys t (rows_of t text) → table_fault t most text ≡ None
+table_none t most text is_table distinct =
+    rw (table_complete t most text is_table) (distinct_no_fault t (rows_of t text) distinct)
 
-pub rows_in-database_of : (texts : TableId → List ℕ) (t : TableId) → rows_in (database_of texts) t ≡ rows_of t (texts t)
+pub rows_in-database_of : (texts : TableId → List ℕ) (t : TableId) → rows_in (database_of texts) t
+    ≡ rows_of t (texts t)
 rows_in-database_of texts Date = refl
 rows_in-database_of texts Customer = refl
 rows_in-database_of texts Supplier = refl
@@ -24,31 +27,41 @@ rows_in-database_of texts Part = refl
 rows_in-database_of texts Lineorder = refl
 
 -- the first fault, where the tables before have none
-pub at_date : (most : ℕ) (texts : TableId → List ℕ) (f : LoadFault) → table_fault Date most (texts Date) ≡ Some f → tables_fault most texts ≡ Some f
+pub at_date : (most : ℕ) (texts : TableId → List ℕ) (f : LoadFault)
+    → table_fault Date most (texts Date) ≡ Some f → tables_fault most texts ≡ Some f
 unfolding tables_fault first_answer
 at_date most texts f e = rw e refl
 
-pub at_customer : (most : ℕ) (texts : TableId → List ℕ) (f : LoadFault) → table_fault Date most (texts Date) ≡ None → table_fault Customer most (texts Customer) ≡ Some f → tables_fault most texts ≡ Some f
+pub at_customer : (most : ℕ) (texts : TableId → List ℕ) (f : LoadFault)
+    → table_fault Date most (texts Date) ≡ None
+    → table_fault Customer most (texts Customer) ≡ Some f → tables_fault most texts ≡ Some f
 unfolding tables_fault first_answer
 at_customer most texts f date e = rw (date, e) refl
 
-pub at_supplier : (most : ℕ) (texts : TableId → List ℕ) (f : LoadFault) → table_fault Date most (texts Date) ≡ None → table_fault Customer most (texts Customer) ≡ None
+pub at_supplier : (most : ℕ) (texts : TableId → List ℕ) (f : LoadFault)
+    → table_fault Date most (texts Date) ≡ None → table_fault Customer most (texts Customer) ≡ None
     → table_fault Supplier most (texts Supplier) ≡ Some f → tables_fault most texts ≡ Some f
 unfolding tables_fault first_answer
 at_supplier most texts f date customer e = rw (date, customer, e) refl
 
-pub at_part : (most : ℕ) (texts : TableId → List ℕ) (f : LoadFault) → table_fault Date most (texts Date) ≡ None → table_fault Customer most (texts Customer) ≡ None
-    → table_fault Supplier most (texts Supplier) ≡ None → table_fault Part most (texts Part) ≡ Some f → tables_fault most texts ≡ Some f
+pub at_part : (most : ℕ) (texts : TableId → List ℕ) (f : LoadFault)
+    → table_fault Date most (texts Date) ≡ None → table_fault Customer most (texts Customer) ≡ None
+    → table_fault Supplier most (texts Supplier) ≡ None
+    → table_fault Part most (texts Part) ≡ Some f → tables_fault most texts ≡ Some f
 unfolding tables_fault first_answer
 at_part most texts f date customer supplier e = rw (date, customer, supplier, e) refl
 
-pub at_lineorder : (most : ℕ) (texts : TableId → List ℕ) (f : LoadFault) → table_fault Date most (texts Date) ≡ None → table_fault Customer most (texts Customer) ≡ None
-    → table_fault Supplier most (texts Supplier) ≡ None → table_fault Part most (texts Part) ≡ None → table_fault Lineorder most (texts Lineorder) ≡ Some f → tables_fault most texts ≡ Some f
+pub at_lineorder : (most : ℕ) (texts : TableId → List ℕ) (f : LoadFault)
+    → table_fault Date most (texts Date) ≡ None → table_fault Customer most (texts Customer) ≡ None
+    → table_fault Supplier most (texts Supplier) ≡ None → table_fault Part most (texts Part) ≡ None
+    → table_fault Lineorder most (texts Lineorder) ≡ Some f → tables_fault most texts ≡ Some f
 unfolding tables_fault first_answer
-at_lineorder most texts f date customer supplier part e = rw (date, customer, supplier, part, e) refl
+at_lineorder most texts f date customer supplier part e =
+    rw (date, customer, supplier, part, e) refl
 
 -- tables whose keys differ have no fault
-pub tables_none : (most : ℕ) (texts : TableId → List ℕ) → AreTables most texts → ((t : TableId) → HasDistinctKeys t (rows_of t (texts t))) → tables_fault most texts ≡ None
+pub tables_none : (most : ℕ) (texts : TableId → List ℕ) → AreTables most texts
+    → ((t : TableId) → HasDistinctKeys t (rows_of t (texts t))) → tables_fault most texts ≡ None
 unfolding tables_fault first_answer
 tables_none most texts are distinct =
     rw (
@@ -59,24 +72,39 @@ tables_none most texts are distinct =
       table_none Lineorder most (texts Lineorder) (are Lineorder) (distinct Lineorder),
     ) refl
 
-distinct_of : (texts : TableId → List ℕ) → IsSound (database_of texts) → (t : TableId) → HasDistinctKeys t (rows_of t (texts t))
+distinct_of : (texts : TableId → List ℕ) → IsSound (database_of texts)
+    → (t : TableId) → HasDistinctKeys t (rows_of t (texts t))
 distinct_of texts sound t = rw (rows_in-database_of texts t) at (sound.distinct t)
 
 -- loadable texts have no fault
-pub loadable_none : (most : ℕ) (texts : TableId → List ℕ) → IsLoadable most texts → load_fault most texts ≡ None
-loadable_none most texts h = rw (tables_none most texts h.tables (distinct_of texts h.sound)) (sound_none_absent (database_of texts) h.sound)
+pub loadable_none : (most : ℕ) (texts : TableId → List ℕ) → IsLoadable most texts
+    → load_fault most texts ≡ None
+loadable_none most texts h =
+    rw (tables_none most texts h.tables (distinct_of texts h.sound))
+    (sound_none_absent (database_of texts) h.sound)
 
 -- how texts with a fault are refused
-pub refused : (most : ℕ) (texts : TableId → List ℕ) (f : LoadFault) → load_fault most texts ≡ Some f → (load_fault most texts ≡ Some f) × ¬ IsLoadable most texts
+pub refused : (most : ℕ) (texts : TableId → List ℕ) (f : LoadFault) → load_fault most texts ≡ Some f
+    → (load_fault most texts ≡ Some f) × ¬ IsLoadable most texts
 refused most texts f e = (e, λ loadable. let none = loadable_none most texts loadable in cc)
 
-pub refused_table : (most : ℕ) (texts : TableId → List ℕ) (f : LoadFault) → tables_fault most texts ≡ Some f → (load_fault most texts ≡ Some f) × ¬ IsLoadable most texts
+pub refused_table : (most : ℕ) (texts : TableId → List ℕ) (f : LoadFault)
+    → tables_fault most texts ≡ Some f → (load_fault most texts ≡ Some f) × ¬ IsLoadable most texts
 refused_table most texts f e = refused most texts f (rw e refl)
 
-pub refused_key : (most : ℕ) (texts : TableId → List ℕ) (f : LoadFault) → AreTables most texts → ((t : TableId) → HasDistinctKeys t (rows_of t (texts t))) → absent_fault (database_of texts) ≡ Some f
+pub refused_key : (most : ℕ) (texts : TableId → List ℕ) (f : LoadFault) → AreTables most texts
+    → ((t : TableId) → HasDistinctKeys t (rows_of t (texts t)))
+    → absent_fault (database_of texts) ≡ Some f
     → (load_fault most texts ≡ Some f) × ¬ IsLoadable most texts
-refused_key most texts f are distinct e = refused most texts f (rw (tables_none most texts are distinct) e)
+refused_key most texts f are distinct e =
+    refused most texts f (rw (tables_none most texts are distinct) e)
 
 -- rows without a fault are sound
-pub loaded_sound : (texts : TableId → List ℕ) → ((t : TableId) → HasDistinctKeys t (rows_of t (texts t))) → absent_fault (database_of texts) ≡ None → IsSound (database_of texts)
-loaded_sound texts distinct none = record { distinct = λ t. rw (rows_in-database_of texts t) (distinct t); found = none_absent (database_of texts) none }
+pub loaded_sound : (texts : TableId → List ℕ)
+    → ((t : TableId) → HasDistinctKeys t (rows_of t (texts t)))
+    → absent_fault (database_of texts) ≡ None → IsSound (database_of texts)
+loaded_sound texts distinct none =
+    record {
+      distinct = λ t. rw (rows_in-database_of texts t) (distinct t);
+      found = none_absent (database_of texts) none;
+    }

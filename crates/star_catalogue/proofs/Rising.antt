@@ -11,13 +11,17 @@ use Rattle.star_catalogue.specs.Private.Keys.{pair_cmp}
 
 -- each pair before a place is greater than the pair before it
 pub record RiseBefore (place : ℕ) (pairs : List (ℤ × ℤ)) : Type 0 where
-  pub rise : (k : ℕ) (a b : ℤ × ℤ) → k + 1 < place → slice_get pairs k ≡ Some a → slice_get pairs (k + 1) ≡ Some b → pair_cmp a b ≡ Less
+  pub rise : (k : ℕ) (a b : ℤ × ℤ) → k + 1 < place → slice_get pairs k ≡ Some a
+      → slice_get pairs (k + 1) ≡ Some b → pair_cmp a b ≡ Less
 
 pair_total : IsTotalOrder pair_cmp
-pair_total = then_total (on_total (λ (p : ℤ × ℤ). p.0) int_cmp_total) (on_total (λ (p : ℤ × ℤ). p.1) int_cmp_total)
+pair_total =
+    then_total (on_total (λ (p : ℤ × ℤ). p.0) int_cmp_total)
+    (on_total (λ (p : ℤ × ℤ). p.1) int_cmp_total)
 
 not_below_itself : (a : ℤ × ℤ) → pair_cmp a a ≡ Less → ⊥
-not_below_itself a e = let turned : Less ≡ ordering_reverse Less = sym e ∙ pair_total.antisymm a a ∙ ap ordering_reverse e in cc turned
+not_below_itself a e = let turned : Less ≡ ordering_reverse Less =
+    sym e ∙ pair_total.antisymm a a ∙ ap ordering_reverse e in cc turned
 
 pub none_rise : (pairs : List (ℤ × ℤ)) → RiseBefore 1 pairs
 none_rise pairs = record { rise = λ k a b h. absurd (omega arith) }
@@ -25,7 +29,8 @@ none_rise pairs = record { rise = λ k a b h. absurd (omega arith) }
 below_or_at : (k place : ℕ) → k + 1 < place + 1 → (k + 1 < place) ⊎ (k + 1 ≡ place)
 below_or_at k place h = search arith
 
-pub rise_more : (place : ℕ) (pairs : List (ℤ × ℤ)) (before here : ℤ × ℤ) → RiseBefore place pairs → 1 ≤ place → slice_get pairs (place - 1) ≡ Some before → slice_get pairs place ≡ Some here
+pub rise_more : (place : ℕ) (pairs : List (ℤ × ℤ)) (before here : ℤ × ℤ) → RiseBefore place pairs
+    → 1 ≤ place → slice_get pairs (place - 1) ≡ Some before → slice_get pairs place ≡ Some here
     → pair_cmp before here ≡ Less → RiseBefore (place + 1) pairs
 rise_more place pairs before here h some at_before at_here less =
     record {
@@ -39,8 +44,12 @@ rise_more place pairs before here h some at_before at_here less =
       ];
     }
 
-pub rising_apart : (place : ℕ) (pairs : List (ℤ × ℤ)) → RiseBefore place pairs → length pairs ≤ place → AllPairs (λ a b. a ≢ b) pairs
+pub rising_apart : (place : ℕ) (pairs : List (ℤ × ℤ)) → RiseBefore place pairs
+    → length pairs ≤ place → AllPairs (λ a b. a ≢ b) pairs
 rising_apart place pairs h all = λ i j d before within e.
-    let sorted = sorted_from_all_adjacent pair_total pairs d (λ k next. h.rise k (get_or pairs k d) (get_or pairs (k + 1) d) (omega arith) (slice_get-get_or pairs k d (omega arith)) (slice_get-get_or pairs (k + 1) d next)) in
+    let sorted =
+    sorted_from_all_adjacent pair_total pairs d
+    (λ k next. h.rise k (get_or pairs k d) (get_or pairs (k + 1) d) (omega arith)
+    (slice_get-get_or pairs k d (omega arith)) (slice_get-get_or pairs (k + 1) d next)) in
     let less = Less-from_sorted pair_cmp pairs i j d sorted before within in
     not_below_itself (get_or pairs i d) (ap (pair_cmp (get_or pairs i d)) e ∙ less)

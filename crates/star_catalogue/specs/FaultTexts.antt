@@ -14,11 +14,15 @@ table_text fault t = fault ++ (codes " table " ++ table_name t)
 
 -- a fault of a record
 unfoldable pub record_text : List ℕ → TableId → ℕ → List ℕ
-record_text fault t at_row = fault ++ (codes " table " ++ (table_name t ++ (codes " record " ++ decimal at_row)))
+record_text fault t at_row =
+    fault ++ (codes " table " ++ (table_name t ++ (codes " record " ++ decimal at_row)))
 
 -- a fault of a cell
 unfoldable pub cell_text : List ℕ → TableId → ℕ → ℕ → List ℕ
-cell_text fault t at_row field = fault ++ (codes " table " ++ (table_name t ++ (codes " record " ++ (decimal at_row ++ (codes " field " ++ decimal field)))))
+cell_text fault t at_row field =
+    fault ++ (codes " table "
+    ++ (table_name t
+    ++ (codes " record " ++ (decimal at_row ++ (codes " field " ++ decimal field)))))
 
 abbrev pub read_text : TableId → ReadFault → List ℕ
 read_text t read.OutOfMemory = table_text (codes "1 OutOfMemory") t
@@ -34,4 +38,5 @@ abbrev pub fault_text : LoadFault → List ℕ
 fault_text OutOfMemory = codes "1 OutOfMemory"
 fault_text (Read t fault) = read_text t fault
 fault_text (DuplicateKey t at_row) = record_text (codes "8 DuplicateKey") t at_row
-fault_text (AbsentKey at_row c) = record_text (codes "9 AbsentKey") Lineorder at_row ++ (codes " column " ++ column_name c)
+fault_text (AbsentKey at_row c) =
+    record_text (codes "9 AbsentKey") Lineorder at_row ++ (codes " column " ++ column_name c)

@@ -32,11 +32,13 @@ same_key = pointwise int_eq
 
 -- the number of a record whose key stands among the keys of earlier records
 abbrev pub repeat_at : {K : Type 0} → (K → K → Bool) → List K → ℕ → K → Option ℕ
-repeat_at same keys place key = if list_any (same key) (take place keys) then Some (place + 1) else None
+repeat_at same keys place key =
+    if list_any (same key) (take place keys) then Some (place + 1) else None
 
 -- the number of the first record whose key an earlier one has
 unfoldable pub first_repeat : {K : Type 0} → (K → K → Bool) → List K → Option ℕ
-first_repeat same keys = first_answer (λ (place, key). repeat_at same keys place key) (enumerate_from 0 keys)
+first_repeat same keys =
+    first_answer (λ (place, key). repeat_at same keys place key) (enumerate_from 0 keys)
 
 -- the first fault of the keys of a table
 abbrev pub keys_fault : TableId → List (List Value) → Option LoadFault
@@ -44,7 +46,8 @@ keys_fault t rows = option_map (DuplicateKey t) (first_repeat same_key (keys_of 
 
 -- the first fault of the text of a table: as a table, and then in its keys
 abbrev pub table_fault : TableId → ℕ → List ℕ → Option LoadFault
-table_fault t most text = option_or (option_map (Read t) (text_fault t most text)) (keys_fault t (rows_of t text))
+table_fault t most text =
+    option_or (option_map (Read t) (text_fault t most text)) (keys_fault t (rows_of t text))
 
 -- whether a number is a key of the table that a column refers to, if it refers to one
 abbrev pub is_found : Database → Option TableId → ℤ → Bool
@@ -53,7 +56,8 @@ is_found database None n = true
 
 -- the fault of a record of lineorder in a column
 abbrev pub cell_fault : Database → ℕ → List Value → ColumnId → Option LoadFault
-cell_fault database at_row row c = if is_found database (references c) (number_at c row) then None else Some (AbsentKey at_row c)
+cell_fault database at_row row c =
+    if is_found database (references c) (number_at c row) then None else Some (AbsentKey at_row c)
 
 -- the first fault of the foreign keys of a record of lineorder
 abbrev pub row_fault : Database → ℕ → List Value → Option LoadFault
@@ -61,7 +65,9 @@ row_fault database at_row row = first_answer (cell_fault database at_row row) fo
 
 -- the first fault of the foreign keys of five tables, by record and then by column
 unfoldable pub absent_fault : Database → Option LoadFault
-absent_fault database = first_answer (λ (at_row, row). row_fault database at_row row) (enumerate_from 1 (rows_in database Lineorder))
+absent_fault database =
+    first_answer (λ (at_row, row). row_fault database at_row row)
+    (enumerate_from 1 (rows_in database Lineorder))
 
 -- the first fault of the tables of five texts, in the order of the tables
 unfoldable pub tables_fault : ℕ → (TableId → List ℕ) → Option LoadFault

@@ -41,12 +41,15 @@ impl Model for Catalogue {
 }
 
 impl Catalogue {
-    /// The tables that five texts are, or the first fault: of the tables in their order, and then of the foreign keys by
-    /// record and then by column.
+    /// The tables that five texts are, or the first fault: of the tables in their order, and then
+    /// of the foreign keys by record and then by column.
     pub fn load(alloc: Global, texts: &Texts<'_>, limits: Limits) -> Result<Catalogue, LoadFault>
         ensures loadable { IfOk result (λ catalogue. IsLoadable limits.rows (text_of texts.now)) }
         ensures rows { IfOk result (λ catalogue. catalogue ≡ database_of (text_of texts.now)) }
-        ensures refused { IfErr result (λ fault. UnlessMemory LoadFault.OutOfMemory fault ((load_fault limits.rows (text_of texts.now) ≡ Some fault) × ¬ IsLoadable limits.rows (text_of texts.now))) }
+        ensures refused { IfErr result
+            (λ fault. UnlessMemory LoadFault.OutOfMemory fault
+            ((load_fault limits.rows (text_of texts.now) ≡ Some fault)
+            × ¬ IsLoadable limits.rows (text_of texts.now))) }
     {
         let loaded = Tables::load(alloc, texts, limits)?;
         let tables = Box::new(alloc, loaded)?;
@@ -54,8 +57,8 @@ impl Catalogue {
         Ok(Catalogue { tables })
     }
 
-    /// What holds of every catalogue: each row of a table has a value for each column, of the column's kind; keys tell
-    /// the rows of each table apart, and each foreign key is found.
+    /// What holds of every catalogue: each row of a table has a value for each column, of the
+    /// column's kind; keys tell the rows of each table apart, and each foreign key is found.
     pub fn law(&self)
         ensures sound { IsSound self.now }
         ensures rows { (table : TableId) → All (IsRowOf table) (rows_in self.now table) }
@@ -87,18 +90,22 @@ impl Catalogue {
     pub fn number(&self, column: ColumnId, row: u32) -> i64
         requires kind { kind_of column ≡ Kind.Number }
         requires row { row < length (rows_in self.now (table_of column)) }
-        ensures { slice_get (numbers_of column (rows_in self.now (table_of column))) row ≡ Some result }
+        ensures { slice_get (numbers_of column (rows_in self.now (table_of column))) row
+            ≡ Some result }
     {
         self.tables.numbers(column).at(row)
     }
 
-    /// The code of the text of a row, from 0, in a column of texts: its place in the column's dictionary.
+    /// The code of the text of a row, from 0, in a column of texts: its place in the column's
+    /// dictionary.
     pub fn code(&self, column: ColumnId, row: u32) -> u32
         requires kind { kind_of column ≡ Kind.Text }
         requires row { row < length (rows_in self.now (table_of column)) }
-        ensures stands { slice_get (dictionary_of (texts_of column (rows_in self.now (table_of column)))) result
+        ensures stands { slice_get
+            (dictionary_of (texts_of column (rows_in self.now (table_of column)))) result
             ≡ slice_get (texts_of column (rows_in self.now (table_of column))) row }
-        ensures within { result < length (dictionary_of (texts_of column (rows_in self.now (table_of column)))) }
+        ensures within { result
+            < length (dictionary_of (texts_of column (rows_in self.now (table_of column)))) }
     {
         self.tables.texts(column).code_at(row)
     }
@@ -106,7 +113,8 @@ impl Catalogue {
     /// The text that a code stands for in a column of texts.
     pub fn text(&self, column: ColumnId, code: u32) -> &[u8]
         requires kind { kind_of column ≡ Kind.Text }
-        requires code { code < length (dictionary_of (texts_of column (rows_in self.now (table_of column)))) }
+        requires code { code
+            < length (dictionary_of (texts_of column (rows_in self.now (table_of column)))) }
         ensures { HasCode (texts_of column (rows_in self.now (table_of column))) result.now code }
     {
         self.tables.texts(column).text_of(code)
@@ -115,7 +123,9 @@ impl Catalogue {
     /// How many texts of a column's dictionary are less than this one.
     pub fn low(&self, column: ColumnId, text: &[u8]) -> u32
         requires { kind_of column ≡ Kind.Text }
-        ensures { result ≡ low_in (dictionary_of (texts_of column (rows_in self.now (table_of column)))) text.now }
+        ensures { result
+            ≡ low_in (dictionary_of (texts_of column (rows_in self.now (table_of column))))
+            text.now }
     {
         self.tables.texts(column).low(text)
     }
@@ -123,7 +133,9 @@ impl Catalogue {
     /// How many texts of a column's dictionary are less than this one or equal to it.
     pub fn high(&self, column: ColumnId, text: &[u8]) -> u32
         requires { kind_of column ≡ Kind.Text }
-        ensures { result ≡ high_in (dictionary_of (texts_of column (rows_in self.now (table_of column)))) text.now }
+        ensures { result
+            ≡ high_in (dictionary_of (texts_of column (rows_in self.now (table_of column))))
+            text.now }
     {
         self.tables.texts(column).high(text)
     }
@@ -131,24 +143,28 @@ impl Catalogue {
     /// How many texts a column's dictionary has: those of the column, each counted once.
     pub fn entries(&self, column: ColumnId) -> u32
         requires { kind_of column ≡ Kind.Text }
-        ensures { result ≡ length (dictionary_of (texts_of column (rows_in self.now (table_of column)))) }
+        ensures { result
+            ≡ length (dictionary_of (texts_of column (rows_in self.now (table_of column)))) }
     {
         self.tables.texts(column).entries()
     }
 
-    /// The least and the greatest number of a column of numbers, 0 and 0 where its table has no rows.
+    /// The least and the greatest number of a column of numbers, 0 and 0 where its table has no
+    /// rows.
     pub fn bounds(&self, column: ColumnId) -> Interval
         requires { kind_of column ≡ Kind.Number }
         ensures low { result.low ≡ least (numbers_of column (rows_in self.now (table_of column))) }
-        ensures high { result.high ≡ greatest (numbers_of column (rows_in self.now (table_of column))) }
+        ensures high { result.high
+            ≡ greatest (numbers_of column (rows_in self.now (table_of column))) }
     {
         self.tables.numbers(column).bounds()
     }
 
-    /// The row of a table, from 0, whose key is this number, if there is one. The keys of lineorder are pairs, so there is
-    /// none in it.
+    /// The row of a table, from 0, whose key is this number, if there is one. The keys of lineorder
+    /// are pairs, so there is none in it.
     pub fn find(&self, table: TableId, key: i64) -> Option<u32>
-        ensures { (row : ℕ) → (result ≡ Some row) ↔ (slice_get (keys_of table (rows_in self.now table)) row ≡ Some (key ∷ [])) }
+        ensures { (row : ℕ) → (result ≡ Some row)
+            ↔ (slice_get (keys_of table (rows_in self.now table)) row ≡ Some (key ∷ [])) }
     {
         self.tables.find(table, key)
     }

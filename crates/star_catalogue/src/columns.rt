@@ -16,7 +16,8 @@ pub enum Column {
 }
 
 impl Column {
-    /// The column of the values that were read, of which there are at most 4,294,967,295. Their buffers are let go.
+    /// The column of the values that were read, of which there are at most 4,294,967,295. Their
+    /// buffers are let go.
     pub(crate) fn build(alloc: Global, raw: RawColumn) -> Result<Column, AllocError>
         requires { length (raw_values raw) < 2 ^ 32 }
         ensures kind { IfOk result (λ column. kind_of column ≡ raw_kind raw) }
@@ -29,7 +30,8 @@ impl Column {
     }
 }
 
-/// The columns of the values that were read. The buffers of each are let go before the next is built.
+/// The columns of the values that were read. The buffers of each are let go before the next is
+/// built.
 pub(crate) fn build_columns(alloc: Global, raw: Vec<RawColumn>) -> Result<Vec<Column>, AllocError>
     requires { All (λ raw. length (raw_values raw) < 2 ^ 32) raw.items }
     ensures kinds { IfOk result (λ columns. map kind_of columns.items ≡ map raw_kind raw.items) }

@@ -27,7 +27,8 @@ fn distinct<K: Copy + Eq + Hash + Drop>(
     requires { length keys.now < 2 ^ 32 }
     ensures { MatchResult result
         (λ set. (set.keys ≡ keys.now) × IsDistinct K.eq keys.now)
-        (λ fault. UnlessMemory LoadFault.OutOfMemory fault (option_map (LoadFault.DuplicateKey table) (first_repeat K.eq keys.now) ≡ Some fault)) }
+        (λ fault. UnlessMemory LoadFault.OutOfMemory fault
+        (option_map (LoadFault.DuplicateKey table) (first_repeat K.eq keys.now) ≡ Some fault)) }
 {
     let mut set = IndexSet::with_capacity(alloc, keys.len())?;
     for (place, key) in keys.iter().enumerate() {
@@ -42,7 +43,8 @@ fn distinct<K: Copy + Eq + Hash + Drop>(
     Ok(set)
 }
 
-/// Different numbers, at most 4,294,967,295 of them, each with its place from 0. A contract sees them as a list.
+/// Different numbers, at most 4,294,967,295 of them, each with its place from 0. A contract sees
+/// them as a list.
 #[derive(Drop)]
 pub struct KeyIndex {
     keys: IndexSet<i64>,
@@ -66,7 +68,9 @@ impl KeyIndex {
         requires { length keys.now < 2 ^ 32 }
         ensures { MatchResult result
             (λ index. (index ≡ keys.now) × IsDistinct int_eq keys.now)
-            (λ fault. UnlessMemory LoadFault.OutOfMemory fault (option_map (LoadFault.DuplicateKey table) (first_repeat int_eq keys.now) ≡ Some fault)) }
+            (λ fault. UnlessMemory LoadFault.OutOfMemory fault
+            (option_map (LoadFault.DuplicateKey table) (first_repeat int_eq keys.now)
+            ≡ Some fault)) }
     {
         Ok(KeyIndex {
             keys: distinct(alloc, table, keys)?,
@@ -126,7 +130,8 @@ fn pairs_of(alloc: Global, firsts: &[i64], seconds: &[i64]) -> Result<Vec<(i64, 
         .collect(alloc)
 }
 
-/// Checks that no two of the pairs of numbers at one place are equal. Pairs that rise take no memory.
+/// Checks that no two of the pairs of numbers at one place are equal. Pairs that rise take no
+/// memory.
 pub(crate) fn check_pairs(
     alloc: Global,
     table: TableId,
@@ -137,7 +142,9 @@ pub(crate) fn check_pairs(
     requires few { length firsts.now < 2 ^ 32 }
     ensures { MatchResult result
         (λ _. AllPairs (λ a b. a ≢ b) (zip firsts.now seconds.now))
-        (λ fault. UnlessMemory LoadFault.OutOfMemory fault (option_map (LoadFault.DuplicateKey table) (first_repeat same_pair (zip firsts.now seconds.now)) ≡ Some fault)) }
+        (λ fault. UnlessMemory LoadFault.OutOfMemory fault
+        (option_map (LoadFault.DuplicateKey table)
+        (first_repeat same_pair (zip firsts.now seconds.now)) ≡ Some fault)) }
 {
     if is_rising(firsts, seconds) {
         return Ok(());
@@ -161,8 +168,10 @@ impl Keys {
     pub(crate) fn build(alloc: Global, raw: &RawTable) -> Result<Keys, LoadFault>
         requires { length raw.now.rows < 2 ^ 32 }
         ensures { MatchResult result
-            (λ keys. AreKept keys (keys_of raw.now.table raw.now.rows) × HasDistinctKeys raw.now.table raw.now.rows)
-            (λ fault. UnlessMemory LoadFault.OutOfMemory fault (keys_fault raw.now.table raw.now.rows ≡ Some fault)) }
+            (λ keys. AreKept keys (keys_of raw.now.table raw.now.rows)
+            × HasDistinctKeys raw.now.table raw.now.rows)
+            (λ fault. UnlessMemory LoadFault.OutOfMemory fault
+            (keys_fault raw.now.table raw.now.rows ≡ Some fault)) }
     {
         let table = raw.table();
         match key_of(table) {

@@ -1,4 +1,5 @@
-//! The five tables in memory: sound ones, whose keys tell their rows apart and whose foreign keys are all found.
+//! The five tables in memory: sound ones, whose keys tell their rows apart and whose foreign keys
+//! are all found.
 #![tactic(auto)]
 
 mod catalogue;

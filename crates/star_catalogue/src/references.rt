@@ -33,7 +33,8 @@ fn check_cell(tables: &Tables, row: u32, column: ColumnId) -> Result<(), LoadFau
     requires few { row + 1 < 2 ^ 32 }
     requires table { table_of column ≡ TableId.Lineorder }
     requires kind { kind_of column ≡ Kind.Number }
-    ensures { let values = slice_index_or (rows_in tables.now TableId.Lineorder) row [] in MatchResult result
+    ensures { let values = slice_index_or (rows_in tables.now TableId.Lineorder) row [] in
+        MatchResult result
         (λ _. cell_fault tables.now (row + 1) values column ≡ None)
         (λ fault. cell_fault tables.now (row + 1) values column ≡ Some fault) }
 {
@@ -54,7 +55,8 @@ fn check_cell(tables: &Tables, row: u32, column: ColumnId) -> Result<(), LoadFau
 fn check_row(tables: &Tables, row: u32) -> Result<(), LoadFault>
     requires row { row < length (rows_in tables.now TableId.Lineorder) }
     requires few { row + 1 < 2 ^ 32 }
-    ensures { let values = slice_index_or (rows_in tables.now TableId.Lineorder) row [] in MatchResult result
+    ensures { let values = slice_index_or (rows_in tables.now TableId.Lineorder) row [] in
+        MatchResult result
         (λ _. row_fault tables.now (row + 1) values ≡ None)
         (λ fault. row_fault tables.now (row + 1) values ≡ Some fault) }
 {

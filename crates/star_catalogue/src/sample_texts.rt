@@ -33,7 +33,8 @@ const LINEORDER: &str = concat!(
     "3|2|1|2|1|19971215|1-URGENT|0|1|700|3700|10|630|100|1|19971215|AIR|\n",
 );
 
-/// The texts of the sample: three dates, three customers, two suppliers, three parts and five lines of orders.
+/// The texts of the sample: three dates, three customers, two suppliers, three parts and five lines
+/// of orders.
 pub fn sample() -> Texts<'static> {
     Texts {
         date: DATE.as_bytes(),

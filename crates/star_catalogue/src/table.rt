@@ -20,7 +20,8 @@ use star_schema::{ColumnId, Kind, Limits, TableId, place_of};
 use std::alloc::Global;
 use std::marker::Model;
 
-/// A table in memory, by columns, with an index of its keys. A contract sees which table it is, and the list of its rows.
+/// A table in memory, by columns, with an index of its keys. A contract sees which table it is, and
+/// the list of its rows.
 #[derive(Drop)]
 pub struct LoadedTable {
     table: TableId,
@@ -44,8 +45,10 @@ impl Model for LoadedTable {
 /// The table that a text is, or its first fault.
 fn read(alloc: Global, text: &[u8], table: TableId, limits: Limits) -> Result<RawTable, LoadFault>
     ensures { MatchResult result
-        (λ raw. IsTable table limits.rows text.now × (raw.table ≡ table) × (raw.rows ≡ rows_of table text.now))
-        (λ fault. UnlessMemory LoadFault.OutOfMemory fault (option_map (LoadFault.Read table) (text_fault table limits.rows text.now) ≡ Some fault)) }
+        (λ raw. IsTable table limits.rows text.now × (raw.table ≡ table)
+        × (raw.rows ≡ rows_of table text.now))
+        (λ fault. UnlessMemory LoadFault.OutOfMemory fault
+        (option_map (LoadFault.Read table) (text_fault table limits.rows text.now) ≡ Some fault)) }
 {
     match read_table(alloc, text, table, limits) {
         Ok(raw) => Ok(raw),
@@ -54,11 +57,13 @@ fn read(alloc: Global, text: &[u8], table: TableId, limits: Limits) -> Result<Ra
     }
 }
 
-/// The table that was read, whose keys all differ, or the first record whose key an earlier one has.
+/// The table that was read, whose keys all differ, or the first record whose key an earlier one
+/// has.
 fn keep(alloc: Global, raw: RawTable) -> Result<LoadedTable, LoadFault>
     ensures { MatchResult result
         (λ loaded. (loaded ≡ raw) × HasDistinctKeys raw.table raw.rows)
-        (λ fault. UnlessMemory LoadFault.OutOfMemory fault (keys_fault raw.table raw.rows ≡ Some fault)) }
+        (λ fault. UnlessMemory LoadFault.OutOfMemory fault
+        (keys_fault raw.table raw.rows ≡ Some fault)) }
 {
     let table = raw.table();
     let rows = raw.rows();
@@ -73,8 +78,8 @@ fn keep(alloc: Global, raw: RawTable) -> Result<LoadedTable, LoadFault>
 }
 
 impl LoadedTable {
-    /// The table that a text is, or its first fault: as a table, and then in its keys. It is boxed, so that letting go of
-    /// it is one call.
+    /// The table that a text is, or its first fault: as a table, and then in its keys. It is boxed,
+    /// so that letting go of it is one call.
     pub(crate) fn load(
         alloc: Global,
         text: &[u8],
@@ -82,8 +87,11 @@ impl LoadedTable {
         limits: Limits,
     ) -> Result<Box<LoadedTable>, LoadFault>
         ensures { MatchResult result
-            (λ loaded. IsTable table limits.rows text.now × (loaded.value.table ≡ table) × (loaded.value.rows ≡ rows_of table text.now) × HasDistinctKeys table (rows_of table text.now))
-            (λ fault. UnlessMemory LoadFault.OutOfMemory fault (table_fault table limits.rows text.now ≡ Some fault)) }
+            (λ loaded. IsTable table limits.rows text.now × (loaded.value.table ≡ table)
+            × (loaded.value.rows ≡ rows_of table text.now)
+            × HasDistinctKeys table (rows_of table text.now))
+            (λ fault. UnlessMemory LoadFault.OutOfMemory fault
+            (table_fault table limits.rows text.now ≡ Some fault)) }
     {
         let raw = read(alloc, text, table, limits)?;
         let loaded = keep(alloc, raw)?;
@@ -130,7 +138,8 @@ impl LoadedTable {
 
     /// The row with a key of one number, if there is one.
     pub(crate) fn find(&self, key: i64) -> Option<u32>
-        ensures { (row : ℕ) → (result ≡ Some row) ↔ (slice_get (keys_of self.now.table self.now.rows) row ≡ Some (key ∷ [])) }
+        ensures { (row : ℕ) → (result ≡ Some row)
+            ↔ (slice_get (keys_of self.now.table self.now.rows) row ≡ Some (key ∷ [])) }
     {
         self.keys.find(key)
     }

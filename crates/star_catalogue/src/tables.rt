@@ -19,7 +19,8 @@ use star_schema::{ColumnId, Kind, Limits, TableId, table_of};
 use std::alloc::Global;
 use std::marker::Model;
 
-/// Five tables in memory, whose foreign keys may refer to nothing. A contract sees the rows of each.
+/// Five tables in memory, whose foreign keys may refer to nothing. A contract sees the rows of
+/// each.
 #[derive(Drop)]
 pub struct Tables {
     date: LoadedTable,
@@ -52,7 +53,8 @@ impl Tables {
             (λ tables. AreTables limits.rows (text_of texts.now)
             × (tables ≡ database_of (text_of texts.now))
             × ((table : TableId) → HasDistinctKeys table (rows_of table (text_of texts.now table))))
-            (λ fault. UnlessMemory LoadFault.OutOfMemory fault (tables_fault limits.rows (text_of texts.now) ≡ Some fault)) }
+            (λ fault. UnlessMemory LoadFault.OutOfMemory fault
+            (tables_fault limits.rows (text_of texts.now) ≡ Some fault)) }
     {
         let date = LoadedTable::load(alloc, texts.date, TableId::Date, limits)?;
         let customer = LoadedTable::load(alloc, texts.customer, TableId::Customer, limits)?;
@@ -118,7 +120,8 @@ impl Tables {
 
     /// The row of a table with a key of one number, if there is one.
     pub(crate) fn find(&self, table: TableId, key: i64) -> Option<u32>
-        ensures { (row : ℕ) → (result ≡ Some row) ↔ (slice_get (keys_of table (rows_in self.now table)) row ≡ Some (key ∷ [])) }
+        ensures { (row : ℕ) → (result ≡ Some row)
+            ↔ (slice_get (keys_of table (rows_in self.now table)) row ≡ Some (key ∷ [])) }
     {
         self.table(table).find(key)
     }

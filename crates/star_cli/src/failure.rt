@@ -54,7 +54,8 @@ impl<'a> Failure<'a> {
         }
     }
 
-    /// Tells what happened: help and version on `out`, all else on `err`. What can't be written changes no status.
+    /// Tells what happened: help and version on `out`, all else on `err`. What can't be written
+    /// changes no status.
     pub(crate) fn tell(&self, out: &mut impl Write, err: &mut impl Write) {
         let _ = match self {
             Failure::Words(error) if error.use_stderr() => write!(err, "{error}"),

@@ -15,16 +15,24 @@ use Rattle.star_column.proofs.Places.{low_in-place, slice_get-low_in}
 
 module _ (texts : List (List ℕ)) where
   -- the code of a row whose text stands at a place of the dictionary is that place
-  pub slice_get-codes_of : (row code : ℕ) → slice_get (dictionary_of texts) code ≡ slice_get texts row → code < length (dictionary_of texts) → slice_get (codes_of texts) row ≡ Some (pos code)
+  pub slice_get-codes_of : (row code : ℕ)
+      → slice_get (dictionary_of texts) code ≡ slice_get texts row
+      → code < length (dictionary_of texts) → slice_get (codes_of texts) row ≡ Some (pos code)
   slice_get-codes_of row code stands within =
       let ds = dictionary_of texts in
       let there = slice_get-get_or ds code [] within in
-      let place = low_in-place ds (IsDictionary-dictionary_of texts).sorted code (get_or ds code []) there in
-      slice_get-map (λ text. pos (low_in ds text)) texts row ∙ ap (option_map (λ text. pos (low_in ds text))) (sym stands ∙ there) ∙ ap (λ n. Some (pos n)) place
+      let place = low_in-place ds (IsDictionary-dictionary_of texts).sorted code
+      (get_or ds code []) there in
+      slice_get-map (λ text. pos (low_in ds text)) texts row
+      ∙ ap (option_map (λ text. pos (low_in ds text))) (sym stands ∙ there)
+      ∙ ap (λ n. Some (pos n)) place
 
   -- a text of the column has its code for a place
-  pub has_code : (t : List ℕ) → Contains texts t → slice_get (dictionary_of texts) (low_in (dictionary_of texts) t) ≡ Some t
-  has_code t h = let made = IsDictionary-dictionary_of texts in slice_get-low_in (dictionary_of texts) made.sorted t ((made.holds t).1 h)
+  pub has_code : (t : List ℕ) → Contains texts t
+      → slice_get (dictionary_of texts) (low_in (dictionary_of texts) t) ≡ Some t
+  has_code t h = let made =
+      IsDictionary-dictionary_of texts in
+      slice_get-low_in (dictionary_of texts) made.sorted t ((made.holds t).1 h)
 
   -- each place of the dictionary is the code of some row
   code_used : (n : ℕ) → n < length (dictionary_of texts) → Contains (codes_of texts) (pos n)
@@ -34,15 +42,23 @@ module _ (texts : List (List ℕ)) where
       let d = get_or ds n [] in
       let there = (made.holds d).0 (Contains-get_or ds n [] h) in
       let code : get_or (codes_of texts) there.0 (pos n) ≡ pos n =
-      get_or-map (λ text. pos (low_in ds text)) texts there.0 d (pos n) there.1 ∙ ap (λ text. pos (low_in ds text)) there.2
+      get_or-map (λ text. pos (low_in ds text)) texts there.0 d (pos n) there.1
+      ∙ ap (λ text. pos (low_in ds text)) there.2
       ∙ ap pos (low_in-place ds made.sorted n d (slice_get-get_or ds n [] h)) in
       (there.0, rw length-map there.1, code)
 
-  code_within : (t : List ℕ) → Contains texts t → low_in (dictionary_of texts) t < length (dictionary_of texts)
-  code_within t h = slice_get_within (dictionary_of texts) (low_in (dictionary_of texts) t) t (has_code t h)
+  code_within : (t : List ℕ) → Contains texts t
+      → low_in (dictionary_of texts) t < length (dictionary_of texts)
+  code_within t h =
+      slice_get_within (dictionary_of texts) (low_in (dictionary_of texts) t) t (has_code t h)
 
-  above_codes : (z : ℤ) → ((n : ℕ) → n < length (dictionary_of texts) → pos n ≤ℤ z) → All (λ n. n ≤ℤ z) (codes_of texts)
-  above_codes z above = All-map (λ n. n ≤ℤ z) (λ text. pos (low_in (dictionary_of texts) text)) texts (λ k d h. above (low_in (dictionary_of texts) (get_or texts k d)) (code_within (get_or texts k d) (Contains-get_or texts k d h)))
+  above_codes : (z : ℤ) → ((n : ℕ) → n < length (dictionary_of texts) → pos n ≤ℤ z)
+      → All (λ n. n ≤ℤ z) (codes_of texts)
+  above_codes z above =
+      All-map (λ n. n ≤ℤ z)
+      (λ text. pos (low_in (dictionary_of texts) text)) texts
+      (λ k d h. above (low_in (dictionary_of texts) (get_or texts k d))
+      (code_within (get_or texts k d) (Contains-get_or texts k d h)))
 
 pub least-codes_of : (texts : List (List ℕ)) → pos 0 ≡ least (codes_of texts)
 unfolding least
@@ -50,12 +66,18 @@ least-codes_of [] = refl
 least-codes_of (t ∷ ts) =
     let texts = t ∷ ts in
     let some = code_within texts t (contains_here t ts) in
-    least_is (codes_of texts) (pos 0) (All-map (λ n. pos 0 ≤ℤ n) (λ text. pos (low_in (dictionary_of texts) text)) texts (λ k d h. omega (arith, ints))) (code_used texts 0 (omega (arith, some)))
+    least_is (codes_of texts) (pos 0)
+    (All-map (λ n. pos 0 ≤ℤ n)
+    (λ text. pos (low_in (dictionary_of texts) text)) texts (λ k d h. omega (arith, ints)))
+    (code_used texts 0 (omega (arith, some)))
 
-pub greatest-codes_of : (texts : List (List ℕ)) → pos (length (dictionary_of texts) - 1) ≡ greatest (codes_of texts)
+pub greatest-codes_of : (texts : List (List ℕ)) → pos (length (dictionary_of texts) - 1)
+    ≡ greatest (codes_of texts)
 unfolding greatest dictionary_of
 greatest-codes_of [] = refl
 greatest-codes_of (t ∷ ts) =
     let texts = t ∷ ts in
     let some = code_within texts t (contains_here t ts) in
-    greatest_is (codes_of texts) (pos (length (dictionary_of texts) - 1)) (above_codes texts (pos (length (dictionary_of texts) - 1)) (λ n h. omega (arith, ints))) (code_used texts (length (dictionary_of texts) - 1) (omega (arith, some)))
+    greatest_is (codes_of texts) (pos (length (dictionary_of texts) - 1))
+    (above_codes texts (pos (length (dictionary_of texts) - 1)) (λ n h. omega (arith, ints)))
+    (code_used texts (length (dictionary_of texts) - 1) (omega (arith, some)))

@@ -12,7 +12,8 @@ use Rattle.star_column.specs.declared.dictionary.Edge.{Edge}
 use Rattle.star_column.specs.declared.dictionary.Edge.TheVariants.{Low, High}
 
 -- an edge that lies after a text lies after each lesser one
-before_edge : (edge : Edge) (a b t : List ℕ) → text_cmp a b ≡ Less → is_after edge (text_cmp b t) ≡ true → is_after edge (text_cmp a t) ≡ true
+before_edge : (edge : Edge) (a b t : List ℕ) → text_cmp a b ≡ Less
+    → is_after edge (text_cmp b t) ≡ true → is_after edge (text_cmp a t) ≡ true
 before_edge edge a b t less before = ap (is_after edge) (go (text_cmp b t) refl before) ∙ first edge
   where
     first : (e : Edge) → is_after e Less ≡ true
@@ -23,12 +24,17 @@ before_edge edge a b t less before = ap (is_after edge) (go (text_cmp b t) refl 
     not_behind Low h = true≢false (sym h)
     not_behind High h = true≢false (sym h)
 
-    go : (o : Ordering) → text_cmp b t ≡ o → is_after edge (text_cmp b t) ≡ true → text_cmp a t ≡ Less
+    go : (o : Ordering) → text_cmp b t ≡ o → is_after edge (text_cmp b t) ≡ true
+        → text_cmp a t ≡ Less
     go Less e h = nat_list_cmp_total.trans a b t less e
     go Equal e h = sym (alike_right nat_list_cmp_total b t a e) ∙ less
     go Greater e h = absurd (not_behind edge (sym (ap (is_after edge) e) ∙ h))
 
-pub IsPartitionedBy-is_after : (edge : Edge) (t : List ℕ) (ds : List (List ℕ)) → IsStrictlySortedBy text_cmp ds → IsPartitionedBy (λ d. is_after edge (text_cmp d t)) ds
+pub IsPartitionedBy-is_after : (edge : Edge) (t : List ℕ) (ds : List (List ℕ))
+    → IsStrictlySortedBy text_cmp ds → IsPartitionedBy (λ d. is_after edge (text_cmp d t)) ds
 IsPartitionedBy-is_after edge t ds sorted i j d h l e =
-    ⊎_elim {C = is_after edge (text_cmp (get_or ds i d) t) ≡ true} (λ same. ap (λ n. is_after edge (text_cmp (get_or ds n d) t)) same ∙ e)
-    (λ other. let lt : i < j = omega (arith, other) in before_edge edge (get_or ds i d) (get_or ds j d) t (Less-from_sorted text_cmp ds i j d sorted lt l) e) (cases_eq i j)
+    ⊎_elim {C = is_after edge (text_cmp (get_or ds i d) t) ≡ true}
+    (λ same. ap (λ n. is_after edge (text_cmp (get_or ds n d) t)) same ∙ e)
+    (λ other. let lt : i < j = omega (arith, other) in
+    before_edge edge (get_or ds i d) (get_or ds j d) t
+    (Less-from_sorted text_cmp ds i j d sorted lt l) e) (cases_eq i j)

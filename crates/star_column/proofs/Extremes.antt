@@ -8,13 +8,15 @@ use Rattle.star_schema.specs.Bounds.{least, greatest}
 use Rattle.star_interval.specs.Range.{Range, Holds}
 
 -- each number lies between the two
-pub all_between : (r : Range) (zs : List ℤ) → r.low ≡ least zs → r.high ≡ greatest zs → All (Holds r) zs
+pub all_between : (r : Range) (zs : List ℤ) → r.low ≡ least zs → r.high ≡ greatest zs
+    → All (Holds r) zs
 unfolding least greatest
 all_between r [] low high = All-nil (Holds r)
 all_between r (z ∷ zs) low high =
     let least = fold-int_min_bounds z zs r.low low in
     let greatest = fold-int_max_bounds z zs r.high high in
-    All-cons (Holds r) z zs (record { from = least.0; to = greatest.0 }) (λ k d h. record { from = least.1 k d h; to = greatest.1 k d h })
+    All-cons (Holds r) z zs (record { from = least.0; to = greatest.0 })
+    (λ k d h. record { from = least.1 k d h; to = greatest.1 k d h })
 
 -- a number that is no greater than any, and is one of them
 pub least_is : (zs : List ℤ) (z : ℤ) → All (λ n. z ≤ℤ n) zs → Contains zs z → z ≡ least zs
@@ -23,9 +25,11 @@ least_is [] z below one = absurd (omega (arith, one.1))
 least_is (x ∷ xs) z below one =
     let r = fold int_min x xs in
     let bounds = fold-int_min_bounds x xs r refl in
-    let above : r ≤ℤ z = All-contains (λ n. r ≤ℤ n) (x ∷ xs) z (All-cons (λ n. r ≤ℤ n) x xs bounds.0 bounds.1) one in
+    let above : r ≤ℤ z =
+    All-contains (λ n. r ≤ℤ n) (x ∷ xs) z (All-cons (λ n. r ≤ℤ n) x xs bounds.0 bounds.1) one in
     let upto : z ≤ℤ r = ⊎_elim {C = z ≤ℤ r} (λ first. rw first (All-head (λ n. z ≤ℤ n) x xs below))
-    (λ later. All-contains (λ n. z ≤ℤ n) xs r (All-tail (λ n. z ≤ℤ n) x xs below) later) (fold-int_min_reached x xs r refl) in
+    (λ later. All-contains (λ n. z ≤ℤ n) xs r (All-tail (λ n. z ≤ℤ n) x xs below) later)
+    (fold-int_min_reached x xs r refl) in
     omega (arith, ints)
 
 -- a number that is no less than any, and is one of them
@@ -35,7 +39,9 @@ greatest_is [] z above one = absurd (omega (arith, one.1))
 greatest_is (x ∷ xs) z above one =
     let r = fold int_max x xs in
     let bounds = fold-int_max_bounds x xs r refl in
-    let below : z ≤ℤ r = All-contains (λ n. n ≤ℤ r) (x ∷ xs) z (All-cons (λ n. n ≤ℤ r) x xs bounds.0 bounds.1) one in
+    let below : z ≤ℤ r =
+    All-contains (λ n. n ≤ℤ r) (x ∷ xs) z (All-cons (λ n. n ≤ℤ r) x xs bounds.0 bounds.1) one in
     let upto : r ≤ℤ z = ⊎_elim {C = r ≤ℤ z} (λ first. rw first (All-head (λ n. n ≤ℤ z) x xs above))
-    (λ later. All-contains (λ n. n ≤ℤ z) xs r (All-tail (λ n. n ≤ℤ z) x xs above) later) (fold-int_max_reached x xs r refl) in
+    (λ later. All-contains (λ n. n ≤ℤ z) xs r (All-tail (λ n. n ≤ℤ z) x xs above) later)
+    (fold-int_max_reached x xs r refl) in
     omega (arith, ints)

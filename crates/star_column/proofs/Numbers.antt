@@ -1,4 +1,5 @@
--- The texts of rows, numbered among the different ones, and then coded by their places in the dictionary.
+-- The texts of rows, numbered among the different ones, and then coded by their places in the
+-- dictionary.
 use Rattle.std.proofs.Common.{◌≡◌, ◌⊎◌, ℕ, ◌+◌, ◌-◌, ◌^◌, ◌<◌, ◌≤◌, List, [], ◌∷◌, ◌++◌, Some, length, get_or, map, take, refl, sym, ap, ◌∙◌, arith, inl, ⊎_elim, subst, length-append}
 use Rattle.std.specs.List.{All, Contains, slice_get}
 use Rattle.std.proofs.lemmas.List.{get_or_append_left, get_or-map, get_or-take, length-map, map-append, take_more}
@@ -15,130 +16,221 @@ use Rattle.star_column.proofs.Enumerated.{nothing}
 use Rattle.star_column.proofs.Members.{from_contains_map, map_agree}
 
 -- ---- one more row
-texts_at-append : (ds es : List (List ℕ)) (ns : List ℕ) → All (λ n. n < length ds) ns → texts_at (ds ++ es) ns ≡ texts_at ds ns
-texts_at-append ds es ns within = map_agree (λ n. get_or (ds ++ es) n []) (λ n. get_or ds n []) ns (All-weaker (λ n. n < length ds) (λ n. get_or (ds ++ es) n [] ≡ get_or ds n []) (λ n h. get_or_append_left ds es [] n h) ns within)
+texts_at-append : (ds es : List (List ℕ)) (ns : List ℕ) → All (λ n. n < length ds) ns
+    → texts_at (ds ++ es) ns ≡ texts_at ds ns
+texts_at-append ds es ns within =
+    map_agree (λ n. get_or (ds ++ es) n []) (λ n. get_or ds n []) ns
+    (All-weaker (λ n. n < length ds)
+    (λ n. get_or (ds ++ es) n [] ≡ get_or ds n []) (λ n h. get_or_append_left ds es [] n h) ns
+    within)
 
 -- what different texts and their numbers become where one more text is met
 module _ (ds es : List (List ℕ)) (t : List ℕ) (grown : (es ≡ ds) ⊎ (es ≡ ds ++ t ∷ [])) where
   grown_texts : (ns : List ℕ) → All (λ n. n < length ds) ns → texts_at es ns ≡ texts_at ds ns
-  grown_texts ns within = ⊎_elim {C = texts_at es ns ≡ texts_at ds ns} (λ e. ap (λ xs. texts_at xs ns) e) (λ e. ap (λ xs. texts_at xs ns) e ∙ texts_at-append ds (t ∷ []) ns within) grown
+  grown_texts ns within =
+      ⊎_elim {C = texts_at es ns ≡ texts_at ds ns}
+      (λ e. ap (λ xs. texts_at xs ns) e)
+      (λ e. ap (λ xs. texts_at xs ns) e ∙ texts_at-append ds (t ∷ []) ns within) grown
 
   grown_le : length ds ≤ length es
-  grown_le = ⊎_elim {C = length ds ≤ length es} (λ e. omega (arith, ap length e)) (λ e. omega (arith, ap length e, length-append ds (t ∷ []))) grown
+  grown_le = ⊎_elim {C = length ds ≤ length es}
+      (λ e. omega (arith, ap length e)) (λ e. omega (arith, ap length e, length-append ds (t ∷ [])))
+      grown
 
-  grown_met : (ts : List (List ℕ)) (x : List ℕ) → (Contains ds x → Contains ts x) → Contains es x → Contains (ts ++ t ∷ []) x
-  grown_met ts x met h = ⊎_elim {C = Contains (ts ++ t ∷ []) x} (λ e. Contains-append_left ts (t ∷ []) x (met (subst (λ xs. Contains xs x) e h)))
-      (λ e. ⊎_elim {C = Contains (ts ++ t ∷ []) x} (λ old. Contains-append_left ts (t ∷ []) x (met old)) (λ new. subst (λ y. Contains (ts ++ t ∷ []) y) new (Contains-push ts t))
+  grown_met : (ts : List (List ℕ)) (x : List ℕ) → (Contains ds x → Contains ts x) → Contains es x
+      → Contains (ts ++ t ∷ []) x
+  grown_met ts x met h =
+      ⊎_elim {C = Contains (ts ++ t ∷ []) x}
+      (λ e. Contains-append_left ts (t ∷ []) x (met (subst (λ xs. Contains xs x) e h)))
+      (λ e. ⊎_elim {C = Contains (ts ++ t ∷ []) x}
+      (λ old. Contains-append_left ts (t ∷ []) x (met old))
+      (λ new. subst (λ y. Contains (ts ++ t ∷ []) y) new (Contains-push ts t))
       (Contains-push_cases ds t x (subst (λ xs. Contains xs x) e h))) grown
 
-  number_more : (ns : List ℕ) (n : ℕ) (ts : List (List ℕ)) → AreNumbers ds ns ts → slice_get es n ≡ Some t → AreNumbers es (ns ++ n ∷ []) (ts ++ t ∷ [])
+  number_more : (ns : List ℕ) (n : ℕ) (ts : List (List ℕ)) → AreNumbers ds ns ts
+      → slice_get es n ≡ Some t → AreNumbers es (ns ++ n ∷ []) (ts ++ t ∷ [])
   number_more ns n ts old there = record {
-    within = All-push (λ m. m < length es) ns n (All-weaker (λ m. m < length ds) (λ m. m < length es) (λ m h. let le = grown_le in omega (arith, le, h)) ns old.within) (slice_get_within es n t there);
-    texts_are = map-append (λ m. get_or es m []) ns (n ∷ []) ∙ (λ i. (grown_texts ns old.within ∙ old.texts_are) i ++ get_or_from_slice_get es n t [] there i ∷ []);
+    within = All-push (λ m. m < length es) ns n
+        (All-weaker (λ m. m < length ds)
+        (λ m. m < length es) (λ m h. let le = grown_le in omega (arith, le, h)) ns old.within)
+        (slice_get_within es n t there);
+    texts_are = map-append (λ m. get_or es m []) ns (n ∷ [])
+        ∙ (λ i. (grown_texts ns old.within ∙ old.texts_are) i
+        ++ get_or_from_slice_get es n t [] there i ∷ []);
     met = λ x h. grown_met ts x (old.met x) h;
   }
 
   -- the step of the loop over the rows
-  pub row_more : (all : List (List ℕ)) (row : ℕ) (ns : List ℕ) (n : ℕ) → AreNumbers ds ns (take row all) → slice_get es n ≡ Some t → slice_get all row ≡ Some t → AreNumbers es (ns ++ n ∷ []) (take (row + 1) all)
+  pub row_more : (all : List (List ℕ)) (row : ℕ) (ns : List ℕ) (n : ℕ)
+      → AreNumbers ds ns (take row all) → slice_get es n ≡ Some t → slice_get all row ≡ Some t
+      → AreNumbers es (ns ++ n ∷ []) (take (row + 1) all)
   row_more all row ns n old there at_row =
-      let more : take (row + 1) all ≡ take row all ++ t ∷ [] = take_more all row [] (slice_get_within all row t at_row) ∙ ap (λ x. take row all ++ x ∷ []) (get_or_from_slice_get all row t [] at_row) in
+      let more : take (row + 1) all ≡ take row all ++ t ∷ [] =
+      take_more all row [] (slice_get_within all row t at_row)
+      ∙ ap (λ x. take row all ++ x ∷ []) (get_or_from_slice_get all row t [] at_row) in
       rw more (number_more ns n (take row all) old there)
 
   pub grown_few : (n : ℕ) → length ds ≤ n → length es ≤ n + 1
-  grown_few n h = ⊎_elim {C = length es ≤ n + 1} (λ e. omega (arith, h, ap length e)) (λ e. omega (arith, h, ap length e, length-append ds (t ∷ []))) grown
+  grown_few n h =
+      ⊎_elim {C = length es ≤ n + 1}
+      (λ e. omega (arith, h, ap length e))
+      (λ e. omega (arith, h, ap length e, length-append ds (t ∷ []))) grown
 
 -- ---- a text that repeats the one before it
-last_text : (ds all : List (List ℕ)) (ns : List ℕ) (n : ℕ) (t : List ℕ) → AreNumbers ds ns (take (length ns) all) → slice_get ns (length ns - 1) ≡ Some n → slice_get all (length ns - 1) ≡ Some t → slice_get ds n ≡ Some t
+last_text : (ds all : List (List ℕ)) (ns : List ℕ) (n : ℕ) (t : List ℕ)
+    → AreNumbers ds ns (take (length ns) all) → slice_get ns (length ns - 1) ≡ Some n
+    → slice_get all (length ns - 1) ≡ Some t → slice_get ds n ≡ Some t
 last_text ds all ns n t numbered last before =
     let place = length ns - 1 in
     let some : place < length ns = slice_get_within ns place n last in
     let number : get_or ns place 0 ≡ n = get_or_from_slice_get ns place n 0 last in
-    let within : n < length ds = subst (λ m. m < length ds) number (All-get_or (λ m. m < length ds) ns place 0 some numbered.within) in
+    let within : n < length ds =
+    subst (λ m. m < length ds) number
+    (All-get_or (λ m. m < length ds) ns place 0 some numbered.within) in
     let text : get_or ds n [] ≡ t =
-    ap (λ m. get_or ds m []) (sym number) ∙ sym (get_or-map (λ m. get_or ds m []) ns place 0 [] some) ∙ ap (λ ts. get_or ts place []) numbered.texts_are
+    ap (λ m. get_or ds m []) (sym number)
+    ∙ sym (get_or-map (λ m. get_or ds m []) ns place 0 [] some)
+    ∙ ap (λ ts. get_or ts place []) numbered.texts_are
     ∙ get_or-take (length ns) all place [] some ∙ get_or_from_slice_get all place t [] before in
     slice_get-get_or ds n [] within ∙ ap Some text
 
-pub repeated : (ds all : List (List ℕ)) (ns : List ℕ) (n : ℕ) (s t : List ℕ) → AreNumbers ds ns (take (length ns) all) → slice_get ns (length ns - 1) ≡ Some n → slice_get all (length ns - 1) ≡ Some s → s ≡ t → slice_get all (length ns) ≡ Some t → AreNumbers ds (ns ++ n ∷ []) (take (length ns + 1) all)
+pub repeated : (ds all : List (List ℕ)) (ns : List ℕ) (n : ℕ) (s t : List ℕ)
+    → AreNumbers ds ns (take (length ns) all) → slice_get ns (length ns - 1) ≡ Some n
+    → slice_get all (length ns - 1) ≡ Some s → s ≡ t → slice_get all (length ns) ≡ Some t
+    → AreNumbers ds (ns ++ n ∷ []) (take (length ns + 1) all)
 repeated ds all ns n s t numbered last before same here =
-    row_more ds ds t (inl refl) all (length ns) ns n numbered (last_text ds all ns n t numbered last (before ∙ ap Some same)) here
+    row_more ds ds t (inl refl) all (length ns) ns n numbered
+    (last_text ds all ns n t numbered last (before ∙ ap Some same)) here
 
 -- ---- the codes of all rows
 -- each of the texts is among the different ones
-all_met : (ds : List (List ℕ)) (ns : List ℕ) (ts : List (List ℕ)) → AreNumbers ds ns ts → (t : List ℕ) → Contains ts t → Contains ds t
+all_met : (ds : List (List ℕ)) (ns : List ℕ) (ts : List (List ℕ)) → AreNumbers ds ns ts
+    → (t : List ℕ) → Contains ts t → Contains ds t
 all_met ds ns ts numbered t h =
-    let w = from_contains_map (λ n. get_or ds n []) ns t (subst (λ xs. Contains xs t) (sym numbered.texts_are) h) in
-    subst (λ x. Contains ds x) w.2 (Contains-get_or ds w.0 [] (All-contains (λ n. n < length ds) ns w.0 numbered.within w.1))
+    let w = from_contains_map (λ n. get_or ds n []) ns t
+    (subst (λ xs. Contains xs t) (sym numbered.texts_are) h) in
+    subst (λ x. Contains ds x) w.2
+    (Contains-get_or ds w.0 [] (All-contains (λ n. n < length ds) ns w.0 numbered.within w.1))
 
 -- the different texts have the dictionary of all
-pub same_dictionary : (ds : List (List ℕ)) (ns : List ℕ) (ts : List (List ℕ)) → AreNumbers ds ns ts → dictionary_of ds ≡ dictionary_of ts
+pub same_dictionary : (ds : List (List ℕ)) (ns : List ℕ) (ts : List (List ℕ)) → AreNumbers ds ns ts
+    → dictionary_of ds ≡ dictionary_of ts
 same_dictionary ds ns ts numbered =
     let made = IsDictionary-dictionary_of ds in
     (one_dictionary (dictionary_of ds) ts).0 (record {
       sorted = made.sorted;
-      holds = λ t. (λ h. numbered.met t ((made.holds t).0 h), λ h. (made.holds t).1 (all_met ds ns ts numbered t h));
+      holds = λ t. (
+        λ h. numbered.met t ((made.holds t).0 h),
+        λ h. (made.holds t).1
+            (all_met ds ns ts numbered t h),
+      );
     })
 
 -- the different texts in order with their numbers, and the place of each number
-module _ (ds : List (List ℕ)) (ordered : List Numbered) (order : IsOrderOf ds ordered) (places : List ℕ) (lead : LeadBack places (map (λ e. e.number) ordered)) where
+module _ (ds : List (List ℕ)) (ordered : List Numbered) (order : IsOrderOf ds ordered)
+    (places : List ℕ) (lead : LeadBack places (map (λ e. e.number) ordered)) where
   abbrev dictionary : List (List ℕ)
   dictionary = map (λ (e : Numbered). e.text.now) ordered
 
   -- a number of one of the different texts leads to the place of that text
-  stands_at : (n : ℕ) → n < length ds → slice_get dictionary (get_or places n 0) ≡ Some (get_or ds n [])
+  stands_at : (n : ℕ) → n < length ds
+      → slice_get dictionary (get_or places n 0) ≡ Some (get_or ds n [])
   stands_at n h =
       let place = get_or places n 0 in
-      let there : slice_get (map (λ (e : Numbered). e.number) ordered) place ≡ Some n = All-contains (λ m. slice_get (map (λ (e : Numbered). e.number) ordered) (get_or places m 0) ≡ Some m) (map (λ (e : Numbered). e.number) ordered) n lead (order.all n h) in
-      let within : place < length ordered = omega (arith, length-map ordered (λ (e : Numbered). e.number), slice_get_within (map (λ (e : Numbered). e.number) ordered) place n there) in
+      let there : slice_get (map (λ (e : Numbered). e.number) ordered) place ≡ Some n =
+      All-contains
+      (λ m. slice_get (map (λ (e : Numbered). e.number) ordered) (get_or places m 0) ≡ Some m)
+      (map (λ (e : Numbered). e.number) ordered) n lead (order.all n h) in
+      let within : place < length ordered =
+      omega (
+        arith,
+        length-map ordered (λ (e : Numbered). e.number),
+        slice_get_within (map (λ (e : Numbered). e.number) ordered) place n there,
+      ) in
       let e = get_or ordered place nothing in
       let at_place = slice_get-get_or ordered place nothing within in
-      let number : Some e.number ≡ Some n = ap (option_map (λ (x : Numbered). x.number)) (sym at_place) ∙ sym (slice_get-map (λ (x : Numbered). x.number) ordered place) ∙ there in
+      let number : Some e.number ≡ Some n =
+      ap (option_map (λ (x : Numbered). x.number)) (sym at_place)
+      ∙ sym (slice_get-map (λ (x : Numbered). x.number) ordered place) ∙ there in
       let is : e.number ≡ n = cc in
-      let text : slice_get ds n ≡ Some e.text.now = ap (slice_get ds) (sym is) ∙ All-get_or (λ (x : Numbered). slice_get ds x.number ≡ Some x.text.now) ordered place nothing within order.numbered in
-      slice_get-map (λ (x : Numbered). x.text.now) ordered place ∙ ap (option_map (λ (x : Numbered). x.text.now)) at_place ∙ ap Some (sym (get_or_from_slice_get ds n e.text.now [] text))
+      let text : slice_get ds n ≡ Some e.text.now =
+      ap (slice_get ds) (sym is)
+      ∙ All-get_or (λ (x : Numbered). slice_get ds x.number ≡ Some x.text.now) ordered place
+      nothing within order.numbered in
+      slice_get-map (λ (x : Numbered). x.text.now) ordered place
+      ∙ ap (option_map (λ (x : Numbered). x.text.now)) at_place
+      ∙ ap Some (sym (get_or_from_slice_get ds n e.text.now [] text))
 
-  coded : (ns : List ℕ) (ts : List (List ℕ)) → AreNumbers ds ns ts → texts_at dictionary (map (λ n. get_or places n 0) ns) ≡ ts
+  coded : (ns : List ℕ) (ts : List (List ℕ)) → AreNumbers ds ns ts
+      → texts_at dictionary (map (λ n. get_or places n 0) ns) ≡ ts
   coded ns ts numbered =
       map-map (λ code. get_or dictionary code []) (λ n. get_or places n 0) ns
       ∙ map_agree (λ n. get_or dictionary (get_or places n 0) []) (λ n. get_or ds n []) ns
-      (All-weaker (λ n. n < length ds) (λ n. get_or dictionary (get_or places n 0) [] ≡ get_or ds n []) (λ n h. get_or_from_slice_get dictionary (get_or places n 0) (get_or ds n []) [] (stands_at n h)) ns numbered.within)
+      (All-weaker (λ n. n < length ds)
+      (λ n. get_or dictionary (get_or places n 0) [] ≡ get_or ds n [])
+      (λ n h. get_or_from_slice_get dictionary (get_or places n 0) (get_or ds n []) []
+      (stands_at n h)) ns numbered.within)
       ∙ numbered.texts_are
 
-  are_codes : (ns : List ℕ) (ts : List (List ℕ)) → AreNumbers ds ns ts → length ts < 2 ^ 32 → AreCodes dictionary (map (λ n. get_or places n 0) ns)
+  are_codes : (ns : List ℕ) (ts : List (List ℕ)) → AreNumbers ds ns ts → length ts < 2 ^ 32
+      → AreCodes dictionary (map (λ n. get_or places n 0) ns)
   are_codes ns ts numbered few = record {
-    few = let same_length : length ns ≡ length ts = sym (length-map ns (λ n. get_or ds n [])) ∙ ap length numbered.texts_are in rw (length-map, same_length) few;
+    few = let same_length : length ns ≡ length ts =
+        sym (length-map ns (λ n. get_or ds n [])) ∙ ap length numbered.texts_are in
+        rw (length-map, same_length) few;
     within = All-map (λ code. code < length dictionary) (λ n. get_or places n 0) ns
-        (All-weaker (λ n. n < length ds) (λ n. get_or places n 0 < length dictionary) (λ n h. slice_get_within dictionary (get_or places n 0) (get_or ds n []) (stands_at n h)) ns numbered.within);
-    dictionary_is = (one_dictionary dictionary ds).0 order.dictionary ∙ same_dictionary ds ns ts numbered ∙ ap dictionary_of (sym (coded ns ts numbered));
+        (All-weaker (λ n. n < length ds)
+        (λ n. get_or places n 0 < length dictionary)
+        (λ n h. slice_get_within dictionary (get_or places n 0) (get_or ds n []) (stands_at n h)) ns
+        numbered.within);
+    dictionary_is =
+        (one_dictionary dictionary ds).0 order.dictionary ∙ same_dictionary ds ns ts numbered
+        ∙ ap dictionary_of (sym (coded ns ts numbered));
   }
 
 -- what a column keeps, as its parts were built
-pub coded_column : (ds : List (List ℕ)) (ordered lent listed : List Numbered) (made ts : List (List ℕ)) (ns places values codes : List ℕ)
-    → AreNumbers ds ns ts → length ts < 2 ^ 32 → IsOrderOf ds ordered → lent ≡ ordered → made ≡ map (λ e. e.text.now) lent
-    → listed ≡ ordered → LeadBack places (map (λ e. e.number) listed) → values ≡ places → codes ≡ map (λ n. get_or values n 0) ns
+pub coded_column : (ds : List (List ℕ)) (ordered lent listed : List Numbered)
+    (made ts : List (List ℕ)) (ns places values codes : List ℕ)
+    → AreNumbers ds ns ts → length ts < 2 ^ 32 → IsOrderOf ds ordered → lent ≡ ordered
+    → made ≡ map (λ e. e.text.now) lent
+    → listed ≡ ordered → LeadBack places (map (λ e. e.number) listed) → values ≡ places
+    → codes ≡ map (λ n. get_or values n 0) ns
     → AreCodes made codes × (texts_at made codes ≡ ts)
-coded_column ds ordered lent listed made ts ns places values codes numbered few order same built also lead read coded_by =
-    let is : made ≡ map (λ (e : Numbered). e.text.now) ordered = built ∙ ap (map (λ (e : Numbered). e.text.now)) same in
+coded_column ds ordered lent listed made ts ns places values codes numbered few order same built
+    also lead read coded_by =
+    let is : made ≡ map (λ (e : Numbered). e.text.now) ordered =
+    built ∙ ap (map (λ (e : Numbered). e.text.now)) same in
     let leads = subst (λ xs. LeadBack places (map (λ (e : Numbered). e.number) xs)) also lead in
-    rw (is, coded_by, read) (are_codes ds ordered order places leads ns ts numbered few, coded ds ordered order places leads ns ts numbered)
+    rw (is, coded_by, read) (
+      are_codes ds ordered order places leads ns ts numbered few,
+      coded ds ordered order places leads ns ts numbered,
+    )
 
 -- ---- the code of a row
-pub length-texts_at : (dictionary : List (List ℕ)) (codes : List ℕ) → length (texts_at dictionary codes) ≡ length codes
+pub length-texts_at : (dictionary : List (List ℕ)) (codes : List ℕ)
+    → length (texts_at dictionary codes) ≡ length codes
 length-texts_at dictionary codes = length-map codes (λ place. get_or dictionary place [])
 
 -- the code of a row is a place in the dictionary
-pub code_within : (dictionary : List (List ℕ)) (codes : List ℕ) (row code : ℕ) → AreCodes dictionary codes → slice_get codes row ≡ Some code → code < length (dictionary_of (texts_at dictionary codes))
+pub code_within : (dictionary : List (List ℕ)) (codes : List ℕ) (row code : ℕ)
+    → AreCodes dictionary codes → slice_get codes row ≡ Some code
+    → code < length (dictionary_of (texts_at dictionary codes))
 code_within dictionary codes row code h there =
     let inside : row < length codes = slice_get_within codes row code there in
-    let within : code < length dictionary = rw (get_or_from_slice_get codes row code 0 there) at (h.within row 0 inside) in
+    let within : code < length dictionary =
+    rw (get_or_from_slice_get codes row code 0 there) at (h.within row 0 inside) in
     rw (← h.dictionary_is) within
 
 -- and there stands the row's text
-pub code_stands : (dictionary : List (List ℕ)) (codes : List ℕ) (row code : ℕ) → AreCodes dictionary codes → slice_get codes row ≡ Some code
-    → slice_get (dictionary_of (texts_at dictionary codes)) code ≡ slice_get (texts_at dictionary codes) row
+pub code_stands : (dictionary : List (List ℕ)) (codes : List ℕ) (row code : ℕ)
+    → AreCodes dictionary codes → slice_get codes row ≡ Some code
+    → slice_get (dictionary_of (texts_at dictionary codes)) code
+    ≡ slice_get (texts_at dictionary codes) row
 code_stands dictionary codes row code h there =
     let inside : row < length codes = slice_get_within codes row code there in
-    let within : code < length dictionary = rw (get_or_from_slice_get codes row code 0 there) at (h.within row 0 inside) in
+    let within : code < length dictionary =
+    rw (get_or_from_slice_get codes row code 0 there) at (h.within row 0 inside) in
     let text : slice_get (texts_at dictionary codes) row ≡ Some (get_or dictionary code []) =
-    slice_get-map (λ place. get_or dictionary place []) codes row ∙ ap (option_map (λ place. get_or dictionary place [])) there in
+    slice_get-map (λ place. get_or dictionary place []) codes row
+    ∙ ap (option_map (λ place. get_or dictionary place [])) there in
     rw (← h.dictionary_is) (slice_get-get_or dictionary code [] within ∙ sym text)

@@ -29,43 +29,55 @@ not_below m n e = grind (arith, nat_tests)
 
 module _ (ds : List (List ℕ)) (sorted : IsStrictlySortedBy text_cmp ds) where
   -- a place is below `low` exactly where the text there is less
-  pub nat_lt-low_in : (n : ℕ) (d t : List ℕ) → slice_get ds n ≡ Some d → nat_lt n (low_in ds t) ≡ is_lt (text_cmp d t)
+  pub nat_lt-low_in : (n : ℕ) (d t : List ℕ) → slice_get ds n ≡ Some d
+      → nat_lt n (low_in ds t) ≡ is_lt (text_cmp d t)
   nat_lt-low_in n d t e =
-      nat_lt-count_by (λ x. is_lt (text_cmp x t)) ds n [] (IsPartitionedBy-is_after Low t ds sorted) (slice_get_within ds n d e)
+      nat_lt-count_by (λ x. is_lt (text_cmp x t)) ds n [] (IsPartitionedBy-is_after Low t ds sorted)
+      (slice_get_within ds n d e)
       ∙ ap (λ x. is_lt (text_cmp x t)) (get_or_from_slice_get ds n d [] e)
 
   -- a place is below `high` exactly where the text there is less or equal
-  pub nat_lt-high_in : (n : ℕ) (d t : List ℕ) → slice_get ds n ≡ Some d → nat_lt n (high_in ds t) ≡ is_le (text_cmp d t)
+  pub nat_lt-high_in : (n : ℕ) (d t : List ℕ) → slice_get ds n ≡ Some d
+      → nat_lt n (high_in ds t) ≡ is_le (text_cmp d t)
   nat_lt-high_in n d t e =
-      nat_lt-count_by (λ x. is_le (text_cmp x t)) ds n [] (IsPartitionedBy-is_after High t ds sorted) (slice_get_within ds n d e)
+      nat_lt-count_by (λ x. is_le (text_cmp x t)) ds n []
+      (IsPartitionedBy-is_after High t ds sorted) (slice_get_within ds n d e)
       ∙ ap (λ x. is_le (text_cmp x t)) (get_or_from_slice_get ds n d [] e)
 
-  less_before : (m n : ℕ) (s t : List ℕ) → slice_get ds m ≡ Some s → slice_get ds n ≡ Some t → m < n → text_cmp s t ≡ Less
+  less_before : (m n : ℕ) (s t : List ℕ) → slice_get ds m ≡ Some s → slice_get ds n ≡ Some t → m < n
+      → text_cmp s t ≡ Less
   less_before m n s t at_m at_n before =
-      (λ i. text_cmp (sym (get_or_from_slice_get ds m s [] at_m) i) (sym (get_or_from_slice_get ds n t [] at_n) i))
+      (λ i. text_cmp (sym (get_or_from_slice_get ds m s [] at_m) i)
+      (sym (get_or_from_slice_get ds n t [] at_n) i))
       ∙ Less-from_sorted text_cmp ds m n [] sorted before (slice_get_within ds n t at_n)
 
   -- places compare as the texts there do
-  pub nat_cmp-places : (m n : ℕ) (s t : List ℕ) → slice_get ds m ≡ Some s → slice_get ds n ≡ Some t → nat_cmp m n ≡ text_cmp s t
+  pub nat_cmp-places : (m n : ℕ) (s t : List ℕ) → slice_get ds m ≡ Some s → slice_get ds n ≡ Some t
+      → nat_cmp m n ≡ text_cmp s t
   nat_cmp-places m n s t at_m at_n =
       ⊎_elim {C = nat_cmp m n ≡ text_cmp s t}
       (λ before. nat_cmp-less m n before ∙ sym (less_before m n s t at_m at_n before))
       (λ from. ⊎_elim {C = nat_cmp m n ≡ text_cmp s t} (at_one m n s t at_m at_n)
       (λ other. let after : n < m = omega (arith, from, other) in
-      nat_cmp-greater m n after ∙ sym (nat_list_cmp_total.antisymm s t ∙ ap ordering_reverse (less_before n m t s at_n at_m after)))
+      nat_cmp-greater m n after
+      ∙ sym (nat_list_cmp_total.antisymm s t
+      ∙ ap ordering_reverse (less_before n m t s at_n at_m after)))
       (cases_eq m n))
       (cases_lt m n)
     where
-      at_one : (m n : ℕ) (s t : List ℕ) → slice_get ds m ≡ Some s → slice_get ds n ≡ Some t → m ≡ n → nat_cmp m n ≡ text_cmp s t
+      at_one : (m n : ℕ) (s t : List ℕ) → slice_get ds m ≡ Some s → slice_get ds n ≡ Some t → m ≡ n
+          → nat_cmp m n ≡ text_cmp s t
       at_one m n s t at_m at_n same =
           let there : Some s ≡ Some t = sym at_m ∙ ap (slice_get ds) same ∙ at_n in
           let texts : s ≡ t = cc in
-          ap (nat_cmp m) (sym same) ∙ tied_itself nat_cmp_total m ∙ sym (tied_itself nat_list_cmp_total s) ∙ ap (text_cmp s) texts
+          ap (nat_cmp m) (sym same) ∙ tied_itself nat_cmp_total m
+          ∙ sym (tied_itself nat_list_cmp_total s) ∙ ap (text_cmp s) texts
 
   -- the place of a text is how many texts are less
   pub low_in-place : (n : ℕ) (d : List ℕ) → slice_get ds n ≡ Some d → low_in ds d ≡ n
   low_in-place n d e =
-      let upto = not_below n (low_in ds d) (nat_lt-low_in n d d e ∙ ap is_lt (tied_itself nat_list_cmp_total d)) in
+      let upto = not_below n (low_in ds d)
+      (nat_lt-low_in n d d e ∙ ap is_lt (tied_itself nat_list_cmp_total d)) in
       let from = all_before n e in
       omega (arith, upto, from)
     where
@@ -80,12 +92,18 @@ module _ (ds : List (List ℕ)) (sorted : IsStrictlySortedBy text_cmp ds) where
   -- with the text itself it is one more
   pub high_in-place : (n : ℕ) (d : List ℕ) → slice_get ds n ≡ Some d → high_in ds d ≡ n + 1
   high_in-place n d e =
-      let from = below n (high_in ds d) (nat_lt-high_in n d d e ∙ ap is_le (tied_itself nat_list_cmp_total d)) in
+      let from = below n (high_in ds d)
+      (nat_lt-high_in n d d e ∙ ap is_le (tied_itself nat_list_cmp_total d)) in
       let upto : high_in ds d ≤ n + 1 = ⊎_elim {C = high_in ds d ≤ n + 1}
       (λ more. let there = slice_get-get_or ds (n + 1) [] more in
-      let greater : text_cmp (get_or ds (n + 1) []) d ≡ Greater = nat_list_cmp_total.antisymm (get_or ds (n + 1) []) d ∙ ap ordering_reverse (less_before n (n + 1) d (get_or ds (n + 1) []) e there (omega arith)) in
-      not_below (n + 1) (high_in ds d) (nat_lt-high_in (n + 1) (get_or ds (n + 1) []) d there ∙ ap is_le greater))
-      (λ none. let few = count_by-le-length (λ x. is_le (text_cmp x d)) ds in omega (arith, none, few))
+      let greater : text_cmp (get_or ds (n + 1) []) d ≡ Greater =
+      nat_list_cmp_total.antisymm (get_or ds (n + 1) []) d
+      ∙ ap ordering_reverse
+      (less_before n (n + 1) d (get_or ds (n + 1) []) e there (omega arith)) in
+      not_below (n + 1) (high_in ds d)
+      (nat_lt-high_in (n + 1) (get_or ds (n + 1) []) d there ∙ ap is_le greater))
+      (λ none. let few = count_by-le-length (λ x. is_le (text_cmp x d)) ds in
+      omega (arith, none, few))
       (cases_lt (n + 1) (length ds)) in
       omega (arith, from, upto)
 

@@ -6,7 +6,8 @@ use Rattle.star_column.specs.Dictionary.{dictionary_of, codes_of, low_in, high_i
 abbrev brands : List (List ℕ)
 brands = codes "MFGR#121" ∷ codes "MFGR#2221" ∷ codes "MFGR#1440" ∷ codes "MFGR#121" ∷ []
 
-the_dictionary : dictionary_of brands ≡ codes "MFGR#121" ∷ codes "MFGR#1440" ∷ codes "MFGR#2221" ∷ []
+the_dictionary : dictionary_of brands
+    ≡ codes "MFGR#121" ∷ codes "MFGR#1440" ∷ codes "MFGR#2221" ∷ []
 unfolding dictionary_of
 the_dictionary = refl
 

@@ -1,5 +1,5 @@
-// From the texts of rows to their codes: first each row's text gets a number, in the order of first meeting, and then
-// each number is replaced by the place of its text in the dictionary.
+// From the texts of rows to their codes: first each row's text gets a number, in the order of first
+// meeting, and then each number is replaced by the place of its text in the dictionary.
 
 ghost use Rattle.std.specs.Prelude.{◌≡◌, ◌+◌, ◌<◌, ◌≤◌, ◌^◌, ◌++◌, ◌∷◌, [], All, IfOk, OnOk, length, map, slice_index, take};
 ghost use Rattle.star_column.specs.Private.Codes.{AreNumbers, LeadBack};
@@ -26,7 +26,8 @@ pub(crate) fn number_each<'t>(
     Ok((distinct, numbers))
 }
 
-/// The number of the first text that has none yet. A text that repeats the one before it isn't looked up.
+/// The number of the first text that has none yet. A text that repeats the one before it isn't
+/// looked up.
 fn next_number<'t>(
     distinct: &mut Distinct<'t>,
     numbers: &[u32],
@@ -53,7 +54,8 @@ pub(crate) fn places_of(alloc: Global, ordered: &[Numbered<'_>]) -> Result<Vec<u
     requires few { length ordered.now < 2 ^ 32 }
     requires within { All (λ e. e.number < length ordered.now) ordered.now }
     ensures len { IfOk result (λ places. length places.items ≡ length ordered.now) }
-    ensures places { IfOk result (λ places. LeadBack places.items (map (λ e. e.number) ordered.now)) }
+    ensures places { IfOk result
+        (λ places. LeadBack places.items (map (λ e. e.number) ordered.now)) }
 {
     let mut places = vec![in alloc; 0; ordered.len()]?;
     for (place, numbered) in ordered.iter().enumerate() {

@@ -7,7 +7,8 @@ ghost use Rattle.star_interval.specs.Interval.{range_of};
 
 use star_interval::Interval;
 
-/// A column of 64-bit values, one for each row of its table. Rows count from 0. No call takes memory.
+/// A column of 64-bit values, one for each row of its table. Rows count from 0. No call takes
+/// memory.
 pub trait ColumnData {
     // The values, in the order of the rows.
     ghost values: { Self → List ℤ };
@@ -21,7 +22,8 @@ pub trait ColumnData {
         requires { row < length (values self.now) }
         ensures { slice_get (values self.now) row ≡ Some result };
 
-    /// The least and the greatest value, 0 and 0 where there is no row. Each value lies between them.
+    /// The least and the greatest value, 0 and 0 where there is no row. Each value lies between
+    /// them.
     fn bounds(&self) -> Interval
         ensures low { result.low ≡ least (values self.now) }
         ensures high { result.high ≡ greatest (values self.now) }

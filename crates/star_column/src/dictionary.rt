@@ -27,7 +27,8 @@ impl Model for Dictionary {
 
     ghost view = { λ dictionary. dictionary.texts };
 
-    ghost invariant = { λ dictionary. (length dictionary.texts < 2 ^ 32) × IsStrictlySortedBy text_cmp dictionary.texts };
+    ghost invariant = { λ dictionary. (length dictionary.texts < 2 ^ 32)
+        × IsStrictlySortedBy text_cmp dictionary.texts };
 }
 
 /// The two edges of the place of a text among texts in order.

@@ -24,8 +24,8 @@ impl AsSlice<u8> for Numbered<'_> {
     }
 }
 
-/// Different texts, numbered from 0 in the order in which they were first met. A contract sees them as a list in that
-/// order.
+/// Different texts, numbered from 0 in the order in which they were first met. A contract sees them
+/// as a list in that order.
 #[derive(Drop)]
 pub(crate) struct Distinct<'t> {
     texts: IndexSet<&'t [u8]>,

@@ -10,8 +10,8 @@ pub fn texts_have_one_dictionary()
         → IsDictionary dictionary texts ↔ (dictionary ≡ dictionary_of texts) }
 {}
 
-/// Each text of a column has one code, which is how many texts of the dictionary are less. With the text itself they are
-/// one more.
+/// Each text of a column has one code, which is how many texts of the dictionary are less. With the
+/// text itself they are one more.
 pub fn texts_have_one_code()
     ensures some { (texts : List (List ℕ)) (text : List ℕ)
         → Contains texts text → HasCode texts text (low_in (dictionary_of texts) text) }
@@ -21,7 +21,8 @@ pub fn texts_have_one_code()
         → HasCode texts text code → high_in (dictionary_of texts) text ≡ code + 1 }
 {}
 
-/// Codes compare as their texts do, with one another and with what `low` and `high` count for any text.
+/// Codes compare as their texts do, with one another and with what `low` and `high` count for any
+/// text.
 pub fn codes_compare_as_texts()
     ensures codes { (texts : List (List ℕ)) (a b : List ℕ) (m n : ℕ)
         → HasCode texts a m → HasCode texts b n → nat_cmp m n ≡ text_cmp a b }

@@ -23,14 +23,15 @@ impl Model for NumberColumn {
 
     ghost view = { λ column. column.numbers.items };
 
-    ghost invariant = { λ column. (length column.numbers.items < 2 ^ 32) × AreBounds column.bounds column.numbers.items };
+    ghost invariant = { λ column. (length column.numbers.items < 2 ^ 32)
+        × AreBounds column.bounds column.numbers.items };
 }
 
 impl NumberColumn {
     /// The column of these numbers, of which there are at most 4,294,967,295.
     ///
-    /// It keeps the vector, without the room that this has to spare, and takes no memory, so it is always an `Ok`: a
-    /// `Result` as for every other kind of column.
+    /// It keeps the vector, without the room that this has to spare, and takes no memory, so it is
+    /// always an `Ok`: a `Result` as for every other kind of column.
     pub fn build(mut numbers: Vec<i64>) -> Result<NumberColumn, AllocError>
         requires { vec_len numbers < 2 ^ 32 }
         ensures { IsOkAnd result (λ column. column ≡ numbers.items) }

@@ -13,8 +13,8 @@ use std::marker::Model;
 
 /// A column of texts, which a contract sees as the list of them in the order of the rows.
 ///
-/// It keeps each text once, in a dictionary in the order of bytes, and for each row a code, the place of its text there.
-/// Rows, places and codes count from 0.
+/// It keeps each text once, in a dictionary in the order of bytes, and for each row a code, the
+/// place of its text there. Rows, places and codes count from 0.
 #[derive(Drop)]
 pub struct TextColumn {
     codes: Vec<u32>,
@@ -65,7 +65,8 @@ impl TextColumn {
         Ok(TextColumn { codes, dictionary })
     }
 
-    /// The code of a row's text: its place in the dictionary, which is also the number of texts there that are less.
+    /// The code of a row's text: its place in the dictionary, which is also the number of texts
+    /// there that are less.
     pub fn code_at(&self, row: u32) -> u32
         requires { row < length self.now }
         ensures stands { slice_get (dictionary_of self.now) result ≡ slice_get self.now row }

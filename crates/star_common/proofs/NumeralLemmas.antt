@@ -15,7 +15,8 @@ pub digit_bounds : (b : ℕ) → is_ascii_digit b ≡ true → (48 ≤ b) × (b 
 digit_bounds b digit = (leb-true _ _ (and_parts _ _ digit).0, leb-true _ _ (and_parts _ _ digit).1)
 
 -- one more digit
-pub digits_more : (ds : List ℕ) (i m d : ℕ) → i < length ds → is_ascii_digit (get_or ds i 0) ≡ true → m ≡ digits_value 10 (take i ds) → d + 48 ≡ get_or ds i 0
+pub digits_more : (ds : List ℕ) (i m d : ℕ) → i < length ds → is_ascii_digit (get_or ds i 0) ≡ true
+    → m ≡ digits_value 10 (take i ds) → d + 48 ≡ get_or ds i 0
     → m * 10 + d ≡ digits_value 10 (take (i + 1) ds)
 digits_more ds i m d within digit was is =
     let value = digit_value_digit (get_or ds i 0) (digit_bounds (get_or ds i 0) digit) in
@@ -23,8 +24,16 @@ digits_more ds i m d within digit was is =
     let same : d ≡ digit_value (get_or ds i 0) = omega (arith, value, is) in
     rw (more, was, same) refl
 
-pub all_more : (ds : List ℕ) (i : ℕ) → i < length ds → list_all is_ascii_digit (take i ds) ≡ true → is_ascii_digit (get_or ds i 0) ≡ true → list_all is_ascii_digit (take (i + 1) ds) ≡ true
-all_more ds i within so_far digit = rw (add-one, take-suc ds i 0 within, list_all-append is_ascii_digit (take i ds) (get_or ds i 0 ∷ []), so_far, digit) refl
+pub all_more : (ds : List ℕ) (i : ℕ) → i < length ds → list_all is_ascii_digit (take i ds) ≡ true
+    → is_ascii_digit (get_or ds i 0) ≡ true → list_all is_ascii_digit (take (i + 1) ds) ≡ true
+all_more ds i within so_far digit =
+    rw (
+      add-one,
+      take-suc ds i 0 within,
+      list_all-append is_ascii_digit (take i ds) (get_or ds i 0 ∷ []),
+      so_far,
+      digit,
+    ) refl
 
 -- the bound that one more digit keeps
 pub room : (i m d : ℕ) → m < 10 ^ i → d < 10 → m * 10 + d < 10 ^ (i + 1)
@@ -37,6 +46,7 @@ below_power i k m small within =
     let h : 10 ^ i ≤ 10 ^ k = pow-le-pow_right (lit< tt) within in
     omega (arith, h)
 
-pub some_below_power : (o : Option ℕ) (i k : ℕ) → IfSome o (λ n. n < 10 ^ i) → i ≤ k → IfSome o (λ n. n < 10 ^ k)
+pub some_below_power : (o : Option ℕ) (i k : ℕ) → IfSome o (λ n. n < 10 ^ i) → i ≤ k
+    → IfSome o (λ n. n < 10 ^ k)
 some_below_power None i k h within = tt
 some_below_power (Some n) i k h within = below_power i k n h within

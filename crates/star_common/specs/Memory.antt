@@ -1,4 +1,5 @@
--- Want of memory, which each kind of fault tells as a case of its own. A call that takes memory may answer it at any time, before any other fault.
+-- Want of memory, which each kind of fault tells as a case of its own. A call that takes memory may
+-- answer it at any time, before any other fault.
 use Rattle.std.specs.Prelude.{◌≡◌, ◌⊎◌}
 
 -- want of memory aside, this holds

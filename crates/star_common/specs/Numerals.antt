@@ -6,7 +6,8 @@ use Rattle.std.specs.Str.Parse.{digits_value}
 
 -- 1 to so many digits
 abbrev pub is_numeral : ℕ → List ℕ → Bool
-is_numeral places text = nat_le 1 (length text) && nat_le (length text) places && list_all is_ascii_digit text
+is_numeral places text =
+    nat_le 1 (length text) && nat_le (length text) places && list_all is_ascii_digit text
 
 -- the number that they write
 abbrev pub numeral_of : ℕ → List ℕ → Option ℕ

@@ -5,7 +5,8 @@ ghost use Rattle.std.specs.Prelude.{◌≡◌, ◌<◌, ◌↔◌, ◌++◌, ◌
 use std::alloc::{AllocError, Global};
 use std::marker::Model;
 
-/// A list, in clauses just its items. It is made from a `Vec` and gives it back without taking memory.
+/// A list, in clauses just its items. It is made from a `Vec` and gives it back without taking
+/// memory.
 #[derive(Drop)]
 pub struct Items<T> {
     items: Vec<T>,
@@ -43,6 +44,7 @@ impl<T> Items<T> {
     }
 
     /// What the list takes its memory from.
+    // No clause can name it, since clauses see the items alone. No body has another `Global` to give.
     pub fn allocator(&self) -> Global {
         *self.items.allocator()
     }

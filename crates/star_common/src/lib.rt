@@ -1,4 +1,5 @@
-//! What every crate stands on: numbers in digits, texts in quotes, lists that contracts see as lists, and where output goes.
+//! What every crate stands on: numbers in digits, texts in quotes, lists that contracts see as
+//! lists, and where output goes.
 #![tactic(auto)]
 
 mod items;

@@ -9,7 +9,8 @@ ghost use Rattle.star_common.specs.Numerals.{numeral_of};
 // The number that some digits write, if each byte is one.
 fn magnitude(digits: &[u8]) -> Option<u64>
     requires { length digits.now ≤ 19 }
-    ensures value { result ≡ (if list_all is_ascii_digit digits.now then Some (digits_value 10 digits.now) else None) }
+    ensures value { result
+        ≡ (if list_all is_ascii_digit digits.now then Some (digits_value 10 digits.now) else None) }
     ensures bound { IfSome result (λ magnitude. magnitude < 10 ^ length digits.now) }
 {
     let mut magnitude = 0u64;

@@ -27,7 +27,8 @@ fn push_all_doubled(out: &mut Vec<u8>, text: &[u8]) -> Result<(), AllocError>
     Ok(())
 }
 
-/// Adds a text in single quotes, in which each quote stands twice. Where memory is refused a part of it may have been added.
+/// Adds a text in single quotes, in which each quote stands twice. Where memory is refused a part
+/// of it may have been added.
 #[tactic(auto, unfolding(crate::specs::Quotes::quoted))]
 pub fn push_quoted(out: &mut Vec<u8>, text: &[u8]) -> Result<(), AllocError>
     ensures { OnOk result (out.new.items ≡ out.old.items ++ quoted text.now) }

@@ -20,14 +20,18 @@ pub trait Sink {
 
     /// Takes some bytes from the front of a text, and says how many.
     ///
-    /// A write that errs takes none and leaves the sink failed, and so does one that takes none of a text that isn't
-    /// empty. A failed sink's writes of such texts all err.
+    /// A write that errs takes none and leaves the sink failed, and so does one that takes none of
+    /// a text that isn't empty. A failed sink's writes of such texts all err.
     fn write(&mut self, text: &[u8]) -> Result<usize, SinkFault>
         ensures within { IfOk result (λ count. count ≤ length text.now) }
-        ensures takes { IfOk result (λ count. Appends (contents self.old) (contents self.new) (take count text.now)) }
-        ensures goes_on { IfOk result (λ count. (0 < count) ⊎ (text.now ≡ []) → is_failed self.new ≡ is_failed self.old) }
-        ensures stuck { IfOk result (λ count. count ≡ 0 → 0 < length text.now → is_failed self.new ≡ true) }
-        ensures errs { OnErr result (Appends (contents self.old) (contents self.new) [] × (is_failed self.new ≡ true)) }
+        ensures takes { IfOk result
+            (λ count. Appends (contents self.old) (contents self.new) (take count text.now)) }
+        ensures goes_on { IfOk result
+            (λ count. (0 < count) ⊎ (text.now ≡ []) → is_failed self.new ≡ is_failed self.old) }
+        ensures stuck { IfOk result
+            (λ count. count ≡ 0 → 0 < length text.now → is_failed self.new ≡ true) }
+        ensures errs { OnErr result
+            (Appends (contents self.old) (contents self.new) [] × (is_failed self.new ≡ true)) }
         ensures stays_failed { is_failed self.old ≡ true → 0 < length text.now → IsErr result };
 
     /// Whether a write has failed.
@@ -35,7 +39,8 @@ pub trait Sink {
         ensures { result ≡ is_failed self.now };
 }
 
-/// A writer as a sink. A write that takes no byte of a text counts as failed, and nothing is written after a failure.
+/// A writer as a sink. A write that takes no byte of a text counts as failed, and nothing is
+/// written after a failure.
 #[derive(Drop)]
 pub struct Out<W> {
     writer: W,

@@ -1,2 +1,3 @@
 pub mod ListingLemmas
 pub mod Trials
+pub mod OneReport

@@ -12,7 +12,8 @@ pub listing_some : (rows : TableId → List (List Value)) → 0 < length (listin
 unfolding listing_of table_text table_line
 listing_some rows = omega arith
 
-rows_of_text : (texts : TableId → List ℕ) (t : TableId) → rows_in (database_of texts) t ≡ rows_of t (texts t)
+rows_of_text : (texts : TableId → List ℕ) (t : TableId) → rows_in (database_of texts) t
+    ≡ rows_of t (texts t)
 rows_of_text texts Date = refl
 rows_of_text texts Customer = refl
 rows_of_text texts Supplier = refl
@@ -20,5 +21,7 @@ rows_of_text texts Part = refl
 rows_of_text texts Lineorder = refl
 
 -- the listing of the rows of five texts
-pub listing_texts : (database : Database) (texts : TableId → List ℕ) → database ≡ database_of texts → listing_of (rows_in database) ≡ check_text texts
-listing_texts database texts same = ap (λ d. listing_of (rows_in d)) same ∙ ap listing_of (λ i t. rows_of_text texts t i)
+pub listing_texts : (database : Database) (texts : TableId → List ℕ) → database ≡ database_of texts
+    → listing_of (rows_in database) ≡ check_text texts
+listing_texts database texts same =
+    ap (λ d. listing_of (rows_in d)) same ∙ ap listing_of (λ i t. rows_of_text texts t i)

@@ -21,32 +21,51 @@ use Rattle.star_engine.specs.Faults.{fault_of_trial}
 use Rattle.star_engine.specs.Private.Steps.{IsNoEnd, IsNoOutcome}
 
 -- a run that doesn't come to its end gives no outcome
-pub no_end : (end : End) (fault : TrialFault) → IsFaultOf end fault → IsNoEnd end (fault_of_trial fault)
+pub no_end : (end : End) (fault : TrialFault) → IsFaultOf end fault
+    → IsNoEnd end (fault_of_trial fault)
 no_end end trial.OutOfMemory stopped = tt
 no_end end (trial.Trap at kind) stopped = stopped
 no_end end trial.Limit stopped = stopped
 
-no_outcome : (most : ℕ) (texts : TableId → List ℕ) (program : Parts) (visits : ℕ) (database : Database) (fault : EngineFault)
-    → database ≡ database_of texts → IsLoadable most texts → IsNoEnd (bounded_run_of (world_of database) visits program) fault
+no_outcome : (most : ℕ) (texts : TableId → List ℕ) (program : Parts) (visits : ℕ)
+    (database : Database) (fault : EngineFault)
+    → database ≡ database_of texts → IsLoadable most texts
+    → IsNoEnd (bounded_run_of (world_of database) visits program) fault
     → IsNoOutcome most texts program visits fault
 no_outcome most texts program visits database OutOfMemory same loadable stopped = tt
-no_outcome most texts program visits database (Trial fault) same loadable stopped = (loadable, rw same at stopped)
+no_outcome most texts program visits database (Trial fault) same loadable stopped =
+    (loadable, rw same at stopped)
 no_outcome most texts program visits database _ same loadable stopped = absurd stopped
 
 -- over the tables of five texts a program gives what it gives over the rows of these texts
-pub whole_outcome : (most : ℕ) (texts : TableId → List ℕ) (program : Parts) (visits : ℕ) (database : Database) (result : Result Outcome EngineFault)
+pub whole_outcome : (most : ℕ) (texts : TableId → List ℕ) (program : Parts) (visits : ℕ)
+    (database : Database) (result : Result Outcome EngineFault)
     → database ≡ database_of texts → IsLoadable most texts
-    → MatchResult result (Yields (world_of database) program (bounded_run_of (world_of database) visits program)) (IsNoEnd (bounded_run_of (world_of database) visits program))
     → MatchResult result
-    (λ outcome. IsLoadable most texts × Yields (world_of (database_of texts)) program (bounded_run_of (world_of (database_of texts)) visits program) outcome)
+    (Yields (world_of database) program (bounded_run_of (world_of database) visits program))
+    (IsNoEnd (bounded_run_of (world_of database) visits program))
+    → MatchResult result
+    (λ outcome. IsLoadable most texts
+    × Yields (world_of (database_of texts)) program
+    (bounded_run_of (world_of (database_of texts)) visits program) outcome)
     (IsNoOutcome most texts program visits)
-whole_outcome most texts program visits database (Ok outcome) same loadable yields =
-    (loadable, subst (λ d. Yields (world_of d) program (bounded_run_of (world_of d) visits program) outcome) same yields)
-whole_outcome most texts program visits database (Err fault) same loadable none = no_outcome most texts program visits database fault same loadable none
+whole_outcome most texts program visits database (Ok outcome) same loadable yields = (
+  loadable,
+  subst
+      (λ d. Yields (world_of d) program (bounded_run_of (world_of d) visits program) outcome) same
+      yields,
+)
+whole_outcome most texts program visits database (Err fault) same loadable none =
+    no_outcome most texts program visits database fault same loadable none
 
 -- a report has a byte
-pub report_some : (names : List (List ℕ)) (rows : List (List Cell)) → 0 < length (report_text names rows)
+pub report_some : (names : List (List ℕ)) (rows : List (List Cell)) → 0
+    < length (report_text names rows)
 unfolding report_text line_text
 report_some names rows =
     let fields = join_with_byte 124 names in
-    omega (arith, length-append (fields ++ codes "\n") (flat_map row_text rows), length-append fields (codes "\n"))
+    omega (
+      arith,
+      length-append (fields ++ codes "\n") (flat_map row_text rows),
+      length-append fields (codes "\n"),
+    )

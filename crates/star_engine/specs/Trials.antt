@@ -21,12 +21,15 @@ pub record IsProgramOf (file : List ℕ) (program : Parts) : Type 0 where
 abbrev pub IsProgram : List ℕ → Type 0
 IsProgram file = (program : Parts) × IsProgramOf file program
 
--- the printed rows of the program that a file spells, run over these tables with so many visits at most
-pub record IsReport (database : Database) (file : List ℕ) (visits : ℕ) (report : List ℕ) : Type 0 where
+-- the printed rows of the program that a file spells, run over these tables with so many visits at
+-- most
+pub record IsReport (database : Database) (file : List ℕ) (visits : ℕ)
+    (report : List ℕ) : Type 0 where
   pub program : Parts
   pub of_file : IsProgramOf file program
   pub outcome : Outcome
-  pub yields : Yields (world_of database) program (bounded_run_of (world_of database) visits program) outcome
+  pub yields : Yields (world_of database) program
+      (bounded_run_of (world_of database) visits program) outcome
   pub printed : report ≡ report_text outcome.names outcome.rows
 
 -- how a run ends that does not come to its end: trapped, or at the limit on visits
@@ -35,7 +38,8 @@ IsStop end trial.OutOfMemory = ⊥
 IsStop end fault = IsFaultOf end fault
 
 -- the program that a file spells, run over these tables, is trapped or meets the limit on visits
-pub record IsStopped (database : Database) (file : List ℕ) (visits : ℕ) (fault : TrialFault) : Type 0 where
+pub record IsStopped (database : Database) (file : List ℕ) (visits : ℕ)
+    (fault : TrialFault) : Type 0 where
   pub program : Parts
   pub of_file : IsProgramOf file program
   pub stopped : IsStop (bounded_run_of (world_of database) visits program) fault

@@ -27,16 +27,20 @@ pub fn check<S: Sink>(
     out: &mut S,
 ) -> Result<(), EngineFault>
     ensures loadable { OnOk result (IsLoadable limits.rows (text_of texts.now)) }
-    ensures printed { OnOk result (Appends (S.contents out.old) (S.contents out.new) (check_text (text_of texts.now))) }
+    ensures printed { OnOk result
+        (Appends (S.contents out.old) (S.contents out.new) (check_text (text_of texts.now))) }
     ensures not_failed { OnOk result (S.is_failed out.new ≡ false) }
 
     // Each fault comes where it is due, and has given `out` nothing but what it says.
     ensures memory { result ≡ Err EngineFault.OutOfMemory → out.new ≡ out.old }
     ensures load { (fault : LoadFault) → result ≡ Err (EngineFault.Load fault)
-        → (load_fault limits.rows (text_of texts.now) ≡ Some fault) × ¬ IsLoadable limits.rows (text_of texts.now) × (out.new ≡ out.old) }
+        → (load_fault limits.rows (text_of texts.now) ≡ Some fault)
+        × ¬ IsLoadable limits.rows (text_of texts.now) × (out.new ≡ out.old) }
     ensures write { (sent : ℕ) → result ≡ Err (EngineFault.Write sent)
-        → IsLoadable limits.rows (text_of texts.now) × (sent < length (check_text (text_of texts.now)))
-        × Appends (S.contents out.old) (S.contents out.new) (take sent (check_text (text_of texts.now))) × (S.is_failed out.new ≡ true) }
+        → IsLoadable limits.rows (text_of texts.now)
+        × (sent < length (check_text (text_of texts.now)))
+        × Appends (S.contents out.old) (S.contents out.new)
+        (take sent (check_text (text_of texts.now))) × (S.is_failed out.new ≡ true) }
 
     // No other fault comes.
     ensures no_program { (fault : TextFault) → ¬ (result ≡ Err (EngineFault.Program fault)) }
@@ -47,8 +51,8 @@ pub fn check<S: Sink>(
     Ok(())
 }
 
-/// Runs the program whose text a file holds over the tables, with at most so many turns of scans, and writes its report.
-/// The file is read first, and then the tables.
+/// Runs the program whose text a file holds over the tables, with at most so many turns of scans,
+/// and writes its report. The file is read first, and then the tables.
 pub fn trial_program<S: Sink>(
     alloc: Global,
     texts: &Texts<'_>,
@@ -59,7 +63,8 @@ pub fn trial_program<S: Sink>(
 ) -> Result<(), EngineFault>
     requires { visits ≤ 10 ^ 15 }
     ensures loadable { OnOk result (IsLoadable limits.rows (text_of texts.now)) }
-    ensures printed { OnOk result ((report : List ℕ) × IsReport (database_of (text_of texts.now)) file.now visits report
+    ensures printed { OnOk result
+        ((report : List ℕ) × IsReport (database_of (text_of texts.now)) file.now visits report
         × Appends (S.contents out.old) (S.contents out.new) report) }
     ensures not_failed { OnOk result (S.is_failed out.new ≡ false) }
 
@@ -71,12 +76,15 @@ pub fn trial_program<S: Sink>(
         → IsProgram file.now × (load_fault limits.rows (text_of texts.now) ≡ Some fault)
         × ¬ IsLoadable limits.rows (text_of texts.now) × (out.new ≡ out.old) }
     ensures trial { (fault : TrialFault) → result ≡ Err (EngineFault.Trial fault)
-        → IsLoadable limits.rows (text_of texts.now) × IsStopped (database_of (text_of texts.now)) file.now visits fault
+        → IsLoadable limits.rows (text_of texts.now)
+        × IsStopped (database_of (text_of texts.now)) file.now visits fault
         × (out.new ≡ out.old) }
     ensures write { (sent : ℕ) → result ≡ Err (EngineFault.Write sent)
         → IsLoadable limits.rows (text_of texts.now)
-        × ((report : List ℕ) × IsReport (database_of (text_of texts.now)) file.now visits report × (sent < length report)
-        × Appends (S.contents out.old) (S.contents out.new) (take sent report)) × (S.is_failed out.new ≡ true) }
+        × ((report : List ℕ) × IsReport (database_of (text_of texts.now)) file.now visits report
+        × (sent < length report)
+        × Appends (S.contents out.old) (S.contents out.new) (take sent report))
+        × (S.is_failed out.new ≡ true) }
 {
     let report = report_of(alloc, texts, file, visits, limits)?;
     write_whole(out, report.as_slice())?;

@@ -3,6 +3,7 @@
 
 mod answers;
 mod fault;
+pub mod law;
 mod listing;
 mod reports;
 

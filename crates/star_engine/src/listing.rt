@@ -17,7 +17,10 @@ use std::fmt::Write;
 // Adds the line of a column of numbers, and nothing for a column of texts.
 #[tactic(auto, unfolding(crate::specs::Listing::bounds_line))]
 fn push_column(text: &mut String, catalogue: &Catalogue, column: ColumnId) -> Result<(), AllocError>
-    ensures { OnOk result (string_bytes text.new ≡ string_bytes text.old ++ column_text (rows_in catalogue.now (table_of column)) column (kind_of column)) }
+    ensures { OnOk result
+        (string_bytes text.new
+        ≡ string_bytes text.old
+        ++ column_text (rows_in catalogue.now (table_of column)) column (kind_of column)) }
 {
     match kind_of(column) {
         Kind::Number => {
@@ -31,7 +34,11 @@ fn push_column(text: &mut String, catalogue: &Catalogue, column: ColumnId) -> Re
 }
 
 fn push_columns(text: &mut String, catalogue: &Catalogue, table: TableId) -> Result<(), AllocError>
-    ensures { OnOk result (string_bytes text.new ≡ string_bytes text.old ++ flat_map (λ column. column_text (rows_in catalogue.now table) column (kind_of column)) (columns_of table)) }
+    ensures { OnOk result
+        (string_bytes text.new
+        ≡ string_bytes text.old
+        ++ flat_map (λ column. column_text (rows_in catalogue.now table) column (kind_of column))
+        (columns_of table)) }
 {
     for place in 0..width(table) {
         push_column(text, catalogue, column_at(table, place))?;
@@ -41,7 +48,9 @@ fn push_columns(text: &mut String, catalogue: &Catalogue, table: TableId) -> Res
 
 #[tactic(auto, unfolding(crate::specs::Listing::table_line, crate::specs::Listing::table_text))]
 fn push_table(text: &mut String, catalogue: &Catalogue, table: TableId) -> Result<(), AllocError>
-    ensures { OnOk result (string_bytes text.new ≡ string_bytes text.old ++ table_text table (rows_in catalogue.now table)) }
+    ensures { OnOk result
+        (string_bytes text.new
+        ≡ string_bytes text.old ++ table_text table (rows_in catalogue.now table)) }
 {
     let rows = catalogue.rows(table);
     writeln!(text, "table {table} rows {rows}")?;
@@ -50,7 +59,9 @@ fn push_table(text: &mut String, catalogue: &Catalogue, table: TableId) -> Resul
 
 // How many rows each table has, and the bounds of its columns of numbers, a line each.
 fn list_tables(alloc: Global, catalogue: &Catalogue) -> Result<String, LoadFault>
-    ensures { MatchResult result (λ text. string_bytes text ≡ listing_of (rows_in catalogue.now)) (λ fault. fault ≡ LoadFault.OutOfMemory) }
+    ensures { MatchResult result
+        (λ text. string_bytes text ≡ listing_of (rows_in catalogue.now))
+        (λ fault. fault ≡ LoadFault.OutOfMemory) }
 {
     let mut text = String::new(alloc);
     for table in &TABLES {
@@ -62,7 +73,8 @@ fn list_tables(alloc: Global, catalogue: &Catalogue) -> Result<String, LoadFault
 // The listing of the tables of five texts.
 pub(crate) fn listing(alloc: Global, texts: &Texts<'_>, limits: Limits) -> Result<String, LoadFault>
     ensures { MatchResult result
-        (λ text. IsLoadable limits.rows (text_of texts.now) × (string_bytes text ≡ check_text (text_of texts.now)))
+        (λ text. IsLoadable limits.rows (text_of texts.now)
+        × (string_bytes text ≡ check_text (text_of texts.now)))
         (IsLoadFault limits.rows (text_of texts.now)) }
 {
     let catalogue = Catalogue::load(alloc, texts, limits)?;

@@ -26,7 +26,8 @@ fn outcome_over(
 ) -> Result<Outcome, EngineFault>
     requires { visits ≤ 10 ^ 15 }
     ensures { MatchResult result
-        (Yields (world_of catalogue.now) program.now (bounded_run_of (world_of catalogue.now) visits program.now))
+        (Yields (world_of catalogue.now) program.now
+        (bounded_run_of (world_of catalogue.now) visits program.now))
         (IsNoEnd (bounded_run_of (world_of catalogue.now) visits program.now)) }
 {
     Ok(trial(alloc, catalogue, program, visits)?)
@@ -42,7 +43,9 @@ fn outcome_of(
 ) -> Result<Outcome, EngineFault>
     requires { visits ≤ 10 ^ 15 }
     ensures { MatchResult result
-        (λ outcome. IsLoadable limits.rows (text_of texts.now) × Yields (world_of (database_of (text_of texts.now))) program.now (bounded_run_of (world_of (database_of (text_of texts.now))) visits program.now) outcome)
+        (λ outcome. IsLoadable limits.rows (text_of texts.now)
+        × Yields (world_of (database_of (text_of texts.now))) program.now
+        (bounded_run_of (world_of (database_of (text_of texts.now))) visits program.now) outcome)
         (IsNoOutcome limits.rows (text_of texts.now) program.now visits) }
 {
     let catalogue = Catalogue::load(alloc, texts, limits)?;
@@ -59,7 +62,8 @@ pub(crate) fn report_of(
 ) -> Result<Vec<u8>, EngineFault>
     requires { visits ≤ 10 ^ 15 }
     ensures { MatchResult result
-        (λ report. IsLoadable limits.rows (text_of texts.now) × IsReport (database_of (text_of texts.now)) file.now visits report.items)
+        (λ report. IsLoadable limits.rows (text_of texts.now)
+        × IsReport (database_of (text_of texts.now)) file.now visits report.items)
         (IsNoReport limits.rows (text_of texts.now) file.now visits) }
 {
     let program = Program::parse(alloc, file)?;

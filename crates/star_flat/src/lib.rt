@@ -1,4 +1,5 @@
-//! Lists of texts in flat storage: one buffer for the bytes of all texts, and one for where each ends.
+//! Lists of texts in flat storage: one buffer for the bytes of all texts, and one for where each
+//! ends.
 #![tactic(auto)]
 
 mod texts;

@@ -6,7 +6,8 @@ ghost use Rattle.star_flat.specs.Private.Cut.{texts_from, start_of, IsCut};
 use std::alloc::{AllocError, Global};
 use std::marker::Model;
 
-/// A list of texts, which a contract sees as the list of their bytes. No text has an allocation of its own.
+/// A list of texts, which a contract sees as the list of their bytes. No text has an allocation of
+/// its own.
 #[derive(Drop)]
 pub struct FlatTexts {
     bytes: Vec<u8>,

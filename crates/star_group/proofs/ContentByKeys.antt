@@ -1,90 +1,25 @@
--- The aggregates of a group are functions of the content of its puts by key list.
-use Rattle.std.proofs.Common.{◌≡◌, ℕ, suc, Bool, true, false, ℤ, pos, ◌+ℤ◌, List, [], ◌∷◌, Option, Some, None, length, map, cond, ap, sym, ◌∙◌, refl, arith}
+-- The groups of puts and their aggregates are those of the content.
+use Rattle.std.proofs.Common.{◌≡◌, inl, inr, ℕ, suc, ◌<◌, Bool, true, ℤ, pos, ◌+ℤ◌, List, [], ◌∷◌, Option, Some, None, length, map, ap, sym, ◌∙◌, subst, refl, arith}
 use Rattle.std.proofs.lemmas.Int.{ints, int_min_is, int_max_is}
-use Rattle.std.proofs.lemmas.Slice.Eq.{slice_eq-Decides}
 use Rattle.std.specs.Int.{int_min, int_max}
-use Rattle.std.specs.List.{filter}
+use Rattle.std.specs.List.{list_any, AllByRecursion, filter}
 use Rattle.std.specs.Option.{unwrap_or}
-use Rattle.star_schema.specs.Groups.{belongs, joined, members, numbers_for}
+use Rattle.star_schema.specs.declared.group.Aggregate.{Aggregate}
+use Rattle.star_schema.specs.declared.group.Aggregate.TheVariants.{Sum, Count, Min, Max}
+use Rattle.star_schema.specs.Groups.{IsGroup, IsMasked, aggregate, belongs, joined, numbers_for}
 use Rattle.star_program.specs.declared.key.KeyValue.{KeyValue}
 use Rattle.star_program.specs.Keys.{same_keys, value_cmp}
-use Rattle.star_group.specs.Stores.{Put, AreOfContent, add_to, by_keys, number_at}
-use Rattle.star_group.proofs.GroupKeys.{value_decides}
-use Rattle.star_group.proofs.Totals.{joined_none, joined_some}
-
--- ---- an operation that joins numbers in any order
-
-module _ (f : ℤ → ℤ → ℤ) where
-  abbrev pub more : ℤ → Option ℤ → Option ℤ
-  more z None = Some z
-  more z (Some y) = Some (f z y)
-
-  joined_more : (z : ℤ) (zs : List ℤ) → joined f (z ∷ zs) ≡ more z (joined f zs)
-  joined_more z zs = by (joined f zs) refl
-    where
-      by : (r : Option ℤ) → joined f zs ≡ r → joined f (z ∷ zs) ≡ more z (joined f zs)
-      by None e = joined_none f z zs e ∙ ap (more z) (sym e)
-      by (Some y) e = joined_some f z y zs e ∙ ap (more z) (sym e)
-
-module _ (f : ℤ → ℤ → ℤ) (comm : (x y : ℤ) → f x y ≡ f y x) (assoc : (x y z : ℤ) → f (f x y) z ≡ f x (f y z)) where
-  more_of_both : (x y : ℤ) (r : Option ℤ) → more f (f x y) r ≡ more f x (more f y r)
-  more_of_both x y None = refl
-  more_of_both x y (Some z) = ap Some (assoc x y z)
-
-  more_in_turn : (x y : ℤ) (r : Option ℤ) → more f x (more f y r) ≡ more f y (more f x r)
-  more_in_turn x y None = ap Some (comm x y)
-  more_in_turn x y (Some z) = ap Some (sym (assoc x y z) ∙ ap (λ w. f w z) (comm x y) ∙ assoc y x z)
-
-  module _ (p : List KeyValue → Bool) where
-    -- the numbers of the key lists that pass
-    abbrev pub passing : List (List KeyValue × ℤ) → Option ℤ
-    passing es = joined f (map (λ e. e.1) (filter (λ e. p e.0) es))
-
-    passing_more : (e : List KeyValue × ℤ) (es : List (List KeyValue × ℤ)) → passing (e ∷ es) ≡ cond (p e.0) (more f e.1 (passing es)) (passing es)
-    passing_more e es = by (p e.0)
-      where
-        by : (b : Bool) → joined f (map (λ e. e.1) (cond b (e ∷ filter (λ e. p e.0) es) (filter (λ e. p e.0) es))) ≡ cond b (more f e.1 (passing es)) (passing es)
-        by true = joined_more f e.1 (map (λ e. e.1) (filter (λ e. p e.0) es))
-        by false = refl
-
-    add_passing : (ks : List KeyValue) (z : ℤ) (es : List (List KeyValue × ℤ)) → passing (add_to f ks z es) ≡ cond (p ks) (more f z (passing es)) (passing es)
-    unfolding add_to
-    add_passing ks z [] = passing_more (ks, z) []
-    add_passing ks z (e ∷ es) = by (same_keys ks e.0) refl (add_passing ks z es)
-      where
-        here : (b : Bool) (x : ℤ) (r : Option ℤ) → cond b (more f (f z x) r) r ≡ cond b (more f z (cond b (more f x r) r)) (cond b (more f x r) r)
-        here true x r = more_of_both z x r
-        here false x r = refl
-
-        later : (b c : Bool) (x : ℤ) (r : Option ℤ) → cond b (more f x (cond c (more f z r) r)) (cond c (more f z r) r) ≡ cond c (more f z (cond b (more f x r) r)) (cond b (more f x r) r)
-        later true true x r = more_in_turn x z r
-        later true false x r = refl
-        later false true x r = refl
-        later false false x r = refl
-
-        by : (b : Bool) → same_keys ks e.0 ≡ b → passing (add_to f ks z es) ≡ cond (p ks) (more f z (passing es)) (passing es) → passing (cond b ((e.0, f z e.1) ∷ es) (e ∷ add_to f ks z es)) ≡ cond (p ks) (more f z (passing (e ∷ es))) (passing (e ∷ es))
-        by true same rest =
-            let is : e.0 ≡ ks = sym ((slice_eq-Decides value_decides ks e.0 (same_keys ks e.0) refl).0 same) in
-            passing_more (e.0, f z e.1) es ∙ here (p e.0) e.1 (passing es) ∙ (λ i. cond (p (is i)) (more f z (sym (passing_more e es) i)) (sym (passing_more e es) i))
-        by false other rest =
-            passing_more e (add_to f ks z es) ∙ ap (λ r. cond (p e.0) (more f e.1 r) r) rest ∙ later (p e.0) (p ks) e.1 (passing es) ∙ (λ i. cond (p ks) (more f z (sym (passing_more e es) i)) (sym (passing_more e es) i))
-
-    -- they are the numbers of the puts whose key lists pass
-    pub all_passing : (number : Put → ℤ) (us : List Put) → passing (by_keys f number us) ≡ joined f (map number (filter (λ u. p u.keys) us))
-    unfolding by_keys
-    all_passing number [] = refl
-    all_passing number (u ∷ us) = add_passing u.keys (number u) (by_keys f number us) ∙ ap (λ r. cond (p u.keys) (more f (number u) r) r) (all_passing number us) ∙ over (p u.keys)
-      where
-        over : (b : Bool) → cond b (more f (number u) (joined f (map number (filter (λ w. p w.keys) us)))) (joined f (map number (filter (λ w. p w.keys) us))) ≡ joined f (map number (cond b (u ∷ filter (λ w. p w.keys) us) (filter (λ w. p w.keys) us)))
-        over true = sym (joined_more f (number u) (map number (filter (λ w. p w.keys) us)))
-        over false = refl
+use Rattle.star_group.specs.Stores.{Put, Group, aggregate_at, AreOfContent, IsContent, combined, key_lists, number_at, puts_of}
+use Rattle.star_group.proofs.JoinedParts.{joined_by_parts, joined_more, more}
+use Rattle.star_group.proofs.KeyLists.{all_there, listed, of_key_lists, put_with, some_put}
+use Rattle.star_group.proofs.OwnGroups.{all_more}
 
 -- ---- sums, least and greatest numbers, and counts
 
-plus_comm : (x y : ℤ) → x +ℤ y ≡ y +ℤ x
+pub plus_comm : (x y : ℤ) → x +ℤ y ≡ y +ℤ x
 plus_comm x y = omega (arith, ints)
 
-plus_assoc : (x y z : ℤ) → (x +ℤ y) +ℤ z ≡ x +ℤ (y +ℤ z)
+pub plus_assoc : (x y z : ℤ) → (x +ℤ y) +ℤ z ≡ x +ℤ (y +ℤ z)
 plus_assoc x y z = omega (arith, ints)
 
 least_comm : (x y : ℤ) → int_min x y ≡ int_min y x
@@ -99,9 +34,6 @@ greatest_comm x y = omega (arith, ints, int_max_is x y, int_max_is y x)
 greatest_assoc : (x y z : ℤ) → int_max (int_max x y) z ≡ int_max x (int_max y z)
 greatest_assoc x y z = omega (arith, ints, int_max_is x y, int_max_is (int_max x y) z, int_max_is y z, int_max_is x (int_max y z))
 
-pub sums_passing : (p : List KeyValue → Bool) (number : Put → ℤ) (us : List Put) → joined (λ x y. x +ℤ y) (map (λ e. e.1) (filter (λ e. p e.0) (by_keys (λ x y. x +ℤ y) number us))) ≡ joined (λ x y. x +ℤ y) (map number (filter (λ u. p u.keys) us))
-sums_passing p number us = all_passing (λ x y. x +ℤ y) plus_comm plus_assoc p number us
-
 ones : (us : List Put) → unwrap_or (joined (λ x y. x +ℤ y) (map (λ u. pos 1) us)) (pos 0) ≡ pos (length us)
 ones [] = refl
 ones (u ∷ us) = ap (λ r. unwrap_or r (pos 0)) (joined_more (λ x y. x +ℤ y) (pos 1) (map (λ u. pos 1) us)) ∙ by (joined (λ x y. x +ℤ y) (map (λ u. pos 1) us)) (ones us)
@@ -110,14 +42,71 @@ ones (u ∷ us) = ap (λ r. unwrap_or r (pos 0)) (joined_more (λ x y. x +ℤ y)
     by None e = omega (arith, ints, e)
     by (Some z) e = omega (arith, ints, e)
 
+some_ones : (u : Put) (us : List Put) → joined (λ x y. x +ℤ y) (map (λ w. pos 1) (u ∷ us)) ≡ Some (pos (length (u ∷ us)))
+some_ones u us = joined_more (λ x y. x +ℤ y) (pos 1) (map (λ w. pos 1) us) ∙ by (joined (λ x y. x +ℤ y) (map (λ w. pos 1) us)) (ones us)
+  where
+    by : (r : Option ℤ) → unwrap_or r (pos 0) ≡ pos (length us) → more (λ x y. x +ℤ y) (pos 1) r ≡ Some (pos (suc (length us)))
+    by None e = ap Some (omega (arith, ints, e))
+    by (Some z) e = ap Some (omega (arith, ints, e))
+
 pub length-numbers : (place : ℕ) (us : List Put) → length (numbers_for place us) ≡ length us
 length-numbers place [] = refl
 length-numbers place (u ∷ us) = ap suc (length-numbers place us)
 
-pub are_of_content : (us : List Put) (m : List (Option KeyValue)) (place : ℕ) → AreOfContent us m place
-are_of_content us m place = record {
-  sum = sym (sums_passing (belongs value_cmp m) (number_at place) us);
-  least = sym (all_passing int_min least_comm least_assoc (belongs value_cmp m) (number_at place) us);
-  greatest = sym (all_passing int_max greatest_comm greatest_assoc (belongs value_cmp m) (number_at place) us);
-  count = ap Some (ap pos (length-numbers place (members value_cmp m us)) ∙ sym (ap (λ r. unwrap_or r (pos 0)) (sums_passing (belongs value_cmp m) (λ u. pos 1) us) ∙ ones (members value_cmp m us)));
-}
+all_both : {A : Type 0} (P Q : A → Type 0) (xs : List A) → AllByRecursion P xs → AllByRecursion Q xs → AllByRecursion (λ x. P x × Q x) xs
+all_both P Q [] h k = tt
+all_both P Q (x ∷ xs) h k = ((h.0, k.0), all_both P Q xs h.1 k.1)
+
+module _ (d : Group) (us es : List Put) (is : IsContent d us es) where
+  all_in : AllByRecursion (λ u. list_any (same_keys u.keys) (key_lists es) ≡ true) us
+  all_in = of_key_lists (λ ks. list_any (same_keys ks) (key_lists es) ≡ true) us
+      (all_more (λ ks. list_any (same_keys ks) (key_lists us) ≡ true) (λ ks. list_any (same_keys ks) (key_lists es) ≡ true) (λ ks h. is.keys ks ∙ h) (key_lists us) (all_there (key_lists us)))
+
+  all_put : AllByRecursion (λ e. list_any (same_keys e.keys) (key_lists us) ≡ true) es
+  all_put = of_key_lists (λ ks. list_any (same_keys ks) (key_lists us) ≡ true) es
+      (all_more (λ ks. list_any (same_keys ks) (key_lists es) ≡ true) (λ ks. list_any (same_keys ks) (key_lists us) ≡ true) (λ ks h. sym (is.keys ks) ∙ h) (key_lists es) (all_there (key_lists es)))
+
+  module _ (place : ℕ) (declared : place < length d.aggregates) where
+    abbrev Told : Aggregate → Put → Type 0
+    Told g e = aggregate g (numbers_for place (puts_of e.keys us)) ≡ Some (number_at place e)
+
+    pub told : (g : Aggregate) → aggregate_at d place ≡ g → AllByRecursion (Told g) es
+    told g same = all_more (λ e. (a : ℕ) → a < length d.aggregates → aggregate (aggregate_at d a) (numbers_for a (puts_of e.keys us)) ≡ Some (number_at a e)) (Told g)
+        (λ e h. ap (λ x. aggregate x (numbers_for place (puts_of e.keys us))) (sym same) ∙ h place declared) es is.numbers
+
+    -- a key list that was put has as many ones as its COUNT says
+    counted : (e : Put) → Told Count e → list_any (same_keys e.keys) (key_lists us) ≡ true → joined (λ x y. x +ℤ y) (map (λ u. pos 1) (puts_of e.keys us)) ≡ Some (number_at place e)
+    counted e told there =
+        let some = some_put e.keys us there in
+        ap (λ ws. joined (λ x y. x +ℤ y) (map (λ u. pos 1) ws)) some.2 ∙ some_ones some.0 some.1 ∙ ap (λ ws. Some (pos (length ws))) (sym some.2)
+        ∙ ap (λ n. Some (pos n)) (sym (length-numbers place (puts_of e.keys us))) ∙ told
+
+    module _ (p : List KeyValue → Bool) where
+      abbrev passing : List Put → List Put
+      passing ws = filter (λ w. p w.keys) ws
+
+      pub sums : aggregate_at d place ≡ Sum → joined (λ x y. x +ℤ y) (numbers_for place (passing es)) ≡ joined (λ x y. x +ℤ y) (numbers_for place (passing us))
+      sums same = joined_by_parts (λ x y. x +ℤ y) plus_comm plus_assoc (number_at place) p us (number_at place) es is.once all_in (told Sum same)
+
+      counts : aggregate_at d place ≡ Count → joined (λ x y. x +ℤ y) (numbers_for place (passing es)) ≡ joined (λ x y. x +ℤ y) (map (λ u. pos 1) (passing us))
+      counts same = joined_by_parts (λ x y. x +ℤ y) plus_comm plus_assoc (λ u. pos 1) p us (number_at place) es is.once all_in
+          (all_more (λ e. Told Count e × (list_any (same_keys e.keys) (key_lists us) ≡ true)) (λ e. joined (λ x y. x +ℤ y) (map (λ u. pos 1) (puts_of e.keys us)) ≡ Some (number_at place e))
+          (λ e h. counted e h.0 h.1) es (all_both (Told Count) (λ e. list_any (same_keys e.keys) (key_lists us) ≡ true) es (told Count same) all_put))
+
+      all_combined : (g : Aggregate) → aggregate_at d place ≡ g → aggregate g (numbers_for place (passing us)) ≡ combined g (numbers_for place (passing es))
+      all_combined Sum same = sym (sums same)
+      all_combined Min same = sym (joined_by_parts int_min least_comm least_assoc (number_at place) p us (number_at place) es is.once all_in (told Min same))
+      all_combined Max same = sym (joined_by_parts int_max greatest_comm greatest_assoc (number_at place) p us (number_at place) es is.once all_in (told Max same))
+      all_combined Count same = ap Some (ap pos (length-numbers place (passing us)) ∙ sym (ap (λ r. unwrap_or r (pos 0)) (counts same) ∙ ones (passing us)))
+
+  group_of : (ws vs : List Put) → ((keys : List KeyValue) → list_any (same_keys keys) (key_lists vs) ≡ list_any (same_keys keys) (key_lists ws)) → (m : List (Option KeyValue)) → IsGroup d.shape d.count ws m → IsGroup d.shape d.count vs m
+  group_of ws vs same m (inl (w, there, masked)) =
+      let v = put_with w.keys vs (same w.keys ∙ listed ws w there) in
+      inl (v.0, v.1, subst (λ ks. IsMasked d.shape m ks) (sym v.2) masked)
+  group_of ws vs same m (inr empty) = inr empty
+
+  pub are_of_content : AreOfContent d us es
+  are_of_content = record {
+    groups = λ m. (group_of us es is.keys m, group_of es us (λ ks. sym (is.keys ks)) m);
+    aggregates = λ m place declared. all_combined place declared (belongs value_cmp m) (aggregate_at d place) refl;
+  }

@@ -45,7 +45,7 @@ null_stays Count = refl
 null_stays Min = refl
 null_stays Max = refl
 
-no_leaves : (gs : List Aggregate) (p : ℕ) (ps : List Put) → ((a : ℕ) → a < length gs → leaves_total (get_or gs a Count) (aggregate (get_or gs a Count) (numbers_for (p + a) ps)) ≡ false) → some_leaves gs p ps ≡ false
+pub no_leaves : (gs : List Aggregate) (p : ℕ) (ps : List Put) → ((a : ℕ) → a < length gs → leaves_total (get_or gs a Count) (aggregate (get_or gs a Count) (numbers_for (p + a) ps)) ≡ false) → some_leaves gs p ps ≡ false
 no_leaves [] p ps each = refl
 no_leaves (g ∷ gs) p ps each =
     let here : p ≡ p + 0 = omega arith in

@@ -15,4 +15,8 @@ pub mod GivenRows
 pub mod GivenGroups
 pub mod OwnGroups
 pub mod SmallNumbers
+pub mod KeyLists
+pub mod JoinedParts
 pub mod ContentByKeys
+pub mod ContentMade
+pub mod Worked

@@ -24,7 +24,7 @@ module _ {A : Type 0} where
   all_append P [] ys h k = k
   all_append P (x ∷ xs) ys h k = (h.0, all_append P xs ys h.1 k)
 
-  all_mapped : {B : Type 0} (f : A → B) (P : B → Type 0) (xs : List A) → AllByRecursion (λ x. P (f x)) xs → AllByRecursion P (map f xs)
+  pub all_mapped : {B : Type 0} (f : A → B) (P : B → Type 0) (xs : List A) → AllByRecursion (λ x. P (f x)) xs → AllByRecursion P (map f xs)
   all_mapped f P [] h = tt
   all_mapped f P (x ∷ xs) h = (h.0, all_mapped f P xs h.1)
 

@@ -1,81 +1,121 @@
 -- Numbers that add up within 64 bits do so by key list too.
-use Rattle.std.proofs.Common.{◌≡◌, ℕ, ◌+◌, ◌<◌, ◌≤◌, ◌^◌, Bool, true, false, ℤ, pos, negsuc, ◌+ℤ◌, List, [], ◌∷◌, length, get_or, map, cond, refl, arith}
+use Rattle.std.proofs.Common.{◌≡◌, ℕ, ◌+◌, ◌<◌, ◌≤◌, ◌^◌, Bool, true, false, ◌&&◌, ◌||◌, ℤ, pos, negsuc, ◌+ℤ◌, List, [], ◌∷◌, Option, Some, None, length, cond, ap, sym, ◌∙◌, subst, refl, arith, true≢false}
 use Rattle.std.proofs.lemmas.Int.{ints}
-use Rattle.star_schema.specs.declared.group.Aggregate.{Aggregate}
-use Rattle.star_schema.specs.declared.group.Aggregate.TheVariants.{Sum, Count, Min, Max}
+use Rattle.std.proofs.lemmas.Map.Keys.{IsDistinct-head, IsDistinct-tail}
+use Rattle.std.specs.List.{list_any, AllByRecursion, IsDistinct}
+use Rattle.star_schema.specs.declared.group.Aggregate.TheVariants.{Sum}
 use Rattle.star_schema.specs.Groups.{numbers_for}
-use Rattle.star_program.specs.declared.key.KeyValue.{KeyValue}
 use Rattle.star_program.specs.Keys.{same_keys}
-use Rattle.star_group.specs.Stores.{Put, Group, aggregate_at, add_to, by_keys, sums_by_keys, above_zero, below_zero, AddUp, HasRoomAt, HasRoom}
+use Rattle.star_group.specs.Stores.{Put, Group, aggregate_at, IsContent, key_lists, number_at, above_zero, below_zero, AddUp, HasRoom}
+use Rattle.star_group.proofs.ContentByKeys.{told}
+use Rattle.star_group.proofs.JoinedParts.{flipped, more, no_two, over, over_more}
 
-above_cons : (z : ℤ) (zs : List ℤ) → above_zero (z ∷ zs) ≡ above_zero (z ∷ []) + above_zero zs
-unfolding above_zero
-above_cons (pos n) zs = omega arith
-above_cons (negsuc n) zs = omega arith
+-- ---- a measure of numbers of which a sum has no more than its parts
 
-below_cons : (z : ℤ) (zs : List ℤ) → below_zero (z ∷ zs) ≡ below_zero (z ∷ []) + below_zero zs
-unfolding below_zero
-below_cons (pos n) zs = omega arith
-below_cons (negsuc n) zs = omega arith
+-- the measures of the numbers of the puts that pass, added
+abbrev weight : (ℤ → ℕ) → (Put → ℤ) → (Put → Bool) → List Put → ℕ
+weight size number t [] = 0
+weight size number t (u ∷ us) = cond (t u) (size (number u)) 0 + weight size number t us
 
-above_sum : (x y s : ℤ) → s ≡ x +ℤ y → above_zero (s ∷ []) ≤ above_zero (x ∷ []) + above_zero (y ∷ [])
-unfolding above_zero
+abbrev size_of : (ℤ → ℕ) → Option ℤ → ℕ
+size_of size None = 0
+size_of size (Some z) = size z
+
+module _ (size : ℤ → ℕ) (less : (x y : ℤ) → size (x +ℤ y) ≤ size x + size y) (number : Put → ℤ) where
+  sum_less : (t : Put → Bool) (us : List Put) → size_of size (over (λ x y. x +ℤ y) number t us) ≤ weight size number t us
+  sum_less t [] = omega arith
+  sum_less t (u ∷ us) = subst (λ r. size_of size r ≤ weight size number t (u ∷ us)) (sym (over_more (λ x y. x +ℤ y) number t u us)) (by (t u) (over (λ x y. x +ℤ y) number t us) (sum_less t us))
+    where
+      by : (b : Bool) (r : Option ℤ) → size_of size r ≤ weight size number t us → size_of size (cond b (more (λ x y. x +ℤ y) (number u) r) r) ≤ cond b (size (number u)) 0 + weight size number t us
+      by true None h = omega arith
+      by true (Some y) h = omega (arith, h, less (number u) y)
+      by false r h = omega (arith, h)
+
+  apart : (a b c : Put → Bool) (us : List Put) → ((u : Put) → c u ≡ (a u || b u)) → ((u : Put) → (a u && b u) ≡ false) → weight size number c us ≡ weight size number a us + weight size number b us
+  apart a b c [] either no_both = refl
+  apart a b c (u ∷ us) either no_both = ap (λ t. cond t (size (number u)) 0 + weight size number c us) (either u) ∙ by (a u) (b u) (no_both u) (apart a b c us either no_both)
+    where
+      by : (x y : Bool) → (x && y) ≡ false → weight size number c us ≡ weight size number a us + weight size number b us
+          → cond (x || y) (size (number u)) 0 + weight size number c us ≡ (cond x (size (number u)) 0 + weight size number a us) + (cond y (size (number u)) 0 + weight size number b us)
+      by true true never e = absurd (true≢false never)
+      by true false never e = omega (arith, e)
+      by false true never e = omega (arith, e)
+      by false false never e = omega (arith, e)
+
+  at_most : (t : Put → Bool) (us : List Put) → weight size number t us ≤ weight size number (λ u. true) us
+  at_most t [] = omega arith
+  at_most t (u ∷ us) = by (t u) (at_most t us)
+    where
+      by : (b : Bool) → weight size number t us ≤ weight size number (λ w. true) us → cond b (size (number u)) 0 + weight size number t us ≤ size (number u) + weight size number (λ w. true) us
+      by true h = omega (arith, h)
+      by false h = omega (arith, h)
+
+  -- entries that have the sums of their key lists
+  by_key_lists : (us es : List Put) → IsDistinct same_keys (key_lists es) → AllByRecursion (λ e. over (λ x y. x +ℤ y) number (λ u. same_keys e.keys u.keys) us ≡ Some (number e)) es
+      → weight size number (λ e. true) es ≤ weight size number (λ u. list_any (same_keys u.keys) (key_lists es)) us
+  by_key_lists us [] once each = omega arith
+  by_key_lists us (e ∷ es) once each =
+      let first = IsDistinct-head same_keys e.keys (key_lists es) once in
+      let here = subst (λ r. size_of size r ≤ weight size number (λ u. same_keys e.keys u.keys) us) each.0 (sum_less (λ u. same_keys e.keys u.keys) us) in
+      let rest = by_key_lists us es (IsDistinct-tail same_keys e.keys (key_lists es) once) each.1 in
+      let parts = apart (λ u. same_keys e.keys u.keys) (λ u. list_any (same_keys u.keys) (key_lists es)) (λ u. list_any (same_keys u.keys) (key_lists (e ∷ es))) us
+      (λ u. flipped e.keys (key_lists es) first u.keys) (λ u. no_two e.keys (key_lists es) first u.keys) in
+      omega (arith, here, rest, parts)
+
+  pub entries_less : (us es : List Put) → IsDistinct same_keys (key_lists es) → AllByRecursion (λ e. over (λ x y. x +ℤ y) number (λ u. same_keys e.keys u.keys) us ≡ Some (number e)) es
+      → weight size number (λ e. true) es ≤ weight size number (λ u. true) us
+  entries_less us es once each = omega (arith, by_key_lists us es once each, at_most (λ u. list_any (same_keys u.keys) (key_lists es)) us)
+
+-- ---- above zero, and below
+
+abbrev above : ℤ → ℕ
+above (pos n) = n
+above (negsuc n) = 0
+
+abbrev below : ℤ → ℕ
+below (pos n) = 0
+below (negsuc n) = n + 1
+
+above_sum : (x y s : ℤ) → s ≡ x +ℤ y → above s ≤ above x + above y
 above_sum (pos a) (pos b) (pos c) e = omega (arith, ints, e)
 above_sum (pos a) (negsuc b) (pos c) e = omega (arith, ints, e)
 above_sum (negsuc a) (pos b) (pos c) e = omega (arith, ints, e)
 above_sum (negsuc a) (negsuc b) (pos c) e = omega (arith, ints, e)
-above_sum (pos a) (pos b) (negsuc c) e = omega arith
-above_sum (pos a) (negsuc b) (negsuc c) e = omega arith
-above_sum (negsuc a) (pos b) (negsuc c) e = omega arith
-above_sum (negsuc a) (negsuc b) (negsuc c) e = omega arith
+above_sum x y (negsuc c) e = omega arith
 
-below_sum : (x y s : ℤ) → s ≡ x +ℤ y → below_zero (s ∷ []) ≤ below_zero (x ∷ []) + below_zero (y ∷ [])
-unfolding below_zero
+below_sum : (x y s : ℤ) → s ≡ x +ℤ y → below s ≤ below x + below y
 below_sum (pos a) (pos b) (negsuc c) e = omega (arith, ints, e)
 below_sum (pos a) (negsuc b) (negsuc c) e = omega (arith, ints, e)
 below_sum (negsuc a) (pos b) (negsuc c) e = omega (arith, ints, e)
 below_sum (negsuc a) (negsuc b) (negsuc c) e = omega (arith, ints, e)
-below_sum (pos a) (pos b) (pos c) e = omega arith
-below_sum (pos a) (negsuc b) (pos c) e = omega arith
-below_sum (negsuc a) (pos b) (pos c) e = omega arith
-below_sum (negsuc a) (negsuc b) (pos c) e = omega arith
+below_sum x y (pos c) e = omega arith
 
--- one more number of a key list adds no more than itself
-record AddsAtMost (ks : List KeyValue) (z : ℤ) (es : List (List KeyValue × ℤ)) : Type 0 where
-  pub above : above_zero (map (λ e. e.1) (add_to (λ x y. x +ℤ y) ks z es)) ≤ above_zero (z ∷ []) + above_zero (map (λ e. e.1) es)
-  pub below : below_zero (map (λ e. e.1) (add_to (λ x y. x +ℤ y) ks z es)) ≤ below_zero (z ∷ []) + below_zero (map (λ e. e.1) es)
-
-adds_at_most : (ks : List KeyValue) (z : ℤ) (es : List (List KeyValue × ℤ)) → AddsAtMost ks z es
-unfolding add_to
-adds_at_most ks z [] = record { above = omega arith; below = omega arith }
-adds_at_most ks z (e ∷ es) = record {
-  above = by_above (same_keys ks e.0) (adds_at_most ks z es).above;
-  below = by_below (same_keys ks e.0) (adds_at_most ks z es).below;
-}
+above_is : (place : ℕ) (us : List Put) → above_zero (numbers_for place us) ≡ weight above (number_at place) (λ u. true) us
+unfolding above_zero
+above_is place [] = refl
+above_is place (u ∷ us) = by (number_at place u) (above_is place us)
   where
-    by_above : (b : Bool) → above_zero (map (λ f. f.1) (add_to (λ x y. x +ℤ y) ks z es)) ≤ above_zero (z ∷ []) + above_zero (map (λ f. f.1) es) → above_zero (map (λ f. f.1) (cond b ((e.0, z +ℤ e.1) ∷ es) (e ∷ add_to (λ x y. x +ℤ y) ks z es))) ≤ above_zero (z ∷ []) + above_zero (e.1 ∷ map (λ f. f.1) es)
-    by_above true h = omega (arith, above_cons (z +ℤ e.1) (map (λ f. f.1) es), above_cons e.1 (map (λ f. f.1) es), above_sum z e.1 (z +ℤ e.1) refl)
-    by_above false h = omega (arith, above_cons e.1 (map (λ f. f.1) (add_to (λ x y. x +ℤ y) ks z es)), above_cons e.1 (map (λ f. f.1) es), h)
+    by : (z : ℤ) → above_zero (numbers_for place us) ≡ weight above (number_at place) (λ w. true) us → above_zero (z ∷ numbers_for place us) ≡ above z + weight above (number_at place) (λ w. true) us
+    by (pos n) e = ap (λ m. n + m) e
+    by (negsuc n) e = omega (arith, e)
 
-    by_below : (b : Bool) → below_zero (map (λ f. f.1) (add_to (λ x y. x +ℤ y) ks z es)) ≤ below_zero (z ∷ []) + below_zero (map (λ f. f.1) es) → below_zero (map (λ f. f.1) (cond b ((e.0, z +ℤ e.1) ∷ es) (e ∷ add_to (λ x y. x +ℤ y) ks z es))) ≤ below_zero (z ∷ []) + below_zero (e.1 ∷ map (λ f. f.1) es)
-    by_below true h = omega (arith, below_cons (z +ℤ e.1) (map (λ f. f.1) es), below_cons e.1 (map (λ f. f.1) es), below_sum z e.1 (z +ℤ e.1) refl)
-    by_below false h = omega (arith, below_cons e.1 (map (λ f. f.1) (add_to (λ x y. x +ℤ y) ks z es)), below_cons e.1 (map (λ f. f.1) es), h)
-
-above_by_keys : (place : ℕ) (us : List Put) → above_zero (map (λ e. e.1) (sums_by_keys place us)) ≤ above_zero (numbers_for place us)
-unfolding by_keys
-above_by_keys place [] = omega arith
-above_by_keys place (u ∷ us) = omega (arith, (adds_at_most u.keys (get_or u.values place (pos 0)) (sums_by_keys place us)).above, above_by_keys place us, above_cons (get_or u.values place (pos 0)) (numbers_for place us))
-
-below_by_keys : (place : ℕ) (us : List Put) → below_zero (map (λ e. e.1) (sums_by_keys place us)) ≤ below_zero (numbers_for place us)
-unfolding by_keys
-below_by_keys place [] = omega arith
-below_by_keys place (u ∷ us) = omega (arith, (adds_at_most u.keys (get_or u.values place (pos 0)) (sums_by_keys place us)).below, below_by_keys place us, below_cons (get_or u.values place (pos 0)) (numbers_for place us))
+below_is : (place : ℕ) (us : List Put) → below_zero (numbers_for place us) ≡ weight below (number_at place) (λ u. true) us
+unfolding below_zero
+below_is place [] = refl
+below_is place (u ∷ us) = by (number_at place u) (below_is place us)
+  where
+    by : (z : ℤ) → below_zero (numbers_for place us) ≡ weight below (number_at place) (λ w. true) us → below_zero (z ∷ numbers_for place us) ≡ below z + weight below (number_at place) (λ w. true) us
+    by (pos n) e = omega (arith, e)
+    by (negsuc n) e = omega (arith, e)
 
 pub small_room : (d : Group) (us : List Put) → ((place : ℕ) → place < length d.aggregates → aggregate_at d place ≡ Sum → AddUp (numbers_for place us)) → length us < 2 ^ 63 → HasRoom d us
-small_room d us small few = record { rooms = λ place h. by place (aggregate_at d place) (small place h) }
+small_room d us small few = record { sums = sums; counts = λ place h same. few }
   where
-    by : (place : ℕ) (g : Aggregate) → (g ≡ Sum → AddUp (numbers_for place us)) → HasRoomAt g place us
-    by place Sum h = record { above = omega (arith, above_by_keys place us, (h refl).above); below = omega (arith, below_by_keys place us, (h refl).below) }
-    by place Count h = few
-    by place Min h = tt
-    by place Max h = tt
+    sums : (es : List Put) → IsContent d us es → (place : ℕ) → place < length d.aggregates → aggregate_at d place ≡ Sum → AddUp (numbers_for place es)
+    sums es is place h same =
+        let each = told d us es is place h Sum same in
+        let up = small place h same in
+        record {
+          above = omega (arith, above_is place es, above_is place us, up.above, entries_less above (λ x y. above_sum x y (x +ℤ y) refl) (number_at place) us es is.once each);
+          below = omega (arith, below_is place es, below_is place us, up.below, entries_less below (λ x y. below_sum x y (x +ℤ y) refl) (number_at place) us es is.once each);
+        }

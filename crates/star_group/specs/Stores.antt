@@ -1,12 +1,11 @@
 -- What a store of groups promises, in puts: the newest put comes first.
-use Rattle.std.specs.Prelude.{◌≡◌, ℕ, suc, ◌+◌, ◌<◌, ◌≤◌, ◌^◌, Bool, ℤ, pos, negsuc, ◌+ℤ◌, List, [], ◌∷◌, Option, Some, filter, length, map, slice_index_or, if◌then◌else◌}
-use Rattle.std.specs.Int.{int_min, int_max}
-use Rattle.std.specs.List.{list_any}
+use Rattle.std.specs.Prelude.{◌≡◌, ◌↔◌, ℕ, suc, ◌+◌, ◌<◌, ◌≤◌, ◌^◌, Bool, ℤ, pos, negsuc, List, [], ◌∷◌, Option, Some, filter, length, map, slice_index_or}
+use Rattle.std.specs.List.{list_any, AllByRecursion, IsDistinct}
 use Rattle.std.specs.Option.{unwrap_or}
 use Rattle.star_schema.specs.declared.group.Aggregate.{Aggregate}
-use Rattle.star_schema.specs.declared.group.Aggregate.TheVariants.{Sum, Count, Min, Max}
+use Rattle.star_schema.specs.declared.group.Aggregate.TheVariants.{Sum, Count}
 use Rattle.star_schema.specs.declared.group.Shape.{Shape}
-use Rattle.star_schema.specs.Groups.{Entry, belongs, members, aggregate, numbers_for}
+use Rattle.star_schema.specs.Groups.{Entry, IsGroup, members, aggregate, numbers_for}
 use Rattle.star_program.specs.declared.group.GroupDecl.{GroupDecl}
 use Rattle.star_program.specs.declared.key.KeyValue.{KeyValue}
 use Rattle.star_program.specs.Keys.{value_cmp, same_keys}
@@ -38,42 +37,39 @@ overflows d puts put = list_any (λ keys. some_leaves d.aggregates 0 (members va
 
 -- ---- the content of puts, as a finite map from key lists
 
--- one more number of a key list, joined with what it has by an operation
-unfoldable pub add_to : (ℤ → ℤ → ℤ) → List KeyValue → ℤ → List (List KeyValue × ℤ) → List (List KeyValue × ℤ)
-add_to f keys z [] = (keys, z) ∷ []
-add_to f keys z (e ∷ es) = if same_keys keys e.0 then (e.0, f z e.1) ∷ es else e ∷ add_to f keys z es
+abbrev pub key_lists : List Put → List (List KeyValue)
+key_lists puts = map (λ put. put.keys) puts
 
--- each key list that was put, once, with its numbers for an aggregate joined
-unfoldable pub by_keys : (ℤ → ℤ → ℤ) → (Put → ℤ) → List Put → List (List KeyValue × ℤ)
-by_keys f number [] = []
-by_keys f number (put ∷ puts) = add_to f put.keys (number put) (by_keys f number puts)
+-- the puts with this key list
+abbrev pub puts_of : List KeyValue → List Put → List Put
+puts_of keys puts = filter (λ put. same_keys keys put.keys) puts
 
 -- a put's number for an aggregate
 abbrev pub number_at : ℕ → Put → ℤ
 number_at place put = slice_index_or put.values place (pos 0)
 
-abbrev pub sums_by_keys : ℕ → List Put → List (List KeyValue × ℤ)
-sums_by_keys place puts = by_keys (λ x y. x +ℤ y) (number_at place) puts
+-- each key list that was put, once, with the aggregates over its puts
+pub record IsContent (d : Group) (puts content : List Put) : Type 0 where
+  pub keys : (keys : List KeyValue)
+      → list_any (same_keys keys) (key_lists content) ≡ list_any (same_keys keys) (key_lists puts)
+  pub once : IsDistinct same_keys (key_lists content)
+  pub numbers : AllByRecursion (λ entry. (place : ℕ) → place < length d.aggregates
+      → aggregate (aggregate_at d place) (numbers_for place (puts_of entry.keys puts))
+      ≡ Some (number_at place entry)) content
 
-abbrev pub counts_by_keys : List Put → List (List KeyValue × ℤ)
-counts_by_keys puts = by_keys (λ x y. x +ℤ y) (λ put. pos 1) puts
+-- an aggregate over puts from those of their key lists: counts are added
+-- (distributive aggregates: Gray et al. 1997, section 5)
+abbrev pub combined : Aggregate → List ℤ → Option ℤ
+combined Count counts = Some (unwrap_or (aggregate Sum counts) (pos 0))
+combined g numbers = aggregate g numbers
 
-abbrev pub least_by_keys : ℕ → List Put → List (List KeyValue × ℤ)
-least_by_keys place puts = by_keys int_min (number_at place) puts
-
-abbrev pub greatest_by_keys : ℕ → List Put → List (List KeyValue × ℤ)
-greatest_by_keys place puts = by_keys int_max (number_at place) puts
-
--- what the key lists that belong to a group have
-abbrev pub numbers_in : List (Option KeyValue) → List (List KeyValue × ℤ) → List ℤ
-numbers_in group content = map (λ e. e.1) (filter (λ e. belongs value_cmp group e.0) content)
-
--- the aggregates of a group are functions of the content
-pub record AreOfContent (puts : List Put) (group : List (Option KeyValue)) (place : ℕ) : Type 0 where
-  pub sum : aggregate Sum (numbers_for place (members value_cmp group puts)) ≡ aggregate Sum (numbers_in group (sums_by_keys place puts))
-  pub least : aggregate Min (numbers_for place (members value_cmp group puts)) ≡ aggregate Min (numbers_in group (least_by_keys place puts))
-  pub greatest : aggregate Max (numbers_for place (members value_cmp group puts)) ≡ aggregate Max (numbers_in group (greatest_by_keys place puts))
-  pub count : aggregate Count (numbers_for place (members value_cmp group puts)) ≡ Some (unwrap_or (aggregate Sum (numbers_in group (counts_by_keys puts))) (pos 0))
+-- the groups of the puts are those of the content's key lists, and their aggregates are combined from it
+pub record AreOfContent (d : Group) (puts content : List Put) : Type 0 where
+  pub groups : (keys : List (Option KeyValue))
+      → IsGroup d.shape d.count puts keys ↔ IsGroup d.shape d.count content keys
+  pub aggregates : (keys : List (Option KeyValue)) (place : ℕ) → place < length d.aggregates
+      → aggregate (aggregate_at d place) (numbers_for place (members value_cmp keys puts))
+      ≡ combined (aggregate_at d place) (numbers_for place (members value_cmp keys content))
 
 -- ---- the condition of a put
 
@@ -94,12 +90,10 @@ pub record AddUp (zs : List ℤ) : Type 0 where
   pub above : above_zero zs < 2 ^ 63
   pub below : below_zero zs ≤ 2 ^ 63
 
--- the sums of an aggregate by key list add up, and so do the counts, which are as many as the puts
-abbrev pub HasRoomAt : Aggregate → ℕ → List Put → Type 0
-HasRoomAt Sum place puts = AddUp (map (λ e. e.1) (sums_by_keys place puts))
-HasRoomAt Count place puts = length puts < 2 ^ 63
-HasRoomAt Min place puts = Unit {0}
-HasRoomAt Max place puts = Unit {0}
-
+-- the sums of each SUM by key list add up, and so do the counts, which are as many as the puts
 pub record HasRoom (d : Group) (puts : List Put) : Type 0 where
-  pub rooms : (place : ℕ) → place < length d.aggregates → HasRoomAt (aggregate_at d place) place puts
+  pub sums : (content : List Put) → IsContent d puts content
+      → (place : ℕ) → place < length d.aggregates → aggregate_at d place ≡ Sum
+      → AddUp (numbers_for place content)
+  pub counts : (place : ℕ) → place < length d.aggregates → aggregate_at d place ≡ Count
+      → length puts < 2 ^ 63

@@ -1,4 +1,4 @@
-//! The rows of a group: what the trait of stores promises, and a store that keeps every row up to date.
+//! The rows of a group: what the traits of stores promise, and a store that keeps every row up to date.
 //!
 //! A store is told by lists of puts: it has the content of some puts, the newest first, and then its rows are the groups of these puts with their aggregates, and its totals are the aggregates over all of them.
 #![tactic(auto)]
@@ -15,4 +15,4 @@ pub use eager::EagerStore;
 pub use group_row::{GroupRow, RowAggregates, RowKeys};
 pub use rows::PutFault;
 pub use star_program::KeyValue;
-pub use store::GroupStore;
+pub use store::{GroupStore, TryPut};

@@ -1,4 +1,5 @@
--- Ranges that hold a number or lie in one another, least ranges, and what is so of any operation's corners.
+-- Ranges that hold a number or lie in one another, least ranges, and what is so of any operation's
+-- corners.
 use Rattle.std.proofs.Common.{◌≡◌, ◌⊎◌, inl, inr, ⊎_elim, true, false, cond, refl, sym, subst, arith, ℤ, pos, negsuc, ◌≤ℤ◌, int_lt, FitsSigned, w64, IsTrue, ◌↔◌, ◌^◌}
 use Rattle.std.proofs.lemmas.Bool.{ltb-true, lt-ltb, and_parts, and_from}
 use Rattle.std.specs.Int.{int_min, int_max}
@@ -21,7 +22,8 @@ holds_high r ordered = record { from = ordered; to = omega (arith, ints) }
 pub holds_only : (n z : ℤ) → z ≡ n → Holds (only n) z
 holds_only n z same = record { from = omega (arith, ints); to = omega (arith, ints) }
 
-fits_between : (low high z : ℤ) → FitsSigned w64 low → FitsSigned w64 high → low ≤ℤ z → z ≤ℤ high → FitsSigned w64 z
+fits_between : (low high z : ℤ) → FitsSigned w64 low → FitsSigned w64 high → low ≤ℤ z → z ≤ℤ high
+    → FitsSigned w64 z
 fits_between low (pos h) (pos n) f g p q = record { sfits = omega (arith, ints, f, g) }
 fits_between low (negsuc h) (pos n) f g p q = absurd (omega (arith, ints))
 fits_between (pos l) high (negsuc n) f g p q = absurd (omega (arith, ints))
@@ -34,13 +36,18 @@ fits_held r z fits held = fits_between r.low r.high z fits.0 fits.1 held.from he
 -- the tests are true of numbers and of ranges of 64 bits alone
 is_i64_fits : (z : ℤ) → IsTrue (is_i64 z) ↔ FitsSigned w64 z
 unfolding is_i64
-is_i64_fits (pos n) = (λ e. record { sfits = ltb-true n (2 ^ 63) e }, λ f. lt-ltb n (2 ^ 63) f.sfits)
-is_i64_fits (negsuc n) = (λ e. record { sfits = ltb-true n (2 ^ 63) e }, λ f. lt-ltb n (2 ^ 63) f.sfits)
+is_i64_fits (pos n) =
+    (λ e. record { sfits = ltb-true n (2 ^ 63) e }, λ f. lt-ltb n (2 ^ 63) f.sfits)
+is_i64_fits (negsuc n) =
+    (λ e. record { sfits = ltb-true n (2 ^ 63) e }, λ f. lt-ltb n (2 ^ 63) f.sfits)
 
 pub fits_i64_fits : (r : Range) → IsTrue (fits_i64 r) ↔ FitsI64 r
 fits_i64_fits r = (
-  λ e. let both = and_parts (is_i64 r.low) (is_i64 r.high) e in ((is_i64_fits r.low).0 both.0, (is_i64_fits r.high).0 both.1),
-  λ f. and_from (is_i64 r.low) (is_i64 r.high) ((is_i64_fits r.low).1 f.0) ((is_i64_fits r.high).1 f.1),
+  λ e. let both =
+      and_parts (is_i64 r.low) (is_i64 r.high) e in
+      ((is_i64_fits r.low).0 both.0, (is_i64_fits r.high).0 both.1),
+  λ f. and_from (is_i64 r.low) (is_i64 r.high) ((is_i64_fits r.low).1 f.0)
+      ((is_i64_fits r.high).1 f.1),
 )
 
 -- ---- one range in another
@@ -55,19 +62,23 @@ pub within_only : (r : Range) (z : ℤ) → Holds r z → IsWithin (only z) r
 within_only r z held = record { from = held.from; to = held.to }
 
 pub within_hull_left : (a b : Range) → IsWithin a (hull a b)
-within_hull_left a b = record { from = omega (arith, ints, clamps); to = omega (arith, ints, clamps) }
+within_hull_left a b =
+    record { from = omega (arith, ints, clamps); to = omega (arith, ints, clamps) }
 
 pub within_hull_right : (a b : Range) → IsWithin b (hull a b)
-within_hull_right a b = record { from = omega (arith, ints, clamps); to = omega (arith, ints, clamps) }
+within_hull_right a b =
+    record { from = omega (arith, ints, clamps); to = omega (arith, ints, clamps) }
 
 pub hull_within : (a b c : Range) → IsWithin a c → IsWithin b c → IsWithin (hull a b) c
-hull_within a b c p q = record { from = omega (arith, ints, clamps); to = omega (arith, ints, clamps) }
+hull_within a b c p q =
+    record { from = omega (arith, ints, clamps); to = omega (arith, ints, clamps) }
 
 -- ---- hulls of held numbers, and of smaller ranges
 
 pub hulls_held : (a b : Range) (z : ℤ) → Holds a z ⊎ Holds b z → Holds (hull a b) z
 hulls_held a b z =
-    ⊎_elim (holds_within a (hull a b) z (within_hull_left a b)) (holds_within b (hull a b) z (within_hull_right a b))
+    ⊎_elim (holds_within a (hull a b) z (within_hull_left a b))
+    (holds_within b (hull a b) z (within_hull_right a b))
 
 pub hulls_within : (a b c d : Range) → IsWithin a c → IsWithin b d → IsWithin (hull a b) (hull c d)
 hulls_within a b c d p q =
@@ -77,16 +88,19 @@ hulls_within a b c d p q =
 
 pub hulls_held_with : (r : Range) (n z : ℤ) → Holds r z ⊎ (z ≡ n) → Holds (hull r (only n)) z
 hulls_held_with r n z =
-    ⊎_elim (λ held. hulls_held r (only n) z (inl held)) (λ same. hulls_held r (only n) z (inr (holds_only n z same)))
+    ⊎_elim (λ held. hulls_held r (only n) z (inl held))
+    (λ same. hulls_held r (only n) z (inr (holds_only n z same)))
 
-pub hulls_within_with : (n : ℤ) (a b : Range) → IsWithin a b → IsWithin (hull a (only n)) (hull b (only n))
+pub hulls_within_with : (n : ℤ) (a b : Range) → IsWithin a b
+    → IsWithin (hull a (only n)) (hull b (only n))
 hulls_within_with n a b inside =
     hulls_within a (only n) b (only n) inside (within_only (only n) n (holds_only n n refl))
 
 -- ---- least ranges
 
 -- the least range lies in each that holds the same numbers
-pub least_within : (Kind : ℤ → Type 0) (r s : Range) → IsLeast Kind r → ((z : ℤ) → Kind z → Holds s z) → IsWithin r s
+pub least_within : (Kind : ℤ → Type 0) (r s : Range) → IsLeast Kind r
+    → ((z : ℤ) → Kind z → Holds s z) → IsWithin r s
 least_within Kind r s least held =
     record { from = (held r.low least.low).from; to = (held r.high least.high).to }
 
@@ -95,7 +109,8 @@ least_same Kind r s same least = subst (IsLeast Kind) (sym same) least
 
 -- a range is the least that holds its own numbers
 pub least_held : (r : Range) → IsOrdered r → IsLeast (Holds r) r
-least_held r ordered = record { holds = λ z held. held; low = holds_low r ordered; high = holds_high r ordered }
+least_held r ordered =
+    record { holds = λ z held. held; low = holds_low r ordered; high = holds_high r ordered }
 
 pub least_only : (n : ℤ) → IsLeast (λ z. z ≡ n) (only n)
 least_only n = record { holds = holds_only n; low = refl; high = refl }
@@ -108,37 +123,51 @@ of_max : (P : ℤ → Type 0) (x y : ℤ) → P x → P y → P (int_max x y)
 of_max P x y px py = elim (int_lt y x) as (λ b. P (cond b x y)) [ true ↦ px | false ↦ py ]
 
 -- the hull of the least ranges of two kinds is the least range of both
-pub least_hull : (K L : ℤ → Type 0) (a b : Range) → IsLeast K a → IsLeast L b → IsLeast (λ z. K z ⊎ L z) (hull a b)
+pub least_hull : (K L : ℤ → Type 0) (a b : Range) → IsLeast K a → IsLeast L b
+    → IsLeast (λ z. K z ⊎ L z) (hull a b)
 least_hull K L a b p q = record {
-  holds = λ z. ⊎_elim (λ k. hulls_held a b z (inl (p.holds z k))) (λ l. hulls_held a b z (inr (q.holds z l)));
+  holds = λ z. ⊎_elim (λ k. hulls_held a b z (inl (p.holds z k)))
+      (λ l. hulls_held a b z (inr (q.holds z l)));
   low = of_min (λ z. K z ⊎ L z) a.low b.low (inl p.low) (inr q.low);
   high = of_max (λ z. K z ⊎ L z) a.high b.high (inl p.high) (inr q.high);
 }
 
 -- ---- corners
 
-result_of : (op : ℤ → ℤ → ℤ) (a b : Range) (x y : ℤ) → Holds a x → Holds b y → IsResult op a b (op x y)
-result_of op a b x y p q = record { left = x; right = y; left_held = p; right_held = q; gives = refl }
+result_of : (op : ℤ → ℤ → ℤ) (a b : Range) (x y : ℤ) → Holds a x → Holds b y
+    → IsResult op a b (op x y)
+result_of op a b x y p q =
+    record { left = x; right = y; left_held = p; right_held = q; gives = refl }
 
 -- where the range over the corners holds every result, it is the least that does
 pub least_corners : (op : ℤ → ℤ → ℤ) → KeepsValues op (corner_range op)
     → (a b : Range) → IsOrdered a → IsOrdered b → IsLeast (IsResult op a b) (corner_range op a b)
 least_corners op held a b p q =
     let Result = IsResult op a b in
-    let low_low : Result (op a.low b.low) = result_of op a b a.low b.low (holds_low a p) (holds_low b q) in
-    let low_high : Result (op a.low b.high) = result_of op a b a.low b.high (holds_low a p) (holds_high b q) in
-    let high_low : Result (op a.high b.low) = result_of op a b a.high b.low (holds_high a p) (holds_low b q) in
-    let high_high : Result (op a.high b.high) = result_of op a b a.high b.high (holds_high a p) (holds_high b q) in
+    let low_low : Result (op a.low b.low) =
+    result_of op a b a.low b.low (holds_low a p) (holds_low b q) in
+    let low_high : Result (op a.low b.high) =
+    result_of op a b a.low b.high (holds_low a p) (holds_high b q) in
+    let high_low : Result (op a.high b.low) =
+    result_of op a b a.high b.low (holds_high a p) (holds_low b q) in
+    let high_high : Result (op a.high b.high) =
+    result_of op a b a.high b.high (holds_high a p) (holds_high b q) in
     record {
-      holds = λ z r. subst (Holds (corner_range op a b)) r.gives (held a b r.left r.right r.left_held r.right_held);
-      low = of_min Result _ _ (of_min Result _ _ low_low low_high) (of_min Result _ _ high_low high_high);
-      high = of_max Result _ _ (of_max Result _ _ low_low low_high) (of_max Result _ _ high_low high_high);
+      holds = λ z r. subst (Holds (corner_range op a b)) r.gives
+          (held a b r.left r.right r.left_held r.right_held);
+      low = of_min Result _ _ (of_min Result _ _ low_low low_high)
+          (of_min Result _ _ high_low high_high);
+      high = of_max Result _ _ (of_max Result _ _ low_low low_high)
+          (of_max Result _ _ high_low high_high);
     }
 
 -- and it lies in that of any two ranges round these
-pub corners_within : (op : ℤ → ℤ → ℤ) → KeepsValues op (corner_range op) → KeepsOrder (corner_range op)
+pub corners_within : (op : ℤ → ℤ → ℤ) → KeepsValues op (corner_range op)
+    → KeepsOrder (corner_range op)
 corners_within op held a b c d p q inside_c inside_d =
     let outer : (z : ℤ) → IsResult op a b z → Holds (corner_range op c d) z =
     λ z r. subst (Holds (corner_range op c d)) r.gives
-    (held c d r.left r.right (holds_within a c r.left inside_c r.left_held) (holds_within b d r.right inside_d r.right_held)) in
-    least_within (IsResult op a b) (corner_range op a b) (corner_range op c d) (least_corners op held a b p q) outer
+    (held c d r.left r.right (holds_within a c r.left inside_c r.left_held)
+    (holds_within b d r.right inside_d r.right_held)) in
+    least_within (IsResult op a b) (corner_range op a b) (corner_range op c d)
+    (least_corners op held a b p q) outer

@@ -34,7 +34,8 @@ is_i64 (negsuc n) = nat_lt n (2 ^ 63)
 abbrev pub fits_i64 : Range → Bool
 fits_i64 r = is_i64 r.low && is_i64 r.high
 
--- the least range that holds every number of a kind: it holds each, and both its ends are such numbers
+-- the least range that holds every number of a kind: it holds each, and both its ends are such
+-- numbers
 pub record IsLeast (Kind : ℤ → Type 0) (r : Range) : Type 0 where
   pub holds : (z : ℤ) → Kind z → Holds r z
   pub low : Kind r.low
@@ -64,7 +65,8 @@ only z = record { low = z; high = z }
 abbrev pub hull : Range → Range → Range
 hull a b = record { low = int_min a.low b.low; high = int_max a.high b.high }
 
--- the least and the greatest result over the corners, the four pairs of ends (Moore, Interval Analysis, 1966)
+-- the least and the greatest result over the corners, the four pairs of ends (Moore, Interval
+-- Analysis, 1966)
 abbrev pub corner_range : (ℤ → ℤ → ℤ) → Range → Range → Range
 corner_range operation a b =
     hull (hull (only (operation a.low b.low)) (only (operation a.low b.high)))

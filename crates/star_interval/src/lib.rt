@@ -1,4 +1,5 @@
-//! Intervals of 64-bit numbers, and the least ones that hold what arithmetic makes of their numbers.
+//! Intervals of 64-bit numbers, and the least ones that hold what arithmetic makes of their
+//! numbers.
 #![tactic(auto)]
 
 ghost use Rattle.std.specs.Prelude.{◌≡◌, ◌⊎◌, ◌↔◌, IsTrue, IsOk, pos, ◌+ℤ◌, ◌-ℤ◌, ◌*ℤ◌, ◌≤ℤ◌};
@@ -132,7 +133,8 @@ impl Interval {
 
     /// The bounds of the sums.
     fn add_wide(&self, other: &Interval) -> Wide
-        ensures { wide_range_of result ≡ corner_range ◌+ℤ◌ (range_of self.now) (range_of other.now) }
+        ensures { wide_range_of result
+            ≡ corner_range ◌+ℤ◌ (range_of self.now) (range_of other.now) }
     {
         Wide {
             low: i128::from(self.low) + i128::from(other.low),
@@ -142,7 +144,8 @@ impl Interval {
 
     /// The bounds of the differences.
     fn sub_wide(&self, other: &Interval) -> Wide
-        ensures { wide_range_of result ≡ corner_range ◌-ℤ◌ (range_of self.now) (range_of other.now) }
+        ensures { wide_range_of result
+            ≡ corner_range ◌-ℤ◌ (range_of self.now) (range_of other.now) }
     {
         Wide {
             low: i128::from(self.low) - i128::from(other.high),
@@ -152,7 +155,8 @@ impl Interval {
 
     /// The bounds of the products: either factor's ends can make the least and the greatest.
     fn mul_wide(&self, other: &Interval) -> Wide
-        ensures { wide_range_of result ≡ corner_range ◌*ℤ◌ (range_of self.now) (range_of other.now) }
+        ensures { wide_range_of result
+            ≡ corner_range ◌*ℤ◌ (range_of self.now) (range_of other.now) }
     {
         let at_low = other.scale_wide(self.low);
         let at_high = other.scale_wide(self.high);

@@ -1,18 +1,19 @@
 // One instruction.
 
-ghost use Rattle.std.specs.Prelude.{◌≡◌, ◌≤◌, ◌<◌, ◌+◌, ◌^◌, ℕ, All, Bool, None, Ok, Err, OnOk, MatchBool, MatchOption, MatchResult, Some, length, slice_get, unwrap_or};
+ghost use Rattle.std.specs.Prelude.{◌≡◌, ◌≤◌, ◌<◌, ◌+◌, ◌^◌, ℕ, All, Bool, None, Ok, Err, OnOk, MatchBool, MatchOption, Some, length, slice_get, unwrap_or};
 ghost use Rattle.star_schema.specs.Database.{Database};
-ghost use Rattle.star_program.specs.declared.op.Op.TheVariants as Op;
+ghost use Rattle.star_program.specs.declared.op.Op.TheVariants as op;
+ghost use Rattle.star_program.specs.declared.op.Operation.TheVariants as operation;
 ghost use Rattle.star_program.specs.World.{World};
-ghost use Rattle.star_machine.specs.declared.act.Deed.TheVariants as Deed;
+ghost use Rattle.star_machine.specs.declared.act.Flow.TheVariants as Flow;
 ghost use Rattle.star_machine.specs.declared.fault.Stop.TheVariants as Stop;
 ghost use Rattle.star_machine.specs.declared.fault.TrapKind.TheVariants as TrapKind;
 ghost use Rattle.star_machine.specs.declared.value.Value.TheVariants as Value;
-ghost use Rattle.star_program.specs.Effects.{Store, does, kinds_in};
+ghost use Rattle.star_program.specs.Effects.{Store, assigns, does, kinds_in};
 ghost use Rattle.star_program.specs.Effects as effects;
 ghost use Rattle.star_program.specs.Faults as faults;
 ghost use Rattle.star_program.specs.Limits.{IsSmall};
-ghost use Rattle.star_machine.specs.Private.Acts.{IsAnswer, IsFlow, IsStop};
+ghost use Rattle.star_machine.specs.Private.Acts.{IsAnswer, IsMade};
 ghost use Rattle.star_group.specs.declared.eager.EagerStore.{EagerStore};
 ghost use Rattle.star_group.specs.Eager.{group_of};
 ghost use Rattle.star_program.specs.Puts as puts;
@@ -23,26 +24,15 @@ ghost use Rattle.star_machine.specs.Private.Shown.{held};
 ghost use Rattle.star_machine.specs.Private.Sound.{AreSound};
 ghost use Rattle.star_machine.specs.WorldOf.{world_of};
 
-use crate::check::{check_operands, check_place, declared_target};
-use crate::compute::{
-    both, difference, either, flag, is_equal, is_less, is_less_or_equal, is_within, number,
-    product, row, set, sum,
-};
+use crate::check::{check_operands, check_place, check_target};
+use crate::compute::{answer, flag, is_within, number, row, set};
 use crate::fault::{Stop, TrapKind};
-use crate::lookups::{find, high, load, low};
+use crate::lookups::{find, load, place};
 use crate::run::Run;
 use crate::value::{Register, Value};
 use star_catalogue::Catalogue;
-use star_program::{Op, Parts, RegisterList};
+use star_program::{Op, Operation, Parts, RegisterList};
 use star_schema::TableId;
-
-// What an instruction without a fault does: it sets its target, or goes on, or ends the turn of the innermost scan.
-#[derive(Clone, Copy)]
-pub(crate) enum Deed {
-    Sets(Value),
-    GoesOn,
-    EndsTurn,
-}
 
 // What follows an instruction.
 #[derive(Clone, Copy)]
@@ -51,26 +41,20 @@ pub(crate) enum Flow {
     EndsTurn,
 }
 
-// A number, if it didn't leave 64 bits.
-fn sets_number(number: Option<i64>) -> Result<Deed, Stop>
-    ensures { MatchOption number (result ≡ Err (Stop.Trap TrapKind.Overflow)) (λ z. result ≡ Ok (Deed.Sets (Value.Number z))) }
+fn keeps(flag: bool) -> Flow
+    ensures { MatchBool flag (result ≡ Flow.GoesOn) (result ≡ Flow.EndsTurn) }
 {
-    match number {
-        Some(number) => Ok(Deed::Sets(Value::Number(number))),
+    if flag { Flow::GoesOn } else { Flow::EndsTurn }
+}
+
+// An operator's answer, unless it leaves 64 bits.
+fn answered(answer: Option<Value>) -> Result<Value, Stop>
+    ensures { MatchOption answer (result ≡ Err (Stop.Trap TrapKind.Overflow)) (λ value. result ≡ Ok value) }
+{
+    match answer {
+        Some(value) => Ok(value),
         None => Err(Stop::Trap(TrapKind::Overflow)),
     }
-}
-
-fn sets_flag(flag: bool) -> Result<Deed, Stop>
-    ensures { result ≡ Ok (Deed.Sets (Value.Flag flag)) }
-{
-    Ok(Deed::Sets(Value::Flag(flag)))
-}
-
-fn keeps(flag: bool) -> Deed
-    ensures { MatchBool flag (result ≡ Deed.GoesOn) (result ≡ Deed.EndsTurn) }
-{
-    if flag { Deed::GoesOn } else { Deed::EndsTurn }
 }
 
 // Finds the row of a table with a key.
@@ -80,16 +64,16 @@ fn look_up(
     run: &mut Run,
     table: TableId,
     key: u16,
-) -> Result<Deed, Stop>
+) -> Result<Value, Stop>
     requires { run.old.lookups < 2 ^ 63 }
-    ensures does { (parts : Parts) (s : Store) (target : ℕ) → HasDone catalogue.now parts run.old s → IsAnswer catalogue.now parts (held registers.now) run.new (Op.Find target table key) (does (world_of catalogue.now) parts (held registers.now) s (Op.Find target table key)) result }
+    ensures does { (parts : Parts) (s : Store) (target : ℕ) → HasDone catalogue.now parts run.old s → IsMade catalogue.now parts (held registers.now) run.new target (assigns (world_of catalogue.now) parts (held registers.now) s target (operation.Find table key)) result }
     ensures work { run.new.lookups + run.new.updates ≤ run.old.lookups + run.old.updates + 1 }
     ensures visits { run.new.visits ≡ run.old.visits }
 {
     match find(catalogue, table, number(registers, key)) {
         Some(row) => {
             run.lookups += 1;
-            Ok(Deed::Sets(Value::Row(table, row)))
+            Ok(Value::Row(table, row))
         }
         None => Err(Stop::Trap(TrapKind::AbsentKey)),
     }
@@ -103,20 +87,20 @@ fn update(
     group: u16,
     keys: &RegisterList,
     values: &RegisterList,
-) -> Result<Deed, Stop>
+) -> Result<Flow, Stop>
     requires few { run.old.updates < 2 ^ 63 }
     requires small { IsSmall (faults.group_at parts.now group) }
     requires placed { IsPlaced parts.now group keys.now values.now }
     requires keys { faults.keys_fault (length registers.now) (kinds_in (held registers.now)) (faults.group_at parts.now group).keys keys.now ≡ None }
     requires stores { (updates_of : ℕ → List Update) × AreStores parts.now run.old.stores.items updates_of }
-    ensures does { (w : World) (database : Database) (s : Store) → AreSound database (held registers.now) → HasDone database parts.now run.old s → IsAnswer database parts.now (held registers.now) run.new (Op.Put group keys.now values.now) (does w parts.now (held registers.now) s (Op.Put group keys.now values.now)) result }
+    ensures does { (w : World) (database : Database) (s : Store) → AreSound database (held registers.now) → HasDone database parts.now run.old s → IsAnswer database parts.now (held registers.now) run.new (does w parts.now (held registers.now) s (op.Put group keys.now values.now)) result }
     ensures work { run.new.lookups + run.new.updates ≤ run.old.lookups + run.old.updates + 1 }
     ensures visits { run.new.visits ≡ run.old.visits }
 {
     match run.put(parts, registers, group, keys, values) {
         Ok(()) => {
             run.updates += 1;
-            Ok(Deed::GoesOn)
+            Ok(Flow::GoesOn)
         }
         Err(fault) => Err(Stop::from(fault)),
     }
@@ -132,64 +116,97 @@ fn read(run: &Run, group: u16, aggregate: u16, default: i64) -> Value
     Value::Number(run.total(group, aggregate).unwrap_or(default))
 }
 
+// What an operation makes in which nothing is wrong.
+fn operate(
+    catalogue: &Catalogue,
+    registers: &[Register],
+    run: &mut Run,
+    operation: &Operation,
+) -> Result<Value, Stop>
+    requires few { run.old.lookups < 2 ^ 63 }
+    requires placed { (parts : Parts) × (inside : Bool) × (target : ℕ) × (s : Store) × HasDone catalogue.now parts run.old s × (faults.place_fault parts inside (op.Assign target operation.now) ≡ None) }
+    requires operands { faults.operation_fault (length registers.now) (kinds_in (held registers.now)) operation.now ≡ None }
+    requires sound { AreSound catalogue.now (held registers.now) }
+    ensures does { (parts : Parts) (s : Store) (target : ℕ) → HasDone catalogue.now parts run.old s → IsMade catalogue.now parts (held registers.now) run.new target (assigns (world_of catalogue.now) parts (held registers.now) s target operation.now) result }
+    ensures work { run.new.lookups + run.new.updates ≤ run.old.lookups + run.old.updates + 1 }
+    ensures visits { run.new.visits ≡ run.old.visits }
+{
+    match operation {
+        Operation::Const { number } => Ok(Value::Number(*number)),
+        Operation::Edge { edge, column, text } => Ok(place(catalogue, *edge, *column, text)),
+        Operation::Load { column, row: at } => Ok(load(catalogue, *column, row(registers, *at))),
+        Operation::Find { table, key } => look_up(catalogue, registers, run, *table, *key),
+        Operation::Binary {
+            operator,
+            left,
+            right,
+        } => answered(answer(registers, *operator, *left, *right)),
+        Operation::Within { value, from, below } => {
+            Ok(Value::Flag(is_within(registers, *value, *from, *below)))
+        }
+        Operation::Not { flag: at } => Ok(Value::Flag(!flag(registers, *at))),
+        Operation::Read {
+            group,
+            aggregate,
+            default,
+        } => Ok(read(run, *group, *aggregate, *default)),
+    }
+}
+
+// Writes what an operation makes into a register.
+fn assign(
+    catalogue: &Catalogue,
+    registers: &mut [Register],
+    run: &mut Run,
+    target: u16,
+    operation: &Operation,
+) -> Result<Flow, Stop>
+    requires few { run.old.lookups < 2 ^ 63 }
+    requires placed { (parts : Parts) × (inside : Bool) × (s : Store) × HasDone catalogue.now parts run.old s × (faults.place_fault parts inside (op.Assign target operation.now) ≡ None) }
+    requires declared { target < length registers.old }
+    requires operands { faults.operation_fault (length registers.old) (kinds_in (held registers.old)) operation.now ≡ None }
+    requires sound { AreSound catalogue.now (held registers.old) }
+    ensures does { (parts : Parts) (s : Store) → HasDone catalogue.now parts run.old s → IsAnswer catalogue.now parts (held registers.new) run.new (assigns (world_of catalogue.now) parts (held registers.old) s target operation.now) result }
+    ensures sound { OnOk result (AreSound catalogue.now (held registers.new)) }
+    ensures len { length registers.new ≡ length registers.old }
+    ensures work { run.new.lookups + run.new.updates ≤ run.old.lookups + run.old.updates + 1 }
+    ensures visits { run.new.visits ≡ run.old.visits }
+{
+    let value = operate(catalogue, registers, run, operation)?;
+    set(registers, target, value);
+    Ok(Flow::GoesOn)
+}
+
 // What an instruction does in which nothing is wrong.
 fn perform(
     catalogue: &Catalogue,
     parts: &Parts,
-    registers: &[Register],
+    registers: &mut [Register],
     run: &mut Run,
     op: &Op,
-) -> Result<Deed, Stop>
+) -> Result<Flow, Stop>
     requires few { run.old.lookups + run.old.updates < 2 ^ 63 }
     requires small { All IsSmall parts.now.groups }
-    requires wide { length registers.now ≡ parts.now.registers }
+    requires wide { length registers.old ≡ parts.now.registers }
     requires placed { (inside : Bool) × (faults.place_fault parts.now inside op.now ≡ None) }
-    requires operands { faults.operands_fault parts.now (kinds_in (held registers.now)) op.now ≡ None }
-    requires sound { AreSound catalogue.now (held registers.now) }
+    requires target { faults.target_fault (length registers.old) (faults.target_of op.now) ≡ None }
+    requires operands { faults.operands_fault parts.now (kinds_in (held registers.old)) op.now ≡ None }
+    requires sound { AreSound catalogue.now (held registers.old) }
     requires done { (s : Store) × HasDone catalogue.now parts.now run.old s }
-    ensures does { (s : Store) → HasDone catalogue.now parts.now run.old s → IsAnswer catalogue.now parts.now (held registers.now) run.new op.now (does (world_of catalogue.now) parts.now (held registers.now) s op.now) result }
+    ensures does { (s : Store) → HasDone catalogue.now parts.now run.old s → IsAnswer catalogue.now parts.now (held registers.new) run.new (does (world_of catalogue.now) parts.now (held registers.old) s op.now) result }
+    ensures sound { OnOk result (AreSound catalogue.now (held registers.new)) }
+    ensures len { length registers.new ≡ length registers.old }
     ensures work { run.new.lookups + run.new.updates ≤ run.old.lookups + run.old.updates + 1 }
     ensures visits { run.new.visits ≡ run.old.visits }
 {
     match op {
-        Op::Const { number, .. } => Ok(Deed::Sets(Value::Number(*number))),
-        Op::Low { column, text, .. } => Ok(Deed::Sets(low(catalogue, *column, text))),
-        Op::High { column, text, .. } => Ok(Deed::Sets(high(catalogue, *column, text))),
-        Op::Load {
-            column,
-            row: at,
-            ..
-        } => { Ok(Deed::Sets(load(catalogue, *column, row(registers, *at)))) }
-        Op::Find { table, key, .. } => look_up(catalogue, registers, run, *table, *key),
-        Op::Add { left, right, .. } => sets_number(sum(registers, *left, *right)),
-        Op::Sub { left, right, .. } => sets_number(difference(registers, *left, *right)),
-        Op::Mul { left, right, .. } => sets_number(product(registers, *left, *right)),
-        Op::Less { left, right, .. } => sets_flag(is_less(registers, *left, *right)),
-        Op::LessOrEqual { left, right, .. } => {
-            sets_flag(is_less_or_equal(registers, *left, *right))
-        }
-        Op::Equal { left, right, .. } => sets_flag(is_equal(registers, *left, *right)),
-        Op::Within {
-            value,
-            from,
-            below,
-            ..
-        } => sets_flag(is_within(registers, *value, *from, *below)),
-        Op::And { left, right, .. } => sets_flag(both(registers, *left, *right)),
-        Op::Or { left, right, .. } => sets_flag(either(registers, *left, *right)),
-        Op::Not { flag: at, .. } => sets_flag(!flag(registers, *at)),
+        Op::Assign { target, operation } => assign(catalogue, registers, run, *target, operation),
         Op::Keep { flag: at } => Ok(keeps(flag(registers, *at))),
         Op::Put {
             group,
             keys,
             values,
         } => update(parts, registers, run, *group, keys, values),
-        Op::Read {
-            group,
-            aggregate,
-            default,
-            ..
-        } => Ok(Deed::Sets(read(run, *group, *aggregate, *default))),
     }
 }
 
@@ -207,24 +224,14 @@ pub(crate) fn act(
     requires wide { length registers.old ≡ parts.now.registers }
     requires sound { AreSound catalogue.now (held registers.old) }
     requires done { (s : Store) × HasDone catalogue.now parts.now run.old s }
-    ensures does { (s : Store) → HasDone catalogue.now parts.now run.old s → MatchResult result
-        (IsFlow catalogue.now parts.now (held registers.new) run.new (effects.act (world_of catalogue.now) parts.now inside (held registers.old) s op.now))
-        (IsStop (effects.act (world_of catalogue.now) parts.now inside (held registers.old) s op.now)) }
+    ensures does { (s : Store) → HasDone catalogue.now parts.now run.old s → IsAnswer catalogue.now parts.now (held registers.new) run.new (effects.act (world_of catalogue.now) parts.now inside (held registers.old) s op.now) result }
     ensures sound { OnOk result (AreSound catalogue.now (held registers.new)) }
     ensures len { length registers.new ≡ length registers.old }
     ensures work { run.new.lookups + run.new.updates ≤ run.old.lookups + run.old.updates + 1 }
     ensures visits { run.new.visits ≡ run.old.visits }
 {
     check_place(parts, inside, op)?;
-    let target = declared_target(registers, op)?;
+    check_target(registers, op)?;
     check_operands(parts, registers, op)?;
-    match (perform(catalogue, parts, registers, run, op)?, target) {
-        (Deed::Sets(value), Some(target)) => {
-            set(registers, target, value);
-            Ok(Flow::GoesOn)
-        }
-        (Deed::Sets(_), None) => unreachable!(),
-        (Deed::GoesOn, _) => Ok(Flow::GoesOn),
-        (Deed::EndsTurn, _) => Ok(Flow::EndsTurn),
-    }
+    perform(catalogue, parts, registers, run, op)
 }

@@ -1,6 +1,6 @@
 // What is wrong with an instruction by the kinds of its operands alone, asked before anything is done.
 
-ghost use Rattle.std.specs.Prelude.{◌≡◌, ◌<◌, ℕ, ◌≤◌, ◌&&◌, length, nat_eq, nat_lt, slice_get, slice_index_or, Bool, IfOk, IfSome, IfNone, MatchResult, None, Some};
+ghost use Rattle.std.specs.Prelude.{◌≡◌, ◌<◌, ℕ, ◌≤◌, ◌&&◌, length, nat_eq, nat_lt, slice_get, slice_index_or, Bool, IfSome, IfNone, None, Some};
 ghost use Rattle.std.specs.Option.{option_map, option_or};
 ghost use Rattle.star_schema.specs.Schema as schema;
 ghost use Rattle.star_program.specs.World as world;
@@ -8,12 +8,12 @@ ghost use Rattle.star_program.specs.Values.{kind_of_value};
 ghost use Rattle.star_program.specs.Faults as faults;
 ghost use Rattle.star_program.specs.Effects.{kinds_in};
 ghost use Rattle.star_program.specs.declared.group.GroupKey.{GroupKey};
-ghost use Rattle.star_machine.specs.Private.Shown.{Answers, fault_shown, held, value_shown};
+ghost use Rattle.star_machine.specs.Private.Shown.{Answers, held, value_shown};
 ghost use Rattle.star_machine.specs.Private.Checked.{taken};
 
 use crate::fault::Fault;
 use crate::value::{Register, Value, is_column, is_table, register};
-use star_program::{GroupDecl, GroupKey, Op, Parts};
+use star_program::{GroupDecl, GroupKey, Op, Operation, Operator, Parts};
 use star_schema::{Aggregate, ColumnId, is_text, table_of};
 
 // What an operand may be.
@@ -196,51 +196,25 @@ pub(crate) fn check_place(parts: &Parts, inside: bool, op: &Op) -> Result<(), Fa
             keys,
             values,
         } => check_put_group(parts, *group, keys.as_slice(), values.as_slice()),
-        Op::Read {
-            group,
-            aggregate,
+        Op::Assign {
+            operation: Operation::Read {
+                group,
+                aggregate,
+                ..
+            },
             ..
         } => check_read_group(parts, *group, *aggregate),
         _ => Ok(()),
     }
 }
 
-// The register that an instruction writes.
-fn target_of(op: &Op) -> Option<u16>
-    ensures { result ≡ faults.target_of op.now }
+// Whether the register that an instruction writes is declared.
+pub(crate) fn check_target(registers: &[Register], op: &Op) -> Result<(), Fault>
+    ensures { Answers result (faults.target_fault (length registers.now) (faults.target_of op.now)) }
 {
     match op {
-        Op::Const { target, .. }
-        | Op::Low { target, .. }
-        | Op::High { target, .. }
-        | Op::Load { target, .. }
-        | Op::Find { target, .. }
-        | Op::Add { target, .. }
-        | Op::Sub { target, .. }
-        | Op::Mul { target, .. }
-        | Op::Less { target, .. }
-        | Op::LessOrEqual { target, .. }
-        | Op::Equal { target, .. }
-        | Op::Within { target, .. }
-        | Op::And { target, .. }
-        | Op::Or { target, .. }
-        | Op::Not { target, .. }
-        | Op::Read { target, .. } => Some(*target),
-        Op::Keep { .. } | Op::Put { .. } => None,
-    }
-}
-
-// The register that an instruction writes, if it is declared.
-pub(crate) fn declared_target(registers: &[Register], op: &Op) -> Result<Option<u16>, Fault>
-    ensures fault { MatchResult result
-        (λ _. faults.target_fault (length registers.now) (faults.target_of op.now) ≡ None)
-        (λ fault. faults.target_fault (length registers.now) (faults.target_of op.now) ≡ Some (fault_shown fault)) }
-    ensures target { IfOk result (λ target. target ≡ faults.target_of op.now) }
-    ensures declared { IfOk result (λ target. IfSome target (λ t. t < length registers.now)) }
-{
-    match target_of(op) {
-        Some(target) if target as usize >= registers.len() => Err(Fault::BadRegister),
-        target => Ok(target),
+        Op::Assign { target, .. } if *target as usize >= registers.len() => Err(Fault::BadRegister),
+        _ => Ok(()),
     }
 }
 
@@ -266,33 +240,55 @@ fn check_text_column(column: ColumnId) -> Result<(), Fault>
     }
 }
 
-// The operands from the left, and then the columns, of an instruction whose group is as it should be.
+fn check_binary(
+    registers: &[Register],
+    operator: Operator,
+    left: u16,
+    right: u16,
+) -> Result<(), Fault>
+    ensures { Answers result (faults.binary_fault (length registers.now) (kinds_in (held registers.now)) operator left right) }
+{
+    match operator {
+        Operator::Add | Operator::Sub | Operator::Mul => {
+            check_both(registers, Wanted::Number, left, right)
+        }
+        Operator::Less | Operator::LessOrEqual | Operator::Equal => {
+            check_comparison(registers, left, right)
+        }
+        Operator::And | Operator::Or => check_both(registers, Wanted::Flag, left, right),
+    }
+}
+
+// The operands from the left, and then the columns.
+fn check_operation(registers: &[Register], operation: &Operation) -> Result<(), Fault>
+    ensures { Answers result (faults.operation_fault (length registers.now) (kinds_in (held registers.now)) operation.now) }
+{
+    match operation {
+        Operation::Const { .. } | Operation::Read { .. } => Ok(()),
+        Operation::Edge { column, .. } => check_text_column(*column),
+        Operation::Load { column, row } => check_load(registers, *column, *row),
+        Operation::Find { key, .. } => check_operand(registers, Wanted::Number, *key),
+        Operation::Binary {
+            operator,
+            left,
+            right,
+        } => check_binary(registers, *operator, *left, *right),
+        Operation::Within { value, from, below } => {
+            check_within(registers, *value, *from, *below)
+        }
+        Operation::Not { flag } => check_operand(registers, Wanted::Flag, *flag),
+    }
+}
+
+// The operands of an instruction whose group is as it should be.
 pub(crate) fn check_operands(parts: &Parts, registers: &[Register], op: &Op) -> Result<(), Fault>
     requires wide { length registers.now ≡ parts.now.registers }
     requires placed { (inside : Bool) × (faults.place_fault parts.now inside op.now ≡ None) }
     ensures { Answers result (faults.operands_fault parts.now (kinds_in (held registers.now)) op.now) }
 {
     match op {
-        Op::Const { .. } | Op::Read { .. } => Ok(()),
-        Op::Low { column, .. } | Op::High { column, .. } => check_text_column(*column),
-        Op::Load { column, row, .. } => check_load(registers, *column, *row),
-        Op::Find { key, .. } => check_operand(registers, Wanted::Number, *key),
-        Op::Add { left, right, .. } | Op::Sub { left, right, .. } | Op::Mul { left, right, .. } => {
-            check_both(registers, Wanted::Number, *left, *right)
-        }
-        Op::Less { left, right, .. }
-        | Op::LessOrEqual { left, right, .. }
-        | Op::Equal { left, right, .. } => check_comparison(registers, *left, *right),
-        Op::Within {
-            value,
-            from,
-            below,
-            ..
-        } => check_within(registers, *value, *from, *below),
-        Op::And { left, right, .. } | Op::Or { left, right, .. } => {
-            check_both(registers, Wanted::Flag, *left, *right)
-        }
-        Op::Not { flag, .. } | Op::Keep { flag } => check_operand(registers, Wanted::Flag, *flag),
+        Op::Assign { operation, .. } => check_operation(registers, operation),
+        Op::Keep { flag } => check_operand(registers, Wanted::Flag, *flag),
         Op::Put {
             group,
             keys,

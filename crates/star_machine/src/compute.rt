@@ -2,11 +2,14 @@
 
 ghost use Rattle.std.specs.Prelude.{◌≡◌, ◌<◌, ◌+ℤ◌, ◌-ℤ◌, ◌*ℤ◌, ◌&&◌, ◌||◌, true, false, length, MatchOption};
 ghost use Rattle.std.specs.Ordering.{int_cmp, is_eq, is_lt, is_le};
+ghost use Rattle.std.specs.Option.{option_map};
 ghost use Rattle.star_interval.specs.Range.{is_i64};
+ghost use Rattle.star_program.specs.Effects.{answer_of};
 ghost use Rattle.star_program.specs.Values.{number_in, flag_in, row_in, with_entry};
 ghost use Rattle.star_machine.specs.Private.Shown.{held, value_shown};
 
 use crate::value::{Register, Value, flag_of, number_of, register, row_of};
+use star_program::Operator;
 
 // The number in a register.
 pub(crate) fn number(registers: &[Register], at: u16) -> i64
@@ -23,52 +26,67 @@ pub(crate) fn flag(registers: &[Register], at: u16) -> bool
 
 // The sum of two registers, if it doesn't leave 64 bits.
 #[tactic(auto, unfolding(star_interval::specs::Range::is_i64))]
-pub(crate) fn sum(registers: &[Register], left: u16, right: u16) -> Option<i64>
+fn sum(registers: &[Register], left: u16, right: u16) -> Option<i64>
     ensures { MatchOption result
-        (is_i64 (number_in (held registers.now left) +ℤ number_in (held registers.now right)) ≡ false)
-        (λ z. (z ≡ number_in (held registers.now left) +ℤ number_in (held registers.now right)) × (is_i64 (number_in (held registers.now left) +ℤ number_in (held registers.now right)) ≡ true)) }
+        (is_i64 (number_in (held registers.now left) +ℤ number_in (held registers.now right))
+        ≡ false)
+        (λ z. (z ≡ number_in (held registers.now left) +ℤ number_in (held registers.now right))
+        × (is_i64 (number_in (held registers.now left) +ℤ number_in (held registers.now right))
+        ≡ true)) }
 {
     number(registers, left).checked_add(number(registers, right))
 }
 
 // The difference of two registers, if it doesn't leave 64 bits.
 #[tactic(auto, unfolding(star_interval::specs::Range::is_i64))]
-pub(crate) fn difference(registers: &[Register], left: u16, right: u16) -> Option<i64>
+fn difference(registers: &[Register], left: u16, right: u16) -> Option<i64>
     ensures { MatchOption result
-        (is_i64 (number_in (held registers.now left) -ℤ number_in (held registers.now right)) ≡ false)
-        (λ z. (z ≡ number_in (held registers.now left) -ℤ number_in (held registers.now right)) × (is_i64 (number_in (held registers.now left) -ℤ number_in (held registers.now right)) ≡ true)) }
+        (is_i64 (number_in (held registers.now left) -ℤ number_in (held registers.now right))
+        ≡ false)
+        (λ z. (z ≡ number_in (held registers.now left) -ℤ number_in (held registers.now right))
+        × (is_i64 (number_in (held registers.now left) -ℤ number_in (held registers.now right))
+        ≡ true)) }
 {
     number(registers, left).checked_sub(number(registers, right))
 }
 
 // The product of two registers, if it doesn't leave 64 bits.
 #[tactic(auto, unfolding(star_interval::specs::Range::is_i64))]
-pub(crate) fn product(registers: &[Register], left: u16, right: u16) -> Option<i64>
+fn product(registers: &[Register], left: u16, right: u16) -> Option<i64>
     ensures { MatchOption result
-        (is_i64 (number_in (held registers.now left) *ℤ number_in (held registers.now right)) ≡ false)
-        (λ z. (z ≡ number_in (held registers.now left) *ℤ number_in (held registers.now right)) × (is_i64 (number_in (held registers.now left) *ℤ number_in (held registers.now right)) ≡ true)) }
+        (is_i64 (number_in (held registers.now left) *ℤ number_in (held registers.now right))
+        ≡ false)
+        (λ z. (z ≡ number_in (held registers.now left) *ℤ number_in (held registers.now right))
+        × (is_i64 (number_in (held registers.now left) *ℤ number_in (held registers.now right))
+        ≡ true)) }
 {
     number(registers, left).checked_mul(number(registers, right))
 }
 
-pub(crate) fn is_less(registers: &[Register], left: u16, right: u16) -> bool
-    ensures { result ≡ is_lt (int_cmp (number_in (held registers.now left)) (number_in (held registers.now right))) }
+fn is_less(registers: &[Register], left: u16, right: u16) -> bool
+    ensures { result
+        ≡ is_lt (int_cmp (number_in (held registers.now left))
+        (number_in (held registers.now right))) }
 {
     number(registers, left)
         .cmp(&number(registers, right))
         .is_lt()
 }
 
-pub(crate) fn is_less_or_equal(registers: &[Register], left: u16, right: u16) -> bool
-    ensures { result ≡ is_le (int_cmp (number_in (held registers.now left)) (number_in (held registers.now right))) }
+fn is_less_or_equal(registers: &[Register], left: u16, right: u16) -> bool
+    ensures { result
+        ≡ is_le (int_cmp (number_in (held registers.now left))
+        (number_in (held registers.now right))) }
 {
     number(registers, left)
         .cmp(&number(registers, right))
         .is_le()
 }
 
-pub(crate) fn is_equal(registers: &[Register], left: u16, right: u16) -> bool
-    ensures { result ≡ is_eq (int_cmp (number_in (held registers.now left)) (number_in (held registers.now right))) }
+fn is_equal(registers: &[Register], left: u16, right: u16) -> bool
+    ensures { result
+        ≡ is_eq (int_cmp (number_in (held registers.now left))
+        (number_in (held registers.now right))) }
 {
     number(registers, left)
         .cmp(&number(registers, right))
@@ -77,21 +95,46 @@ pub(crate) fn is_equal(registers: &[Register], left: u16, right: u16) -> bool
 
 // Whether a register is at least `from` and less than `below`.
 pub(crate) fn is_within(registers: &[Register], value: u16, from: u16, below: u16) -> bool
-    ensures { result ≡ (is_le (int_cmp (number_in (held registers.now from)) (number_in (held registers.now value))) && is_lt (int_cmp (number_in (held registers.now value)) (number_in (held registers.now below)))) }
+    ensures { result
+        ≡ (is_le (int_cmp (number_in (held registers.now from))
+        (number_in (held registers.now value)))
+        && is_lt (int_cmp (number_in (held registers.now value))
+        (number_in (held registers.now below)))) }
 {
     is_less_or_equal(registers, from, value) && is_less(registers, value, below)
 }
 
-pub(crate) fn both(registers: &[Register], left: u16, right: u16) -> bool
+fn both(registers: &[Register], left: u16, right: u16) -> bool
     ensures { result ≡ (flag_in (held registers.now left) && flag_in (held registers.now right)) }
 {
     flag(registers, left) && flag(registers, right)
 }
 
-pub(crate) fn either(registers: &[Register], left: u16, right: u16) -> bool
+fn either(registers: &[Register], left: u16, right: u16) -> bool
     ensures { result ≡ (flag_in (held registers.now left) || flag_in (held registers.now right)) }
 {
     flag(registers, left) || flag(registers, right)
+}
+
+// An operator's answer, if it is no number beyond 64 bits.
+pub(crate) fn answer(
+    registers: &[Register],
+    operator: Operator,
+    left: u16,
+    right: u16,
+) -> Option<Value>
+    ensures { option_map value_shown result ≡ answer_of operator (held registers.now left) (held registers.now right) }
+{
+    match operator {
+        Operator::Add => sum(registers, left, right).map(Value::Number),
+        Operator::Sub => difference(registers, left, right).map(Value::Number),
+        Operator::Mul => product(registers, left, right).map(Value::Number),
+        Operator::Less => Some(Value::Flag(is_less(registers, left, right))),
+        Operator::LessOrEqual => Some(Value::Flag(is_less_or_equal(registers, left, right))),
+        Operator::Equal => Some(Value::Flag(is_equal(registers, left, right))),
+        Operator::And => Some(Value::Flag(both(registers, left, right))),
+        Operator::Or => Some(Value::Flag(either(registers, left, right))),
+    }
 }
 
 pub(crate) fn row(registers: &[Register], at: u16) -> u32

@@ -1,4 +1,5 @@
-//! Laws of the world that programs see, and of trials: functions that do nothing, whose clauses are the laws.
+//! Laws of the world that programs see, and of trials: functions that do nothing, whose clauses are
+//! the laws.
 
 ghost use Rattle.std.specs.Prelude.{◌≡◌, ◌≤◌, ◌^◌, ℕ, MatchResult, Result};
 ghost use Rattle.star_schema.specs.Database.{Database};
@@ -21,13 +22,18 @@ pub fn sound_rows_are_loaded()
     ensures { (database : Database) → IsSound database → IsLoaded (world_of database) }
 {}
 
-/// Over sound rows a trial of an admissible program, with no fewer visits than it is quoted, is neither trapped nor limited: it answers an outcome of at most as many visits, or that memory was refused.
+/// Over sound rows a trial of an admissible program, with no fewer visits than it is quoted, is
+/// neither trapped nor limited: it answers an outcome of at most as many visits, or that memory was
+/// refused.
 pub fn admissible_programs_end()
-    ensures { (database : Database) (parts : Parts) (visits : ℕ) (result : Result Outcome TrialFault)
+    ensures { (database : Database) (parts : Parts) (visits : ℕ)
+        (result : Result Outcome TrialFault)
         → IsSound database → IsWithinLimits parts → IsAdmissible (world_of database) parts
         → quote (world_of database).size parts ≤ visits → visits ≤ 10 ^ 15
         → IsTrial (world_of database) parts visits result
-        → MatchResult result (λ outcome. outcome.visits ≤ quote (world_of database).size parts) (λ fault. fault ≡ OutOfMemory) }
+        → MatchResult result
+        (λ outcome. outcome.visits ≤ quote (world_of database).size parts)
+        (λ fault. fault ≡ OutOfMemory) }
 {
     sound_rows_are_loaded();
     admissible_programs_never_trap();

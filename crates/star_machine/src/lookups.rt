@@ -13,25 +13,19 @@ ghost use Rattle.star_machine.specs.WorldOf.{world_of, column_dictionary};
 
 use crate::value::Value;
 use star_catalogue::Catalogue;
-use star_program::Text;
+use star_program::{Edge, Text};
 use star_schema::{ColumnId, TableId, is_text};
 
-// The place in a text column where the texts begin that are not less than this one.
+// The place of an edge of a text among the texts of a column.
 #[tactic(auto, using(crate::proofs::Found::kind_text))]
-pub(crate) fn low(catalogue: &Catalogue, column: ColumnId, text: &Text) -> Value
+pub(crate) fn place(catalogue: &Catalogue, edge: Edge, column: ColumnId, text: &Text) -> Value
     requires { world.is_text column ≡ true }
-    ensures { value_shown result ≡ Place column ((world_of catalogue.now).low column text.now) }
+    ensures { value_shown result ≡ Place column (world.edge_of (world_of catalogue.now) edge column text.now) }
 {
-    Value::Place(column, catalogue.low(column, text.as_slice()))
-}
-
-// The place in a text column where the texts begin that are greater than this one.
-#[tactic(auto, using(crate::proofs::Found::kind_text))]
-pub(crate) fn high(catalogue: &Catalogue, column: ColumnId, text: &Text) -> Value
-    requires { world.is_text column ≡ true }
-    ensures { value_shown result ≡ Place column ((world_of catalogue.now).high column text.now) }
-{
-    Value::Place(column, catalogue.high(column, text.as_slice()))
+    match edge {
+        Edge::Low => Value::Place(column, catalogue.low(column, text.as_slice())),
+        Edge::High => Value::Place(column, catalogue.high(column, text.as_slice())),
+    }
 }
 
 // A number column's value in a row.
@@ -56,7 +50,8 @@ fn code(catalogue: &Catalogue, column: ColumnId, row: u32) -> u32
 // A column's value in a row.
 pub(crate) fn load(catalogue: &Catalogue, column: ColumnId, row: u32) -> Value
     requires { row < length (rows_in catalogue.now (schema.table_of column)) }
-    ensures value { value_shown result ≡ loaded (world_of catalogue.now) column row (world.is_text column) }
+    ensures value { value_shown result
+        ≡ loaded (world_of catalogue.now) column row (world.is_text column) }
     ensures sound { IsSoundValue catalogue.now (value_shown result) }
 {
     if is_text(column) {

@@ -38,7 +38,8 @@ fn has_all_named(declared: &GroupDecl, parts: &Parts) -> bool
         && has_all_sorted(declared, parts.sorts.as_slice())
 }
 
-// Whether the reported group is there, and a show line, and each column that the show and sort lines name.
+// Whether the reported group is there, and a show line, and each column that the show and sort
+// lines name.
 pub(crate) fn names_what_is_there(parts: &Parts) -> bool
     ensures { IsTrue result ↔ (shown_fault parts.now ≡ None) }
 {

@@ -18,7 +18,8 @@ use star_catalogue::Catalogue;
 use star_program::{MOST_SCANS, Outcome, Parts, Program};
 use std::alloc::Global;
 
-// Runs the instructions from the first on. The registers of the program and those of the scans that can stand one in another are all the memory that it takes beside the groups.
+// Runs the instructions from the first on. The registers of the program and those of the scans that
+// can stand one in another are all the memory that it takes beside the groups.
 fn run_through(
     alloc: Global,
     catalogue: &Catalogue,
@@ -28,7 +29,8 @@ fn run_through(
     requires limits { IsWithinLimits parts.now }
     requires most { most ≤ 10 ^ 15 }
     ensures { MatchResult result
-        (λ run. Finishes catalogue.now parts.now run (meaning_of (world_of catalogue.now) (λ visits. nat_lt visits most) parts.now))
+        (λ run. Finishes catalogue.now parts.now run
+        (meaning_of (world_of catalogue.now) (λ visits. nat_lt visits most) parts.now))
         (IsFaultOf (meaning_of (world_of catalogue.now) (λ visits. nat_lt visits most) parts.now)) }
 {
     let wide = parts.registers as usize;
@@ -52,9 +54,15 @@ fn run_through(
     Ok(run)
 }
 
-/// Runs a program, whether or not anything could be refused in it, over a loaded catalogue, with at most so many visits: a visit is a turn of a scan, one for each row.
+/// Runs a program, whether or not anything could be refused in it, over a loaded catalogue, with at
+/// most so many visits: a visit is a turn of a scan, one for each row.
 ///
-/// Answers the rows of the reported group in order, and how many turns of scans were begun, how many finds were reached and how many puts went through. The first in the order of the run decides: its end, a trap with its kind and the number of its instruction, or `Limit` where one more turn would begin. Instructions are numbered from 1 as they stand in the text, a scan before its body; a trap at 0 is a report that names a group or a column that is not there, or has no show line, and comes before the first instruction. Memory may be refused at any time.
+/// Answers the rows of the reported group in order, and how many turns of scans were begun, how
+/// many finds were reached and how many puts went through. The first in the order of the run
+/// decides: its end, a trap with its kind and the number of its instruction, or `Limit` where one
+/// more turn would begin. Instructions are numbered from 1 as they stand in the text, a scan before
+/// its body; a trap at 0 is a report that names a group or a column that is not there, or has no
+/// show line, and comes before the first instruction. Memory may be refused at any time.
 pub fn trial(
     alloc: Global,
     catalogue: &Catalogue,

@@ -10,7 +10,8 @@ ghost use Rattle.star_machine.specs.Private.Shown.{value_shown};
 use star_program::KeyValue;
 use star_schema::{ColumnId, TableId};
 
-// A number, the code of a text of a column, a place among the texts of a column, a row of a table, or a truth value.
+// A number, the code of a text of a column, a place among the texts of a column, a row of a table,
+// or a truth value.
 #[derive(Clone, Copy)]
 pub(crate) enum Value {
     Number(i64),

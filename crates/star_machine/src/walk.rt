@@ -55,12 +55,14 @@ fn turn(
     requires target { scanned.now.target < machine.now.parts.now.registers }
     requires before { length before.now ≡ machine.now.parts.now.registers }
     requires wide { length registers.old ≡ machine.now.parts.now.registers }
-    requires deep { scan_depth scanned.now.body.now * machine.now.parts.now.registers ≤ length frames.old }
+    requires deep { scan_depth scanned.now.body.now * machine.now.parts.now.registers
+        ≤ length frames.old }
     requires few { IsFew machine.now.most run.old 0 }
     requires sound { AreSound machine.now.catalogue.now (held before.now) }
     requires done { HasRun machine.now run.old }
     requires row { IsSoundValue machine.now.catalogue.now (value_shown row) }
-    ensures ends { Does machine.now run.old run.new (means_turn machine.now scanned.now (held before.now) (value_shown row)) result }
+    ensures ends { Does machine.now run.old run.new
+        (means_turn machine.now scanned.now (held before.now) (value_shown row)) result }
     ensures worked { OnOk result (HasWorked machine.now.most run.old run.new 0) }
     ensures len { length registers.new ≡ length registers.old }
     ensures frames { length frames.new ≡ length frames.old }
@@ -97,11 +99,13 @@ fn turns(
     requires target { scanned.now.target < machine.now.parts.now.registers }
     requires before { length before.now ≡ machine.now.parts.now.registers }
     requires wide { length registers.old ≡ machine.now.parts.now.registers }
-    requires deep { scan_depth scanned.now.body.now * machine.now.parts.now.registers ≤ length frames.old }
+    requires deep { scan_depth scanned.now.body.now * machine.now.parts.now.registers
+        ≤ length frames.old }
     requires few { IsFew machine.now.most run.old 0 }
     requires sound { AreSound machine.now.catalogue.now (held before.now) }
     requires done { HasRun machine.now run.old }
-    ensures ends { Does machine.now run.old run.new (means_turns machine.now scanned.now (held before.now)) result }
+    ensures ends { Does machine.now run.old run.new
+        (means_turns machine.now scanned.now (held before.now)) result }
     ensures worked { OnOk result (HasWorked machine.now.most run.old run.new 0) }
 {
     for row in 0..machine.catalogue.rows(scanned.table) {
@@ -123,11 +127,13 @@ fn scan(
     requires size { code_size scanned.now.body.now < 4096 }
     requires at { scanned.now.at + 1 + code_size scanned.now.body.now < 2 ^ 16 }
     requires before { length before.now ≡ machine.now.parts.now.registers }
-    requires deep { (1 + scan_depth scanned.now.body.now) * machine.now.parts.now.registers ≤ length frames.old }
+    requires deep { (1 + scan_depth scanned.now.body.now) * machine.now.parts.now.registers
+        ≤ length frames.old }
     requires few { IsFew machine.now.most run.old 0 }
     requires sound { AreSound machine.now.catalogue.now (held before.now) }
     requires done { HasRun machine.now run.old }
-    ensures ends { Does machine.now run.old run.new (means_scan machine.now scanned.now (held before.now)) result }
+    ensures ends { Does machine.now run.old run.new
+        (means_scan machine.now scanned.now (held before.now)) result }
     ensures worked { OnOk result (HasWorked machine.now.most run.old run.new 0) }
     ensures frames { length frames.new ≡ length frames.old }
 {
@@ -141,8 +147,8 @@ fn scan(
     turns(machine, scanned, before, registers, deeper, run)
 }
 
-// A walk over a body from an instruction on, inside scans or not: to its end or to the end of the turn. The frames hold
-// the registers of the scans in it.
+// A walk over a body from an instruction on, inside scans or not: to its end or to the end of the
+// turn. The frames hold the registers of the scans in it.
 #[cycle(walk)]
 pub(crate) fn walk(
     machine: &Machine<'_>,
@@ -160,7 +166,8 @@ pub(crate) fn walk(
     requires few { IsFew machine.now.most run.old (code_size body.now) }
     requires sound { AreSound machine.now.catalogue.now (held registers.old) }
     requires done { HasRun machine.now run.old }
-    ensures ends { Does machine.now run.old run.new (means machine.now body.now at inside (held registers.old)) result }
+    ensures ends { Does machine.now run.old run.new
+        (means machine.now body.now at inside (held registers.old)) result }
     ensures worked { OnOk result (HasWorked machine.now.most run.old run.new (code_size body.now)) }
     ensures len { length registers.new ≡ length registers.old }
     ensures frames { length frames.new ≡ length frames.old }

@@ -1,5 +1,5 @@
 -- What the exit of a `?` returns.
-use Rattle.std.proofs.Common.{◌≡◌, ◌⊎◌, Option, Some, None, Result, Ok, Err, ap}
+use Rattle.std.proofs.Common.{◌≡◌, ◌⊎◌, Option, Some, Result, Ok, Err, ap}
 use Rattle.std.specs.Result.{IsErrAnd, result_err}
 use Rattle.star_plan.specs.declared.fault.PlanFault.{PlanFault}
 use Rattle.star_plan.specs.declared.fault.PlanFault.TheVariants.{OutOfMemory}

@@ -11,4 +11,3 @@ pub mod KeptCounts
 pub mod KeptSpelling
 pub mod Kept
 pub mod Conditions
-pub mod Worked

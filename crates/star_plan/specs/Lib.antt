@@ -6,6 +6,7 @@ pub mod Uses
 pub mod Joins
 pub mod Naming
 pub mod Faults
+pub mod FaultTexts
 pub mod WellNamed
 pub mod Shown
 pub mod Sound

@@ -4,6 +4,7 @@ ghost use Rattle.star_common.specs.Memory.{TellsMemory};
 ghost use Rattle.star_plan.specs.declared.fault.PlanFault.TheVariants.{OutOfMemory};
 
 use std::alloc::{AllocError, AllocFailed};
+use std::fmt;
 
 /// Why a query has no plan. `at` is the place of a name in the query's text, in bytes from 0.
 #[derive(Clone, Copy, Debug, PartialEq, Eq)]
@@ -52,5 +53,32 @@ impl<T: Drop> From<AllocFailed<T>> for PlanFault {
 
     fn from(_error: AllocFailed<T>) -> PlanFault {
         PlanFault::OutOfMemory
+    }
+}
+
+impl fmt::Display for PlanFault {
+    ghost use Rattle.std.specs.Prelude.{Some};
+    ghost use Rattle.star_plan.specs.FaultTexts.{fault_text};
+
+    ghost output = { λ fault. Some (fault_text fault) };
+
+    #[tactic(auto, unfolding(crate::specs::FaultTexts::fault_text))]
+    fn fmt<W: fmt::Write>(&self, f: &mut fmt::Formatter<W>) -> fmt::Result {
+        match self {
+            PlanFault::OutOfMemory => write!(f, "1 OutOfMemory"),
+            PlanFault::UnknownName { at } => write!(f, "30 UnknownName at {at}"),
+            PlanFault::NoFactTable => write!(f, "31 NoFactTable"),
+            PlanFault::TableTwice { at } => write!(f, "32 TableTwice at {at}"),
+            PlanFault::TableNotNamed { at } => write!(f, "33 TableNotNamed at {at}"),
+            PlanFault::JoinMissing { at } => write!(f, "34 JoinMissing at {at}"),
+            PlanFault::JoinTwice { at } => write!(f, "35 JoinTwice at {at}"),
+            PlanFault::NotAKeyPair { at } => write!(f, "36 NotAKeyPair at {at}"),
+            PlanFault::WrongKind { at } => write!(f, "37 WrongKind at {at}"),
+            PlanFault::NotGrouped { at } => write!(f, "38 NotGrouped at {at}"),
+            PlanFault::DuplicateGroup { at } => write!(f, "39 DuplicateGroup at {at}"),
+            PlanFault::UnknownOrderKey { at } => write!(f, "40 UnknownOrderKey at {at}"),
+            PlanFault::DuplicateAlias { at } => write!(f, "41 DuplicateAlias at {at}"),
+            PlanFault::NoAggregate => write!(f, "42 NoAggregate"),
+        }
     }
 }

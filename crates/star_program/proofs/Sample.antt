@@ -13,6 +13,9 @@ use Rattle.star_interval.specs.Range.{Range, only}
 use Rattle.star_program.specs.declared.group.GroupDecl.{GroupDecl}
 use Rattle.star_program.specs.declared.group.GroupKey.TheVariants as key
 use Rattle.star_program.specs.declared.op.Op.TheVariants as op
+use Rattle.star_program.specs.declared.op.Operation.{Operation}
+use Rattle.star_program.specs.declared.op.Operation.TheVariants as operation
+use Rattle.star_program.specs.declared.op.Operator.TheVariants as operator
 use Rattle.star_program.specs.declared.program.Parts.{Parts}
 use Rattle.star_program.specs.Code.{Code, Stop, Then, Each}
 use Rattle.star_program.specs.World.{World}
@@ -98,6 +101,10 @@ program registers groups report body = record {
   sorts = [];
 }
 
+-- an instruction that writes a register, and the rest
+abbrev pub assign : ℕ → Operation → Code → Code
+assign t o rest = Then (op.Assign t o) rest
+
 -- one group, which counts
 abbrev pub counting : Code → Parts
 counting body = program 3 (plain (aggregate.Count ∷ []) ∷ []) 0 body
@@ -105,26 +112,26 @@ counting body = program 3 (plain (aggregate.Count ∷ []) ∷ []) 0 body
 -- lines priced above the average
 abbrev pub above_average : Parts
 above_average = program 8 (plain (aggregate.Sum ∷ aggregate.Count ∷ []) ∷ plain (aggregate.Count ∷ []) ∷ []) 1
-    (Each Lineorder 0 (Then (op.Load 1 LoExtendedprice 0) (Then (op.Put 0 [] (1 ∷ [])) Stop))
-    (Then (op.Read 2 0 0 (pos 0)) (Then (op.Read 3 0 1 (pos 0))
-    (Each Lineorder 4 (Then (op.Load 5 LoExtendedprice 4) (Then (op.Mul 6 5 3) (Then (op.Less 7 2 6) (Then (op.Keep 7) (Then (op.Put 1 [] []) Stop))))) Stop))))
+    (Each Lineorder 0 (assign 1 (operation.Load LoExtendedprice 0) (Then (op.Put 0 [] (1 ∷ [])) Stop))
+    (assign 2 (operation.Read 0 0 (pos 0)) (assign 3 (operation.Read 0 1 (pos 0))
+    (Each Lineorder 4 (assign 5 (operation.Load LoExtendedprice 4) (assign 6 (operation.Binary operator.Mul 5 3) (assign 7 (operation.Binary operator.Less 2 6) (Then (op.Keep 7) (Then (op.Put 1 [] []) Stop))))) Stop))))
 
 -- a row of the dates by a quantity
 abbrev pub find_by_quantity : Parts
 find_by_quantity = counting
-    (Each Lineorder 0 (Then (op.Load 1 LoQuantity 0) (Then (op.Find 2 Date 1) (Then (op.Put 0 [] []) Stop))) Stop)
+    (Each Lineorder 0 (assign 1 (operation.Load LoQuantity 0) (assign 2 (operation.Find Date 1) (Then (op.Put 0 [] []) Stop))) Stop)
 
 -- a read in the scan that puts
 abbrev pub read_while_putting : Parts
-read_while_putting = counting (Each Lineorder 0 (Then (op.Put 0 [] []) (Then (op.Read 1 0 0 (pos 0)) Stop)) Stop)
+read_while_putting = counting (Each Lineorder 0 (Then (op.Put 0 [] []) (assign 1 (operation.Read 0 0 (pos 0)) Stop)) Stop)
 
 -- a register that is written twice and then put
 abbrev pub written_twice : Parts
 written_twice = program 3 (plain (aggregate.Sum ∷ []) ∷ []) 0
-    (Then (op.Const 0 (pos 1)) (Then (op.Const 0 (pos 2)) (Then (op.Put 0 [] (0 ∷ [])) Stop)))
+    (assign 0 (operation.Const (pos 1)) (assign 0 (operation.Const (pos 2)) (Then (op.Put 0 [] (0 ∷ [])) Stop)))
 
 abbrev pub keep_outside : Parts
-keep_outside = counting (Then (op.Const 0 (pos 1)) (Then (op.Equal 1 0 0) (Then (op.Keep 1) Stop)))
+keep_outside = counting (assign 0 (operation.Const (pos 1)) (assign 1 (operation.Binary operator.Equal 0 0) (Then (op.Keep 1) Stop)))
 
 -- a key of a group without keys is shown
 abbrev pub shows_no_key : Parts
@@ -144,10 +151,10 @@ scan_in_scan = counting (Each Date 0 (Each Supplier 1 (Then (op.Put 0 [] []) Sto
 abbrev pub doubled_difference : Parts
 doubled_difference = program 10 (plain (aggregate.Sum ∷ []) ∷ plain (aggregate.Max ∷ []) ∷ []) 1
     (Each Lineorder 0
-    (Then (op.Load 1 LoLinenumber 0) (Then (op.Const 2 (pos 1)) (Then (op.Equal 3 1 2) (Then (op.Keep 3)
-    (Then (op.Load 4 LoExtendedprice 0) (Then (op.Put 0 [] (4 ∷ [])) Stop))))))
-    (Then (op.Read 5 0 0 (pos 0)) (Then (op.Const 6 (pos 9000000000000000000)) (Then (op.Sub 7 5 6)
-    (Then (op.Const 8 (pos 2)) (Then (op.Mul 9 7 8) (Then (op.Put 1 [] (9 ∷ [])) Stop)))))))
+    (assign 1 (operation.Load LoLinenumber 0) (assign 2 (operation.Const (pos 1)) (assign 3 (operation.Binary operator.Equal 1 2) (Then (op.Keep 3)
+    (assign 4 (operation.Load LoExtendedprice 0) (Then (op.Put 0 [] (4 ∷ [])) Stop))))))
+    (assign 5 (operation.Read 0 0 (pos 0)) (assign 6 (operation.Const (pos 9000000000000000000)) (assign 7 (operation.Binary operator.Sub 5 6)
+    (assign 8 (operation.Const (pos 2)) (assign 9 (operation.Binary operator.Mul 7 8) (Then (op.Put 1 [] (9 ∷ [])) Stop)))))))
 
 abbrev pub two_keys : GroupDecl
 two_keys = record { shape = Cube; keys = key.Number ∷ key.Number ∷ []; aggregates = aggregate.Sum ∷ aggregate.Count ∷ [] }
@@ -157,7 +164,7 @@ abbrev pub one_put : Parts
 one_put = record {
   registers = 3;
   groups = two_keys ∷ [];
-  body = Then (op.Const 0 (pos 1)) (Then (op.Const 1 (pos 2)) (Then (op.Const 2 (pos 7)) (Then (op.Put 0 (0 ∷ 1 ∷ []) (2 ∷ [])) Stop)));
+  body = assign 0 (operation.Const (pos 1)) (assign 1 (operation.Const (pos 2)) (assign 2 (operation.Const (pos 7)) (Then (op.Put 0 (0 ∷ 1 ∷ []) (2 ∷ [])) Stop)));
   report = 0;
   shows =
       record { name = codes "a"; column = column.Key 0 } ∷ record { name = codes "b"; column = column.Key 1 }

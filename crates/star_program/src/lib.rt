@@ -15,7 +15,7 @@ mod spelling;
 pub use body::{Body, Step};
 pub use group::{Aggregates, GroupDecl, GroupKey, GroupKeys};
 pub use key::KeyValue;
-pub use op::{Op, RegisterList, Text};
+pub use op::{Edge, Op, Operation, Operator, RegisterList, Text};
 pub use outcome::{Cell, Outcome};
 pub use program::{
     Groups, MOST_AGGREGATES, MOST_GROUPS, MOST_INSTRUCTIONS, MOST_KEYS, MOST_REGISTERS, MOST_SCANS,

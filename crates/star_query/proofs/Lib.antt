@@ -4,6 +4,7 @@ pub mod Passed
 pub mod Counting
 pub mod Verdicts
 pub mod WorkedRows
+pub mod WorkedQuery
 pub mod Tokens
 pub mod Descent
 pub mod Conditions
@@ -13,3 +14,4 @@ pub mod Parsing
 pub mod Within
 pub mod Spelling
 pub mod Spelled
+pub mod Reserved

@@ -4,14 +4,13 @@ use Rattle.std.specs.List.{prefix_len, slice_get}
 use Rattle.std.specs.Char.{is_ascii_alphabetic, is_ascii_digit}
 use Rattle.std.specs.Int.{is_in_range}
 use Rattle.std.specs.Cmp.Lexicographic.{pointwise}
-use Rattle.star_query.specs.declared.token.TheConstants.{WORDS}
 use Rattle.star_query.specs.declared.token.Word.{Word}
 use Rattle.star_query.specs.declared.token.Relation.TheVariants as r
 use Rattle.star_query.specs.declared.token.Sign.TheVariants as s
 use Rattle.star_query.specs.declared.token.Additive.TheVariants as signs
 use Rattle.star_query.specs.declared.fault.QueryFault.{QueryFault}
 use Rattle.star_query.specs.declared.fault.QueryFault.TheVariants.{BadCharacter, BadNumber, OpenText}
-use Rattle.star_query.specs.Symbols.{Symbol, Placed, relation, sign, additive, name, number, text, spelling, word_symbol, lowered, unquoted}
+use Rattle.star_query.specs.Symbols.{Symbol, Placed, relation, sign, additive, name, number, text, spelling, reserved_words, word_symbol, lowered, unquoted}
 
 -- space, tab, carriage return and line feed part tokens
 abbrev pub is_blank : ℕ → Bool
@@ -39,7 +38,7 @@ is_spelled word reserved = pointwise nat_eq (spelling reserved) (lowered word)
 
 -- the reserved word that a word is, if it is one
 unfoldable pub reserved : List ℕ → Option Word
-reserved word = find (is_spelled word) WORDS
+reserved word = find (is_spelled word) reserved_words
 
 -- a reserved word, or a name in lower case
 abbrev pub word_of : ℕ → List ℕ → Symbol

@@ -8,4 +8,5 @@ pub mod Shown
 pub mod Meant
 pub mod Limits
 pub mod Spelled
+pub mod FaultTexts
 pub mod Private

@@ -5,6 +5,7 @@ ghost use Rattle.star_query.specs.declared.fault.QueryFault.TheVariants.{OutOfMe
 ghost use Rattle.star_query.specs.declared.fault.ParseError.TheVariants as errors;
 
 use std::alloc::{AllocError, AllocFailed};
+use std::fmt;
 
 /// The first fault of a text. A place counts bytes from 0, and the end of the text has the text's length as its place.
 #[derive(Clone, Copy, Debug, PartialEq, Eq)]
@@ -27,19 +28,32 @@ pub enum QueryFault {
     TooMany,
 }
 
-impl From<AllocError> for QueryFault {
-    ghost from_gives = { TellsMemory OutOfMemory };
-
-    fn from(_refused: AllocError) -> QueryFault {
-        QueryFault::OutOfMemory
-    }
-}
-
 impl<T: Drop> From<AllocFailed<T>> for QueryFault {
     ghost from_gives = { TellsMemory OutOfMemory };
 
     fn from(_refused: AllocFailed<T>) -> QueryFault {
         QueryFault::OutOfMemory
+    }
+}
+
+impl fmt::Display for QueryFault {
+    ghost use Rattle.std.specs.Prelude.{Some};
+    ghost use Rattle.star_query.specs.FaultTexts.{fault_text};
+
+    ghost output = { λ fault. Some (fault_text fault) };
+
+    #[tactic(auto, unfolding(crate::specs::FaultTexts::fault_text))]
+    fn fmt<W: fmt::Write>(&self, f: &mut fmt::Formatter<W>) -> fmt::Result {
+        match self {
+            QueryFault::OutOfMemory => write!(f, "1 OutOfMemory"),
+            QueryFault::TooLong => write!(f, "20 TooLong"),
+            QueryFault::BadCharacter { at } => write!(f, "21 BadCharacter at {at}"),
+            QueryFault::BadNumber { at } => write!(f, "22 BadNumber at {at}"),
+            QueryFault::OpenText { at } => write!(f, "23 OpenText at {at}"),
+            QueryFault::Unexpected { at } => write!(f, "24 Unexpected at {at}"),
+            QueryFault::TooDeep => write!(f, "25 TooDeep"),
+            QueryFault::TooMany => write!(f, "26 TooMany"),
+        }
     }
 }
 

@@ -1,9 +1,18 @@
 //! Laws of the grammar: functions with no body, whose clauses hold of all texts.
 
-ghost use Rattle.std.specs.Prelude.{◌≡◌, ℕ, List};
+ghost use Rattle.std.specs.Prelude.{◌≡◌, ◌↔◌, ℕ, List, Some};
+ghost use Rattle.star_query.specs.declared.token.Word.{Word};
+ghost use Rattle.star_query.specs.Symbols.{spelling, lowered};
+ghost use Rattle.star_query.specs.Cut.{reserved};
 ghost use Rattle.star_query.specs.Tree.{Tree};
 ghost use Rattle.star_query.specs.Grammar.{Mark};
 ghost use Rattle.star_query.specs.Derives.{Means, Begins, symbols_at};
+
+/// Each reserved word is what it spells, in any case, and nothing else.
+pub fn reserved_words_are_spelled()
+    ensures { (reserved_word : Word) (word : List ℕ)
+        → (reserved word ≡ Some reserved_word) ↔ (lowered word ≡ spelling reserved_word) }
+{}
 
 /// No text means two trees.
 pub fn one_tree()

@@ -62,7 +62,7 @@ fn is_spelled(reserved: Word, word: &[u8]) -> bool
 }
 
 // The reserved word that a word is, in any case.
-#[tactic(auto, unfolding(crate::specs::Cut::reserved))]
+#[tactic(auto, unfolding(crate::specs::Cut::reserved, crate::specs::Symbols::reserved_words))]
 fn reserved_word(word: &[u8]) -> Option<Word>
     ensures { result ≡ spec.reserved word.now }
 {

@@ -1,5 +1,6 @@
-//! Tests of `star_query` and `star_plan` over their public items: the trees of texts and the plans of queries in print,
-//! the first fault of each kind with its place, and each limit at and one past it.
+//! Tests of `star_query` and `star_plan` over their public items: the trees of texts and the plans
+//! of queries in print, the first fault of each kind with its place, and each limit at and one past
+//! it.
 #![tactic(auto)]
 
 #[cfg(test)]

@@ -1,5 +1,5 @@
-// The tree of a plan in print: a line for each join, conjunct, aggregate, item and sort key, and one for the groups. Each
-// operator has parentheses.
+// The tree of a plan in print: a line for each join, conjunct, aggregate, item and sort key, and
+// one for the groups. Each operator has parentheses.
 
 use crate::words::{fold_word, relation_sign, write_bytes, write_literal};
 use star_plan::{Aggregate, Condition, Expression, Join, Measure, PlanTree};

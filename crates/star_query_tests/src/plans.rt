@@ -23,16 +23,16 @@ pub(crate) fn printed(alloc: Global, text: &str) -> Result<String, Fail> {
     printed_plan(alloc, &query)
 }
 
-fn fault_of_query(alloc: Global, query: &Query) -> Result<Option<PlanFault>, Fail> {
+fn fault_of_query(alloc: Global, query: &Query) -> Result<String, Fail> {
     match plan(alloc, query) {
-        Ok(_) => Ok(None),
+        Ok(_) => Ok(String::new(alloc)),
         Err(PlanFault::OutOfMemory) => Err(Fail::from(AllocError)),
-        Err(fault) => Ok(Some(fault)),
+        Err(fault) => Ok(format!(in alloc; "{fault}")?),
     }
 }
 
-// The first fault of a text, which is a query; none where it has a plan.
-fn fault_of(alloc: Global, text: &str) -> Result<Option<PlanFault>, Fail> {
+// The words of the first fault of a text, which is a query; none where it has a plan.
+fn fault_of(alloc: Global, text: &str) -> Result<String, Fail> {
     let query = Query::parse(alloc, text.as_bytes())?;
     fault_of_query(alloc, &query)
 }
@@ -110,30 +110,24 @@ fn joins_stand_apart_from_the_other_conjuncts(rt: HostRuntime) -> Result<(), Fai
 #[test]
 fn the_names_of_from_come_first(rt: HostRuntime) -> Result<(), Fail> {
     for (text, fault) in [
-        (
-            "select count(*) from lineorder, x",
-            PlanFault::UnknownName { at: 32 },
-        ),
-        (
-            "select x from lineorders",
-            PlanFault::UnknownName { at: 14 },
-        ),
-        ("select x from date", PlanFault::NoFactTable),
+        ("select count(*) from lineorder, x", "30 UnknownName at 32"),
+        ("select x from lineorders", "30 UnknownName at 14"),
+        ("select x from date", "31 NoFactTable"),
         (
             "select count(*) from supplier, date where x = 1",
-            PlanFault::NoFactTable,
+            "31 NoFactTable",
         ),
         (
             "select d_year, count(*) from lineorder, lineorder",
-            PlanFault::TableTwice { at: 40 },
+            "32 TableTwice at 40",
         ),
         (
             "select count(*) from lineorder, date, date, x",
-            PlanFault::TableTwice { at: 38 },
+            "32 TableTwice at 38",
         ),
     ] {
         let found = fault_of(rt.alloc(), text)?;
-        assert!(rt; found == Some(fault), "{text}");
+        assert_eq!(rt; found.as_str(), fault, "{text}");
     }
     Ok(())
 }
@@ -141,33 +135,30 @@ fn the_names_of_from_come_first(rt: HostRuntime) -> Result<(), Fail> {
 #[test]
 fn then_the_names_of_columns(rt: HostRuntime) -> Result<(), Fail> {
     for (text, fault) in [
-        (
-            "select sum(lo_x) from lineorder",
-            PlanFault::UnknownName { at: 11 },
-        ),
+        ("select sum(lo_x) from lineorder", "30 UnknownName at 11"),
         (
             "select count(*) from lineorder where lo_tax = lo_tax and lo_tax = 'a' group by x",
-            PlanFault::UnknownName { at: 79 },
+            "30 UnknownName at 79",
         ),
         (
             "select count(*) from lineorder where lo_tax = x",
-            PlanFault::UnknownName { at: 46 },
+            "30 UnknownName at 46",
         ),
         (
             "select d_year, count(*) from lineorder",
-            PlanFault::TableNotNamed { at: 7 },
+            "33 TableNotNamed at 7",
         ),
         (
             "select lo_tax from lineorder, date where s_region = 1 group by x",
-            PlanFault::TableNotNamed { at: 41 },
+            "33 TableNotNamed at 41",
         ),
         (
             "select count(*) from lineorder group by cube(lo_tax, d_year)",
-            PlanFault::TableNotNamed { at: 53 },
+            "33 TableNotNamed at 53",
         ),
     ] {
         let found = fault_of(rt.alloc(), text)?;
-        assert!(rt; found == Some(fault), "{text}");
+        assert_eq!(rt; found.as_str(), fault, "{text}");
     }
     Ok(())
 }
@@ -177,43 +168,43 @@ fn then_the_comparisons_of_two_columns(rt: HostRuntime) -> Result<(), Fail> {
     for (text, fault) in [
         (
             "select count(*) from lineorder, date",
-            PlanFault::JoinMissing { at: 32 },
+            "34 JoinMissing at 32",
         ),
         (
             "select sum(p_name) from part, lineorder, date where lo_orderdate = d_datekey",
-            PlanFault::JoinMissing { at: 24 },
+            "34 JoinMissing at 24",
         ),
         (
             "select count(*) from lineorder, date where lo_orderdate = d_datekey and lo_commitdate = d_datekey",
-            PlanFault::JoinTwice { at: 72 },
+            "35 JoinTwice at 72",
         ),
         (
             "select count(*) from lineorder, date, part where lo_orderdate = d_datekey and d_datekey = lo_orderdate",
-            PlanFault::JoinTwice { at: 78 },
+            "35 JoinTwice at 78",
         ),
         (
             "select count(*) from lineorder, date where lo_orderdate = d_datekey or lo_tax = 1",
-            PlanFault::NotAKeyPair { at: 43 },
+            "36 NotAKeyPair at 43",
         ),
         (
             "select count(*) from lineorder, date where lo_tax = 1 and (lo_tax = 2 or (lo_orderdate = d_datekey))",
-            PlanFault::NotAKeyPair { at: 74 },
+            "36 NotAKeyPair at 74",
         ),
         (
             "select count(*) from lineorder, date where not not (lo_orderdate = d_datekey)",
-            PlanFault::NotAKeyPair { at: 52 },
+            "36 NotAKeyPair at 52",
         ),
         (
             "select count(*) from lineorder where lo_tax = lo_tax and lo_tax = 'a'",
-            PlanFault::NotAKeyPair { at: 37 },
+            "36 NotAKeyPair at 37",
         ),
         (
             "select count(*) from lineorder, supplier where lo_custkey = s_suppkey",
-            PlanFault::NotAKeyPair { at: 47 },
+            "36 NotAKeyPair at 47",
         ),
     ] {
         let found = fault_of(rt.alloc(), text)?;
-        assert!(rt; found == Some(fault), "{text}");
+        assert_eq!(rt; found.as_str(), fault, "{text}");
     }
     Ok(())
 }
@@ -223,23 +214,23 @@ fn then_the_kinds_of_columns(rt: HostRuntime) -> Result<(), Fail> {
     for (text, fault) in [
         (
             "select sum(lo_revenue) from lineorder where lo_quantity = 'x'",
-            PlanFault::WrongKind { at: 44 },
+            "37 WrongKind at 44",
         ),
         (
             "select count(*) from lineorder where lo_tax between 1 and 'a' group by lo_tax, lo_tax",
-            PlanFault::WrongKind { at: 37 },
+            "37 WrongKind at 37",
         ),
         (
             "select count(*) from lineorder where lo_tax = 1 and lo_shipmode >= 5",
-            PlanFault::WrongKind { at: 52 },
+            "37 WrongKind at 52",
         ),
         (
             "select lo_tax, min(lo_tax + lo_shipmode) from lineorder",
-            PlanFault::WrongKind { at: 28 },
+            "37 WrongKind at 28",
         ),
     ] {
         let found = fault_of(rt.alloc(), text)?;
-        assert!(rt; found == Some(fault), "{text}");
+        assert_eq!(rt; found.as_str(), fault, "{text}");
     }
     Ok(())
 }
@@ -249,47 +240,47 @@ fn then_the_groups_and_the_items(rt: HostRuntime) -> Result<(), Fail> {
     for (text, fault) in [
         (
             "select lo_quantity from lineorder group by lo_tax, lo_tax",
-            PlanFault::DuplicateGroup { at: 51 },
+            "39 DuplicateGroup at 51",
         ),
         (
             "select count(*) from lineorder group by cube(lo_tax, lo_quantity, lo_tax)",
-            PlanFault::DuplicateGroup { at: 66 },
+            "39 DuplicateGroup at 66",
         ),
         (
             "select count(*), lo_tax from lineorder order by x",
-            PlanFault::NotGrouped { at: 17 },
+            "38 NotGrouped at 17",
         ),
         (
             "select lo_tax, lo_quantity, count(*) as lo_tax from lineorder group by lo_tax",
-            PlanFault::NotGrouped { at: 15 },
+            "38 NotGrouped at 15",
         ),
         (
             "select count(*) as n, count(*) as n from lineorder",
-            PlanFault::DuplicateAlias { at: 34 },
+            "41 DuplicateAlias at 34",
         ),
         (
             "select sum(lo_tax) as count2, count(*), lo_tax from lineorder",
-            PlanFault::DuplicateAlias { at: 30 },
+            "41 DuplicateAlias at 30",
         ),
         (
             "select lo_tax, sum(lo_tax) as lo_tax from lineorder group by lo_tax",
-            PlanFault::DuplicateAlias { at: 30 },
+            "41 DuplicateAlias at 30",
         ),
         (
             "select count(*), min(lo_tax) as count1 from lineorder order by x",
-            PlanFault::DuplicateAlias { at: 32 },
+            "41 DuplicateAlias at 32",
         ),
         (
             "select lo_tax from lineorder group by lo_tax",
-            PlanFault::NoAggregate,
+            "42 NoAggregate",
         ),
         (
             "select lo_tax, lo_tax from lineorder group by lo_tax order by lo_quantity",
-            PlanFault::NoAggregate,
+            "42 NoAggregate",
         ),
     ] {
         let found = fault_of(rt.alloc(), text)?;
-        assert!(rt; found == Some(fault), "{text}");
+        assert_eq!(rt; found.as_str(), fault, "{text}");
     }
     Ok(())
 }
@@ -299,19 +290,19 @@ fn and_at_last_the_order(rt: HostRuntime) -> Result<(), Fail> {
     for (text, fault) in [
         (
             "select count(*) as n from lineorder order by n, count1",
-            PlanFault::UnknownOrderKey { at: 48 },
+            "40 UnknownOrderKey at 48",
         ),
         (
             "select count(*) from lineorder group by lo_tax order by lo_tax, lo_quantity",
-            PlanFault::UnknownOrderKey { at: 64 },
+            "40 UnknownOrderKey at 64",
         ),
         (
             "select count(*), max(lo_tax) from lineorder order by max2, count1, max1",
-            PlanFault::UnknownOrderKey { at: 67 },
+            "40 UnknownOrderKey at 67",
         ),
     ] {
         let found = fault_of(rt.alloc(), text)?;
-        assert!(rt; found == Some(fault), "{text}");
+        assert_eq!(rt; found.as_str(), fault, "{text}");
     }
     Ok(())
 }

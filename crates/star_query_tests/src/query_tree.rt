@@ -1,4 +1,5 @@
-// The tree of a query in print: parentheses round each operator, and the place of a name behind `@`.
+// The tree of a query in print: parentheses round each operator, and the place of a name behind
+// `@`.
 
 use crate::words::{fold_word, relation_sign, write_bytes, write_literal};
 use star_query::{

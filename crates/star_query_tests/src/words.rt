@@ -1,4 +1,5 @@
-// How the words that the trees of queries and of plans share are printed. A text stands in double quotes.
+// How the words that the trees of queries and of plans share are printed. A text stands in double
+// quotes.
 
 use star_query::{Fold, Literal, Relation};
 use std::alloc::AllocError;

@@ -22,7 +22,8 @@ extended-nil [] = refl
 extended-nil (column ∷ columns) = refl
 
 -- one more value goes to the next column
-extended-more : (columns : List (List Value)) (vs : List Value) (i : ℕ) (v : Value) (column : List Value) → length vs ≡ i → slice_get (extended columns vs) i ≡ Some column
+extended-more : (columns : List (List Value)) (vs : List Value) (i : ℕ) (v : Value)
+    (column : List Value) → length vs ≡ i → slice_get (extended columns vs) i ≡ Some column
     → extended columns (vs ++ v ∷ []) ≡ set (extended columns vs) i (column ++ v ∷ [])
 unfolding extended
 extended-more [] [] i v column e at = cc
@@ -36,61 +37,92 @@ extended-more (c ∷ columns) (w ∷ vs) (suc i) v column e at =
     let fewer : length vs ≡ i = omega arith in
     rw (extended-more columns vs i v column fewer at) refl
 
-pub start : (at_row : ℕ) (ks : List Kind) (cells : List (List ℕ)) (columns : List RawColumn) → HasPushed at_row ks cells 0 columns columns
-start at_row ks cells columns = record { no_fault = refl; pushed = []; count = refl; rest = refl; columns = sym (extended-nil (map values columns)); kinds = refl }
+pub start : (at_row : ℕ) (ks : List Kind) (cells : List (List ℕ)) (columns : List RawColumn)
+    → HasPushed at_row ks cells 0 columns columns
+start at_row ks cells columns =
+    record {
+      no_fault = refl;
+      pushed = [];
+      count = refl;
+      rest = refl;
+      columns = sym (extended-nil (map values columns));
+      kinds = refl;
+    }
 
 -- what a column is, by its place
-pub kind_there : (old new : List RawColumn) (i : ℕ) (column : RawColumn) → map kind_of new ≡ map kind_of old → slice_get new i ≡ Some column
+pub kind_there : (old new : List RawColumn) (i : ℕ) (column : RawColumn)
+    → map kind_of new ≡ map kind_of old → slice_get new i ≡ Some column
     → slice_get (map kind_of old) i ≡ Some (kind_of column)
-kind_there old new i column kinds at = rw (← kinds) (slice_get-map kind_of new i ∙ ap (option_map kind_of) at)
+kind_there old new i column kinds at =
+    rw (← kinds) (slice_get-map kind_of new i ∙ ap (option_map kind_of) at)
 
 -- another column of the same kind
-pub kinds_kept : (old new : List RawColumn) (i : ℕ) (column next : RawColumn) → map kind_of new ≡ map kind_of old → slice_get new i ≡ Some column
+pub kinds_kept : (old new : List RawColumn) (i : ℕ) (column next : RawColumn)
+    → map kind_of new ≡ map kind_of old → slice_get new i ≡ Some column
     → kind_of next ≡ kind_of column → map kind_of (set new i next) ≡ map kind_of old
 kinds_kept old new i column next kinds at kind =
-    map-set_same kind_of new i next column (kind ∙ ap kind_of (sym (get_or_from_slice_get new i column column at))) ∙ kinds
+    map-set_same kind_of new i next column
+    (kind ∙ ap kind_of (sym (get_or_from_slice_get new i column column at))) ∙ kinds
 
 -- the next cell's fault is the first
-pub faulty : (at_row : ℕ) (ks : List Kind) (cells : List (List ℕ)) (i : ℕ) (old new : List RawColumn) (k : Kind) (cell : List ℕ) (f : ReadFault)
-    → HasPushed at_row ks cells i old new → slice_get ks i ≡ Some k → slice_get cells i ≡ Some cell → cell_fault at_row (i + 1) k cell ≡ Some f
+pub faulty : (at_row : ℕ) (ks : List Kind) (cells : List (List ℕ)) (i : ℕ)
+    (old new : List RawColumn) (k : Kind) (cell : List ℕ) (f : ReadFault)
+    → HasPushed at_row ks cells i old new → slice_get ks i ≡ Some k → slice_get cells i ≡ Some cell
+    → cell_fault at_row (i + 1) k cell ≡ Some f
     → cells_fault at_row 1 ks cells ≡ Some f
 unfolding first_answer
-faulty at_row ks cells i old new k cell f h at_k at_cell e = h.no_fault ∙ rw (drop_at_place ks i k at_k, drop_at_place cells i cell at_cell, e) refl
+faulty at_row ks cells i old new k cell f h at_k at_cell e =
+    h.no_fault ∙ rw (drop_at_place ks i k at_k, drop_at_place cells i cell at_cell, e) refl
 
 -- the next cell has no fault
-pub more : (at_row : ℕ) (ks : List Kind) (cells : List (List ℕ)) (i : ℕ) (old new : List RawColumn) (k : Kind) (cell : List ℕ) (column next : RawColumn)
-    → HasPushed at_row ks cells i old new → slice_get ks i ≡ Some k → slice_get cells i ≡ Some cell → cell_fault at_row (i + 1) k cell ≡ None
-    → slice_get new i ≡ Some column → values next ≡ values column ++ value_of k cell ∷ [] → kind_of next ≡ kind_of column
+pub more : (at_row : ℕ) (ks : List Kind) (cells : List (List ℕ)) (i : ℕ) (old new : List RawColumn)
+    (k : Kind) (cell : List ℕ) (column next : RawColumn)
+    → HasPushed at_row ks cells i old new → slice_get ks i ≡ Some k → slice_get cells i ≡ Some cell
+    → cell_fault at_row (i + 1) k cell ≡ None
+    → slice_get new i ≡ Some column → values next ≡ values column ++ value_of k cell ∷ []
+    → kind_of next ≡ kind_of column
     → HasPushed at_row ks cells (i + 1) old (set new i next)
 unfolding first_answer
 more at_row ks cells i old new k cell column next h at_k at_cell e at holds kind =
     let dk = drop_at_place ks i k at_k in
     let dc = drop_at_place cells i cell at_cell in
-    let there : slice_get (extended (map values old) h.pushed) i ≡ Some (values column) = rw (← h.columns) (slice_get-map values new i ∙ ap (option_map values) at) in
+    let there : slice_get (extended (map values old) h.pushed) i ≡ Some (values column) =
+    rw (← h.columns) (slice_get-map values new i ∙ ap (option_map values) at) in
     record {
       no_fault = h.no_fault ∙ rw (dk, dc, e) refl;
       pushed = h.pushed ++ value_of k cell ∷ [];
       count = omega (arith, length-append h.pushed (value_of k cell ∷ []), h.count);
       rest = append_assoc h.pushed (value_of k cell ∷ []) _ ∙ rw (dk, dc) at h.rest;
-      columns = map-set values new i next ∙ rw (holds, h.columns) (sym (extended-more (map values old) h.pushed i (value_of k cell) (values column) h.count there));
+      columns = map-set values new i next
+          ∙ rw (holds, h.columns)
+          (sym (extended-more (map values old) h.pushed i (value_of k cell)
+          (values column) h.count there));
       kinds = kinds_kept old new i column next h.kinds at kind;
     }
 
-length-values_of : (ks : List Kind) (cells : List (List ℕ)) → length cells ≡ length ks → length (values_of ks cells) ≡ length ks
+length-values_of : (ks : List Kind) (cells : List (List ℕ)) → length cells ≡ length ks
+    → length (values_of ks cells) ≡ length ks
 length-values_of [] cells e = refl
 length-values_of (k ∷ ks) [] e = absurd (omega arith)
-length-values_of (k ∷ ks) (cell ∷ cells) e = let rest : length cells ≡ length ks = omega arith in rw (length-values_of ks cells rest) refl
+length-values_of (k ∷ ks) (cell ∷ cells) e = let rest : length cells ≡ length ks =
+    omega arith in rw (length-values_of ks cells rest) refl
 
 -- each cell was read
-pub record IsPushed (at_row : ℕ) (ks : List Kind) (cells : List (List ℕ)) (old new : List RawColumn) : Type 0 where
+pub record IsPushed (at_row : ℕ) (ks : List Kind) (cells : List (List ℕ))
+    (old new : List RawColumn) : Type 0 where
   pub no_fault : cells_fault at_row 1 ks cells ≡ None
   pub columns : map values new ≡ extended (map values old) (values_of ks cells)
   pub width : length (values_of ks cells) ≡ length ks
 
-pub whole : (at_row : ℕ) (ks : List Kind) (cells : List (List ℕ)) (i : ℕ) (old new : List RawColumn) → HasPushed at_row ks cells i old new
+pub whole : (at_row : ℕ) (ks : List Kind) (cells : List (List ℕ)) (i : ℕ) (old new : List RawColumn)
+    → HasPushed at_row ks cells i old new
     → length ks ≤ i → length cells ≡ length ks → IsPushed at_row ks cells old new
 unfolding first_answer
 whole at_row ks cells i old new h past all =
     let none : drop i ks ≡ [] = drop_all i ks past in
     let pushed : h.pushed ≡ values_of ks cells = sym (append-nil h.pushed) ∙ rw none at h.rest in
-    record { no_fault = h.no_fault ∙ rw none refl; columns = rw pushed at h.columns; width = length-values_of ks cells all }
+    record {
+      no_fault = h.no_fault ∙ rw none refl;
+      columns = rw pushed at h.columns;
+      width = length-values_of ks cells all;
+    }

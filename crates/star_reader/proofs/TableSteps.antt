@@ -26,7 +26,8 @@ use Rattle.star_reader.proofs.Law.{width_kinds}
 use Rattle.star_reader.proofs.RowLemmas.{extended_full, first_rows-extended}
 
 -- a text with no byte order mark has none to take off
-pub no_mark : (text : List ℕ) → starts_with nat_eq text byte_order_mark ≡ false → strip_bom text ≡ text
+pub no_mark : (text : List ℕ) → starts_with nat_eq text byte_order_mark ≡ false
+    → strip_bom text ≡ text
 unfolding strip_bom
 no_mark [] h = refl
 no_mark (a ∷ []) h = refl
@@ -44,62 +45,93 @@ no_mark (a ∷ b ∷ c ∷ rest) h =
       | inr plain ↦ rw plain refl
     ]
 
-pub start : (table : TableId) (most : ℕ) (all : List (List ℕ)) (columns : List RawColumn) (reader : Reader (Bor (List ℕ))) → AreColumnsOf table 0 columns → HasLeft reader all
+pub start : (table : TableId) (most : ℕ) (all : List (List ℕ)) (columns : List RawColumn)
+    (reader : Reader (Bor (List ℕ))) → AreColumnsOf table 0 columns → HasLeft reader all
     → HasRead table most all 0 columns reader
 unfolding first_rows
-start table most all columns reader empty left = record { lines = all; left = left; no_fault = refl; of_table = empty; so_far = refl }
+start table most all columns reader empty left =
+    record { lines = all; left = left; no_fault = refl; of_table = empty; so_far = refl }
 
 -- the next record's fault is the first
-pub faulty : (table : TableId) (most : ℕ) (all : List (List ℕ)) (count : ℕ) (columns : List RawColumn) (old new : Reader (Bor (List ℕ))) (fields : List (List ℕ)) (f : ReadFault)
-    → (h : HasRead table most all count columns old) → TakesFirst h.lines fields new → count < most → record_fault (map kind_of columns) (count + 1) fields ≡ Some f
+pub faulty : (table : TableId) (most : ℕ) (all : List (List ℕ)) (count : ℕ)
+    (columns : List RawColumn) (old new : Reader (Bor (List ℕ))) (fields : List (List ℕ))
+    (f : ReadFault)
+    → (h : HasRead table most all count columns old) → TakesFirst h.lines fields new → count < most
+    → record_fault (map kind_of columns) (count + 1) fields ≡ Some f
     → records_fault table most 1 all ≡ Some f
 unfolding first_answer
 faulty table most all count columns old new fields f h next within e =
     let room = le-ltb most (count + 1) (omega arith) in
-    let here : record_fault (kinds_of table) (count + 1) (fields_of next.line) ≡ Some f = rw (next.fields_are, h.of_table.kinds) at e in
+    let here : record_fault (kinds_of table) (count + 1) (fields_of next.line) ≡ Some f =
+    rw (next.fields_are, h.of_table.kinds) at e in
     h.no_fault ∙ rw (next.was, room, here) refl
 
 -- what a record adds to the columns of its table
-pub record AddsRecord (at_row : ℕ) (fields : List (List ℕ)) (old new : List RawColumn) : Type 0 where
+pub record AddsRecord (at_row : ℕ) (fields : List (List ℕ))
+    (old new : List RawColumn) : Type 0 where
   pub no_fault : record_fault (map kind_of old) at_row fields ≡ None
-  pub columns : map values new ≡ extended (map values old) (values_of (map kind_of old) (cells_of (length (map kind_of old)) fields))
-  pub width : length (values_of (map kind_of old) (cells_of (length (map kind_of old)) fields)) ≡ length old
+  pub columns : map values new
+      ≡ extended (map values old)
+      (values_of (map kind_of old) (cells_of (length (map kind_of old)) fields))
+  pub width : length (values_of (map kind_of old) (cells_of (length (map kind_of old)) fields))
+      ≡ length old
   pub kinds : map kind_of new ≡ map kind_of old
 
 -- the next record has no fault
-pub more : (table : TableId) (most : ℕ) (all : List (List ℕ)) (count : ℕ) (columns later : List RawColumn) (old new : Reader (Bor (List ℕ))) (fields : List (List ℕ))
-    → (h : HasRead table most all count columns old) → TakesFirst h.lines fields new → count < most → AddsRecord (count + 1) fields columns later
+pub more : (table : TableId) (most : ℕ) (all : List (List ℕ)) (count : ℕ)
+    (columns later : List RawColumn) (old new : Reader (Bor (List ℕ))) (fields : List (List ℕ))
+    → (h : HasRead table most all count columns old) → TakesFirst h.lines fields new → count < most
+    → AddsRecord (count + 1) fields columns later
     → HasRead table most all (count + 1) later new
 unfolding first_answer
 more table most all count columns later old new fields h next within adds =
     let room = le-ltb most (count + 1) (omega arith) in
-    let here : record_fault (kinds_of table) (count + 1) (fields_of next.line) ≡ None = rw (next.fields_are, h.of_table.kinds) at adds.no_fault in
-    let row : values_of (map kind_of columns) (cells_of (length (map kind_of columns)) fields) ≡ row_of table next.line = rw (next.fields_are, h.of_table.kinds, width_kinds table) refl in
-    let holds : map values later ≡ extended (map values columns) (row_of table next.line) = rw row at adds.columns in
-    let width : length (row_of table next.line) ≡ length (map values columns) = rw row at adds.width ∙ sym (length-map columns values) in
-    let full : All (λ (c : List Value). length c ≡ count) (map values columns) = All-map (λ (c : List Value). length c ≡ count) values columns h.of_table.full in
-    let longer : All (λ (c : List Value). length c ≡ count + 1) (map values later) = rw holds (extended_full (map values columns) (row_of table next.line) count full width) in
+    let here : record_fault (kinds_of table) (count + 1) (fields_of next.line) ≡ None =
+    rw (next.fields_are, h.of_table.kinds) at adds.no_fault in
+    let row : values_of (map kind_of columns) (cells_of (length (map kind_of columns)) fields)
+    ≡ row_of table next.line = rw (next.fields_are, h.of_table.kinds, width_kinds table) refl in
+    let holds : map values later ≡ extended (map values columns) (row_of table next.line) =
+    rw row at adds.columns in
+    let width : length (row_of table next.line) ≡ length (map values columns) =
+    rw row at adds.width ∙ sym (length-map columns values) in
+    let full : All (λ (c : List Value). length c ≡ count) (map values columns) =
+    All-map (λ (c : List Value). length c ≡ count) values columns h.of_table.full in
+    let longer : All (λ (c : List Value). length c ≡ count + 1) (map values later) =
+    rw holds (extended_full (map values columns) (row_of table next.line) count full width) in
     record {
       lines = next.others;
       left = next.rest;
       no_fault = h.no_fault ∙ rw (next.was, room, here) refl;
       of_table = record {
         kinds = adds.kinds ∙ h.of_table.kinds;
-        full = λ k d within. let here : k < length (map values later) = omega (arith, within, length-map later values) in rw (← get_or-map values later k d) (longer k (values d) here);
+        full = λ k d within. let here : k < length (map values later) =
+            omega (arith, within, length-map later values) in
+            rw (← get_or-map values later k d) (longer k (values d) here);
       };
-      so_far = rw (holds, first_rows-extended (map values columns) (row_of table next.line) count full width)
-          (append_assoc (first_rows count (map values columns)) (row_of table next.line ∷ []) _ ∙ rw next.was at h.so_far);
+      so_far = rw (
+        holds,
+        first_rows-extended (map values columns) (row_of table next.line) count full width,
+      )
+          (append_assoc (first_rows count (map values columns)) (row_of table next.line ∷ []) _
+          ∙ rw next.was at h.so_far);
     }
 
 -- there is no other record
-pub whole : (table : TableId) (most : ℕ) (all : List (List ℕ)) (count : ℕ) (columns : List RawColumn) (reader : Reader (Bor (List ℕ)))
-    → (h : HasRead table most all count columns reader) → h.lines ≡ [] → HasRows table most all count columns
+pub whole : (table : TableId) (most : ℕ) (all : List (List ℕ)) (count : ℕ)
+    (columns : List RawColumn) (reader : Reader (Bor (List ℕ)))
+    → (h : HasRead table most all count columns reader) → h.lines ≡ []
+    → HasRows table most all count columns
 unfolding first_answer
 whole table most all count columns reader h none =
-    record { no_fault = h.no_fault ∙ rw none refl; of_table = h.of_table; rows = sym (append-nil (first_rows count (map values columns))) ∙ rw none at h.so_far }
+    record {
+      no_fault = h.no_fault ∙ rw none refl;
+      of_table = h.of_table;
+      rows = sym (append-nil (first_rows count (map values columns))) ∙ rw none at h.so_far;
+    }
 
 -- one record is too many
-pub too_many : (table : TableId) (most : ℕ) (all : List (List ℕ)) (count : ℕ) (columns : List RawColumn) (old new : Reader (Bor (List ℕ))) (fields : List (List ℕ))
+pub too_many : (table : TableId) (most : ℕ) (all : List (List ℕ)) (count : ℕ)
+    (columns : List RawColumn) (old new : Reader (Bor (List ℕ))) (fields : List (List ℕ))
     → (h : HasRead table most all count columns old) → TakesFirst h.lines fields new → most ≤ count
     → records_fault table most 1 all ≡ Some fault.TooManyRows
 unfolding first_answer
@@ -108,5 +140,6 @@ too_many table most all count columns old new fields h next full =
     h.no_fault ∙ rw (next.was, over) refl
 
 -- a whole list that was written through a slice
-pub whole_slice : {X : Type 0} (n : ℕ) (new old : List X) → n ≡ length new → take n (new ++ drop (length new) old) ≡ new
+pub whole_slice : {X : Type 0} (n : ℕ) (new old : List X) → n ≡ length new
+    → take n (new ++ drop (length new) old) ≡ new
 whole_slice n new old all = rw all (take-append_seam new (drop (length new) old))

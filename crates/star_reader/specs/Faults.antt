@@ -20,18 +20,24 @@ cell_fault at_row field k cell =
 
 -- the first fault of the cells of a record from the left, whose fields count from a number
 abbrev pub cells_fault : ℕ → ℕ → List Kind → List (List ℕ) → Option ReadFault
-cells_fault at_row from ks cells = first_answer (λ (field, (k, cell)). cell_fault at_row field k cell) (enumerate_from from (zip ks cells))
+cells_fault at_row from ks cells =
+    first_answer (λ (field, (k, cell)). cell_fault at_row field k cell)
+    (enumerate_from from (zip ks cells))
 
 -- the first fault of a record of columns of these kinds, by its number and its fields
 unfoldable pub record_fault : List Kind → ℕ → List (List ℕ) → Option ReadFault
 record_fault ks at_row fields =
-    if length (cells_of (length ks) fields) == length ks then cells_fault at_row 1 ks (cells_of (length ks) fields)
+    if length (cells_of (length ks) fields) == length ks
+    then cells_fault at_row 1 ks (cells_of (length ks) fields)
     else Some (fault.FieldCount at_row)
 
 -- the first fault of the records of a table of at most so many rows, which count from a number
 abbrev pub records_fault : TableId → ℕ → ℕ → List (List ℕ) → Option ReadFault
 records_fault table most from lines =
-    first_answer (λ (at_row, line). if nat_lt most at_row then Some fault.TooManyRows else record_fault (kinds_of table) at_row (fields_of line))
+    first_answer
+    (λ (at_row, line). if nat_lt most at_row
+    then Some fault.TooManyRows
+    else record_fault (kinds_of table) at_row (fields_of line))
     (enumerate_from from lines)
 
 -- the byte order mark, U+FEFF in UTF-8
@@ -41,4 +47,6 @@ byte_order_mark = 0xEF ∷ 0xBB ∷ 0xBF ∷ []
 -- the first fault of a text
 unfoldable pub text_fault : TableId → ℕ → List ℕ → Option ReadFault
 text_fault table most text =
-    if starts_with nat_eq text byte_order_mark then Some fault.ByteOrderMark else records_fault table most 1 (records_of text)
+    if starts_with nat_eq text byte_order_mark
+    then Some fault.ByteOrderMark
+    else records_fault table most 1 (records_of text)

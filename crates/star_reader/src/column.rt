@@ -21,7 +21,9 @@ pub enum RawColumn {
 
 // The fault of a cell of a column of texts, if it has one.
 fn check_text(at_row: u32, field: usize, cell: &[u8]) -> Result<(), ReadFault>
-    ensures { MatchResult result (λ _. cell_fault at_row field Kind.Text cell.now ≡ None) (λ fault. cell_fault at_row field Kind.Text cell.now ≡ Some fault) }
+    ensures { MatchResult result
+        (λ _. cell_fault at_row field Kind.Text cell.now ≡ None)
+        (λ fault. cell_fault at_row field Kind.Text cell.now ≡ Some fault) }
 {
     if cell.len() > 255 {
         return Err(ReadFault::CellTooLong { at_row, field });
@@ -63,8 +65,10 @@ impl RawColumn {
         cell: &[u8],
     ) -> Result<(), ReadFault>
         ensures pushed { MatchResult result
-            (λ _. (cell_fault at_row field (kind_of self.old) cell.now ≡ None) × (values self.new ≡ values self.old ++ spec.value_of (kind_of self.old) cell.now ∷ []))
-            (λ fault. UnlessMemory ReadFault.OutOfMemory fault (cell_fault at_row field (kind_of self.old) cell.now ≡ Some fault)) }
+            (λ _. (cell_fault at_row field (kind_of self.old) cell.now ≡ None)
+            × (values self.new ≡ values self.old ++ spec.value_of (kind_of self.old) cell.now ∷ []))
+            (λ fault. UnlessMemory ReadFault.OutOfMemory fault
+            (cell_fault at_row field (kind_of self.old) cell.now ≡ Some fault)) }
         ensures kind { kind_of self.new ≡ kind_of self.old }
     {
         match self {

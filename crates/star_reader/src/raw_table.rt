@@ -22,8 +22,8 @@ use star_schema::{Kind, Limits, TableId, column_at, kind_of, width};
 use std::alloc::{AllocError, Global};
 use std::marker::Model;
 
-/// The rows of a table, kept by columns. A contract sees which table it is, and the list of its rows, each the list of
-/// its values.
+/// The rows of a table, kept by columns. A contract sees which table it is, and the list of its
+/// rows, each the list of its values.
 #[derive(Drop)]
 pub struct RawTable {
     table: TableId,
@@ -37,7 +37,10 @@ impl Model for RawTable {
 
     ghost Value = { Table };
 
-    ghost view = { λ raw. record { table = raw.table; rows = first_rows raw.rows (map values raw.columns.items) } };
+    ghost view = { λ raw. record {
+      table = raw.table;
+      rows = first_rows raw.rows (map values raw.columns.items);
+    } };
 
     ghost invariant = { λ raw. AreColumnsOf raw.table raw.rows raw.columns.items };
 }
@@ -115,8 +118,8 @@ fn empty_columns(alloc: Global, table: TableId) -> Result<Vec<RawColumn>, AllocE
     Ok(empty)
 }
 
-// Adds the values of all records that are left to the columns of a table without rows, and says how many records there
-// were. After a fault the columns may differ in length.
+// Adds the values of all records that are left to the columns of a table without rows, and says how
+// many records there were. After a fault the columns may differ in length.
 fn read_records(
     reader: &mut Reader<&[u8]>,
     line: &mut ByteRecord,
@@ -124,9 +127,11 @@ fn read_records(
     most: u32,
 ) -> Result<u32, ReadFault>
     requires { length columns.old ≤ 17 }
-    ensures { (table : TableId) (lines : List (List ℕ)) → HasLeft reader.old lines → AreColumnsOf table 0 columns.old → MatchResult result
+    ensures { (table : TableId) (lines : List (List ℕ)) → HasLeft reader.old lines
+        → AreColumnsOf table 0 columns.old → MatchResult result
         (λ rows. HasRows table most lines rows columns.new)
-        (λ fault. UnlessMemory ReadFault.OutOfMemory fault (records_fault table most 1 lines ≡ Some fault)) }
+        (λ fault. UnlessMemory ReadFault.OutOfMemory fault
+        (records_fault table most 1 lines ≡ Some fault)) }
 {
     for rows in 0..most {
         if !read_next(reader, line)? {
@@ -140,7 +145,8 @@ fn read_records(
     Ok(most)
 }
 
-// Reads the records of a text without a byte order mark so. The reader is let go here, at one place.
+// Reads the records of a text without a byte order mark so. The reader is let go here, at one
+// place.
 fn read_columns(
     alloc: Global,
     text: &[u8],
@@ -152,23 +158,29 @@ fn read_columns(
     requires empty { AreColumnsOf table 0 columns.old }
     ensures { MatchResult result
         (λ rows. HasRows table most (records_of text.now) rows columns.new)
-        (λ fault. UnlessMemory ReadFault.OutOfMemory fault (records_fault table most 1 (records_of text.now) ≡ Some fault)) }
+        (λ fault. UnlessMemory ReadFault.OutOfMemory fault
+        (records_fault table most 1 (records_of text.now) ≡ Some fault)) }
 {
     let mut reader = records_reader(alloc, text);
     let mut line = ByteRecord::new(alloc);
     read_records(&mut reader, &mut line, columns, most)
 }
 
-/// The table that a text is, with a row for each record, or the first fault: 2 before all, then by record, and in a
-/// record 3, 4, and then cell by cell from the left 5, 6, 7.
+/// The table that a text is, with a row for each record, or the first fault: 2 before all, then by
+/// record, and in a record 3, 4, and then cell by cell from the left 5, 6, 7.
 pub fn read_table(
     alloc: Global,
     text: &[u8],
     table: TableId,
     limits: Limits,
 ) -> Result<RawTable, ReadFault>
-    ensures read { IfOk result (λ raw. IsTable table limits.rows text.now × (raw.table ≡ table) × (raw.rows ≡ rows_of table text.now)) }
-    ensures refused { IfErr result (λ fault. UnlessMemory ReadFault.OutOfMemory fault ((text_fault table limits.rows text.now ≡ Some fault) × ¬ IsTable table limits.rows text.now)) }
+    ensures read { IfOk result
+        (λ raw. IsTable table limits.rows text.now × (raw.table ≡ table)
+        × (raw.rows ≡ rows_of table text.now)) }
+    ensures refused { IfErr result
+        (λ fault. UnlessMemory ReadFault.OutOfMemory fault
+        ((text_fault table limits.rows text.now ≡ Some fault)
+        × ¬ IsTable table limits.rows text.now)) }
 {
     if text.starts_with(&BYTE_ORDER_MARK) {
         return Err(ReadFault::ByteOrderMark);

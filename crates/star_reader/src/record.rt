@@ -38,7 +38,8 @@ fn cell_count(line: &ByteRecord, width: usize) -> usize
     }
 }
 
-/// Adds the values of a record to the columns of its table. After a fault the columns may differ in length.
+/// Adds the values of a record to the columns of its table. After a fault the columns may differ in
+/// length.
 pub(crate) fn push_record(
     columns: &mut [RawColumn],
     at_row: u32,
@@ -47,9 +48,13 @@ pub(crate) fn push_record(
     requires { length columns.old ≤ 17 }
     ensures pushed { let kinds = map kind_of columns.old in MatchResult result
         (λ _. (record_fault kinds at_row (fields_read line.now) ≡ None)
-        × (map values columns.new ≡ extended (map values columns.old) (spec.values_of kinds (spec.cells_of (length kinds) (fields_read line.now))))
-        × (length (spec.values_of kinds (spec.cells_of (length kinds) (fields_read line.now))) ≡ length columns.old))
-        (λ fault. UnlessMemory ReadFault.OutOfMemory fault (record_fault kinds at_row (fields_read line.now) ≡ Some fault)) }
+        × (map values columns.new
+        ≡ extended (map values columns.old)
+        (spec.values_of kinds (spec.cells_of (length kinds) (fields_read line.now))))
+        × (length (spec.values_of kinds (spec.cells_of (length kinds) (fields_read line.now)))
+        ≡ length columns.old))
+        (λ fault. UnlessMemory ReadFault.OutOfMemory fault
+        (record_fault kinds at_row (fields_read line.now) ≡ Some fault)) }
     ensures kinds { map kind_of columns.new ≡ map kind_of columns.old }
 {
     if cell_count(line, columns.len()) != columns.len() {

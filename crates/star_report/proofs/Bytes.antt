@@ -11,7 +11,8 @@ Lacks-append b [] ys h k = k
 Lacks-append b (x ∷ xs) ys h k = (h.0, Lacks-append b xs ys h.1 k)
 
 -- what stands before the first such byte, and what after it
-pub split_first : (b : ℕ) (xs ys us vs : List ℕ) → Lacks b xs → Lacks b ys → xs ++ b ∷ us ≡ ys ++ b ∷ vs → (xs ≡ ys) × (us ≡ vs)
+pub split_first : (b : ℕ) (xs ys us vs : List ℕ) → Lacks b xs → Lacks b ys
+    → xs ++ b ∷ us ≡ ys ++ b ∷ vs → (xs ≡ ys) × (us ≡ vs)
 split_first b [] [] us vs h k e = (refl, cc)
 split_first b [] (y ∷ ys) us vs h k e = absurd (k.0 cc)
 split_first b (x ∷ xs) [] us vs h k e = absurd (h.0 cc)

@@ -31,9 +31,12 @@ field_lacks_end (b ∷ bs) h =
 
 -- a byte that no cell of a report has
 abbrev IsOutside : ℕ → Type 0
-IsOutside b = (digit_value b < 10 → ⊥) × (45 ≡ b → ⊥) × (39 ≡ b → ⊥) × Lacks b (codes "ALL") × Lacks b (codes "NULL") × ((text : List ℕ) → IsTrue (is_field text) → Lacks b text)
+IsOutside b =
+    (digit_value b < 10 → ⊥) × (45 ≡ b → ⊥) × (39 ≡ b → ⊥) × Lacks b (codes "ALL")
+    × Lacks b (codes "NULL") × ((text : List ℕ) → IsTrue (is_field text) → Lacks b text)
 
-cell_lacks : (b : ℕ) → IsOutside b → (kind : ColumnKind) (c : Cell) → IsCellOf kind c → Lacks b (cell_text c)
+cell_lacks : (b : ℕ) → IsOutside b → (kind : ColumnKind) (c : Cell) → IsCellOf kind c
+    → Lacks b (cell_text c)
 unfolding cell_text
 cell_lacks b o NumberKey (cell.Number n) h = number_lacks b n h o.0 o.1
 cell_lacks b o NumberKey cell.All h = o.3
@@ -44,12 +47,35 @@ cell_lacks b o Total cell.Null h = o.4
 cell_lacks b o _ _ h = absurd h
 
 pub cell_lacks_bar : (kind : ColumnKind) (c : Cell) → IsCellOf kind c → Lacks 124 (cell_text c)
-cell_lacks_bar = cell_lacks 124 (λ h. absurd (omega arith), λ h. absurd (omega arith), λ h. absurd (omega arith), (λ h. absurd (omega arith), (λ h. absurd (omega arith), (λ h. absurd (omega arith), tt))), (λ h. absurd (omega arith), (λ h. absurd (omega arith), (λ h. absurd (omega arith), (λ h. absurd (omega arith), tt)))), field_lacks_bar)
+cell_lacks_bar =
+    cell_lacks 124 (
+      λ h. absurd (omega arith),
+      λ h. absurd (omega arith),
+      λ h. absurd (omega arith),
+      (λ h. absurd (omega arith), (λ h. absurd (omega arith), (λ h. absurd (omega arith), tt))),
+      (
+        λ h. absurd (omega arith),
+        (λ h. absurd (omega arith), (λ h. absurd (omega arith), (λ h. absurd (omega arith), tt))),
+      ),
+      field_lacks_bar,
+    )
 
 pub cell_lacks_end : (kind : ColumnKind) (c : Cell) → IsCellOf kind c → Lacks 10 (cell_text c)
-cell_lacks_end = cell_lacks 10 (λ h. absurd (omega arith), λ h. absurd (omega arith), λ h. absurd (omega arith), (λ h. absurd (omega arith), (λ h. absurd (omega arith), (λ h. absurd (omega arith), tt))), (λ h. absurd (omega arith), (λ h. absurd (omega arith), (λ h. absurd (omega arith), (λ h. absurd (omega arith), tt)))), field_lacks_end)
+cell_lacks_end =
+    cell_lacks 10 (
+      λ h. absurd (omega arith),
+      λ h. absurd (omega arith),
+      λ h. absurd (omega arith),
+      (λ h. absurd (omega arith), (λ h. absurd (omega arith), (λ h. absurd (omega arith), tt))),
+      (
+        λ h. absurd (omega arith),
+        (λ h. absurd (omega arith), (λ h. absurd (omega arith), (λ h. absurd (omega arith), tt))),
+      ),
+      field_lacks_end,
+    )
 
-pub cell_same : (kind : ColumnKind) (c d : Cell) → IsCellOf kind c → IsCellOf kind d → cell_text c ≡ cell_text d → c ≡ d
+pub cell_same : (kind : ColumnKind) (c d : Cell) → IsCellOf kind c → IsCellOf kind d
+    → cell_text c ≡ cell_text d → c ≡ d
 unfolding cell_text
 cell_same NumberKey (cell.Number y) (cell.Number z) h k e = ap cell.Number (number_same y z h k e)
 cell_same NumberKey (cell.Number y) cell.All h k e = absurd (number_no_all y h e)

@@ -8,3 +8,4 @@ pub mod Cells
 pub mod Lines
 pub mod Worked
 pub mod TableTexts
+pub mod OneOrder

@@ -8,8 +8,13 @@ use Rattle.star_common.proofs.Lists.{drop_at_place}
 abbrev pub HasGrown : {X : Type 0} → (X → List ℕ) → List X → ℕ → List ℕ → List ℕ → Type 0
 HasGrown part xs i old text = text ++ flat_map part (drop i xs) ≡ old ++ flat_map part xs
 
-pub one_more : {X : Type 0} (part : X → List ℕ) (xs : List X) (i : ℕ) (x : X) (old text : List ℕ) → slice_get xs i ≡ Some x → HasGrown part xs i old text → HasGrown part xs (i + 1) old (text ++ part x)
-one_more part xs i x old text at h = append_assoc text (part x) _ ∙ rw (drop_at_place xs i x at) at h
+pub one_more : {X : Type 0} (part : X → List ℕ) (xs : List X) (i : ℕ) (x : X) (old text : List ℕ)
+    → slice_get xs i ≡ Some x → HasGrown part xs i old text
+    → HasGrown part xs (i + 1) old (text ++ part x)
+one_more part xs i x old text at h =
+    append_assoc text (part x) _ ∙ rw (drop_at_place xs i x at) at h
 
-pub all_parts : {X : Type 0} (part : X → List ℕ) (xs : List X) (i : ℕ) (old text : List ℕ) → length xs ≤ i → HasGrown part xs i old text → text ≡ old ++ flat_map part xs
-all_parts part xs i old text past h = let none : drop i xs ≡ [] = drop_all i xs past in sym (append-nil text) ∙ rw none at h
+pub all_parts : {X : Type 0} (part : X → List ℕ) (xs : List X) (i : ℕ) (old text : List ℕ)
+    → length xs ≤ i → HasGrown part xs i old text → text ≡ old ++ flat_map part xs
+all_parts part xs i old text past h = let none : drop i xs ≡ [] =
+    drop_all i xs past in sym (append-nil text) ∙ rw none at h

@@ -12,24 +12,32 @@ use Rattle.star_report.specs.Columns.{IsFieldValue, is_field}
 
 -- ---- elements that all have a property
 
-if_each : {X : Type 0} (P : X → Type 0) (b : Bool) (xs ys : List X) → (b ≡ true → AllByRecursion P xs) → (b ≡ false → AllByRecursion P ys) → AllByRecursion P (if b then xs else ys)
+if_each : {X : Type 0} (P : X → Type 0) (b : Bool) (xs ys : List X)
+    → (b ≡ true → AllByRecursion P xs) → (b ≡ false → AllByRecursion P ys)
+    → AllByRecursion P (if b then xs else ys)
 if_each P true xs ys f g = f refl
 if_each P false xs ys f g = g refl
 
-filter_each : {X : Type 0} (P : X → Type 0) (f : X → Bool) (xs : List X) → AllByRecursion P xs → AllByRecursion P (filter f xs)
+filter_each : {X : Type 0} (P : X → Type 0) (f : X → Bool) (xs : List X) → AllByRecursion P xs
+    → AllByRecursion P (filter f xs)
 filter_each P f [] h = tt
-filter_each P f (x ∷ xs) h = if_each P (f x) (x ∷ filter f xs) (filter f xs) (λ e. (h.0, filter_each P f xs h.1)) (λ e. filter_each P f xs h.1)
+filter_each P f (x ∷ xs) h =
+    if_each P (f x) (x ∷ filter f xs) (filter f xs)
+    (λ e. (h.0, filter_each P f xs h.1)) (λ e. filter_each P f xs h.1)
 
-take_each : {X : Type 0} (P : X → Type 0) (n : ℕ) (xs : List X) → AllByRecursion P xs → AllByRecursion P (take n xs)
+take_each : {X : Type 0} (P : X → Type 0) (n : ℕ) (xs : List X) → AllByRecursion P xs
+    → AllByRecursion P (take n xs)
 take_each P zero xs h = tt
 take_each P (suc n) [] h = tt
 take_each P (suc n) (x ∷ xs) h = (h.0, take_each P n xs h.1)
 
-map_each : {X Y : Type 0} (P : X → Type 0) (Q : Y → Type 0) (f : X → Y) → ((x : X) → P x → Q (f x)) → (xs : List X) → AllByRecursion P xs → AllByRecursion Q (map f xs)
+map_each : {X Y : Type 0} (P : X → Type 0) (Q : Y → Type 0) (f : X → Y) → ((x : X) → P x → Q (f x))
+    → (xs : List X) → AllByRecursion P xs → AllByRecursion Q (map f xs)
 map_each P Q f gives [] h = tt
 map_each P Q f gives (x ∷ xs) h = (gives x h.0, map_each P Q f gives xs h.1)
 
-each_all : {X : Type 0} (P : X → Type 0) (xss : List (List X)) → AllByRecursion (AllByRecursion P) xss → AllByRecursion (All P) xss
+each_all : {X : Type 0} (P : X → Type 0) (xss : List (List X))
+    → AllByRecursion (AllByRecursion P) xss → AllByRecursion (All P) xss
 each_all P [] h = tt
 each_all P (xs ∷ xss) h = (All-from_recursion P xs h.0, each_all P xss h.1)
 
@@ -43,17 +51,21 @@ both_true false q h k = absurd cc
 abbrev Passes : (ℕ → Bool) → List ℕ → Type 0
 Passes r piece = IsTrue (list_all r piece)
 
-first_passes : (r : ℕ → Bool) (b : ℕ) (ps : List (List ℕ)) → r b ≡ true → AllByRecursion (Passes r) ps → AllByRecursion (Passes r) (with_first b ps)
+first_passes : (r : ℕ → Bool) (b : ℕ) (ps : List (List ℕ)) → r b ≡ true
+    → AllByRecursion (Passes r) ps → AllByRecursion (Passes r) (with_first b ps)
 first_passes r b [] passes h = (both_true (r b) true passes refl, tt)
 first_passes r b (p ∷ ps) passes h = (both_true (r b) (list_all r p) passes h.0, h.1)
 
 -- bytes that part the text are in no piece
-pieces_pass : (parts r : ℕ → Bool) (text : List ℕ) → AllByRecursion (λ b. parts b ≡ false → r b ≡ true) text → AllByRecursion (Passes r) (pieces parts text)
+pieces_pass : (parts r : ℕ → Bool) (text : List ℕ)
+    → AllByRecursion (λ b. parts b ≡ false → r b ≡ true) text
+    → AllByRecursion (Passes r) (pieces parts text)
 unfolding pieces
 pieces_pass parts r [] h = (refl, tt)
 pieces_pass parts r (b ∷ bs) h =
     let rest = pieces_pass parts r bs h.1 in
-    if_each (Passes r) (parts b) ([] ∷ pieces parts bs) (with_first b (pieces parts bs)) (λ e. (refl, rest)) (λ e. first_passes r b (pieces parts bs) (h.0 e) rest)
+    if_each (Passes r) (parts b) ([] ∷ pieces parts bs) (with_first b (pieces parts bs))
+    (λ e. (refl, rest)) (λ e. first_passes r b (pieces parts bs) (h.0 e) rest)
 
 -- ---- lines and fields
 
@@ -65,7 +77,8 @@ neither : (x y : Bool) → not y ≡ true → x ≡ false → not (x || y) ≡ t
 neither false y h k = h
 neither true y h k = absurd cc
 
-each_in_line : (text : List ℕ) → AllByRecursion (λ b. ends_line b ≡ false → not (ends_line b) ≡ true) text
+each_in_line : (text : List ℕ)
+    → AllByRecursion (λ b. ends_line b ≡ false → not (ends_line b) ≡ true) text
 each_in_line [] = tt
 each_in_line (b ∷ bs) = (negated (ends_line b), each_in_line bs)
 
@@ -73,7 +86,8 @@ conjuncts : (p q : Bool) → (p && q) ≡ true → (p ≡ true) × (q ≡ true)
 conjuncts true q h = (refl, h)
 conjuncts false q h = absurd cc
 
-each_in_field : (line : List ℕ) → Passes (λ b. not (ends_line b)) line → AllByRecursion (λ b. is_bar b ≡ false → not (is_bar b || ends_line b) ≡ true) line
+each_in_field : (line : List ℕ) → Passes (λ b. not (ends_line b)) line
+    → AllByRecursion (λ b. is_bar b ≡ false → not (is_bar b || ends_line b) ≡ true) line
 each_in_field [] h = tt
 each_in_field (b ∷ bs) h =
     let parts = conjuncts (not (ends_line b)) (list_all (λ x. not (ends_line x)) bs) h in
@@ -82,25 +96,36 @@ each_in_field (b ∷ bs) h =
 abbrev IsField : List ℕ → Type 0
 IsField text = IsTrue (is_field text)
 
-fields_are : (line : List ℕ) → Passes (λ b. not (ends_line b)) line → AllByRecursion IsField (fields_of line)
-fields_are line h = pieces_pass is_bar (λ b. not (is_bar b || ends_line b)) line (each_in_field line h)
+fields_are : (line : List ℕ) → Passes (λ b. not (ends_line b)) line
+    → AllByRecursion IsField (fields_of line)
+fields_are line h =
+    pieces_pass is_bar (λ b. not (is_bar b || ends_line b)) line (each_in_field line h)
 
-cells_are : (width : ℕ) (fields : List (List ℕ)) → AllByRecursion IsField fields → AllByRecursion IsField (cells_of width fields)
-cells_are width fields h = if_each IsField (ends_in_bar width fields) (take width fields) fields (λ e. take_each IsField width fields h) (λ e. h)
+cells_are : (width : ℕ) (fields : List (List ℕ)) → AllByRecursion IsField fields
+    → AllByRecursion IsField (cells_of width fields)
+cells_are width fields h =
+    if_each IsField (ends_in_bar width fields) (take width fields) fields
+    (λ e. take_each IsField width fields h) (λ e. h)
 
-values_are : (kinds : List Kind) (cells : List (List ℕ)) → AllByRecursion IsField cells → AllByRecursion IsFieldValue (values_of kinds cells)
+values_are : (kinds : List Kind) (cells : List (List ℕ)) → AllByRecursion IsField cells
+    → AllByRecursion IsFieldValue (values_of kinds cells)
 values_are [] cells h = tt
 values_are (k ∷ ks) [] h = tt
 values_are (kind.Number ∷ ks) (cell ∷ cells) h = (tt, values_are ks cells h.1)
 values_are (kind.Text ∷ ks) (cell ∷ cells) h = (h.0, values_are ks cells h.1)
 
-row_is : (t : TableId) (line : List ℕ) → Passes (λ b. not (ends_line b)) line → AllByRecursion IsFieldValue (row_of t line)
-row_is t line h = values_are (kinds_of t) (cells_of (width_of t) (fields_of line)) (cells_are (width_of t) (fields_of line) (fields_are line h))
+row_is : (t : TableId) (line : List ℕ) → Passes (λ b. not (ends_line b)) line
+    → AllByRecursion IsFieldValue (row_of t line)
+row_is t line h =
+    values_are (kinds_of t) (cells_of (width_of t) (fields_of line))
+    (cells_are (width_of t) (fields_of line) (fields_are line h))
 
 pub table_texts_are_fields : (t : TableId) (text : List ℕ) → All (All IsFieldValue) (rows_of t text)
 table_texts_are_fields t text =
     let P : List ℕ → Type 0 = Passes (λ b. not (ends_line b)) in
     let lines = pieces_pass ends_line (λ b. not (ends_line b)) text (each_in_line text) in
     let records = filter_each P is_filled (pieces ends_line text) lines in
-    let rows = map_each P (AllByRecursion IsFieldValue) (row_of t) (row_is t) (records_of text) records in
-    All-from_recursion (All IsFieldValue) (rows_of t text) (each_all IsFieldValue (rows_of t text) rows)
+    let rows = map_each P (AllByRecursion IsFieldValue) (row_of t) (row_is t)
+    (records_of text) records in
+    All-from_recursion (All IsFieldValue) (rows_of t text)
+    (each_all IsFieldValue (rows_of t text) rows)

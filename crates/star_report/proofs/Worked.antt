@@ -5,6 +5,9 @@ use Rattle.star_program.specs.declared.outcome.Cell.TheVariants.{Number, Text, A
 use Rattle.star_report.specs.Report.{cell_text, line_text, report_text}
 use Rattle.star_common.specs.Quotes.{quoted}
 
-pub worked_report : report_text (codes "s_region" ∷ codes "n" ∷ []) ((Text (codes "'x") ∷ Number (pos 3) ∷ []) ∷ (Text (codes "ALL") ∷ Number (pos 2) ∷ []) ∷ (All ∷ Number (negsuc 4) ∷ []) ∷ (Text (codes "a'b") ∷ Null ∷ []) ∷ []) ≡ codes "s_region|n\n'''x'|3\n'ALL'|2\nALL|-5\na'b|NULL\n"
+pub worked_report : report_text (codes "s_region" ∷ codes "n" ∷ [])
+    ((Text (codes "'x") ∷ Number (pos 3) ∷ []) ∷ (Text (codes "ALL") ∷ Number (pos 2) ∷ [])
+    ∷ (All ∷ Number (negsuc 4) ∷ []) ∷ (Text (codes "a'b") ∷ Null ∷ []) ∷ [])
+    ≡ codes "s_region|n\n'''x'|3\n'ALL'|2\nALL|-5\na'b|NULL\n"
 unfolding report_text line_text cell_text quoted digits
 worked_report = refl

@@ -1,6 +1,5 @@
 -- What the cells of a printed column are.
-use Rattle.std.specs.Prelude.{◌||◌, Bool, not, IsTrue, FitsSigned, ℕ, List, All as Each}
-use Rattle.std.specs.Int.{w64}
+use Rattle.std.specs.Prelude.{◌||◌, ◌<◌, ◌^◌, Bool, not, IsTrue, ℕ, ℤ, unsigned_abs, List, All as Each}
 use Rattle.std.specs.List.{AllZip, list_all}
 use Rattle.star_schema.specs.Records.{ends_line, is_bar}
 use Rattle.star_schema.specs.Tables as table
@@ -17,13 +16,17 @@ pub data ColumnKind : Type 0 where
 abbrev pub is_field : List ℕ → Bool
 is_field text = list_all (λ b. not (is_bar b || ends_line b)) text
 
+-- as many digits as the toolchain's decimals have at most, more than three times those of 64 bits
+abbrev pub HasDigits : ℤ → Type 0
+HasDigits n = unsigned_abs n < 10 ^ 64
+
 -- keys are numbers, or texts, or ALL; aggregates are numbers or NULL
 abbrev pub IsCellOf : ColumnKind → Cell → Type 0
-IsCellOf NumberKey (Number n) = FitsSigned w64 n
+IsCellOf NumberKey (Number n) = HasDigits n
 IsCellOf NumberKey All = Unit {0}
 IsCellOf TextKey (Text text) = IsTrue (is_field text)
 IsCellOf TextKey All = Unit {0}
-IsCellOf Total (Number n) = FitsSigned w64 n
+IsCellOf Total (Number n) = HasDigits n
 IsCellOf Total Null = Unit {0}
 IsCellOf _ _ = ⊥
 

@@ -13,8 +13,8 @@ pub struct WriteFault {
 
 /// Writes a whole text, by as many writes as it takes, and takes no memory of its own.
 ///
-/// Nothing is written of an empty text. Of any other the sink has gained the whole on `Ok`, and on `Err` its first
-/// `sent` bytes, and then the sink is failed.
+/// Nothing is written of an empty text. Of any other the sink has gained the whole on `Ok`, and on
+/// `Err` its first `sent` bytes, and then the sink is failed.
 pub fn write_whole<S: Sink>(sink: &mut S, text: &[u8]) -> Result<(), WriteFault>
     ensures empty { text.now ≡ [] → IsOk result × (sink.new ≡ sink.old) }
     ensures ok { 0 < length text.now → (IsOk result ↔ (S.is_failed sink.new ≡ false)) }

@@ -68,7 +68,8 @@ fn push_text(text: &mut Vec<u8>, bytes: &[u8]) -> Result<(), AllocError>
 
 /// Adds each field after a bar.
 fn push_after_bars<F: Field>(text: &mut Vec<u8>, fields: &[F]) -> Result<(), AllocError>
-    ensures { OnOk result (text.new.items ≡ text.old.items ++ flat_map (λ field. 124 ∷ F.printed field) fields.now) }
+    ensures { OnOk result
+        (text.new.items ≡ text.old.items ++ flat_map (λ field. 124 ∷ F.printed field) fields.now) }
 {
     for field in fields {
         text.push(b'|')?;
@@ -79,7 +80,8 @@ fn push_after_bars<F: Field>(text: &mut Vec<u8>, fields: &[F]) -> Result<(), All
 
 /// Adds fields with a bar between each two.
 fn push_fields<F: Field>(text: &mut Vec<u8>, fields: &[F]) -> Result<(), AllocError>
-    ensures { OnOk result (text.new.items ≡ text.old.items ++ join_with_byte 124 (map F.printed fields.now)) }
+    ensures { OnOk result
+        (text.new.items ≡ text.old.items ++ join_with_byte 124 (map F.printed fields.now)) }
 {
     match fields {
         [] => Ok(()),
@@ -92,16 +94,18 @@ fn push_fields<F: Field>(text: &mut Vec<u8>, fields: &[F]) -> Result<(), AllocEr
 
 #[tactic(auto, unfolding(crate::specs::Report::line_text))]
 fn push_line<F: Field>(text: &mut Vec<u8>, fields: &[F]) -> Result<(), AllocError>
-    ensures { OnOk result (text.new.items ≡ text.old.items ++ line_text (map F.printed fields.now)) }
+    ensures { OnOk result
+        (text.new.items ≡ text.old.items ++ line_text (map F.printed fields.now)) }
 {
     push_fields(text, fields)?;
     text.push(b'\n')?;
     Ok(())
 }
 
-/// What is printed of an outcome: a line of its names and a line for each row, in their order. Bars part the fields, and
-/// a line feed ends each line. Keys print ALL as `ALL` and aggregates NULL as `NULL`; a text that is `ALL` or begins with
-/// a quote stands in single quotes, with each quote inside doubled. Want of memory is its only error.
+/// What is printed of an outcome: a line of its names and a line for each row, in their order. Bars
+/// part the fields, and a line feed ends each line. Keys print ALL as `ALL` and aggregates NULL as
+/// `NULL`; a text that is `ALL` or begins with a quote stands in single quotes, with each quote
+/// inside doubled. Want of memory is its only error.
 pub fn report_text(alloc: Global, outcome: &Outcome) -> Result<Vec<u8>, AllocError>
     ensures { IfOk result (λ text. text.items ≡ report_text outcome.now.names outcome.now.rows) }
 {

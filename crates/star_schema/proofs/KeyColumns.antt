@@ -20,15 +20,22 @@ pub record IsNumberOf (t : TableId) (c : ColumnId) : Type 0 where
   pub kind : kind_of c ≡ Number
 
 -- the kind of a column stands at its place
-pub kind_at_place : (c : ColumnId) → slice_get (kinds_of (table_of c)) (place_of c) ≡ Some (kind_of c)
-kind_at_place c = slice_get-map kind_of (columns_of (table_of c)) (place_of c) ∙ ap (option_map kind_of) (at_place c)
+pub kind_at_place : (c : ColumnId) → slice_get (kinds_of (table_of c)) (place_of c)
+    ≡ Some (kind_of c)
+kind_at_place c =
+    slice_get-map kind_of (columns_of (table_of c)) (place_of c)
+    ∙ ap (option_map kind_of) (at_place c)
 
-pub number_at_place : (t : TableId) (c : ColumnId) → IsNumberOf t c → slice_get (kinds_of t) (place_of c) ≡ Some Number
+pub number_at_place : (t : TableId) (c : ColumnId) → IsNumberOf t c
+    → slice_get (kinds_of t) (place_of c) ≡ Some Number
 number_at_place t c h = rw (← h.table) (kind_at_place c ∙ ap (λ (k : Kind). Some k) h.kind)
 
-key_columns_are : (t : TableId) → elim (key_of t) as (λ _. Type 0) [ One c ↦ IsNumberOf t c | Two c d ↦ IsNumberOf t c × IsNumberOf t d ]
+key_columns_are : (t : TableId)
+    → elim (key_of t) as (λ _. Type 0)
+    [ One c ↦ IsNumberOf t c | Two c d ↦ IsNumberOf t c × IsNumberOf t d ]
 unfolding column_of
-key_columns_are Lineorder = (record { table = refl; kind = refl }, record { table = refl; kind = refl })
+key_columns_are Lineorder =
+    (record { table = refl; kind = refl }, record { table = refl; kind = refl })
 key_columns_are _ = record { table = refl; kind = refl }
 
 -- the columns of a key are numbers of its table
@@ -39,7 +46,9 @@ pub key_pair : (t : TableId) (c d : ColumnId) → key_of t ≡ Two c d → IsNum
 key_pair t c d e = rw e at (key_columns_are t)
 
 -- foreign keys are numbers of lineorder
-refers_or_not : (c : ColumnId) → elim (references c) as (λ _. Type 0) [ Some t ↦ IsNumberOf Lineorder c × Contains foreign_keys c | None ↦ Unit {0} ]
+refers_or_not : (c : ColumnId)
+    → elim (references c) as (λ _. Type 0)
+    [ Some t ↦ IsNumberOf Lineorder c × Contains foreign_keys c | None ↦ Unit {0} ]
 unfolding column_of foreign_keys
 refers_or_not LoCustkey = (record { table = refl; kind = refl }, (0, lit≤ tt, refl))
 refers_or_not LoPartkey = (record { table = refl; kind = refl }, (1, lit≤ tt, refl))
@@ -48,10 +57,12 @@ refers_or_not LoOrderdate = (record { table = refl; kind = refl }, (3, lit≤ tt
 refers_or_not LoCommitdate = (record { table = refl; kind = refl }, (4, lit≤ tt, refl))
 refers_or_not _ = tt
 
-pub foreign_key : (c : ColumnId) (t : TableId) → references c ≡ Some t → IsNumberOf Lineorder c × Contains foreign_keys c
+pub foreign_key : (c : ColumnId) (t : TableId) → references c ≡ Some t
+    → IsNumberOf Lineorder c × Contains foreign_keys c
 foreign_key c t e = rw e at (refers_or_not c)
 
 -- each of the foreign keys refers to a table
-pub foreign_keys_are : foreign_keys ≡ LoCustkey ∷ LoPartkey ∷ LoSuppkey ∷ LoOrderdate ∷ LoCommitdate ∷ []
+pub foreign_keys_are : foreign_keys
+    ≡ LoCustkey ∷ LoPartkey ∷ LoSuppkey ∷ LoOrderdate ∷ LoCommitdate ∷ []
 unfolding column_of foreign_keys
 foreign_keys_are = refl

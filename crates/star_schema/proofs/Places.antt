@@ -9,14 +9,18 @@ use Rattle.star_schema.specs.declared.column.ColumnId.TheVariants.{DDatekey}
 use Rattle.star_schema.specs.declared.column.TheConstants.{COLUMNS}
 use Rattle.star_schema.specs.Schema.{column_of, columns_of, index_of, is_table, place_of, table_of, width_of}
 
-after_first : (c : ColumnId) → IfSome (slice_get (columns_of (table_of c)) 0) (λ d. place_of c + index_of d ≡ index_of c)
+after_first : (c : ColumnId)
+    → IfSome (slice_get (columns_of (table_of c)) 0) (λ d. place_of c + index_of d ≡ index_of c)
 unfolding column_of columns_of place_of
 after_first DDatekey = refl
 after_first _ = refl
 
 -- as many columns stand between a table's first column and this one as its place says
-pub place_after_first : (c d : ColumnId) → slice_get (columns_of (table_of c)) 0 ≡ Some d → place_of c + index_of d ≡ index_of c
-place_after_first c d first = subst (λ (o : Option ColumnId). IfSome o (λ e. place_of c + index_of e ≡ index_of c)) first (after_first c)
+pub place_after_first : (c d : ColumnId) → slice_get (columns_of (table_of c)) 0 ≡ Some d
+    → place_of c + index_of d ≡ index_of c
+place_after_first c d first =
+    subst (λ (o : Option ColumnId). IfSome o (λ e. place_of c + index_of e ≡ index_of c)) first
+    (after_first c)
 
 -- a column stands at its place
 pub at_place : (c : ColumnId) → slice_get (columns_of (table_of c)) (place_of c) ≡ Some c
@@ -42,11 +46,13 @@ is_table_same Part Part e = refl
 is_table_same Lineorder Lineorder e = refl
 is_table_same _ _ e = cc
 
-passes_filter : {X : Type 0} (p : X → Bool) (xs : List X) (i : ℕ) (x : X) → slice_get (filter p xs) i ≡ Some x → p x ≡ true
+passes_filter : {X : Type 0} (p : X → Bool) (xs : List X) (i : ℕ) (x : X)
+    → slice_get (filter p xs) i ≡ Some x → p x ≡ true
 passes_filter p [] i x e = cc
 passes_filter p (y ∷ ys) i x e = go (p y) refl e (λ j. passes_filter p ys j x)
   where
-    go : (b : Bool) → p y ≡ b → slice_get (filter p (y ∷ ys)) i ≡ Some x → ((j : ℕ) → slice_get (filter p ys) j ≡ Some x → p x ≡ true) → p x ≡ true
+    go : (b : Bool) → p y ≡ b → slice_get (filter p (y ∷ ys)) i ≡ Some x
+        → ((j : ℕ) → slice_get (filter p ys) j ≡ Some x → p x ≡ true) → p x ≡ true
     go true same e later = here i (rw same at e)
       where
         here : (j : ℕ) → slice_get (y ∷ filter p ys) j ≡ Some x → p x ≡ true
@@ -55,6 +61,8 @@ passes_filter p (y ∷ ys) i x e = go (p y) refl e (λ j. passes_filter p ys j x
     go false other e later = later i (rw other at e)
 
 -- a column at a place of a table is one of the table's
-pub in_table : (t : TableId) (place : ℕ) (c : ColumnId) → slice_get (columns_of t) place ≡ Some c → table_of c ≡ t
+pub in_table : (t : TableId) (place : ℕ) (c : ColumnId) → slice_get (columns_of t) place ≡ Some c
+    → table_of c ≡ t
 unfolding columns_of
-in_table t place c at = is_table_same t (table_of c) (passes_filter (λ d. is_table t (table_of d)) COLUMNS place c at)
+in_table t place c at =
+    is_table_same t (table_of c) (passes_filter (λ d. is_table t (table_of d)) COLUMNS place c at)

@@ -15,7 +15,8 @@ pub record Entry (K : Type 0) : Type 0 where
 
 -- ---- groups
 
--- the keys of a row as a group of its shows them: all of them, or in a cube some of them hidden by ALL, which is None
+-- the keys of a row as a group of its shows them: all of them, or in a cube some of them hidden by
+-- ALL, which is None
 abbrev pub IsMasked : {K : Type 0} → Shape → List (Option K) → List K → Type 0
 IsMasked s [] [] = Unit {0}
 IsMasked s (Some m ∷ ms) (k ∷ ks) = (m ≡ k) × IsMasked s ms ks
@@ -30,7 +31,8 @@ HasEmptySubset Plain count = count ≡ 0
 -- the keys of a group of some rows with so many keys: those of a row of it, or ALL in each place
 abbrev pub IsGroup : {K : Type 0} → Shape → ℕ → List (Entry K) → List (Option K) → Type 0
 IsGroup {K} s count rows keys =
-    ((row : Entry K) × Contains rows row × IsMasked s keys row.keys) ⊎ (HasEmptySubset s count × (keys ≡ replicate count None))
+    ((row : Entry K) × Contains rows row × IsMasked s keys row.keys)
+    ⊎ (HasEmptySubset s count × (keys ≡ replicate count None))
 
 -- a row belongs to a group: each key of the group is ALL or the row's own
 abbrev pub belongs : {K : Type 0} → (K → K → Ordering) → List (Option K) → List K → Bool
@@ -40,7 +42,8 @@ belongs cmp (Some m ∷ ms) (k ∷ ks) = is_eq (cmp m k) && belongs cmp ms ks
 belongs cmp _ _ = false
 
 -- the rows of a group
-abbrev pub members : {K : Type 0} → (K → K → Ordering) → List (Option K) → List (Entry K) → List (Entry K)
+abbrev pub members : {K : Type 0} → (K → K → Ordering) → List (Option K) → List (Entry K)
+    → List (Entry K)
 members cmp keys rows = filter (λ row. belongs cmp keys row.keys) rows
 
 -- ---- aggregates; None is NULL
@@ -67,18 +70,25 @@ numbers_for place rows = map (λ row. slice_index_or row.values place (pos 0)) r
 -- each aggregate over some rows, from the aggregate at a place on
 abbrev pub totals_from : {K : Type 0} → List Aggregate → ℕ → List (Entry K) → List (Option ℤ)
 totals_from [] place rows = []
-totals_from (a ∷ as') place rows = aggregate a (numbers_for place rows) ∷ totals_from as' (place + 1) rows
+totals_from (a ∷ as') place rows =
+    aggregate a (numbers_for place rows) ∷ totals_from as' (place + 1) rows
 
 abbrev pub totals_of : {K : Type 0} → List Aggregate → List (Entry K) → List (Option ℤ)
 totals_of aggregates rows = totals_from aggregates 0 rows
 
--- ---- the rows that a report prints: a group's keys, in which None is ALL, and its aggregates, in which None is NULL
+-- ---- the rows that a report prints: a group's keys, in which None is ALL, and its aggregates, in
+-- which None is NULL
 
 pub record GroupRow (K : Type 0) : Type 0 where
   pub keys : List (Option K)
   pub totals : List (Option ℤ)
 
 -- each is a group with its aggregates, and each group is there
-pub record AreGroups {K : Type 0} (cmp : K → K → Ordering) (s : Shape) (count : ℕ) (aggregates : List Aggregate) (rows : List (Entry K)) (groups : List (GroupRow K)) : Type 0 where
-  pub each : (group : GroupRow K) → Contains groups group → IsGroup s count rows group.keys × (group.totals ≡ totals_of aggregates (members cmp group.keys rows))
-  pub all : (keys : List (Option K)) → IsGroup s count rows keys → (group : GroupRow K) × Contains groups group × (group.keys ≡ keys)
+pub record AreGroups {K : Type 0} (cmp : K → K → Ordering) (s : Shape) (count : ℕ)
+    (aggregates : List Aggregate) (rows : List (Entry K))
+    (groups : List (GroupRow K)) : Type 0 where
+  pub each : (group : GroupRow K) → Contains groups group
+      → IsGroup s count rows group.keys
+      × (group.totals ≡ totals_of aggregates (members cmp group.keys rows))
+  pub all : (keys : List (Option K)) → IsGroup s count rows keys
+      → (group : GroupRow K) × Contains groups group × (group.keys ≡ keys)

@@ -1,4 +1,5 @@
--- Which five texts can be loaded: they are tables, whose keys tell their rows apart and whose foreign keys are found (Star Schema Benchmark, revision 3, section 2).
+-- Which five texts can be loaded: they are tables, whose keys tell their rows apart and whose
+-- foreign keys are found (Star Schema Benchmark, revision 3, section 2).
 use Rattle.std.specs.Prelude.{◌≡◌, ◌≢◌, ℕ, ℤ, List, [], ◌∷◌, All, AllPairs, Contains, Some, filter, is_some, map, slice_get}
 use Rattle.star_schema.specs.declared.column.ColumnId.{ColumnId}
 use Rattle.star_schema.specs.declared.column.TheConstants.{COLUMNS}
@@ -34,9 +35,12 @@ foreign_keys = filter (λ c. is_some (references c)) COLUMNS
 
 -- each number of a column is a key of a table
 abbrev pub RefersTo : Database → ColumnId → TableId → Type 0
-RefersTo database c t = All (λ n. Contains (keys_of t (rows_in database t)) (n ∷ [])) (numbers_of c (rows_in database (table_of c)))
+RefersTo database c t =
+    All (λ n. Contains (keys_of t (rows_in database t)) (n ∷ []))
+    (numbers_of c (rows_in database (table_of c)))
 
--- keys tell the rows of each table apart, and each foreign key is a key of the table that it refers to
+-- keys tell the rows of each table apart, and each foreign key is a key of the table that it refers
+-- to
 pub record IsSound (database : Database) : Type 0 where
   pub distinct : (t : TableId) → HasDistinctKeys t (rows_in database t)
   pub found : (c : ColumnId) (t : TableId) → references c ≡ Some t → RefersTo database c t

@@ -1,4 +1,5 @@
--- The order of a group's rows (Gray et al. 1997, section 3.3, on the value ALL; that it comes last is this project's profile).
+-- The order of a group's rows (Gray et al. 1997, section 3.3, on the value ALL; that it comes last
+-- is this project's profile).
 use Rattle.std.specs.Prelude.{ℤ, List, [], ◌∷◌, slice_index_or, Option, Some, None}
 use Rattle.std.specs.Cmp.Lexicographic.{slice_cmp}
 use Rattle.std.specs.List.Sorted.{IsStrictlySortedBy}
@@ -32,23 +33,30 @@ abbrev pub total_cmp : Option ℤ → Option ℤ → Ordering
 total_cmp (Some x) (Some y) = int_cmp x y
 total_cmp _ _ = Equal
 
-abbrev pub column_cmp : {K : Type 0} → (K → K → Ordering) → GroupColumn → GroupRow K → GroupRow K → Ordering
-column_cmp cmp (column.Key place) a b = key_cmp cmp (slice_index_or a.keys place None) (slice_index_or b.keys place None)
-column_cmp cmp (column.Aggregate place) a b = total_cmp (slice_index_or a.totals place None) (slice_index_or b.totals place None)
+abbrev pub column_cmp : {K : Type 0} → (K → K → Ordering) → GroupColumn → GroupRow K → GroupRow K
+    → Ordering
+column_cmp cmp (column.Key place) a b =
+    key_cmp cmp (slice_index_or a.keys place None) (slice_index_or b.keys place None)
+column_cmp cmp (column.Aggregate place) a b =
+    total_cmp (slice_index_or a.totals place None) (slice_index_or b.totals place None)
 
-abbrev directed_cmp : {K : Type 0} → (K → K → Ordering) → GroupColumn → Direction → GroupRow K → GroupRow K → Ordering
+abbrev directed_cmp : {K : Type 0} → (K → K → Ordering) → GroupColumn → Direction → GroupRow K
+    → GroupRow K → Ordering
 directed_cmp cmp c Ascending a b = column_cmp cmp c a b
 directed_cmp cmp c Descending a b = column_cmp cmp c b a
 
 -- descending reverses the whole order
-abbrev pub sort_cmp : {K : Type 0} → (K → K → Ordering) → SortKey → GroupRow K → GroupRow K → Ordering
+abbrev pub sort_cmp : {K : Type 0} → (K → K → Ordering) → SortKey → GroupRow K → GroupRow K
+    → Ordering
 sort_cmp cmp sort a b = directed_cmp cmp sort.column sort.direction a b
 
 -- by the sort keys, and then by all keys of the group
-abbrev pub row_cmp : {K : Type 0} → (K → K → Ordering) → List SortKey → GroupRow K → GroupRow K → Ordering
+abbrev pub row_cmp : {K : Type 0} → (K → K → Ordering) → List SortKey → GroupRow K → GroupRow K
+    → Ordering
 row_cmp cmp [] a b = slice_cmp (key_cmp cmp) a.keys b.keys
 row_cmp cmp (sort ∷ sorts) a b = ordering_then (sort_cmp cmp sort a b) (row_cmp cmp sorts a b)
 
 -- each row stands before the next, so no two have the same keys
-abbrev pub AreInOrder : {K : Type 0} → (K → K → Ordering) → List SortKey → List (GroupRow K) → Type 0
+abbrev pub AreInOrder : {K : Type 0} → (K → K → Ordering) → List SortKey → List (GroupRow K)
+    → Type 0
 AreInOrder cmp sorts rows = IsStrictlySortedBy (row_cmp cmp sorts) rows

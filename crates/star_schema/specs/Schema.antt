@@ -1,4 +1,5 @@
--- The five tables, their columns and keys (Star Schema Benchmark, revision 3; the lists of columns are this project's profile).
+-- The five tables, their columns and keys (Star Schema Benchmark, revision 3; the lists of columns
+-- are this project's profile).
 use Rattle.std.specs.Prelude.{ℕ, List, Bool, true, false, Option, Some, None, codes, filter, length, map, take}
 use denote.Enum.Declared.{tag_of}
 use Rattle.star_schema.specs.declared.table.TableId.{TableId}
@@ -19,7 +20,8 @@ table_name table.Supplier = codes "supplier"
 table_name table.Part = codes "part"
 table_name table.Lineorder = codes "lineorder"
 
--- what the schema says of a column: its name, its table, what it holds, and the table whose key it refers to
+-- what the schema says of a column: its name, its table, what it holds, and the table whose key it
+-- refers to
 pub record Column : Type 0 where
   pub name : List ℕ
   pub table : TableId

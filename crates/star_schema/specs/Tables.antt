@@ -1,4 +1,5 @@
--- Which texts are tables, and which rows they hold (the cell forms are this project's profile of the benchmark's files).
+-- Which texts are tables, and which rows they hold (the cell forms are this project's profile of
+-- the benchmark's files).
 use Rattle.std.specs.Prelude.{◌≡◌, ◌+◌, ◌≤◌, ◌==◌, ◌&&◌, if◌then◌else◌, All, Bool, true, false, IsTrue, ℕ, ℤ, List, [], ◌∷◌, Option, Some, drop, take, length, map, nat_le, neg_ℤ, pos, slice_get, option_and_then}
 use Rattle.std.specs.List.{list_all}
 use Rattle.std.specs.Str.Parse.{digits_value, starts_with_minus}
@@ -32,7 +33,10 @@ is_number cell = is_numeral 18 (unsigned cell)
 
 -- the whole number that a cell writes
 abbrev pub number_of : List ℕ → ℤ
-number_of cell = if starts_with_minus cell then neg_ℤ (pos (digits_value 10 (unsigned cell))) else pos (digits_value 10 (unsigned cell))
+number_of cell =
+    if starts_with_minus cell
+    then neg_ℤ (pos (digits_value 10 (unsigned cell)))
+    else pos (digits_value 10 (unsigned cell))
 
 abbrev pub is_of_kind : Kind → List ℕ → Bool
 is_of_kind kind.Number cell = is_number cell

@@ -1,6 +1,8 @@
-//! The star schema: five tables, their columns and keys, the limits of a load and of a run, and where output goes.
+//! The star schema: five tables, their columns and keys, the limits of a load and of a run, and
+//! where output goes.
 //!
-//! What a table file is, which rows it holds and what their bounds are stands in `specs/`: every crate above cites it.
+//! What a table file is, which rows it holds and what their bounds are stands in `specs/`: every
+//! crate above cites it.
 #![tactic(auto)]
 
 mod column;

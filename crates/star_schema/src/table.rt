@@ -8,7 +8,8 @@ use crate::column::{COLUMNS, ColumnId};
 use crate::name::{Named, first_named};
 use std::fmt;
 
-/// The tables of the Star Schema Benchmark (revision 3), in the order in which they are read, checked and listed.
+/// The tables of the Star Schema Benchmark (revision 3), in the order in which they are read,
+/// checked and listed.
 #[derive(Clone, Copy, Debug, PartialEq, Eq)]
 pub enum TableId {
     Date,

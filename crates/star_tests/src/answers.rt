@@ -136,7 +136,8 @@ fn orders_agree(alloc: Global, lines: &str, expected: &str) -> Result<(), Fail> 
     check_agrees(alloc, &changed, Limits::widest(), expected)
 }
 
-// Whether the sample is listed where its lines of orders end so, with and without the last line end.
+// Whether the sample is listed where its lines of orders end so, with and without the last line
+// end.
 fn ending_agrees(alloc: Global, bar: &str, end: &str) -> Result<(), Fail> {
     let lines = rewritten(alloc, str::from_utf8(sample().lineorder)?, bar, end)?;
     orders_agree(alloc, lines.as_str(), LISTING)?;
@@ -268,7 +269,8 @@ fn tells_faults_of_customer(rt: HostRuntime) -> Result<(), Fail> {
     Ok(())
 }
 
-// Whether a writer that fails after so many bytes got just the first of a text, and the answer tells so; and that there is no fault where it got the whole.
+// Whether a writer that fails after so many bytes got just the first of a text, and the answer
+// tells so; and that there is no fault where it got the whole.
 fn is_sent(
     answer: Result<(), EngineFault>,
     taken: &[u8],

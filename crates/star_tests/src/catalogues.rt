@@ -1,4 +1,5 @@
-// The worked look-ups of the sample, each fault at its first and last record, and tables of 0, 1 and 100,000 rows.
+// The worked look-ups of the sample, each fault at its first and last record, and tables of 0, 1
+// and 100,000 rows.
 
 ghost use Rattle.std.specs.Prelude.{◌≡◌, ◌<◌, ◌^◌};
 ghost use Rattle.star_schema.specs.Schema.{kind_of};
@@ -14,7 +15,8 @@ use std::test::Fail;
 
 const MANY: u32 = 100_000;
 
-// How many rows lineorder has, or why the tables were not loaded, where a table may have so many rows.
+// How many rows lineorder has, or why the tables were not loaded, where a table may have so many
+// rows.
 fn outcome_within(
     alloc: Global,
     texts: &Texts<'_>,
@@ -240,7 +242,8 @@ fn an_absent_key_is_told(rt: HostRuntime) -> Result<(), Fail> {
     Ok(())
 }
 
-// The fault that comes first in faulty texts, and then each time with one more of them sound. The late dates have another fault than the faulty ones.
+// The fault that comes first in faulty texts, and then each time with one more of them sound. The
+// late dates have another fault than the faulty ones.
 fn check_order<'a>(
     rt: &impl Abort,
     alloc: Global,
@@ -378,7 +381,8 @@ fn one_row_each(lineorder: &[u8]) -> Texts<'_> {
     }
 }
 
-// Lines of orders whose keys go by a step round a prime number, and after 100,000 of them begin again.
+// Lines of orders whose keys go by a step round a prime number, and after 100,000 of them begin
+// again.
 fn lines_of(alloc: Global, step: u64, rows: u32) -> Result<String, AllocError>
     requires { step < 2 ^ 32 }
 {

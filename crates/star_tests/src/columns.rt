@@ -1,4 +1,5 @@
-// The dictionary of the brands of three parts, columns of 0, 1 and 100,000 rows, and each public call.
+// The dictionary of the brands of three parts, columns of 0, 1 and 100,000 rows, and each public
+// call.
 
 use star_column::{ColumnData, NumberColumn, TextColumn, law};
 use star_flat::FlatTexts;

@@ -2,8 +2,9 @@
 
 ghost use Rattle.std.specs.Prelude.{◌≡◌, ◌≤◌, ◌<◌, [], length, IfOk};
 ghost use Rattle.star_group.specs.Eager.{group_of, Has};
+ghost use Rattle.star_group.specs.Stores.{group_declared};
 
-use star_group::{EagerStore, GroupRow, GroupStore, KeyValue, PutFault};
+use star_group::{EagerStore, GroupRow, GroupStore, KeyValue, PutFault, TryPut};
 use star_program::{Aggregates, GroupDecl, GroupKey, GroupKeys};
 use star_schema::{Aggregate, Shape};
 use std::alloc::{AllocError, Global};
@@ -25,6 +26,16 @@ fn declared(
     })
 }
 
+// A store of any kind.
+fn made<S: GroupStore>(alloc: Global, declared: &GroupDecl) -> Result<S, AllocError>
+    requires few_keys { length declared.now.keys ≤ 6 }
+    requires few { length declared.now.aggregates ≤ 8 }
+    ensures group { IfOk result (λ s. S.group s ≡ group_declared declared.now) }
+    ensures empty { IfOk result (λ s. S.has s []) }
+{
+    S::new(alloc, declared)
+}
+
 // A store for such a group.
 fn store(
     alloc: Global,
@@ -39,7 +50,7 @@ fn store(
     ensures empty { IfOk result (λ s. Has s []) }
 {
     let declared = declared(alloc, shape, keys, aggregates)?;
-    EagerStore::new(alloc, &declared)
+    made(alloc, &declared)
 }
 
 // The keys of a row, and its aggregates.
@@ -127,14 +138,23 @@ fn rows_of_no_puts(rt: HostRuntime) -> Result<(), Fail> {
     Ok(())
 }
 
-// A store of one key and a sum, after a put and one that was refused, since the total would leave 64 bits.
+// The second of these puts makes the total leave 64 bits.
+fn put_twice<S: TryPut>(plain: &mut S) -> Result<(), PutFault>
+    requires keys { (S.group plain.old).count ≡ 1 }
+    requires aggregates { length (S.group plain.old).aggregates ≡ 1 }
+    ensures { S.group plain.new ≡ S.group plain.old }
+{
+    plain.try_put(&[ONE], &[BIG])?;
+    plain.try_put(&[TWO], &[BIG])
+}
+
+// A store of one key and a sum, after a put and one that was refused.
 fn refused(alloc: Global) -> Result<EagerStore, Fail>
     ensures keys { IfOk result (λ s. (group_of s).count ≡ 1) }
     ensures aggregates { IfOk result (λ s. length (group_of s).aggregates ≡ 1) }
 {
     let mut plain = store(alloc, Shape::Plain, 1, &[Aggregate::Sum])?;
-    plain.try_put(&[ONE], &[BIG])?;
-    match plain.try_put(&[TWO], &[BIG]) {
+    match put_twice(&mut plain) {
         Err(PutFault::Overflow) => Ok(plain),
         answer => Err(Fail::from(format_args!("{answer:?}"))),
     }

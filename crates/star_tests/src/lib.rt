@@ -1,4 +1,5 @@
-//! Tests of the crates below by their public items alone: worked rows, each fault, and each limit at it and one past it. Nothing below is proved again for them.
+//! Tests of the crates below by their public items alone: worked rows, each fault, and each limit
+//! at it and one past it. Nothing below is proved again for them.
 #![tactic(auto)]
 
 #[cfg(test)]
@@ -7,6 +8,8 @@ mod answers;
 mod catalogues;
 #[cfg(test)]
 mod columns;
+#[cfg(test)]
+mod commands;
 #[cfg(test)]
 mod flat_texts;
 #[cfg(test)]

@@ -1,6 +1,8 @@
 // Programs at each limit and one past it, and lists and bodies read back.
 
-use star_program::{Body, GroupDecl, GroupKey, Items, Op, Parts, Program, Show, Shows, Step};
+use star_program::{
+    Body, GroupDecl, GroupKey, Items, Op, Operation, Parts, Program, Show, Shows, Step,
+};
 use star_schema::{Aggregate, ColumnId, Direction, GroupColumn, Shape, SortKey, TableId};
 use std::alloc::{AllocError, Global};
 use std::test::Fail;
@@ -41,9 +43,9 @@ fn group(alloc: Global, keys: usize, aggregates: usize) -> Result<GroupDecl, All
 fn body(alloc: Global, constants: usize, scans: usize) -> Result<Body, AllocError> {
     let mut steps = Vec::new(alloc);
     for _ in 0..constants {
-        steps.push(Step::Act(Op::Const {
+        steps.push(Step::Act(Op::Assign {
             target: 0,
-            number: 7,
+            operation: Operation::Const { number: 7 },
         }))?;
     }
     if scans > 0 {

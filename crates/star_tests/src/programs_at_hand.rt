@@ -89,7 +89,8 @@ pub(crate) const NO_TEXTS: Texts<'static> = Texts {
     lineorder: b"",
 };
 
-// A program that is read, or its text's fault. Want of memory is an error of the test. The program is boxed, since it is dear to let go in a proof.
+// A program that is read, or its text's fault. Want of memory is an error of the test. The program
+// is boxed, since it is dear to let go in a proof.
 pub(crate) fn read(alloc: Global, text: &[u8]) -> Result<Result<Box<Program>, TextFault>, Fail> {
     match Program::parse(alloc, text) {
         Ok(program) => Ok(Ok(Box::new(alloc, program)?)),

@@ -1,7 +1,9 @@
 // Texts of programs: two written byte for byte, each line read back, and the first fault of a text.
 
 use crate::programs_at_hand::{ABOVE_AVERAGE, DISCOUNTED_REVENUE, read};
-use star_program::{Body, GroupDecl, Items, Op, Parts, Program, Show, Shows, Step, TextFault};
+use star_program::{
+    Body, GroupDecl, Items, Op, Operation, Operator, Parts, Program, Show, Shows, Step, TextFault,
+};
 use star_schema::{Aggregate, ColumnId, GroupColumn, Shape, TableId};
 use std::alloc::{AllocError, Global};
 use std::test::Fail;
@@ -51,45 +53,38 @@ const HEAD: &str = "star program 1\nregisters 1\n";
 
 const LOOSE_AGAIN: &str = "star program 1\nregisters 8\nreport 0\nshow n key 0\n";
 
+fn assign(target: u16, operation: Operation) -> Step {
+    Step::Act(Op::Assign { target, operation })
+}
+
 fn load(target: u16, column: ColumnId, row: u16) -> Step {
-    Step::Act(Op::Load {
-        target,
-        column,
-        row,
-    })
+    assign(target, Operation::Load { column, row })
 }
 
 fn number(target: u16, number: i64) -> Step {
-    Step::Act(Op::Const { target, number })
+    assign(target, Operation::Const { number })
 }
 
 fn keep(flag: u16) -> Step {
     Step::Act(Op::Keep { flag })
 }
 
-fn less(target: u16, left: u16, right: u16) -> Step {
-    Step::Act(Op::Less {
-        target,
+fn binary(target: u16, operator: Operator, left: u16, right: u16) -> Step {
+    let operation = Operation::Binary {
+        operator,
         left,
         right,
-    })
-}
-
-fn product(target: u16, left: u16, right: u16) -> Step {
-    Step::Act(Op::Mul {
-        target,
-        left,
-        right,
-    })
+    };
+    assign(target, operation)
 }
 
 fn total(target: u16, aggregate: u16) -> Step {
-    Step::Act(Op::Read {
-        target,
+    let operation = Operation::Read {
         group: 0,
         aggregate,
         default: 0,
-    })
+    };
+    assign(target, operation)
 }
 
 fn put(alloc: Global, group: u16, values: &[u16]) -> Result<Step, AllocError> {
@@ -112,18 +107,14 @@ fn scan(target: u16, mut steps: Vec<Step>, last: Step) -> Result<Step, AllocErro
 
 fn dates(steps: &mut Vec<Step>) -> Result<(), AllocError> {
     steps.push(load(1, ColumnId::LoOrderdate, 0))?;
-    steps.push(Step::Act(Op::Find {
-        target: 2,
+    let found = Operation::Find {
         table: TableId::Date,
         key: 1,
-    }))?;
+    };
+    steps.push(assign(2, found))?;
     steps.push(load(3, ColumnId::DYear, 2))?;
     steps.push(number(4, 1993))?;
-    steps.push(Step::Act(Op::Equal {
-        target: 5,
-        left: 3,
-        right: 4,
-    }))?;
+    steps.push(binary(5, Operator::Equal, 3, 4))?;
     steps.push(keep(5))?;
     Ok(())
 }
@@ -132,12 +123,12 @@ fn discounts(steps: &mut Vec<Step>) -> Result<(), AllocError> {
     steps.push(load(6, ColumnId::LoDiscount, 0))?;
     steps.push(number(7, 1))?;
     steps.push(number(8, 4))?;
-    steps.push(Step::Act(Op::Within {
-        target: 9,
+    let within = Operation::Within {
         value: 6,
         from: 7,
         below: 8,
-    }))?;
+    };
+    steps.push(assign(9, within))?;
     steps.push(keep(9))?;
     Ok(())
 }
@@ -145,10 +136,10 @@ fn discounts(steps: &mut Vec<Step>) -> Result<(), AllocError> {
 fn quantities(steps: &mut Vec<Step>) -> Result<(), AllocError> {
     steps.push(load(10, ColumnId::LoQuantity, 0))?;
     steps.push(number(11, 25))?;
-    steps.push(less(12, 10, 11))?;
+    steps.push(binary(12, Operator::Less, 10, 11))?;
     steps.push(keep(12))?;
     steps.push(load(13, ColumnId::LoExtendedprice, 0))?;
-    steps.push(product(14, 13, 6))?;
+    steps.push(binary(14, Operator::Mul, 13, 6))?;
     Ok(())
 }
 
@@ -173,8 +164,8 @@ fn totals(alloc: Global) -> Result<Step, AllocError> {
 fn counts(alloc: Global) -> Result<Step, AllocError> {
     let mut turn = Vec::new(alloc);
     turn.push(load(5, ColumnId::LoExtendedprice, 4))?;
-    turn.push(product(6, 5, 3))?;
-    turn.push(less(7, 2, 6))?;
+    turn.push(binary(6, Operator::Mul, 5, 3))?;
+    turn.push(binary(7, Operator::Less, 2, 6))?;
     turn.push(keep(7))?;
     scan(4, turn, put(alloc, 1, &[])?)
 }
@@ -389,7 +380,8 @@ const BAD_FIFTH: Option<TextFault> = Some(TextFault::BadLine { line: 5 });
 
 const OPEN_SCAN: Option<TextFault> = Some(TextFault::OpenScan);
 
-// Fronts, and lines that say nothing behind them, with the fault of each. A line that said something would be taken, and the fault be that of a missing line or none.
+// Fronts, and lines that say nothing behind them, with the fault of each. A line that said
+// something would be taken, and the fault be that of a missing line or none.
 const REFUSED: &[(&str, Option<TextFault>, &[&str])] = &[
     ("", BAD_HEADER, &["star program 2", "star program 1 1"]),
     (
@@ -408,6 +400,8 @@ const REFUSED: &[(&str, Option<TextFault>, &[&str])] = &[
         &[
             "group 0 plain number",
             "group 0 plain d_month d_none : sum",
+            "group 0 plain d_year : count",
+            "group 0 cube number c_custkey : sum",
             "group 0 round : sum",
             "group 0 plain : sum : sum",
             "r0 = const 9223372036854775808",
@@ -585,7 +579,8 @@ fn agree_at(
     agree(alloc, text.as_slice(), expected)
 }
 
-// A front, a middle and an end, how many middles a text has at most between the others, and the line of one more.
+// A front, a middle and an end, how many middles a text has at most between the others, and the
+// line of one more.
 type AtMost = ((&'static str, &'static str, &'static str), u16, usize);
 
 const AT_MOST: &[AtMost] = &[

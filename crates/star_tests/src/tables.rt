@@ -28,7 +28,8 @@ fn read_suppliers(
     }
 }
 
-// A prefix of the suppliers is a table where its last record has a last field, and a phone number may be cut short.
+// A prefix of the suppliers is a table where its last record has a last field, and a phone number
+// may be cut short.
 #[test]
 fn reads_prefixes(rt: HostRuntime) -> Result<(), Fail> {
     for length in 0..SUPPLIER.len() + 1 {

@@ -25,7 +25,8 @@ fn push_cell(text: &mut String, cell: &Cell) -> Result<(), Fail> {
     Ok(())
 }
 
-// The names, a line for each row with a bar after each cell, and the three counts. Texts stand in brackets, so that none looks like ALL.
+// The names, a line for each row with a bar after each cell, and the three counts. Texts stand in
+// brackets, so that none looks like ALL.
 fn told(alloc: Global, outcome: &Outcome) -> Result<String, Fail> {
     let mut text = String::new(alloc);
     for name in outcome.names.as_slice() {
@@ -80,7 +81,8 @@ fn all_agree(alloc: Global, catalogue: &Catalogue, cases: &[Case]) -> Result<(),
     Ok(())
 }
 
-// Whether programs of these lines, with three registers, that count their puts answer what is expected.
+// Whether programs of these lines, with three registers, that count their puts answer what is
+// expected.
 fn all_counting_agree(alloc: Global, catalogue: &Catalogue, cases: &[Case]) -> Result<(), Fail> {
     for (lines, visits, expected) in cases {
         let text = counting(alloc, lines)?;
@@ -152,7 +154,8 @@ const WRITTEN_TWICE: &str = concat!(
     "report 0\nshow s aggregate 0\n",
 );
 
-// A register that is written before a scan is written again in each turn, and put there and after the scan.
+// A register that is written before a scan is written again in each turn, and put there and after
+// the scan.
 const WRITTEN_IN_A_SCAN: &str = concat!(
     "star program 1\nregisters 2\ngroup 0 plain number : count\n",
     "r0 = const 1\nscan date r1\nr0 = const 2\nput 0 r0 :\nend\nput 0 r0 :\n",
@@ -327,4 +330,120 @@ fn numbers_that_leave_64_bits_trap(rt: HostRuntime) -> Result<(), Fail> {
         (TWO_KEYS, 0, "trap Overflow at 5"),
     ];
     all_agree(rt.alloc(), &catalogue, leaving.as_slice())
+}
+
+// Customers of the sample, one of them in no region.
+const NO_REGION: &str = concat!(
+    "1|Customer#000000001|a1|UNITED KI1|UNITED KINGDOM|EUROPE|33-111-111-1111|BUILDING|\n",
+    "2|Customer#000000002|a2|CHINA    3|CHINA||28-222-222-2222|MACHINERY|\n",
+    "3|Customer#000000003|a3|UNITED ST0|UNITED STATES|AMERICA|34-333-333-3333|AUTOMOBILE|\n",
+);
+
+// What follows the registers of a program, r0 to r8.
+const FINE: &[Case] = &[
+    // Of the quantities 10, 30, 24, 50 and 1 those from 10 to below 50.
+    (
+        "group 0 plain : count\nscan lineorder r0\nr1 = load lo_quantity r0\nr2 = const 10\nr3 = const 50\nr4 = within r1 r2 r3\nkeep r4\nput 0 :\nend\nreport 0\nshow n aggregate 0\n",
+        5,
+        "n|\n3|\nvisits 5 lookups 0 updates 3",
+    ),
+    // Those below 25 or of 24: 24 is both.
+    (
+        "group 0 plain : count\nscan lineorder r0\nr1 = load lo_quantity r0\nr2 = const 25\nr3 = lt r1 r2\nr4 = const 24\nr5 = eq r1 r4\nr6 = or r3 r5\nkeep r6\nput 0 :\nend\nreport 0\nshow n aggregate 0\n",
+        5,
+        "n|\n3|\nvisits 5 lookups 0 updates 3",
+    ),
+    // Suppliers and discounts, where the second sort line orders the lines of one supplier.
+    (
+        "group 0 plain number number :\nscan lineorder r0\nr1 = load lo_suppkey r0\nr2 = load lo_discount r0\nput 0 r1 r2 :\nend\nreport 0\nshow s key 0\nshow d key 1\nsort key 0 descending\nsort key 1 descending\n",
+        5,
+        "s|d|\n2|2|\n2|1|\n2|0|\n1|10|\n1|3|\nvisits 5 lookups 0 updates 5",
+    ),
+    // A total of 0 is read, and not the default; of nothing it is.
+    (
+        "group 0 plain : sum\ngroup 1 plain : sum\ngroup 2 plain : max min\nr0 = const 5\nr1 = const -5\nput 0 : r0\nput 0 : r1\nr2 = read 0 0 7\nr3 = read 1 0 7\nput 2 : r2 r3\nreport 2\nshow a aggregate 0\nshow b aggregate 1\n",
+        0,
+        "a|b|\n0|7|\nvisits 0 lookups 0 updates 3",
+    ),
+    // A count of 0 is read, too.
+    (
+        "group 0 plain : count\ngroup 1 plain : max\nr0 = read 0 0 7\nput 1 : r0\nreport 1\nshow a aggregate 0\n",
+        0,
+        "a|\n0|\nvisits 0 lookups 0 updates 1",
+    ),
+    // One region is less or equal to an empty text, and none is less.
+    (
+        "group 0 plain : count\nr1 = high c_region ''\nscan customer r0\nr2 = load c_region r0\nr3 = lt r2 r1\nkeep r3\nput 0 :\nend\nreport 0\nshow n aggregate 0\n",
+        3,
+        "n|\n1|\nvisits 3 lookups 0 updates 1",
+    ),
+    (
+        "group 0 plain : count\nr1 = low c_region ''\nscan customer r0\nr2 = load c_region r0\nr3 = lt r2 r1\nkeep r3\nput 0 :\nend\nreport 0\nshow n aggregate 0\n",
+        3,
+        "n|\n0|\nvisits 3 lookups 0 updates 0",
+    ),
+    // The ends of 64 bits as keys and as aggregates.
+    (
+        "group 0 plain number : max\nr0 = const -9223372036854775808\nr1 = const 9223372036854775807\nr2 = const 0\nput 0 r0 : r1\nput 0 r1 : r0\nput 0 r2 : r2\nreport 0\nshow k key 0\nshow m aggregate 0\n",
+        0,
+        "k|m|\n-9223372036854775808|9223372036854775807|\n0|0|\n9223372036854775807|-9223372036854775808|\nvisits 0 lookups 0 updates 3",
+    ),
+    (
+        "group 0 plain number : max\nr0 = const -9223372036854775808\nr1 = const 9223372036854775807\nr2 = const 0\nput 0 r0 : r1\nput 0 r1 : r0\nput 0 r2 : r2\nreport 0\nshow k key 0\nshow m aggregate 0\nsort aggregate 0 descending\n",
+        0,
+        "k|m|\n-9223372036854775808|9223372036854775807|\n0|0|\n9223372036854775807|-9223372036854775808|\nvisits 0 lookups 0 updates 3",
+    ),
+    (
+        "group 0 plain number : max\nr0 = const -9223372036854775808\nr1 = const 9223372036854775807\nr2 = const 0\nput 0 r0 : r1\nput 0 r1 : r0\nput 0 r2 : r2\nreport 0\nshow k key 0\nshow m aggregate 0\nsort key 0 descending\n",
+        0,
+        "k|m|\n9223372036854775807|-9223372036854775808|\n0|0|\n-9223372036854775808|9223372036854775807|\nvisits 0 lookups 0 updates 3",
+    ),
+    // A key is a text of its column, and no place among its texts.
+    (
+        "group 0 plain c_region : count\nr0 = low c_region 'ASIA'\nput 0 r0 :\nreport 0\nshow n aggregate 0\n",
+        0,
+        "trap WrongKind at 2",
+    ),
+    // Texts of two columns don't compare.
+    (
+        "group 0 plain : count\nscan customer r0\nr1 = load c_region r0\nr2 = load c_nation r0\nr3 = eq r1 r2\nend\nreport 0\nshow n aggregate 0\n",
+        3,
+        "trap WrongKind at 4",
+    ),
+    // Operands are checked from the left, each whole before the next.
+    (
+        "group 0 plain : count\nr0 = const 1\nr1 = eq r0 r0\nr2 = add r1 r9\nreport 0\nshow n aggregate 0\n",
+        0,
+        "trap WrongKind at 3",
+    ),
+    (
+        "group 0 plain : count\nr0 = const 1\nr1 = eq r0 r0\nr2 = add r3 r1\nreport 0\nshow n aggregate 0\n",
+        0,
+        "trap Unset at 3",
+    ),
+    // The group of a read is checked before its target.
+    (
+        "group 0 plain : count\nr9 = read 1 0 0\nreport 0\nshow n aggregate 0\n",
+        0,
+        "trap BadGroup at 1",
+    ),
+    (
+        "group 0 plain : count\nr9 = read 0 0 0\nreport 0\nshow n aggregate 0\n",
+        0,
+        "trap BadRegister at 1",
+    ),
+];
+
+#[test]
+fn ends_and_orders_are_exact(rt: HostRuntime) -> Result<(), Fail> {
+    let odd = Texts {
+        customer: NO_REGION.as_bytes(),
+        ..sample()
+    };
+    let catalogue = loaded(rt.alloc(), &odd)?;
+    for (lines, visits, expected) in FINE {
+        let text = format!(in rt.alloc(); "star program 1\nregisters 9\n{lines}")?;
+        agree(rt.alloc(), &catalogue, text.as_str(), *visits, expected)?;
+    }
+    Ok(())
 }

@@ -6,7 +6,13 @@ use Rattle.star_catalogue.specs.declared.tables.Tables.TheInside.{Inside}
 
 abbrev pub database_kept : Inside → Database
 database_kept kept =
-    record { date = kept.date.rows; customer = kept.customer.rows; supplier = kept.supplier.rows; part = kept.part.rows; lineorder = kept.lineorder.rows }
+    record {
+      date = kept.date.rows;
+      customer = kept.customer.rows;
+      supplier = kept.supplier.rows;
+      part = kept.part.rows;
+      lineorder = kept.lineorder.rows;
+    }
 
 -- each is the table that it stands for
 pub record AreInPlace (kept : Inside) : Type 0 where

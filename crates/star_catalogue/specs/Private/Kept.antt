@@ -7,9 +7,11 @@ use Rattle.star_catalogue.specs.Private.Columns.{AreColumnsOf, values}
 use Rattle.star_catalogue.specs.Private.Keys.{AreKept}
 
 abbrev pub table_kept : Inside → Table
-table_kept kept = record { table = kept.table; rows = first_rows kept.rows (map values kept.columns.items) }
+table_kept kept =
+    record { table = kept.table; rows = first_rows kept.rows (map values kept.columns.items) }
 
 -- its columns, all of one length, and what is kept of its keys
 pub record IsKept (kept : Inside) : Type 0 where
   pub columns : AreColumnsOf kept.table kept.rows kept.columns.items
-  pub keys : AreKept kept.keys (keys_of kept.table (first_rows kept.rows (map values kept.columns.items)))
+  pub keys : AreKept kept.keys
+      (keys_of kept.table (first_rows kept.rows (map values kept.columns.items)))

@@ -6,18 +6,22 @@ use Rattle.star_column.specs.Dictionary.{dictionary_of}
 abbrev pub texts_at : List (List ℕ) → List ℕ → List (List ℕ)
 texts_at texts places = map (λ place. slice_index_or texts place []) places
 
--- a dictionary and the codes of the rows: each a place in the dictionary, and each place the code of some row
+-- a dictionary and the codes of the rows: each a place in the dictionary, and each place the code
+-- of some row
 pub record AreCodes (dictionary : List (List ℕ)) (codes : List ℕ) : Type 0 where
   pub few : length codes < 2 ^ 32
   pub within : All (λ code. code < length dictionary) codes
   pub dictionary_is : dictionary ≡ dictionary_of (texts_at dictionary codes)
 
--- numbers of the texts of some rows: each is the place of the row's text among different texts of these rows
-pub record AreNumbers (distinct : List (List ℕ)) (numbers : List ℕ) (texts : List (List ℕ)) : Type 0 where
+-- numbers of the texts of some rows: each is the place of the row's text among different texts of
+-- these rows
+pub record AreNumbers (distinct : List (List ℕ)) (numbers : List ℕ)
+    (texts : List (List ℕ)) : Type 0 where
   pub within : All (λ number. number < length distinct) numbers
   pub texts_are : texts_at distinct numbers ≡ texts
   pub met : (text : List ℕ) → Contains distinct text → Contains texts text
 
 -- each of these numbers leads to a place where it stands
 abbrev pub LeadBack : List ℕ → List ℕ → Type 0
-LeadBack places numbers = All (λ number. slice_get numbers (slice_index places number) ≡ Some number) numbers
+LeadBack places numbers =
+    All (λ number. slice_get numbers (slice_index places number) ≡ Some number) numbers

@@ -1,4 +1,5 @@
--- The faults of the steps before anything is written, in their order. Memory may have been refused before any.
+-- The faults of the steps before anything is written, in their order. Memory may have been refused
+-- before any.
 use Rattle.std.specs.Prelude.{◌≡◌, ℕ, List, Some}
 use Rattle.star_schema.specs.declared.table.TableId.{TableId}
 use Rattle.star_schema.specs.Loadable.{IsLoadable, database_of}
@@ -27,14 +28,19 @@ IsNoEnd end _ = ⊥
 -- of a program's run over the tables of five texts
 abbrev pub IsNoOutcome : ℕ → (TableId → List ℕ) → Parts → ℕ → EngineFault → Type 0
 IsNoOutcome most texts program visits OutOfMemory = Unit {0}
-IsNoOutcome most texts program visits (Load fault) = (load_fault most texts ≡ Some fault) × ¬ IsLoadable most texts
-IsNoOutcome most texts program visits (Trial fault) = IsLoadable most texts × IsStop (bounded_run_of (world_of (database_of texts)) visits program) fault
+IsNoOutcome most texts program visits (Load fault) =
+    (load_fault most texts ≡ Some fault) × ¬ IsLoadable most texts
+IsNoOutcome most texts program visits (Trial fault) =
+    IsLoadable most texts
+    × IsStop (bounded_run_of (world_of (database_of texts)) visits program) fault
 IsNoOutcome most texts program visits _ = ⊥
 
 -- of the report of the program that a file spells
 abbrev pub IsNoReport : ℕ → (TableId → List ℕ) → List ℕ → ℕ → EngineFault → Type 0
 IsNoReport most texts file visits OutOfMemory = Unit {0}
 IsNoReport most texts file visits (Program fault) = text_fault file ≡ Some fault
-IsNoReport most texts file visits (Load fault) = IsProgram file × (load_fault most texts ≡ Some fault) × ¬ IsLoadable most texts
-IsNoReport most texts file visits (Trial fault) = IsLoadable most texts × IsStopped (database_of texts) file visits fault
+IsNoReport most texts file visits (Load fault) =
+    IsProgram file × (load_fault most texts ≡ Some fault) × ¬ IsLoadable most texts
+IsNoReport most texts file visits (Trial fault) =
+    IsLoadable most texts × IsStopped (database_of texts) file visits fault
 IsNoReport most texts file visits (Write sent) = ⊥

@@ -15,4 +15,6 @@ returns c =
     let x : to_z w128 (of_z w128 c.from-2.result) ≡ c.args.x = search rules in
     let small : c.args.n ≤ 2 ^ 64 - 1 = search rules in
     rw (n, x)
-    (to_z-of_z w128 _ (fits_signed_mul w128 (pos c.args.n) c.args.x (2 ^ 64 - 1) (2 ^ 63) small (size_le c.args.x c.ranges.x) (lit< tt)))
+    (to_z-of_z w128 _
+    (fits_signed_mul w128 (pos c.args.n) c.args.x (2 ^ 64 - 1) (2 ^ 63) small
+    (size_le c.args.x c.ranges.x) (lit< tt)))

@@ -41,7 +41,9 @@ fn key_cell(
     key: Option<KeyValue>,
 ) -> Result<Cell, AllocError>
     requires { IsDecodable catalogue.now declared key }
-    ensures { IfOk result (λ cell. cell ≡ outcome.key_cell (option_map (decoded (world_of catalogue.now) declared) key)) }
+    ensures { IfOk result
+        (λ cell. cell
+        ≡ outcome.key_cell (option_map (decoded (world_of catalogue.now) declared) key)) }
 {
     match (key, declared) {
         (None, _) => Ok(Cell::All),
@@ -73,7 +75,9 @@ fn cell(
 ) -> Result<Cell, AllocError>
     requires keys { AreDecodable catalogue.now declared.now.keys row.now.keys }
     requires column { has_column declared.now column ≡ true }
-    ensures { IfOk result (λ cell. cell ≡ cell_of (decoded_row (world_of catalogue.now) declared.now (row_shown row.now)) column) }
+    ensures { IfOk result
+        (λ cell. cell
+        ≡ cell_of (decoded_row (world_of catalogue.now) declared.now (row_shown row.now)) column) }
 {
     match column {
         GroupColumn::Key(place) => key_cell(
@@ -96,7 +100,8 @@ fn cells(
 ) -> Result<Items<Cell>, AllocError>
     requires keys { AreDecodable catalogue.now declared.now.keys row.now.keys }
     requires columns { All (λ show. has_column declared.now show.column ≡ true) shows.now }
-    ensures { IfOk result (λ cells. cells ≡ row_cells (world_of catalogue.now) declared.now shows.now row.now) }
+    ensures { IfOk result
+        (λ cells. cells ≡ row_cells (world_of catalogue.now) declared.now shows.now row.now) }
 {
     let mut cells = Vec::with_capacity(alloc, shows.len())?;
     for show in shows {
@@ -115,7 +120,9 @@ pub(super) fn cell_rows(
 ) -> Result<Items<Items<Cell>>, AllocError>
     requires keys { All (λ row. AreDecodable catalogue.now declared.now.keys row.keys) rows.now }
     requires columns { All (λ show. has_column declared.now show.column ≡ true) shows.now }
-    ensures { IfOk result (λ table. table ≡ map (row_cells (world_of catalogue.now) declared.now shows.now) rows.now) }
+    ensures { IfOk result
+        (λ table. table
+        ≡ map (row_cells (world_of catalogue.now) declared.now shows.now) rows.now) }
 {
     let mut table = Vec::with_capacity(alloc, rows.len())?;
     for row in rows {

@@ -15,20 +15,24 @@ use Rattle.star_schema.specs.declared.column.ColumnId.{ColumnId}
 use Rattle.star_schema.specs.declared.group.GroupColumn.{GroupColumn}
 use Rattle.star_schema.specs.declared.group.GroupColumn.TheVariants as column
 use Rattle.star_schema.specs.declared.group.SortKey.{SortKey}
-use Rattle.star_program.specs.Text.Keywords.{aggregate_of, column_of, direction_of, keyword_of, operator_of, same, shape_of, table_of}
+use Rattle.star_program.specs.Text.Keywords.{aggregate_of, column_of, direction_of, keyword_of, mnemonic_of, same, shape_of, table_of}
 use Rattle.star_program.specs.Text.Lines.{begins_with, is_blank, lines_of, pieces_of, words_of}
 use Rattle.star_common.specs.Numerals.{numeral_of}
 use Rattle.star_program.specs.Text.Numerals.{constant_of, count_of, is_name, register_of, up_to}
-use Rattle.star_program.specs.Text.Said.{assigned, both, by_first, by_keyword, by_words, each, end_of, group_column_of, group_head, group_key_of, group_of, header_of, lists, name_of, of_two, one, only, operation, plain_operation, put_head, put_of, quoted_text_of, said, show_of, sort_of, test_of_two, three, two, unquoted, until_colon}
-use Rattle.star_program.specs.Text.Spellable.{IsConstant, IsPrinted, IsSayable, IsShort, IsShortColumn, IsSpellableOp, OnlySpellable}
+use Rattle.star_program.specs.Text.Said.{assigned, both, by_first, by_keyword, by_words, each, end_of, group_column_of, group_head, group_key_of, group_of, header_of, lists, name_of, one, only, operation_of, put_head, put_of, quoted_text_of, said, show_of, sort_of, text_key, three, two, unquoted, until_colon}
+use Rattle.star_program.specs.Text.Spellable.{IsConstant, IsKey, IsPrinted, IsSayable, IsShort, IsShortColumn, IsSpellableOp, IsSpellableOperation, OnlySpellable}
 use Rattle.star_program.specs.Text.Spelling.{Spells, statements_of}
+use Rattle.star_program.specs.World.{is_text}
+use Rattle.star_program.specs.declared.group.GroupKey.TheVariants as key
 use Rattle.star_program.specs.declared.op.Op.{Op}
 use Rattle.star_program.specs.declared.op.Op.TheVariants as op
+use Rattle.star_program.specs.declared.op.Operation.{Operation}
+use Rattle.star_program.specs.declared.op.Operation.TheVariants as operation
 use Rattle.star_program.specs.declared.program.Show.{Show}
 use Rattle.star_program.specs.declared.spelling.keyword.Keyword.{Keyword}
 use Rattle.star_program.specs.declared.spelling.keyword.Keyword.TheVariants as keyword
-use Rattle.star_program.specs.declared.spelling.keyword.Operator.{Operator}
-use Rattle.star_program.specs.declared.spelling.keyword.Operator.TheVariants as operator
+use Rattle.star_program.specs.declared.spelling.keyword.Mnemonic.{Mnemonic}
+use Rattle.star_program.specs.declared.spelling.keyword.Mnemonic.TheVariants as mnemonic
 use Rattle.star_program.specs.declared.spelling.statement.Statement.{Statement}
 use Rattle.star_program.specs.declared.spelling.statement.Statement.TheVariants as says
 use Rattle.star_common.proofs.NumeralLemmas.{below_power, digit_bounds}
@@ -249,70 +253,42 @@ any_column w c h = tt
 any_table : Gives table_of Any
 any_table w t h = tt
 
--- two registers as operands
-two_short : (ws : List (List ℕ)) (p : ℕ × ℕ) → two register_of register_of ws ≡ Some p → IsShort p.0 × IsShort p.1
-two_short ws p h = two_gives register_of register_of IsShort IsShort ws p register_short register_short h
-
-test_spellable : (t : ℕ) (o : Operator) (a b : ℕ) (x : Op) → IsShort t → IsShort a × IsShort b → test_of_two t o a b ≡ Some x → IsSpellableOp x
-test_spellable t operator.Less a b x short both h = let is : op.Less t a b ≡ x = cc in subst IsSpellableOp is (short, both.0, both.1)
-test_spellable t operator.LessOrEqual a b x short both h = let is : op.LessOrEqual t a b ≡ x = cc in subst IsSpellableOp is (short, both.0, both.1)
-test_spellable t operator.Equal a b x short both h = let is : op.Equal t a b ≡ x = cc in subst IsSpellableOp is (short, both.0, both.1)
-test_spellable t operator.And a b x short both h = let is : op.And t a b ≡ x = cc in subst IsSpellableOp is (short, both.0, both.1)
-test_spellable t operator.Or a b x short both h = let is : op.Or t a b ≡ x = cc in subst IsSpellableOp is (short, both.0, both.1)
-test_spellable t o a b x short both h = let bad : ⊥ = cc in absurd bad
-
-two_spellable : (t : ℕ) (o : Operator) (a b : ℕ) (x : Op) → IsShort t → IsShort a × IsShort b → of_two t o a b ≡ Some x → IsSpellableOp x
-two_spellable t operator.Add a b x short both h = let is : op.Add t a b ≡ x = cc in subst IsSpellableOp is (short, both.0, both.1)
-two_spellable t operator.Sub a b x short both h = let is : op.Sub t a b ≡ x = cc in subst IsSpellableOp is (short, both.0, both.1)
-two_spellable t operator.Mul a b x short both h = let is : op.Mul t a b ≡ x = cc in subst IsSpellableOp is (short, both.0, both.1)
-two_spellable t o a b x short both h = test_spellable t o a b x short both h
-
-plain_spellable : (t : ℕ) (o : Operator) (ws : List (List ℕ)) (x : Op) → IsShort t → plain_operation t o ws ≡ Some x → IsSpellableOp x
-unfolding plain_operation
-plain_spellable t operator.Const ws x short h =
-    let c = mapped (λ n. op.Const t n) (one constant_of ws) x h in
-    subst IsSpellableOp c.2 (short, one_gives constant_of IsConstant ws c.0 constant_fits c.1)
-plain_spellable t operator.Low ws x short h = let bad : ⊥ = cc in absurd bad
-plain_spellable t operator.High ws x short h = let bad : ⊥ = cc in absurd bad
-plain_spellable t operator.Load ws x short h =
-    let c = mapped (λ (k, row). op.Load t k row) (two column_of register_of ws) x h in
-    subst IsSpellableOp c.2 (short, (two_gives column_of register_of Any IsShort ws c.0 any_column register_short c.1).1)
-plain_spellable t operator.Find ws x short h =
-    let c = mapped (λ (table, k). op.Find t table k) (two table_of register_of ws) x h in
-    subst IsSpellableOp c.2 (short, (two_gives table_of register_of Any IsShort ws c.0 any_table register_short c.1).1)
-plain_spellable t operator.Within ws x short h =
-    let c = mapped (λ (y, (a, b)). op.Within t y a b) (three register_of register_of register_of ws) x h in
-    let d = three_gives register_of register_of register_of IsShort IsShort IsShort ws c.0 register_short register_short register_short c.1 in
-    subst IsSpellableOp c.2 (short, d.0, d.1, d.2)
-plain_spellable t operator.Not ws x short h =
-    let c = mapped (λ f. op.Not t f) (one register_of ws) x h in
-    subst IsSpellableOp c.2 (short, one_gives register_of IsShort ws c.0 register_short c.1)
-plain_spellable t operator.Read ws x short h =
-    let c = mapped (λ (g, (a, n)). op.Read t g a n) (three count_of count_of constant_of ws) x h in
-    let d = three_gives count_of count_of constant_of IsShort IsShort IsConstant ws c.0 count_short count_short constant_fits c.1 in
-    subst IsSpellableOp c.2 (short, d.0, d.1, d.2)
-plain_spellable t o ws x short h =
-    let c = chained (λ (a, b). of_two t o a b) (two register_of register_of ws) x h in
-    two_spellable t o c.0.0 c.0.1 x short (two_short ws c.0 c.1) c.2
-
-spellable : (t : ℕ) (o : Operator) (ws : List (List ℕ)) (x : Op) → IsShort t → all_printed ws ≡ true → operation t o ws ≡ Some x → IsSpellableOp x
-unfolding operation
-spellable t operator.Low ws x short all h =
-    let c = mapped (λ (k, text). op.Low t k text) (two column_of quoted_text_of ws) x h in
-    subst IsSpellableOp c.2 (short, search_printed ws c.0 c.1 all)
-spellable t operator.High ws x short all h =
-    let c = mapped (λ (k, text). op.High t k text) (two column_of quoted_text_of ws) x h in
-    subst IsSpellableOp c.2 (short, search_printed ws c.0 c.1 all)
-spellable t o ws x short all h = plain_spellable t o ws x short h
+operation_spellable : (m : Mnemonic) (ws : List (List ℕ)) (o : Operation) → all_printed ws ≡ true → operation_of m ws ≡ Some o → IsSpellableOperation o
+unfolding operation_of
+operation_spellable mnemonic.Const ws o all h =
+    let c = mapped operation.Const (one constant_of ws) o h in
+    subst IsSpellableOperation c.2 (one_gives constant_of IsConstant ws c.0 constant_fits c.1)
+operation_spellable (mnemonic.Edge e) ws o all h =
+    let c = mapped (λ (k, text). operation.Edge e k text) (two column_of quoted_text_of ws) o h in
+    subst IsSpellableOperation c.2 (search_printed ws c.0 c.1 all)
+operation_spellable mnemonic.Load ws o all h =
+    let c = mapped (λ (k, row). operation.Load k row) (two column_of register_of ws) o h in
+    subst IsSpellableOperation c.2 (two_gives column_of register_of Any IsShort ws c.0 any_column register_short c.1).1
+operation_spellable mnemonic.Find ws o all h =
+    let c = mapped (λ (table, k). operation.Find table k) (two table_of register_of ws) o h in
+    subst IsSpellableOperation c.2 (two_gives table_of register_of Any IsShort ws c.0 any_table register_short c.1).1
+operation_spellable (mnemonic.Binary x) ws o all h =
+    let c = mapped (λ (a, b). operation.Binary x a b) (two register_of register_of ws) o h in
+    subst IsSpellableOperation c.2 (two_gives register_of register_of IsShort IsShort ws c.0 register_short register_short c.1)
+operation_spellable mnemonic.Within ws o all h =
+    let c = mapped (λ (y, (a, b)). operation.Within y a b) (three register_of register_of register_of ws) o h in
+    subst IsSpellableOperation c.2 (three_gives register_of register_of register_of IsShort IsShort IsShort ws c.0 register_short register_short register_short c.1)
+operation_spellable mnemonic.Not ws o all h =
+    let c = mapped operation.Not (one register_of ws) o h in
+    subst IsSpellableOperation c.2 (one_gives register_of IsShort ws c.0 register_short c.1)
+operation_spellable mnemonic.Read ws o all h =
+    let c = mapped (λ (g, (a, n)). operation.Read g a n) (three count_of count_of constant_of ws) o h in
+    subst IsSpellableOperation c.2 (three_gives count_of count_of constant_of IsShort IsShort IsConstant ws c.0 count_short count_short constant_fits c.1)
 
 assigned_spellable : (t : ℕ) (ws : List (List ℕ)) (x : Op) → IsShort t → all_printed ws ≡ true → assigned t ws ≡ Some x → IsSpellableOp x
 assigned_spellable t [] x short all h = let bad : ⊥ = cc in absurd bad
 assigned_spellable t (w ∷ []) x short all h = let bad : ⊥ = cc in absurd bad
 assigned_spellable t (w ∷ name ∷ ws) x short all h =
-    let c = chosen (same w (codes "=")) (option_and_then (λ o. operation t o ws) (operator_of name)) x h in
-    let d = chained (λ o. operation t o ws) (operator_of name) x c.1 in
+    let c = chosen (same w (codes "=")) (option_map (op.Assign t) (option_and_then (λ m. operation_of m ws) (mnemonic_of name))) x h in
+    let d = mapped (op.Assign t) (option_and_then (λ m. operation_of m ws) (mnemonic_of name)) x c.1 in
+    let e = chained (λ m. operation_of m ws) (mnemonic_of name) d.0 d.1 in
     let rest = and_parts (list_all is_printable name) (all_printed ws) (and_parts (list_all is_printable w) (all_printed (name ∷ ws)) all).1 in
-    spellable t d.0 ws x short rest.1 d.2
+    subst IsSpellableOp d.2 (short, operation_spellable e.0 ws d.0 rest.1 e.2)
 
 put_spellable : (ws : List (List ℕ)) (x : Op) → put_of ws ≡ Some x → IsSpellableOp x
 put_spellable [] x h = let bad : ⊥ = cc in absurd bad
@@ -334,6 +310,20 @@ header_sayable (w ∷ ws) s h =
     let is : says.Header ≡ s = cc (e.1) in
     subst IsSayable is tt
 
+key_given : Gives group_key_of IsKey
+unfolding group_key_of
+key_given word k h = elim (cases_Bool (same word (codes "number"))) [
+  | inl number ↦
+      let there = rw number at h in
+      let is : key.Number ≡ k = cc (there) in
+      subst IsKey is tt
+  | inr other ↦
+      let c = chained text_key (column_of word) k (rw other at h) in
+      let d = chosen (is_text c.0) (Some (key.Text c.0)) k c.2 in
+      let is : key.Text c.0 ≡ k = cc (d.1) in
+      subst IsKey is d.0
+]
+
 group_sayable : (ws : List (List ℕ)) (s : Statement) → group_of ws ≡ Some s → IsSayable s
 group_sayable [] s h = let bad : ⊥ = cc in absurd bad
 group_sayable (w ∷ []) s h = let bad : ⊥ = cc in absurd bad
@@ -342,7 +332,8 @@ group_sayable (w ∷ v ∷ ws) s h =
     (group_head (w ∷ v ∷ ws)) s h in
     let head = paired (count_of w) (both (shape_of v) (Some ws)) c.0 c.1 in
     let d = mapped (λ (keys, aggregates). says.Group c.0.0 (record { shape = c.0.1.0; keys = keys; aggregates = aggregates })) (lists group_key_of aggregate_of c.0.1.1) s c.2 in
-    subst IsSayable d.2 (count_short w c.0.0 head.0)
+    let items = lists_gives group_key_of aggregate_of IsKey Any c.0.1.1 d.0 key_given (λ w x e. tt) d.1 in
+    subst IsSayable d.2 (count_short w c.0.0 head.0, items.0)
 
 end_sayable : (ws : List (List ℕ)) (s : Statement) → end_of ws ≡ Some s → IsSayable s
 end_sayable [] s h = let is : says.End ≡ s = cc in subst IsSayable is tt

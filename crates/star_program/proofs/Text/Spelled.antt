@@ -14,27 +14,30 @@ use Rattle.star_schema.specs.declared.column.ColumnId.{ColumnId}
 use Rattle.star_schema.specs.declared.group.Direction.{Direction}
 use Rattle.star_schema.specs.declared.group.GroupColumn.{GroupColumn}
 use Rattle.star_schema.specs.declared.group.GroupColumn.TheVariants as column
-use Rattle.star_program.specs.Text.Keywords.{aggregate_name, aggregate_of, column_of, direction_name, keyword_name, keyword_of, operator_name, same, shape_name}
+use Rattle.star_program.specs.Text.Keywords.{aggregate_name, aggregate_of, column_of, direction_name, keyword_name, keyword_of, mnemonic_name, same, shape_name}
 use Rattle.star_program.specs.Text.Lines.{is_blank, lines_of, words_of}
 use Rattle.star_program.specs.Text.Numerals.{is_name, register_of}
-use Rattle.star_program.specs.Text.Said.{by_keyword, by_words, each, group_column_of, group_key_of, lists, operation, plain_operation, said, until_colon}
-use Rattle.star_program.specs.Text.Spellable.{IsPrinted, IsSayable, IsShort, IsShortColumn, IsSpellableOp, Written}
+use Rattle.star_program.specs.Text.Said.{by_keyword, by_words, each, group_column_of, group_key_of, lists, operation_of, said, until_colon}
+use Rattle.star_program.specs.Text.Spellable.{IsKey, IsPrinted, IsSayable, IsShort, IsShortColumn, IsSpellableOp, IsSpellableOperation, Written}
 use Rattle.star_program.specs.Text.Spelling.{Spells}
 use Rattle.star_program.specs.Text.Statements.{Line, lines_of_program}
 use Rattle.star_common.specs.Quotes.{doubled, quoted}
-use Rattle.star_program.specs.Text.Written.{aggregate_text, column_text, group_text, key_text, line_text, op_text, register_text, show_text, sort_text, statement_text, target_text, text_of}
+use Rattle.star_program.specs.Text.Written.{aggregate_text, assigned_text, column_text, group_text, key_text, line_text, op_text, register_text, show_text, sort_text, statement_text, target_text, text_of}
 use Rattle.star_schema.specs.declared.table.TableId.{TableId}
 use Rattle.star_program.specs.declared.group.GroupDecl.{GroupDecl}
 use Rattle.star_program.specs.declared.group.GroupKey.{GroupKey}
 use Rattle.star_program.specs.declared.group.GroupKey.TheVariants as key
 use Rattle.star_program.specs.declared.op.Op.{Op}
 use Rattle.star_program.specs.declared.op.Op.TheVariants as op
-use Rattle.star_program.specs.declared.spelling.keyword.Operator.{Operator}
-use Rattle.star_program.specs.declared.spelling.keyword.Operator.TheVariants as operator
+use Rattle.star_program.specs.declared.op.Edge.{Edge}
+use Rattle.star_program.specs.declared.op.Operation.{Operation}
+use Rattle.star_program.specs.declared.op.Operation.TheVariants as operation
+use Rattle.star_program.specs.declared.spelling.keyword.Mnemonic.{Mnemonic}
+use Rattle.star_program.specs.declared.spelling.keyword.Mnemonic.TheVariants as mnemonic
 use Rattle.star_program.specs.declared.spelling.statement.Statement.{Statement}
 use Rattle.star_program.specs.declared.spelling.statement.Statement.TheVariants as says
 use Rattle.star_program.proofs.Text.LineLemmas.{goes_on, no_lines}
-use Rattle.star_program.proofs.Text.SpelledWords.{aggregate_read, aggregate_word, behind, column_apart, column_read, column_word, constant_decimal, constant_word, count_decimal, count_word, direction_read, direction_word, is_word, is_word_byte, name_word, operator_read, operator_word, quote_printable, quoted_printable, quoted_read, register_is_word, register_no_keyword, register_read, register_word, shape_read, shape_word, table_read, table_word, words_before_quote, words_behind, words_printable}
+use Rattle.star_program.proofs.Text.SpelledWords.{aggregate_read, aggregate_word, behind, column_apart, column_read, column_word, constant_decimal, constant_word, count_decimal, count_word, direction_read, direction_word, is_word, is_word_byte, name_word, mnemonic_read, mnemonic_word, quote_printable, quoted_printable, quoted_read, register_is_word, register_no_keyword, register_read, register_word, shape_read, shape_word, table_read, table_word, words_before_quote, words_behind, words_printable}
 use Rattle.star_program.proofs.Text.WordLemmas.{space_first}
 use Rattle.star_program.proofs.Text.WrittenLemmas.{flat_map_map}
 
@@ -80,49 +83,40 @@ three_behind u v w = ap (λ t. 32 ∷ (u ++ 32 ∷ (v ++ 32 ∷ t))) (sym (appen
 
 -- ---- instructions that write a register
 
-by_target : (t : ℕ) (o : Operator) (operands : List (List ℕ)) (x : Op) → IsShort t → operation t o operands ≡ Some x
-    → by_words (register_word t ∷ codes "=" ∷ operator_name o ∷ operands) ≡ Some (says.Act x)
+by_target : (t : ℕ) (m : Mnemonic) (operands : List (List ℕ)) (o : Operation) → IsShort t → operation_of m operands ≡ Some o
+    → by_words (register_word t ∷ codes "=" ∷ mnemonic_name m ∷ operands) ≡ Some (says.Act (op.Assign t o))
 unfolding by_words
-by_target t o operands x h is = rw (register_no_keyword t h, register_read t h, operator_read o, is) refl
+by_target t m operands o h is = rw (register_no_keyword t h, register_read t h, mnemonic_read m, is) refl
 
-target_words : (t : ℕ) (o : Operator) (rest : List ℕ) → target_text t o ++ rest ≡ register_word t ++ (behind (codes "=" ∷ operator_name o ∷ []) ++ rest)
+target_words : (t : ℕ) (m : Mnemonic) (rest : List ℕ) → target_text t m ++ rest ≡ register_word t ++ (behind (codes "=" ∷ mnemonic_name m ∷ []) ++ rest)
 unfolding target_text
-target_words t o rest =
-    let end : operator_name o ++ rest ≡ (operator_name o ++ []) ++ rest = ap (λ x. x ++ rest) (sym (append-nil (operator_name o))) in
-    ap (λ x. 114 ∷ x) (append_assoc (decimal t) (32 ∷ 61 ∷ 32 ∷ operator_name o) rest) ∙ ap (λ x. 114 ∷ (decimal t ++ 32 ∷ 61 ∷ 32 ∷ x)) end
+target_words t m rest =
+    let end : mnemonic_name m ++ rest ≡ (mnemonic_name m ++ []) ++ rest = ap (λ x. x ++ rest) (sym (append-nil (mnemonic_name m))) in
+    ap (λ x. 114 ∷ x) (append_assoc (decimal t) (32 ∷ 61 ∷ 32 ∷ mnemonic_name m) rest) ∙ ap (λ x. 114 ∷ (decimal t ++ 32 ∷ 61 ∷ 32 ∷ x)) end
 
-spoken_target : (t : ℕ) (o : Operator) (operands : List (List ℕ)) (x : Op) → IsShort t → op_text x ≡ target_text t o ++ behind operands → list_all is_word operands ≡ true
-    → operation t o operands ≡ Some x → IsSpoken (says.Act x)
-spoken_target t o operands x h is all means =
-    let parted : behind (codes "=" ∷ operator_name o ∷ []) ++ behind operands ≡ behind (codes "=" ∷ operator_name o ∷ operands) = sym (flat_map-append (λ w. 32 ∷ w) (codes "=" ∷ operator_name o ∷ []) operands) in
-    spoken (says.Act x) (register_word t) (codes "=" ∷ operator_name o ∷ operands)
-    (is ∙ target_words t o (behind operands) ∙ ap (λ y. register_word t ++ y) parted)
-    (register_is_word t h) (rw (operator_word o, all) refl) (by_target t o operands x h means)
+spoken_target : (t : ℕ) (m : Mnemonic) (operands : List (List ℕ)) (o : Operation) (text : List ℕ) → IsShort t → assigned_text t o ≡ target_text t m ++ text → text ≡ behind operands → list_all is_word operands ≡ true
+    → operation_of m operands ≡ Some o → IsSpoken (says.Act (op.Assign t o))
+unfolding op_text
+spoken_target t m operands o text h is follow all means =
+    let parted : behind (codes "=" ∷ mnemonic_name m ∷ []) ++ behind operands ≡ behind (codes "=" ∷ mnemonic_name m ∷ operands) = sym (flat_map-append (λ w. 32 ∷ w) (codes "=" ∷ mnemonic_name m ∷ []) operands) in
+    spoken (says.Act (op.Assign t o)) (register_word t) (codes "=" ∷ mnemonic_name m ∷ operands)
+    (is ∙ ap (λ y. target_text t m ++ y) follow ∙ target_words t m (behind operands) ∙ ap (λ y. register_word t ++ y) parted)
+    (register_is_word t h) (rw (mnemonic_word m, all) refl) (by_target t m operands o h means)
 
-spoken_search : (t : ℕ) (o : Operator) (c : ColumnId) (text : List ℕ) (x : Op) → IsShort t → IsPrinted text → op_text x ≡ target_text t o ++ (32 ∷ (column_name c ++ (32 ∷ quoted text)))
-    → operation t o (column_name c ∷ quoted text ∷ []) ≡ Some x → IsSpoken (says.Act x)
-unfolding quoted
-spoken_search t o c text x h printed is means =
-    let ws : List (List ℕ) = codes "=" ∷ operator_name o ∷ column_name c ∷ [] in
+spoken_edge : (t : ℕ) (e : Edge) (c : ColumnId) (text : List ℕ) → IsShort t → IsPrinted text → IsSpoken (says.Act (op.Assign t (operation.Edge e c text)))
+unfolding op_text assigned_text operation_of quoted
+spoken_edge t e c text h printed =
+    let m : Mnemonic = mnemonic.Edge e in
+    let ws : List (List ℕ) = codes "=" ∷ mnemonic_name m ∷ column_name c ∷ [] in
     let end : 32 ∷ (column_name c ++ (32 ∷ quoted text)) ≡ behind (column_name c ∷ []) ++ 32 ∷ quoted text = ap (λ y. 32 ∷ (y ++ 32 ∷ quoted text)) (sym (append-nil (column_name c))) in
-    let parted : behind (codes "=" ∷ operator_name o ∷ []) ++ (behind (column_name c ∷ []) ++ 32 ∷ quoted text) ≡ behind ws ++ 32 ∷ quoted text =
-    sym (append_assoc (behind (codes "=" ∷ operator_name o ∷ [])) (behind (column_name c ∷ [])) (32 ∷ quoted text))
-    ∙ ap (λ y. y ++ 32 ∷ quoted text) (sym (flat_map-append (λ w. 32 ∷ w) (codes "=" ∷ operator_name o ∷ []) (column_name c ∷ []))) in
-    let text_is : op_text x ≡ register_word t ++ (behind ws ++ 32 ∷ quoted text) =
-    is ∙ ap (λ y. target_text t o ++ y) end ∙ target_words t o (behind (column_name c ∷ []) ++ 32 ∷ quoted text) ∙ ap (λ y. register_word t ++ y) parted in
-    spoken_quote (says.Act x) (register_word t) ws (flat_map doubled text ++ 39 ∷ []) text_is
-    (register_is_word t h) (rw (operator_word o, column_word c) refl) (quoted_printable text printed)
-    (by_target t o (column_name c ∷ quoted text ∷ []) x h means)
-
-two_are_words : (a b : ℕ) → IsShort a → IsShort b → list_all is_word (register_word a ∷ register_word b ∷ []) ≡ true
-two_are_words a b h g = rw (register_is_word a h, register_is_word b g) refl
-
--- two registers as operands
-spoken_two : (t : ℕ) (o : Operator) (a b : ℕ) (x : Op) → IsShort t → IsShort a → IsShort b → op_text x ≡ target_text t o ++ (register_text a ++ register_text b)
-    → operation t o (register_word a ∷ register_word b ∷ []) ≡ Some x → IsSpoken (says.Act x)
-unfolding register_text
-spoken_two t o a b x h f g is means =
-    spoken_target t o (register_word a ∷ register_word b ∷ []) x h (is ∙ ap (λ y. target_text t o ++ y) (two_behind (register_word a) (register_word b))) (two_are_words a b f g) means
+    let parted : behind (codes "=" ∷ mnemonic_name m ∷ []) ++ (behind (column_name c ∷ []) ++ 32 ∷ quoted text) ≡ behind ws ++ 32 ∷ quoted text =
+    sym (append_assoc (behind (codes "=" ∷ mnemonic_name m ∷ [])) (behind (column_name c ∷ [])) (32 ∷ quoted text))
+    ∙ ap (λ y. y ++ 32 ∷ quoted text) (sym (flat_map-append (λ w. 32 ∷ w) (codes "=" ∷ mnemonic_name m ∷ []) (column_name c ∷ []))) in
+    let text_is : op_text (op.Assign t (operation.Edge e c text)) ≡ register_word t ++ (behind ws ++ 32 ∷ quoted text) =
+    ap (λ y. target_text t m ++ y) end ∙ target_words t m (behind (column_name c ∷ []) ++ 32 ∷ quoted text) ∙ ap (λ y. register_word t ++ y) parted in
+    spoken_quote (says.Act (op.Assign t (operation.Edge e c text))) (register_word t) ws (flat_map doubled text ++ 39 ∷ []) text_is
+    (register_is_word t h) (rw (mnemonic_word m, column_word c) refl) (quoted_printable text printed)
+    (by_target t m (column_name c ∷ quoted text ∷ []) (operation.Edge e c text) h (rw (column_read c, quoted_read text) refl))
 
 -- ---- lists parted by a colon
 
@@ -196,38 +190,31 @@ spoken_keep f h =
 
 -- ---- any instruction
 
+spoken_assigned : (t : ℕ) (o : Operation) → IsShort t → IsSpellableOperation o → IsSpoken (says.Act (op.Assign t o))
+unfolding assigned_text operation_of register_text
+spoken_assigned t (operation.Const n) s h =
+    spoken_target t mnemonic.Const (signed_decimal n ∷ []) (operation.Const n) _ s refl (one_behind (signed_decimal n)) (rw (constant_word n h) refl) (rw (constant_decimal n h) refl)
+spoken_assigned t (operation.Edge e c text) s h = spoken_edge t e c text s h
+spoken_assigned t (operation.Load c row) s h =
+    spoken_target t mnemonic.Load (column_name c ∷ register_word row ∷ []) (operation.Load c row) _ s refl (two_behind (column_name c) (register_word row))
+    (rw (column_word c, register_is_word row h) refl) (rw (column_read c, register_read row h) refl)
+spoken_assigned t (operation.Find table k) s h =
+    spoken_target t mnemonic.Find (table_name table ∷ register_word k ∷ []) (operation.Find table k) _ s refl (two_behind (table_name table) (register_word k))
+    (rw (table_word table, register_is_word k h) refl) (rw (table_read table, register_read k h) refl)
+spoken_assigned t (operation.Binary o a b) s h =
+    spoken_target t (mnemonic.Binary o) (register_word a ∷ register_word b ∷ []) (operation.Binary o a b) _ s refl (two_behind (register_word a) (register_word b))
+    (rw (register_is_word a h.0, register_is_word b h.1) refl) (rw (register_read a h.0, register_read b h.1) refl)
+spoken_assigned t (operation.Within x a b) s h =
+    spoken_target t mnemonic.Within (register_word x ∷ register_word a ∷ register_word b ∷ []) (operation.Within x a b) _ s refl (three_behind (register_word x) (register_word a) (register_word b))
+    (rw (register_is_word x h.0, register_is_word a h.1, register_is_word b h.2) refl) (rw (register_read x h.0, register_read a h.1, register_read b h.2) refl)
+spoken_assigned t (operation.Not f) s h =
+    spoken_target t mnemonic.Not (register_word f ∷ []) (operation.Not f) _ s refl (one_behind (register_word f)) (rw (register_is_word f h) refl) (rw (register_read f h) refl)
+spoken_assigned t (operation.Read g a n) s h =
+    spoken_target t mnemonic.Read (decimal g ∷ decimal a ∷ signed_decimal n ∷ []) (operation.Read g a n) _ s refl (three_behind (decimal g) (decimal a) (signed_decimal n))
+    (rw (count_word g h.0, count_word a h.1, constant_word n h.2) refl) (rw (count_decimal g h.0, count_decimal a h.1, constant_decimal n h.2) refl)
+
 spoken_op : (o : Op) → IsSpellableOp o → IsSpoken (says.Act o)
-unfolding op_text operation plain_operation register_text
-spoken_op (op.Const t n) h =
-    spoken_target t operator.Const (signed_decimal n ∷ []) (op.Const t n) h.0 (ap (λ y. target_text t operator.Const ++ y) (one_behind (signed_decimal n)))
-    (rw (constant_word n h.1) refl) (rw (constant_decimal n h.1) refl)
-spoken_op (op.Low t c text) h = spoken_search t operator.Low c text (op.Low t c text) h.0 h.1 refl (rw (column_read c, quoted_read text) refl)
-spoken_op (op.High t c text) h = spoken_search t operator.High c text (op.High t c text) h.0 h.1 refl (rw (column_read c, quoted_read text) refl)
-spoken_op (op.Load t c row) h =
-    spoken_target t operator.Load (column_name c ∷ register_word row ∷ []) (op.Load t c row) h.0 (ap (λ y. target_text t operator.Load ++ y) (two_behind (column_name c) (register_word row)))
-    (rw (column_word c, register_is_word row h.1) refl) (rw (column_read c, register_read row h.1) refl)
-spoken_op (op.Find t table k) h =
-    spoken_target t operator.Find (table_name table ∷ register_word k ∷ []) (op.Find t table k) h.0 (ap (λ y. target_text t operator.Find ++ y) (two_behind (table_name table) (register_word k)))
-    (rw (table_word table, register_is_word k h.1) refl) (rw (table_read table, register_read k h.1) refl)
-spoken_op (op.Add t a b) h = spoken_two t operator.Add a b (op.Add t a b) h.0 h.1 h.2 refl (rw (register_read a h.1, register_read b h.2) refl)
-spoken_op (op.Sub t a b) h = spoken_two t operator.Sub a b (op.Sub t a b) h.0 h.1 h.2 refl (rw (register_read a h.1, register_read b h.2) refl)
-spoken_op (op.Mul t a b) h = spoken_two t operator.Mul a b (op.Mul t a b) h.0 h.1 h.2 refl (rw (register_read a h.1, register_read b h.2) refl)
-spoken_op (op.Less t a b) h = spoken_two t operator.Less a b (op.Less t a b) h.0 h.1 h.2 refl (rw (register_read a h.1, register_read b h.2) refl)
-spoken_op (op.LessOrEqual t a b) h = spoken_two t operator.LessOrEqual a b (op.LessOrEqual t a b) h.0 h.1 h.2 refl (rw (register_read a h.1, register_read b h.2) refl)
-spoken_op (op.Equal t a b) h = spoken_two t operator.Equal a b (op.Equal t a b) h.0 h.1 h.2 refl (rw (register_read a h.1, register_read b h.2) refl)
-spoken_op (op.And t a b) h = spoken_two t operator.And a b (op.And t a b) h.0 h.1 h.2 refl (rw (register_read a h.1, register_read b h.2) refl)
-spoken_op (op.Or t a b) h = spoken_two t operator.Or a b (op.Or t a b) h.0 h.1 h.2 refl (rw (register_read a h.1, register_read b h.2) refl)
-spoken_op (op.Within t x a b) h =
-    spoken_target t operator.Within (register_word x ∷ register_word a ∷ register_word b ∷ []) (op.Within t x a b) h.0
-    (ap (λ y. target_text t operator.Within ++ y) (three_behind (register_word x) (register_word a) (register_word b)))
-    (rw (register_is_word x h.1, register_is_word a h.2, register_is_word b h.3) refl) (rw (register_read x h.1, register_read a h.2, register_read b h.3) refl)
-spoken_op (op.Not t f) h =
-    spoken_target t operator.Not (register_word f ∷ []) (op.Not t f) h.0 (ap (λ y. target_text t operator.Not ++ y) (one_behind (register_word f)))
-    (rw (register_is_word f h.1) refl) (rw (register_read f h.1) refl)
-spoken_op (op.Read t g a n) h =
-    spoken_target t operator.Read (decimal g ∷ decimal a ∷ signed_decimal n ∷ []) (op.Read t g a n) h.0
-    (ap (λ y. target_text t operator.Read ++ y) (three_behind (decimal g) (decimal a) (signed_decimal n)))
-    (rw (count_word g h.1, count_word a h.2, constant_word n h.3) refl) (rw (count_decimal g h.1, count_decimal a h.2, constant_decimal n h.3) refl)
+spoken_op (op.Assign t o) h = spoken_assigned t o h.0 h.1
 spoken_op (op.Keep f) h = spoken_keep f h
 spoken_op (op.Put g keys values) h = spoken_put g keys values h.0 h.1 h.2
 
@@ -254,29 +241,29 @@ colon_no_column : column_of (codes ":") ≡ None
 unfolding column_of schema_column
 colon_no_column = refl
 
-key_item : (k : GroupKey) → IsItem group_key_of key_word k
+key_item : (k : GroupKey) → IsKey k → IsItem group_key_of key_word k
 unfolding group_key_of key_word
-key_item key.Number = (refl, refl)
-key_item (key.Text c) = (rw (column_apart c (codes "number") number_no_column, column_read c) refl, column_apart c (codes ":") colon_no_column)
+key_item key.Number h = (refl, refl)
+key_item (key.Text c) h = (rw (column_apart c (codes "number") number_no_column, column_read c, h) refl, column_apart c (codes ":") colon_no_column)
 
 key_is_word : (k : GroupKey) → is_word (key_word k) ≡ true
 unfolding key_word
 key_is_word key.Number = refl
 key_is_word (key.Text c) = column_word c
 
-spoken_group : (place : ℕ) (group : GroupDecl) → IsShort place → IsSpoken (says.Group place group)
+spoken_group : (place : ℕ) (group : GroupDecl) → IsShort place × All IsKey group.keys → IsSpoken (says.Group place group)
 unfolding group_text by_words by_keyword keyword_of keyword_name
 spoken_group place group h =
     let ws : List (List ℕ) = map key_word group.keys ++ codes ":" ∷ map aggregate_name group.aggregates in
     let read : lists group_key_of aggregate_of ws ≡ Some (group.keys, group.aggregates) =
-    lists_read group_key_of aggregate_of key_word aggregate_name group.keys group.aggregates (λ k d small. key_item (slice_index_or group.keys k d)) (λ k d small. aggregate_read (slice_index_or group.aggregates k d)) in
+    lists_read group_key_of aggregate_of key_word aggregate_name group.keys group.aggregates (λ k d small. key_item (slice_index_or group.keys k d) (h.1 k d small)) (λ k d small. aggregate_read (slice_index_or group.aggregates k d)) in
     let all : list_all is_word ws ≡ true =
     lists_are_words key_word aggregate_name group.keys group.aggregates (λ k d small. key_is_word (slice_index_or group.keys k d)) (λ k d small. aggregate_word (slice_index_or group.aggregates k d)) in
     let text_is : group_text place group ≡ codes "group" ++ behind (decimal place ∷ shape_name group.shape ∷ ws) =
     ap (λ y. codes "group " ++ (decimal place ++ 32 ∷ (shape_name group.shape ++ y)))
     (ap (λ y. y ++ (32 ∷ 58 ∷ flat_map aggregate_text group.aggregates)) (keys_text group.keys) ∙ lists_text key_word aggregate_name group.keys group.aggregates) in
     spoken (says.Group place group) (codes "group") (decimal place ∷ shape_name group.shape ∷ ws) text_is refl
-    (rw (count_word place h, shape_word group.shape, all) refl) (rw (count_decimal place h, shape_read group.shape, read) refl)
+    (rw (count_word place h.0, shape_word group.shape, all) refl) (rw (count_decimal place h.0, shape_read group.shape, read) refl)
 
 -- ---- the other statements
 

@@ -25,15 +25,17 @@ use Rattle.star_schema.specs.declared.group.Direction.TheVariants as direction
 use Rattle.star_schema.specs.declared.group.Shape.{Shape}
 use Rattle.star_schema.specs.declared.group.Shape.TheVariants as shape
 use Rattle.star_schema.proofs.NamesApart.{column_by_name, table_by_name}
-use Rattle.star_program.specs.Text.Keywords.{aggregate_name, aggregate_of, column_of, direction_name, direction_of, keyword_name, keyword_of, operator_name, operator_of, same, shape_name, shape_of, table_of}
+use Rattle.star_program.specs.Text.Keywords.{aggregate_name, aggregate_of, column_of, direction_name, direction_of, keyword_name, keyword_of, mnemonic_name, mnemonic_of, same, shape_name, shape_of, table_of}
 use Rattle.star_program.specs.Text.Lines.{pieces_of, words_of}
 use Rattle.star_common.specs.Numerals.{numeral_of}
 use Rattle.star_program.specs.Text.Numerals.{constant_of, count_of, is_name, is_name_byte, register_of}
 use Rattle.star_program.specs.Text.Said.{quoted_text_of, unquoted}
 use Rattle.star_program.specs.Text.Spellable.{IsConstant, IsPrinted, IsShort}
 use Rattle.star_common.specs.Quotes.{doubled, quoted}
-use Rattle.star_program.specs.declared.spelling.keyword.Operator.{Operator}
-use Rattle.star_program.specs.declared.spelling.keyword.Operator.TheVariants as operator
+use Rattle.star_program.specs.declared.op.Edge.TheVariants as edge
+use Rattle.star_program.specs.declared.op.Operator.TheVariants as operator
+use Rattle.star_program.specs.declared.spelling.keyword.Mnemonic.{Mnemonic}
+use Rattle.star_program.specs.declared.spelling.keyword.Mnemonic.TheVariants as mnemonic
 use Rattle.star_program.proofs.Text.Quotes.{plain_byte, two_quotes}
 use Rattle.star_program.proofs.Text.WordLemmas.{filtered_first, no_pieces, piece_ends, piece_on, piece_quoted, words_are}
 
@@ -262,15 +264,21 @@ unfolding table_name
 table_word Date = refl
 table_word _ = refl
 
-pub operator_read : (o : Operator) → operator_of (operator_name o) ≡ Some o
-unfolding operator_of operator_name
-operator_read operator.Const = refl
-operator_read _ = refl
+pub mnemonic_read : (m : Mnemonic) → mnemonic_of (mnemonic_name m) ≡ Some m
+unfolding mnemonic_of mnemonic_name
+mnemonic_read (mnemonic.Edge edge.Low) = refl
+mnemonic_read (mnemonic.Edge edge.High) = refl
+mnemonic_read (mnemonic.Binary operator.Add) = refl
+mnemonic_read (mnemonic.Binary _) = refl
+mnemonic_read _ = refl
 
-pub operator_word : (o : Operator) → is_word (operator_name o) ≡ true
-unfolding operator_name
-operator_word operator.Const = refl
-operator_word _ = refl
+pub mnemonic_word : (m : Mnemonic) → is_word (mnemonic_name m) ≡ true
+unfolding mnemonic_name
+mnemonic_word (mnemonic.Edge edge.Low) = refl
+mnemonic_word (mnemonic.Edge edge.High) = refl
+mnemonic_word (mnemonic.Binary operator.Add) = refl
+mnemonic_word (mnemonic.Binary _) = refl
+mnemonic_word _ = refl
 
 pub shape_read : (s : Shape) → shape_of (shape_name s) ≡ Some s
 unfolding shape_of shape_name

@@ -14,9 +14,11 @@ use Rattle.star_schema.specs.declared.group.Direction.TheVariants as direction
 use Rattle.star_schema.specs.Schema.{column_name, table_name}
 use Rattle.star_program.specs.declared.spelling.keyword.Keyword.{Keyword}
 use Rattle.star_program.specs.declared.spelling.keyword.Keyword.TheVariants as keyword
-use Rattle.star_program.specs.declared.spelling.keyword.Operator.{Operator}
-use Rattle.star_program.specs.declared.spelling.keyword.Operator.TheVariants as operator
-use Rattle.star_program.specs.declared.spelling.keyword.TheConstants.{KEYWORDS, OPERATORS}
+use Rattle.star_program.specs.declared.op.Edge.TheVariants as edge
+use Rattle.star_program.specs.declared.op.Operator.TheVariants as operator
+use Rattle.star_program.specs.declared.spelling.keyword.Mnemonic.{Mnemonic}
+use Rattle.star_program.specs.declared.spelling.keyword.Mnemonic.TheVariants as mnemonic
+use Rattle.star_program.specs.declared.spelling.keyword.TheConstants.{KEYWORDS, MNEMONICS}
 
 abbrev pub same : List ℕ → List ℕ → Bool
 same a b = pointwise nat_eq a b
@@ -37,27 +39,27 @@ keyword_name keyword.Sort = codes "sort"
 unfoldable pub keyword_of : List ℕ → Option Keyword
 keyword_of word = find (λ k. same (keyword_name k) word) KEYWORDS
 
--- what computes the value of a register
-unfoldable pub operator_name : Operator → List ℕ
-operator_name operator.Const = codes "const"
-operator_name operator.Low = codes "low"
-operator_name operator.High = codes "high"
-operator_name operator.Load = codes "load"
-operator_name operator.Find = codes "find"
-operator_name operator.Add = codes "add"
-operator_name operator.Sub = codes "sub"
-operator_name operator.Mul = codes "mul"
-operator_name operator.Less = codes "lt"
-operator_name operator.LessOrEqual = codes "le"
-operator_name operator.Equal = codes "eq"
-operator_name operator.Within = codes "within"
-operator_name operator.And = codes "and"
-operator_name operator.Or = codes "or"
-operator_name operator.Not = codes "not"
-operator_name operator.Read = codes "read"
+-- the word of an operation
+unfoldable pub mnemonic_name : Mnemonic → List ℕ
+mnemonic_name mnemonic.Const = codes "const"
+mnemonic_name (mnemonic.Edge edge.Low) = codes "low"
+mnemonic_name (mnemonic.Edge edge.High) = codes "high"
+mnemonic_name mnemonic.Load = codes "load"
+mnemonic_name mnemonic.Find = codes "find"
+mnemonic_name (mnemonic.Binary operator.Add) = codes "add"
+mnemonic_name (mnemonic.Binary operator.Sub) = codes "sub"
+mnemonic_name (mnemonic.Binary operator.Mul) = codes "mul"
+mnemonic_name (mnemonic.Binary operator.Less) = codes "lt"
+mnemonic_name (mnemonic.Binary operator.LessOrEqual) = codes "le"
+mnemonic_name (mnemonic.Binary operator.Equal) = codes "eq"
+mnemonic_name mnemonic.Within = codes "within"
+mnemonic_name (mnemonic.Binary operator.And) = codes "and"
+mnemonic_name (mnemonic.Binary operator.Or) = codes "or"
+mnemonic_name mnemonic.Not = codes "not"
+mnemonic_name mnemonic.Read = codes "read"
 
-unfoldable pub operator_of : List ℕ → Option Operator
-operator_of word = find (λ o. same (operator_name o) word) OPERATORS
+unfoldable pub mnemonic_of : List ℕ → Option Mnemonic
+mnemonic_of word = find (λ m. same (mnemonic_name m) word) MNEMONICS
 
 unfoldable pub column_of : List ℕ → Option ColumnId
 column_of word = find (λ c. same (column_name c) word) COLUMNS

@@ -3,22 +3,26 @@ use Rattle.std.specs.Prelude.{ℕ, ◌==◌, ◌&&◌, if◌then◌else◌, List
 use Rattle.std.specs.List.{list_all}
 use Rattle.std.specs.Option.{option_and_then, option_map}
 use Rattle.star_schema.specs.Tables.{is_printable}
+use Rattle.star_schema.specs.declared.column.ColumnId.{ColumnId}
 use Rattle.star_schema.specs.declared.group.GroupColumn.{GroupColumn}
 use Rattle.star_schema.specs.declared.group.GroupColumn.TheVariants as column
 use Rattle.star_schema.specs.declared.group.Shape.{Shape}
 use Rattle.star_schema.specs.declared.group.SortKey.{SortKey}
-use Rattle.star_program.specs.Text.Keywords.{aggregate_of, column_of, direction_of, keyword_of, operator_of, same, shape_of, table_of}
+use Rattle.star_program.specs.World.{is_text}
+use Rattle.star_program.specs.Text.Keywords.{aggregate_of, column_of, direction_of, keyword_of, mnemonic_of, same, shape_of, table_of}
 use Rattle.star_program.specs.Text.Lines.{is_blank, words_of}
 use Rattle.star_program.specs.Text.Numerals.{constant_of, count_of, is_name, register_of}
 use Rattle.star_program.specs.declared.group.GroupKey.{GroupKey}
 use Rattle.star_program.specs.declared.group.GroupKey.TheVariants as key
 use Rattle.star_program.specs.declared.op.Op.{Op}
 use Rattle.star_program.specs.declared.op.Op.TheVariants as op
+use Rattle.star_program.specs.declared.op.Operation.{Operation}
+use Rattle.star_program.specs.declared.op.Operation.TheVariants as operation
 use Rattle.star_program.specs.declared.program.Show.{Show}
 use Rattle.star_program.specs.declared.spelling.keyword.Keyword.{Keyword}
 use Rattle.star_program.specs.declared.spelling.keyword.Keyword.TheVariants as keyword
-use Rattle.star_program.specs.declared.spelling.keyword.Operator.{Operator}
-use Rattle.star_program.specs.declared.spelling.keyword.Operator.TheVariants as operator
+use Rattle.star_program.specs.declared.spelling.keyword.Mnemonic.{Mnemonic}
+use Rattle.star_program.specs.declared.spelling.keyword.Mnemonic.TheVariants as mnemonic
 use Rattle.star_program.specs.declared.spelling.statement.Statement.{Statement}
 use Rattle.star_program.specs.declared.spelling.statement.Statement.TheVariants as says
 
@@ -80,47 +84,29 @@ quoted_text_of (b ∷ rest) = if b == 39 then unquoted rest else None
 
 -- ---- statements
 
--- a test of two registers
-abbrev pub test_of_two : ℕ → Operator → ℕ → ℕ → Option Op
-test_of_two t operator.Less a b = Some (op.Less t a b)
-test_of_two t operator.LessOrEqual a b = Some (op.LessOrEqual t a b)
-test_of_two t operator.Equal a b = Some (op.Equal t a b)
-test_of_two t operator.And a b = Some (op.And t a b)
-test_of_two t operator.Or a b = Some (op.Or t a b)
-test_of_two t o a b = None
+-- an operation, by the words behind its own
+unfoldable pub operation_of : Mnemonic → List (List ℕ) → Option Operation
+operation_of mnemonic.Const ws = option_map operation.Const (one constant_of ws)
+operation_of (mnemonic.Edge e) ws = option_map (λ (c, text). operation.Edge e c text) (two column_of quoted_text_of ws)
+operation_of mnemonic.Load ws = option_map (λ (c, row). operation.Load c row) (two column_of register_of ws)
+operation_of mnemonic.Find ws = option_map (λ (table, k). operation.Find table k) (two table_of register_of ws)
+operation_of (mnemonic.Binary o) ws = option_map (λ (a, b). operation.Binary o a b) (two register_of register_of ws)
+operation_of mnemonic.Within ws = option_map (λ (x, (a, b)). operation.Within x a b) (three register_of register_of register_of ws)
+operation_of mnemonic.Not ws = option_map operation.Not (one register_of ws)
+operation_of mnemonic.Read ws = option_map (λ (g, (a, n)). operation.Read g a n) (three count_of count_of constant_of ws)
 
--- an operation on two registers
-abbrev pub of_two : ℕ → Operator → ℕ → ℕ → Option Op
-of_two t operator.Add a b = Some (op.Add t a b)
-of_two t operator.Sub a b = Some (op.Sub t a b)
-of_two t operator.Mul a b = Some (op.Mul t a b)
-of_two t o a b = test_of_two t o a b
-
--- the operations without texts
-unfoldable pub plain_operation : ℕ → Operator → List (List ℕ) → Option Op
-plain_operation t operator.Const ws = option_map (λ n. op.Const t n) (one constant_of ws)
-plain_operation t operator.Low ws = None
-plain_operation t operator.High ws = None
-plain_operation t operator.Load ws = option_map (λ (c, row). op.Load t c row) (two column_of register_of ws)
-plain_operation t operator.Find ws = option_map (λ (table, k). op.Find t table k) (two table_of register_of ws)
-plain_operation t operator.Within ws = option_map (λ (x, (a, b)). op.Within t x a b) (three register_of register_of register_of ws)
-plain_operation t operator.Not ws = option_map (λ f. op.Not t f) (one register_of ws)
-plain_operation t operator.Read ws = option_map (λ (g, (a, n)). op.Read t g a n) (three count_of count_of constant_of ws)
-plain_operation t o ws = option_and_then (λ (a, b). of_two t o a b) (two register_of register_of ws)
-
-unfoldable pub operation : ℕ → Operator → List (List ℕ) → Option Op
-operation t operator.Low ws = option_map (λ (c, text). op.Low t c text) (two column_of quoted_text_of ws)
-operation t operator.High ws = option_map (λ (c, text). op.High t c text) (two column_of quoted_text_of ws)
-operation t o ws = plain_operation t o ws
-
--- what follows the register that an instruction writes: an equals sign, an operator, operands
+-- what follows the register that an instruction writes: an equals sign, an operation's word, operands
 abbrev pub assigned : ℕ → List (List ℕ) → Option Op
 assigned t [] = None
 assigned t (w ∷ []) = None
-assigned t (w ∷ name ∷ ws) = if same w (codes "=") then option_and_then (λ o. operation t o ws) (operator_of name) else None
+assigned t (w ∷ name ∷ ws) = if same w (codes "=") then option_map (op.Assign t) (option_and_then (λ m. operation_of m ws) (mnemonic_of name)) else None
+
+-- the key of a column, which has texts
+abbrev pub text_key : ColumnId → Option GroupKey
+text_key c = if is_text c then Some (key.Text c) else None
 
 unfoldable pub group_key_of : List ℕ → Option GroupKey
-group_key_of word = if same word (codes "number") then Some key.Number else option_map key.Text (column_of word)
+group_key_of word = if same word (codes "number") then Some key.Number else option_and_then text_key (column_of word)
 
 -- the number of a group, its shape and the words after them
 abbrev pub group_head : List (List ℕ) → Option (ℕ × (Shape × List (List ℕ)))

@@ -4,11 +4,16 @@ use Rattle.std.specs.List.{list_all}
 use Rattle.star_schema.specs.Tables.{is_printable}
 use Rattle.star_schema.specs.declared.group.GroupColumn.{GroupColumn}
 use Rattle.star_schema.specs.declared.group.GroupColumn.TheVariants as column
+use Rattle.star_program.specs.World.{is_text}
 use Rattle.star_program.specs.Text.Numerals.{is_name}
 use Rattle.star_program.specs.Text.Spelling.{Spells, statements_of}
 use Rattle.star_program.specs.Text.Written.{text_of}
+use Rattle.star_program.specs.declared.group.GroupKey.{GroupKey}
+use Rattle.star_program.specs.declared.group.GroupKey.TheVariants as key
 use Rattle.star_program.specs.declared.op.Op.{Op}
 use Rattle.star_program.specs.declared.op.Op.TheVariants as op
+use Rattle.star_program.specs.declared.op.Operation.{Operation}
+use Rattle.star_program.specs.declared.op.Operation.TheVariants as operation
 use Rattle.star_program.specs.declared.program.Parts.{Parts}
 use Rattle.star_program.specs.declared.spelling.statement.Statement.{Statement}
 use Rattle.star_program.specs.declared.spelling.statement.Statement.TheVariants as says
@@ -30,31 +35,31 @@ abbrev pub IsShortColumn : GroupColumn → Type 0
 IsShortColumn (column.Key k) = IsShort k
 IsShortColumn (column.Aggregate a) = IsShort a
 
+-- a key of a group is a number or of a column of texts
+abbrev pub IsKey : GroupKey → Type 0
+IsKey key.Number = Unit {0}
+IsKey (key.Text c) = is_text c ≡ true
+
+abbrev pub IsSpellableOperation : Operation → Type 0
+IsSpellableOperation (operation.Const n) = IsConstant n
+IsSpellableOperation (operation.Edge e c text) = IsPrinted text
+IsSpellableOperation (operation.Load c row) = IsShort row
+IsSpellableOperation (operation.Find table k) = IsShort k
+IsSpellableOperation (operation.Binary o a b) = IsShort a × IsShort b
+IsSpellableOperation (operation.Within x a b) = IsShort x × IsShort a × IsShort b
+IsSpellableOperation (operation.Not f) = IsShort f
+IsSpellableOperation (operation.Read g a n) = IsShort g × IsShort a × IsConstant n
+
 abbrev pub IsSpellableOp : Op → Type 0
-IsSpellableOp (op.Const t n) = IsShort t × IsConstant n
-IsSpellableOp (op.Low t c text) = IsShort t × IsPrinted text
-IsSpellableOp (op.High t c text) = IsShort t × IsPrinted text
-IsSpellableOp (op.Load t c row) = IsShort t × IsShort row
-IsSpellableOp (op.Find t table key) = IsShort t × IsShort key
-IsSpellableOp (op.Add t a b) = IsShort t × IsShort a × IsShort b
-IsSpellableOp (op.Sub t a b) = IsShort t × IsShort a × IsShort b
-IsSpellableOp (op.Mul t a b) = IsShort t × IsShort a × IsShort b
-IsSpellableOp (op.Less t a b) = IsShort t × IsShort a × IsShort b
-IsSpellableOp (op.LessOrEqual t a b) = IsShort t × IsShort a × IsShort b
-IsSpellableOp (op.Equal t a b) = IsShort t × IsShort a × IsShort b
-IsSpellableOp (op.Within t x a b) = IsShort t × IsShort x × IsShort a × IsShort b
-IsSpellableOp (op.And t a b) = IsShort t × IsShort a × IsShort b
-IsSpellableOp (op.Or t a b) = IsShort t × IsShort a × IsShort b
-IsSpellableOp (op.Not t f) = IsShort t × IsShort f
+IsSpellableOp (op.Assign t o) = IsShort t × IsSpellableOperation o
 IsSpellableOp (op.Keep f) = IsShort f
 IsSpellableOp (op.Put g keys values) = IsShort g × All IsShort keys × All IsShort values
-IsSpellableOp (op.Read t g a n) = IsShort t × IsShort g × IsShort a × IsConstant n
 
 -- a statement that some line says
 abbrev pub IsSayable : Statement → Type 0
 IsSayable says.Header = Unit {0}
 IsSayable (says.Registers n) = IsShort n
-IsSayable (says.Group place group) = IsShort place
+IsSayable (says.Group place group) = IsShort place × All IsKey group.keys
 IsSayable (says.Act o) = IsSpellableOp o
 IsSayable (says.Scan table t) = IsShort t
 IsSayable says.End = Unit {0}

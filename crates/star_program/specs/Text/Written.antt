@@ -8,17 +8,19 @@ use Rattle.star_schema.specs.declared.group.Aggregate.{Aggregate as Aggregation}
 use Rattle.star_schema.specs.declared.group.GroupColumn.{GroupColumn}
 use Rattle.star_schema.specs.declared.group.GroupColumn.TheVariants.{Key, Aggregate}
 use Rattle.star_schema.specs.declared.group.SortKey.{SortKey}
-use Rattle.star_program.specs.Text.Keywords.{aggregate_name, direction_name, operator_name, shape_name}
+use Rattle.star_program.specs.Text.Keywords.{aggregate_name, direction_name, mnemonic_name, shape_name}
 use Rattle.star_program.specs.Text.Statements.{Line, lines_of_program}
 use Rattle.star_program.specs.declared.group.GroupDecl.{GroupDecl}
 use Rattle.star_program.specs.declared.group.GroupKey.{GroupKey}
 use Rattle.star_program.specs.declared.group.GroupKey.TheVariants.{Number, Text}
 use Rattle.star_program.specs.declared.op.Op.{Op}
 use Rattle.star_program.specs.declared.op.Op.TheVariants as op
+use Rattle.star_program.specs.declared.op.Operation.{Operation}
+use Rattle.star_program.specs.declared.op.Operation.TheVariants as operation
 use Rattle.star_program.specs.declared.program.Parts.{Parts}
 use Rattle.star_program.specs.declared.program.Show.{Show}
-use Rattle.star_program.specs.declared.spelling.keyword.Operator.{Operator}
-use Rattle.star_program.specs.declared.spelling.keyword.Operator.TheVariants as operator
+use Rattle.star_program.specs.declared.spelling.keyword.Mnemonic.{Mnemonic}
+use Rattle.star_program.specs.declared.spelling.keyword.Mnemonic.TheVariants as mnemonic
 use Rattle.star_program.specs.declared.spelling.statement.Statement.{Statement}
 use Rattle.star_program.specs.declared.spelling.statement.Statement.TheVariants as says
 
@@ -27,31 +29,24 @@ unfoldable pub register_text : ℕ → List ℕ
 register_text r = codes " r" ++ decimal r
 
 -- what begins an instruction that writes a register
-unfoldable pub target_text : ℕ → Operator → List ℕ
-target_text t o = codes "r" ++ (decimal t ++ (codes " = " ++ operator_name o))
+unfoldable pub target_text : ℕ → Mnemonic → List ℕ
+target_text t m = codes "r" ++ (decimal t ++ (codes " = " ++ mnemonic_name m))
 
-abbrev two_operands : ℕ → Operator → ℕ → ℕ → List ℕ
-two_operands t o a b = target_text t o ++ (register_text a ++ register_text b)
+-- an instruction that writes a register
+unfoldable pub assigned_text : ℕ → Operation → List ℕ
+assigned_text t (operation.Const n) = target_text t mnemonic.Const ++ (codes " " ++ signed_decimal n)
+assigned_text t (operation.Edge e c text) = target_text t (mnemonic.Edge e) ++ (codes " " ++ (column_name c ++ (codes " " ++ quoted text)))
+assigned_text t (operation.Load c row) = target_text t mnemonic.Load ++ (codes " " ++ (column_name c ++ register_text row))
+assigned_text t (operation.Find table key) = target_text t mnemonic.Find ++ (codes " " ++ (table_name table ++ register_text key))
+assigned_text t (operation.Binary o a b) = target_text t (mnemonic.Binary o) ++ (register_text a ++ register_text b)
+assigned_text t (operation.Within x a b) = target_text t mnemonic.Within ++ (register_text x ++ (register_text a ++ register_text b))
+assigned_text t (operation.Not f) = target_text t mnemonic.Not ++ register_text f
+assigned_text t (operation.Read g a n) = target_text t mnemonic.Read ++ (codes " " ++ (decimal g ++ (codes " " ++ (decimal a ++ (codes " " ++ signed_decimal n)))))
 
 unfoldable pub op_text : Op → List ℕ
-op_text (op.Const t n) = target_text t operator.Const ++ (codes " " ++ signed_decimal n)
-op_text (op.Low t c text) = target_text t operator.Low ++ (codes " " ++ (column_name c ++ (codes " " ++ quoted text)))
-op_text (op.High t c text) = target_text t operator.High ++ (codes " " ++ (column_name c ++ (codes " " ++ quoted text)))
-op_text (op.Load t c row) = target_text t operator.Load ++ (codes " " ++ (column_name c ++ register_text row))
-op_text (op.Find t table key) = target_text t operator.Find ++ (codes " " ++ (table_name table ++ register_text key))
-op_text (op.Add t a b) = two_operands t operator.Add a b
-op_text (op.Sub t a b) = two_operands t operator.Sub a b
-op_text (op.Mul t a b) = two_operands t operator.Mul a b
-op_text (op.Less t a b) = two_operands t operator.Less a b
-op_text (op.LessOrEqual t a b) = two_operands t operator.LessOrEqual a b
-op_text (op.Equal t a b) = two_operands t operator.Equal a b
-op_text (op.Within t x a b) = target_text t operator.Within ++ (register_text x ++ (register_text a ++ register_text b))
-op_text (op.And t a b) = two_operands t operator.And a b
-op_text (op.Or t a b) = two_operands t operator.Or a b
-op_text (op.Not t f) = target_text t operator.Not ++ register_text f
+op_text (op.Assign t o) = assigned_text t o
 op_text (op.Keep f) = codes "keep" ++ register_text f
 op_text (op.Put g keys values) = codes "put " ++ (decimal g ++ (flat_map register_text keys ++ (codes " :" ++ flat_map register_text values)))
-op_text (op.Read t g a n) = target_text t operator.Read ++ (codes " " ++ (decimal g ++ (codes " " ++ (decimal a ++ (codes " " ++ signed_decimal n)))))
 
 unfoldable pub key_text : GroupKey → List ℕ
 key_text Number = codes " number"

@@ -4,6 +4,7 @@ ghost use Rattle.std.specs.Prelude.{◌≡◌, ℕ, List, Some, find, nat_eq};
 ghost use Rattle.std.specs.Cmp.Lexicographic.{pointwise};
 ghost use Rattle.star_program.specs.Text.Keywords as spec;
 
+use crate::op::{Edge, Operator};
 use star_schema::{Aggregate, Direction, Shape};
 use std::fmt;
 
@@ -35,44 +36,36 @@ pub static KEYWORDS: [Keyword; 10] = [
     Keyword::Sort,
 ];
 
-/// What computes the value of a register.
+/// The word of an operation.
 #[derive(Clone, Copy)]
-pub enum Operator {
+pub enum Mnemonic {
     Const,
-    Low,
-    High,
+    Edge(Edge),
     Load,
     Find,
-    Add,
-    Sub,
-    Mul,
-    Less,
-    LessOrEqual,
-    Equal,
+    Binary(Operator),
     Within,
-    And,
-    Or,
     Not,
     Read,
 }
 
-pub static OPERATORS: [Operator; 16] = [
-    Operator::Const,
-    Operator::Low,
-    Operator::High,
-    Operator::Load,
-    Operator::Find,
-    Operator::Add,
-    Operator::Sub,
-    Operator::Mul,
-    Operator::Less,
-    Operator::LessOrEqual,
-    Operator::Equal,
-    Operator::Within,
-    Operator::And,
-    Operator::Or,
-    Operator::Not,
-    Operator::Read,
+pub static MNEMONICS: [Mnemonic; 16] = [
+    Mnemonic::Const,
+    Mnemonic::Edge(Edge::Low),
+    Mnemonic::Edge(Edge::High),
+    Mnemonic::Load,
+    Mnemonic::Find,
+    Mnemonic::Binary(Operator::Add),
+    Mnemonic::Binary(Operator::Sub),
+    Mnemonic::Binary(Operator::Mul),
+    Mnemonic::Binary(Operator::Less),
+    Mnemonic::Binary(Operator::LessOrEqual),
+    Mnemonic::Binary(Operator::Equal),
+    Mnemonic::Within,
+    Mnemonic::Binary(Operator::And),
+    Mnemonic::Binary(Operator::Or),
+    Mnemonic::Not,
+    Mnemonic::Read,
 ];
 
 impl Keyword {
@@ -106,45 +99,45 @@ impl Keyword {
     }
 }
 
-impl Operator {
-    #[tactic(auto, unfolding(crate::specs::Text::Keywords::operator_name))]
+impl Mnemonic {
+    #[tactic(auto, unfolding(crate::specs::Text::Keywords::mnemonic_name))]
     fn name(self) -> &'static str
-        ensures { result.now ≡ spec.operator_name self }
+        ensures { result.now ≡ spec.mnemonic_name self }
     {
         match self {
-            Operator::Const => "const",
-            Operator::Low => "low",
-            Operator::High => "high",
-            Operator::Load => "load",
-            Operator::Find => "find",
-            Operator::Add => "add",
-            Operator::Sub => "sub",
-            Operator::Mul => "mul",
-            Operator::Less => "lt",
-            Operator::LessOrEqual => "le",
-            Operator::Equal => "eq",
-            Operator::Within => "within",
-            Operator::And => "and",
-            Operator::Or => "or",
-            Operator::Not => "not",
-            Operator::Read => "read",
+            Mnemonic::Const => "const",
+            Mnemonic::Edge(Edge::Low) => "low",
+            Mnemonic::Edge(Edge::High) => "high",
+            Mnemonic::Load => "load",
+            Mnemonic::Find => "find",
+            Mnemonic::Binary(Operator::Add) => "add",
+            Mnemonic::Binary(Operator::Sub) => "sub",
+            Mnemonic::Binary(Operator::Mul) => "mul",
+            Mnemonic::Binary(Operator::Less) => "lt",
+            Mnemonic::Binary(Operator::LessOrEqual) => "le",
+            Mnemonic::Binary(Operator::Equal) => "eq",
+            Mnemonic::Within => "within",
+            Mnemonic::Binary(Operator::And) => "and",
+            Mnemonic::Binary(Operator::Or) => "or",
+            Mnemonic::Not => "not",
+            Mnemonic::Read => "read",
         }
     }
 
-    /// The operator that a word names, if it names one.
-    #[tactic(auto, unfolding(crate::specs::Text::Keywords::operator_of))]
-    pub(crate) fn read(word: &[u8]) -> Option<Operator>
-        ensures { result ≡ spec.operator_of word.now }
+    /// The operation that a word names, if it names one.
+    #[tactic(auto, unfolding(crate::specs::Text::Keywords::mnemonic_of))]
+    pub(crate) fn read(word: &[u8]) -> Option<Mnemonic>
+        ensures { result ≡ spec.mnemonic_of word.now }
     {
-        OPERATORS
+        MNEMONICS
             .iter()
             .copied()
-            .find(|operator| operator.name().as_bytes() == word)
+            .find(|mnemonic| mnemonic.name().as_bytes() == word)
     }
 }
 
-impl fmt::Display for Operator {
-    ghost output = { λ operator. Some (spec.operator_name operator) };
+impl fmt::Display for Mnemonic {
+    ghost output = { λ mnemonic. Some (spec.mnemonic_name mnemonic) };
 
     fn fmt<W: fmt::Write>(&self, f: &mut fmt::Formatter<W>) -> fmt::Result {
         f.write_str(self.name())

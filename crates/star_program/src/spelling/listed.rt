@@ -15,7 +15,7 @@ use crate::spelling::keyword::read_aggregate;
 use crate::spelling::lines::{is_blank, split_word};
 use crate::spelling::numerals::read_register;
 use star_common::Items;
-use star_schema::{Aggregate, ColumnId, TableId, column_named, table_named};
+use star_schema::{Aggregate, ColumnId, TableId, column_named, is_text, table_named};
 use std::alloc::Global;
 
 /// What stands in lists of words.
@@ -50,9 +50,13 @@ impl Listed for GroupKey {
     #[tactic(auto, unfolding(crate::specs::Text::Said::group_key_of))]
     fn read(word: &[u8]) -> Option<GroupKey> {
         if word == "number".as_bytes() {
-            Some(GroupKey::Number)
+            return Some(GroupKey::Number);
+        }
+        let column = read_column(word)?;
+        if is_text(column) {
+            Some(GroupKey::Text(column))
         } else {
-            Some(GroupKey::Text(read_column(word)?))
+            None
         }
     }
 }

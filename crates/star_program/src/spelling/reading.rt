@@ -9,13 +9,15 @@ ghost use Rattle.star_program.specs.Text.Keywords as words;
 ghost use Rattle.star_program.specs.Text.Lines.{words_of};
 ghost use Rattle.star_program.specs.Text.Numerals as numerals;
 ghost use Rattle.star_program.specs.Text.Said as spec;
+ghost use Rattle.star_program.specs.declared.op.Op.TheVariants as op;
+ghost use Rattle.star_program.specs.declared.op.Operation.TheVariants as operation;
 ghost use Rattle.star_program.specs.declared.spelling.statement.Statement.TheVariants as says;
 
 use crate::group::GroupDecl;
-use crate::op::{Op, Text};
+use crate::op::{Edge, Op, Operation, Operator, Text};
 use crate::program::Show;
 use crate::spelling::fault::LineFault;
-use crate::spelling::keyword::{Keyword, Operator, read_direction, read_shape};
+use crate::spelling::keyword::{Keyword, Mnemonic, read_direction, read_shape};
 use crate::spelling::lines::split_word;
 use crate::spelling::listed::{read_column, read_lists, read_quoted, read_table};
 use crate::spelling::numerals::{is_name, read_constant, read_count, read_register};
@@ -95,138 +97,57 @@ fn two_counts_and_constant(line: &[u8]) -> Option<(u16, (u16, i64))>
     Some((read_count(first)?, count_and_constant(rest)?))
 }
 
-// A test of two registers.
-fn test_of_two(target: u16, operator: Operator, left: u16, right: u16) -> Option<Op>
-    ensures { result ≡ spec.test_of_two target operator left right }
-{
-    match operator {
-        Operator::Less => Some(Op::Less {
-            target,
-            left,
-            right,
-        }),
-        Operator::LessOrEqual => Some(Op::LessOrEqual {
-            target,
-            left,
-            right,
-        }),
-        Operator::Equal => Some(Op::Equal {
-            target,
-            left,
-            right,
-        }),
-        Operator::And => Some(Op::And {
-            target,
-            left,
-            right,
-        }),
-        Operator::Or => Some(Op::Or {
-            target,
-            left,
-            right,
-        }),
-        _ => None,
-    }
-}
-
-// An operation on two registers.
-fn of_two(target: u16, operator: Operator, left: u16, right: u16) -> Option<Op>
-    ensures { result ≡ spec.of_two target operator left right }
-{
-    match operator {
-        Operator::Add => Some(Op::Add {
-            target,
-            left,
-            right,
-        }),
-        Operator::Sub => Some(Op::Sub {
-            target,
-            left,
-            right,
-        }),
-        Operator::Mul => Some(Op::Mul {
-            target,
-            left,
-            right,
-        }),
-        _ => test_of_two(target, operator, left, right),
-    }
-}
-
-fn two_op(target: u16, operator: Operator, operands: &[u8]) -> Option<Op>
-    ensures { result ≡ option_and_then (λ (a, b). spec.of_two target operator a b) (spec.two numerals.register_of numerals.register_of (words_of operands.now)) }
-{
-    let (left, right) = two_registers(operands)?;
-    of_two(target, operator, left, right)
-}
-
-// An operation, but for those with a text.
-#[tactic(auto, unfolding(crate::specs::Text::Said::plain_operation))]
-fn plain_operation(target: u16, operator: Operator, operands: &[u8]) -> Option<Op>
-    ensures { result ≡ spec.plain_operation target operator (words_of operands.now) }
-{
-    match operator {
-        Operator::Const => constant_op(target, operands),
-        Operator::Low | Operator::High => None,
-        Operator::Load => load_op(target, operands),
-        Operator::Find => find_op(target, operands),
-        Operator::Within => within_op(target, operands),
-        Operator::Not => not_op(target, operands),
-        Operator::Read => read_op(target, operands),
-        _ => two_op(target, operator, operands),
-    }
-}
-
-fn constant_op(target: u16, operands: &[u8]) -> Option<Op>
-    ensures { result ≡ option_map (λ n. Op.Const target n) (spec.one numerals.constant_of (words_of operands.now)) }
+fn constant(operands: &[u8]) -> Option<Operation>
+    ensures { result ≡ option_map operation.Const (spec.one numerals.constant_of (words_of operands.now)) }
 {
     let number = one_constant(operands)?;
-    Some(Op::Const { target, number })
+    Some(Operation::Const { number })
 }
 
-fn load_op(target: u16, operands: &[u8]) -> Option<Op>
-    ensures { result ≡ option_map (λ (c, row). Op.Load target c row) (spec.two words.column_of numerals.register_of (words_of operands.now)) }
+fn load(operands: &[u8]) -> Option<Operation>
+    ensures { result ≡ option_map (λ (c, row). operation.Load c row) (spec.two words.column_of numerals.register_of (words_of operands.now)) }
 {
     let (column, row) = column_and_register(operands)?;
-    Some(Op::Load {
-        target,
-        column,
-        row,
-    })
+    Some(Operation::Load { column, row })
 }
 
-fn find_op(target: u16, operands: &[u8]) -> Option<Op>
-    ensures { result ≡ option_map (λ (table, k). Op.Find target table k) (spec.two words.table_of numerals.register_of (words_of operands.now)) }
+fn find(operands: &[u8]) -> Option<Operation>
+    ensures { result ≡ option_map (λ (table, k). operation.Find table k) (spec.two words.table_of numerals.register_of (words_of operands.now)) }
 {
     let (table, key) = table_and_register(operands)?;
-    Some(Op::Find { target, table, key })
+    Some(Operation::Find { table, key })
 }
 
-fn within_op(target: u16, operands: &[u8]) -> Option<Op>
-    ensures { result ≡ option_map (λ (x, (a, b)). Op.Within target x a b) (spec.three numerals.register_of numerals.register_of numerals.register_of (words_of operands.now)) }
+fn binary(operator: Operator, operands: &[u8]) -> Option<Operation>
+    ensures { result ≡ option_map (λ (a, b). operation.Binary operator a b) (spec.two numerals.register_of numerals.register_of (words_of operands.now)) }
 {
-    let (value, (from, below)) = three_registers(operands)?;
-    Some(Op::Within {
-        target,
-        value,
-        from,
-        below,
+    let (left, right) = two_registers(operands)?;
+    Some(Operation::Binary {
+        operator,
+        left,
+        right,
     })
 }
 
-fn not_op(target: u16, operands: &[u8]) -> Option<Op>
-    ensures { result ≡ option_map (λ f. Op.Not target f) (spec.one numerals.register_of (words_of operands.now)) }
+fn within(operands: &[u8]) -> Option<Operation>
+    ensures { result ≡ option_map (λ (x, (a, b)). operation.Within x a b) (spec.three numerals.register_of numerals.register_of numerals.register_of (words_of operands.now)) }
 {
-    let flag = one_register(operands)?;
-    Some(Op::Not { target, flag })
+    let (value, (from, below)) = three_registers(operands)?;
+    Some(Operation::Within { value, from, below })
 }
 
-fn read_op(target: u16, operands: &[u8]) -> Option<Op>
-    ensures { result ≡ option_map (λ (g, (a, n)). Op.Read target g a n) (spec.three numerals.count_of numerals.count_of numerals.constant_of (words_of operands.now)) }
+fn not(operands: &[u8]) -> Option<Operation>
+    ensures { result ≡ option_map operation.Not (spec.one numerals.register_of (words_of operands.now)) }
+{
+    let flag = one_register(operands)?;
+    Some(Operation::Not { flag })
+}
+
+fn read(operands: &[u8]) -> Option<Operation>
+    ensures { result ≡ option_map (λ (g, (a, n)). operation.Read g a n) (spec.three numerals.count_of numerals.count_of numerals.constant_of (words_of operands.now)) }
 {
     let (group, (aggregate, default)) = two_counts_and_constant(operands)?;
-    Some(Op::Read {
-        target,
+    Some(Operation::Read {
         group,
         aggregate,
         default,
@@ -262,33 +183,30 @@ fn column_and_text(alloc: Global, line: &[u8]) -> Result<(ColumnId, Text), LineF
     Ok((column, text))
 }
 
-#[tactic(auto, unfolding(crate::specs::Text::Said::operation))]
-fn operation(
-    alloc: Global,
-    target: u16,
-    operator: Operator,
-    operands: &[u8],
-) -> Result<Op, LineFault>
-    ensures { Reads result (spec.operation target operator (words_of operands.now)) }
+fn read_edge(alloc: Global, edge: Edge, operands: &[u8]) -> Result<Operation, LineFault>
+    ensures { Reads result (option_map (λ (c, text). operation.Edge edge c text) (spec.two words.column_of spec.quoted_text_of (words_of operands.now))) }
 {
-    match operator {
-        Operator::Low => {
-            let (column, text) = column_and_text(alloc, operands)?;
-            Ok(Op::Low {
-                target,
-                column,
-                text,
-            })
-        }
-        Operator::High => {
-            let (column, text) = column_and_text(alloc, operands)?;
-            Ok(Op::High {
-                target,
-                column,
-                text,
-            })
-        }
-        _ => readable(plain_operation(target, operator, operands)),
+    let (column, text) = column_and_text(alloc, operands)?;
+    Ok(Operation::Edge { edge, column, text })
+}
+
+#[tactic(auto, unfolding(crate::specs::Text::Said::operation_of))]
+fn read_operation(
+    alloc: Global,
+    mnemonic: Mnemonic,
+    operands: &[u8],
+) -> Result<Operation, LineFault>
+    ensures { Reads result (spec.operation_of mnemonic (words_of operands.now)) }
+{
+    match mnemonic {
+        Mnemonic::Const => readable(constant(operands)),
+        Mnemonic::Edge(edge) => read_edge(alloc, edge, operands),
+        Mnemonic::Load => readable(load(operands)),
+        Mnemonic::Find => readable(find(operands)),
+        Mnemonic::Binary(operator) => readable(binary(operator, operands)),
+        Mnemonic::Within => readable(within(operands)),
+        Mnemonic::Not => readable(not(operands)),
+        Mnemonic::Read => readable(read(operands)),
     }
 }
 
@@ -301,8 +219,9 @@ fn read_assigned(alloc: Global, target: u16, line: &[u8]) -> Result<Op, LineFaul
     if sign != "=".as_bytes() {
         return Err(LineFault::Unreadable);
     }
-    let operator = readable(Operator::read(name))?;
-    operation(alloc, target, operator, operands)
+    let mnemonic = readable(Mnemonic::read(name))?;
+    let operation = read_operation(alloc, mnemonic, operands)?;
+    Ok(Op::Assign { target, operation })
 }
 
 // The number of a group, its shape, and the line after them.
@@ -450,7 +369,7 @@ fn read_report(line: &[u8]) -> Option<Statement>
 }
 
 fn read_keep(line: &[u8]) -> Option<Statement>
-    ensures { result ≡ option_map (λ f. says.Act (Op.Keep f)) (spec.one numerals.register_of (words_of line.now)) }
+    ensures { result ≡ option_map (λ f. says.Act (op.Keep f)) (spec.one numerals.register_of (words_of line.now)) }
 {
     let flag = one_register(line)?;
     Some(Statement::Act(Op::Keep { flag }))

@@ -6,11 +6,12 @@ ghost use Rattle.std.specs.List.{flat_map};
 ghost use Rattle.star_schema.specs.Schema.{column_name, table_name};
 ghost use Rattle.star_common.specs.Quotes.{quoted};
 ghost use Rattle.star_program.specs.Text.Written as spec;
+ghost use Rattle.star_program.specs.declared.spelling.keyword.Mnemonic.TheVariants as mnemonic;
 
 use crate::group::{GroupDecl, GroupKey};
-use crate::op::Op;
+use crate::op::{Edge, Op, Operation, Operator};
 use crate::program::Show;
-use crate::spelling::keyword::{Operator, aggregate_name, direction_name, shape_name};
+use crate::spelling::keyword::{Mnemonic, aggregate_name, direction_name, shape_name};
 use star_common::push_quoted;
 use star_schema::{Aggregate, ColumnId, GroupColumn, SortKey, TableId};
 use std::alloc::AllocError;
@@ -34,24 +35,24 @@ fn push_registers(out: &mut Vec<u8>, registers: &[u16]) -> Result<(), AllocError
 
 // Adds what begins an instruction that writes a register.
 #[tactic(auto, unfolding(crate::specs::Text::Written::target_text))]
-fn push_target(out: &mut Vec<u8>, target: u16, operator: Operator) -> Result<(), AllocError>
-    ensures { OnOk result (out.new.items ≡ out.old.items ++ spec.target_text target operator) }
+fn push_target(out: &mut Vec<u8>, target: u16, mnemonic: Mnemonic) -> Result<(), AllocError>
+    ensures { OnOk result (out.new.items ≡ out.old.items ++ spec.target_text target mnemonic) }
 {
-    let text = format!(in *out.allocator(); "r{target} = {operator}")?;
+    let text = format!(in *out.allocator(); "r{target} = {mnemonic}")?;
     out.extend_from_slice(text.as_bytes())
 }
 
-// Adds an instruction with two registers as operands.
-fn push_two(
+// Adds an operator on two registers.
+fn push_binary(
     out: &mut Vec<u8>,
     target: u16,
     operator: Operator,
     left: u16,
     right: u16,
 ) -> Result<(), AllocError>
-    ensures { OnOk result (out.new.items ≡ out.old.items ++ (spec.target_text target operator ++ (spec.register_text left ++ spec.register_text right))) }
+    ensures { OnOk result (out.new.items ≡ out.old.items ++ (spec.target_text target (mnemonic.Binary operator) ++ (spec.register_text left ++ spec.register_text right))) }
 {
-    push_target(out, target, operator)?;
+    push_target(out, target, Mnemonic::Binary(operator))?;
     push_register(out, left)?;
     push_register(out, right)
 }
@@ -63,17 +64,17 @@ fn push_column(out: &mut Vec<u8>, column: ColumnId) -> Result<(), AllocError>
     out.extend_from_slice(text.as_bytes())
 }
 
-// Adds a search in the texts of a column.
-fn push_search(
+// Adds an edge of a text.
+fn push_edge(
     out: &mut Vec<u8>,
     target: u16,
-    operator: Operator,
+    edge: Edge,
     column: ColumnId,
     text: &[u8],
 ) -> Result<(), AllocError>
-    ensures { OnOk result (out.new.items ≡ out.old.items ++ (spec.target_text target operator ++ (codes " " ++ (column_name column ++ (codes " " ++ quoted text.now))))) }
+    ensures { OnOk result (out.new.items ≡ out.old.items ++ (spec.target_text target (mnemonic.Edge edge) ++ (codes " " ++ (column_name column ++ (codes " " ++ quoted text.now))))) }
 {
-    push_target(out, target, operator)?;
+    push_target(out, target, Mnemonic::Edge(edge))?;
     push_column(out, column)?;
     out.push(b' ')?;
     push_quoted(out, text)
@@ -81,9 +82,9 @@ fn push_search(
 
 // Adds a constant.
 fn push_constant(out: &mut Vec<u8>, target: u16, number: i64) -> Result<(), AllocError>
-    ensures { OnOk result (out.new.items ≡ out.old.items ++ (spec.target_text target Operator.Const ++ (codes " " ++ signed_decimal number))) }
+    ensures { OnOk result (out.new.items ≡ out.old.items ++ (spec.target_text target mnemonic.Const ++ (codes " " ++ signed_decimal number))) }
 {
-    push_target(out, target, Operator::Const)?;
+    push_target(out, target, Mnemonic::Const)?;
     let text = format!(in *out.allocator(); " {number}")?;
     out.extend_from_slice(text.as_bytes())
 }
@@ -96,18 +97,18 @@ fn push_read(
     aggregate: u16,
     default: i64,
 ) -> Result<(), AllocError>
-    ensures { OnOk result (out.new.items ≡ out.old.items ++ (spec.target_text target Operator.Read ++ (codes " " ++ (decimal group ++ (codes " " ++ (decimal aggregate ++ (codes " " ++ signed_decimal default))))))) }
+    ensures { OnOk result (out.new.items ≡ out.old.items ++ (spec.target_text target mnemonic.Read ++ (codes " " ++ (decimal group ++ (codes " " ++ (decimal aggregate ++ (codes " " ++ signed_decimal default))))))) }
 {
-    push_target(out, target, Operator::Read)?;
+    push_target(out, target, Mnemonic::Read)?;
     let text = format!(in *out.allocator(); " {group} {aggregate} {default}")?;
     out.extend_from_slice(text.as_bytes())
 }
 
 // Adds a look-up of a row.
 fn push_find(out: &mut Vec<u8>, target: u16, table: TableId, key: u16) -> Result<(), AllocError>
-    ensures { OnOk result (out.new.items ≡ out.old.items ++ (spec.target_text target Operator.Find ++ (codes " " ++ (table_name table ++ spec.register_text key)))) }
+    ensures { OnOk result (out.new.items ≡ out.old.items ++ (spec.target_text target mnemonic.Find ++ (codes " " ++ (table_name table ++ spec.register_text key)))) }
 {
-    push_target(out, target, Operator::Find)?;
+    push_target(out, target, Mnemonic::Find)?;
     let text = format!(in *out.allocator(); " {table}")?;
     out.extend_from_slice(text.as_bytes())?;
     push_register(out, key)
@@ -125,9 +126,9 @@ fn push_put(out: &mut Vec<u8>, group: u16, keys: &[u16], values: &[u16]) -> Resu
 }
 
 fn push_load(out: &mut Vec<u8>, target: u16, column: ColumnId, row: u16) -> Result<(), AllocError>
-    ensures { OnOk result (out.new.items ≡ out.old.items ++ (spec.target_text target Operator.Load ++ (codes " " ++ (column_name column ++ spec.register_text row)))) }
+    ensures { OnOk result (out.new.items ≡ out.old.items ++ (spec.target_text target mnemonic.Load ++ (codes " " ++ (column_name column ++ spec.register_text row)))) }
 {
-    push_target(out, target, Operator::Load)?;
+    push_target(out, target, Mnemonic::Load)?;
     push_column(out, column)?;
     push_register(out, row)
 }
@@ -139,18 +140,18 @@ fn push_within(
     from: u16,
     below: u16,
 ) -> Result<(), AllocError>
-    ensures { OnOk result (out.new.items ≡ out.old.items ++ (spec.target_text target Operator.Within ++ (spec.register_text value ++ (spec.register_text from ++ spec.register_text below)))) }
+    ensures { OnOk result (out.new.items ≡ out.old.items ++ (spec.target_text target mnemonic.Within ++ (spec.register_text value ++ (spec.register_text from ++ spec.register_text below)))) }
 {
-    push_target(out, target, Operator::Within)?;
+    push_target(out, target, Mnemonic::Within)?;
     push_register(out, value)?;
     push_register(out, from)?;
     push_register(out, below)
 }
 
 fn push_not(out: &mut Vec<u8>, target: u16, flag: u16) -> Result<(), AllocError>
-    ensures { OnOk result (out.new.items ≡ out.old.items ++ (spec.target_text target Operator.Not ++ spec.register_text flag)) }
+    ensures { OnOk result (out.new.items ≡ out.old.items ++ (spec.target_text target mnemonic.Not ++ spec.register_text flag)) }
 {
-    push_target(out, target, Operator::Not)?;
+    push_target(out, target, Mnemonic::Not)?;
     push_register(out, flag)
 }
 
@@ -161,88 +162,48 @@ fn push_keep(out: &mut Vec<u8>, flag: u16) -> Result<(), AllocError>
     push_register(out, flag)
 }
 
+// Adds an instruction that writes a register.
+#[tactic(auto, unfolding(crate::specs::Text::Written::assigned_text))]
+fn push_assigned(out: &mut Vec<u8>, target: u16, operation: &Operation) -> Result<(), AllocError>
+    ensures { OnOk result (out.new.items ≡ out.old.items ++ spec.assigned_text target operation.now) }
+{
+    match operation {
+        Operation::Const { number } => push_constant(out, target, *number),
+        Operation::Edge { edge, column, text } => {
+            push_edge(out, target, *edge, *column, text.as_slice())
+        }
+        Operation::Load { column, row } => push_load(out, target, *column, *row),
+        Operation::Find { table, key } => push_find(out, target, *table, *key),
+        Operation::Binary {
+            operator,
+            left,
+            right,
+        } => push_binary(out, target, *operator, *left, *right),
+        Operation::Within { value, from, below } => {
+            push_within(out, target, *value, *from, *below)
+        }
+        Operation::Not { flag } => push_not(out, target, *flag),
+        Operation::Read {
+            group,
+            aggregate,
+            default,
+        } => push_read(out, target, *group, *aggregate, *default),
+    }
+}
+
 // Adds an instruction.
 #[tactic(auto, unfolding(crate::specs::Text::Written::op_text))]
 pub(crate) fn push_op(out: &mut Vec<u8>, op: &Op) -> Result<(), AllocError>
     ensures { OnOk result (out.new.items ≡ out.old.items ++ spec.op_text op.now) }
 {
     match op {
-        Op::Const { target, number } => push_constant(out, *target, *number),
-        Op::Low {
-            target,
-            column,
-            text,
-        } => { push_search(out, *target, Operator::Low, *column, text.as_slice()) }
-        Op::High {
-            target,
-            column,
-            text,
-        } => { push_search(out, *target, Operator::High, *column, text.as_slice()) }
-        Op::Load {
-            target,
-            column,
-            row,
-        } => push_load(out, *target, *column, *row),
-        Op::Find { target, table, key } => push_find(out, *target, *table, *key),
-        Op::Add {
-            target,
-            left,
-            right,
-        } => push_two(out, *target, Operator::Add, *left, *right),
-        Op::Sub {
-            target,
-            left,
-            right,
-        } => push_two(out, *target, Operator::Sub, *left, *right),
-        Op::Mul {
-            target,
-            left,
-            right,
-        } => push_two(out, *target, Operator::Mul, *left, *right),
-        Op::Less {
-            target,
-            left,
-            right,
-        } => push_two(out, *target, Operator::Less, *left, *right),
-        Op::LessOrEqual {
-            target,
-            left,
-            right,
-        } => { push_two(out, *target, Operator::LessOrEqual, *left, *right) }
-        Op::Equal {
-            target,
-            left,
-            right,
-        } => { push_two(out, *target, Operator::Equal, *left, *right) }
-        Op::Within {
-            target,
-            value,
-            from,
-            below,
-        } => { push_within(out, *target, *value, *from, *below) }
-        Op::And {
-            target,
-            left,
-            right,
-        } => push_two(out, *target, Operator::And, *left, *right),
-        Op::Or {
-            target,
-            left,
-            right,
-        } => push_two(out, *target, Operator::Or, *left, *right),
-        Op::Not { target, flag } => push_not(out, *target, *flag),
+        Op::Assign { target, operation } => push_assigned(out, *target, operation),
         Op::Keep { flag } => push_keep(out, *flag),
         Op::Put {
             group,
             keys,
             values,
         } => { push_put(out, *group, keys.as_slice(), values.as_slice()) }
-        Op::Read {
-            target,
-            group,
-            aggregate,
-            default,
-        } => { push_read(out, *target, *group, *aggregate, *default) }
     }
 }
 

@@ -26,7 +26,8 @@ pub record HasLeft (reader : Reader (Bor (List ℕ))) (lines : List (List ℕ)) 
   pub left : records_of bytes ≡ lines
 
 -- a read gave the fields of the first record, and the others are left
-pub record TakesFirst (lines : List (List ℕ)) (fields : List (List ℕ)) (reader : Reader (Bor (List ℕ))) : Type 0 where
+pub record TakesFirst (lines : List (List ℕ)) (fields : List (List ℕ))
+    (reader : Reader (Bor (List ℕ))) : Type 0 where
   pub line : List ℕ
   pub others : List (List ℕ)
   pub was : lines ≡ line ∷ others

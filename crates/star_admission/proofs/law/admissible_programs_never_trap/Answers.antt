@@ -7,13 +7,17 @@ use Rattle.star_admission.proofs.Always.{at_every_moment, totals_lie}
 use Rattle.star_admission.proofs.law.admissible_programs_never_trap.Goals as goal
 
 pub returns-clause-ends : goal.returns-clause-ends
-returns-clause-ends c = λ w parts accepted. ends w parts (λ visits. true) accepted (λ k h. refl) _ (λ s tallied visits. visits)
+returns-clause-ends c = λ w parts accepted. ends w parts
+    (λ visits. true) accepted (λ k h. refl) _ (λ s tallied visits. visits)
 
 pub returns-clause-never_limited : goal.returns-clause-never_limited
-returns-clause-never_limited c = λ w parts most accepted enough. ends w parts (λ visits. nat_lt visits most) accepted (λ k h. lt-ltb k most (omega (arith, h, enough))) _ (λ s tallied visits. visits)
+returns-clause-never_limited c = λ w parts most accepted enough. ends w parts
+    (λ visits. nat_lt visits most) accepted
+    (λ k h. lt-ltb k most (omega (arith, h, enough))) _ (λ s tallied visits. visits)
 
 pub returns-clause-moments : goal.returns-clause-moments
 returns-clause-moments c = at_every_moment
 
 pub returns-clause-totals : goal.returns-clause-totals
-returns-clause-totals c = λ w parts accepted. ends w parts (λ visits. true) accepted (λ k h. refl) _ (λ s tallied visits. totals_lie w parts s tallied)
+returns-clause-totals c = λ w parts accepted. ends w parts
+    (λ visits. true) accepted (λ k h. refl) _ (λ s tallied visits. totals_lie w parts s tallied)

@@ -6,12 +6,20 @@ use Rattle.star_catalogue.proofs.Apart.{pairs_apart}
 use Rattle.star_catalogue.proofs.keys.check_pairs.Goals as goal
 
 pub distinct-requires : goal.distinct-requires
-distinct-requires c = rw (c.as_slice.ensures.value, c.in_ok-pairs.ensures) (omega (arith, length-zip c.args.firsts.now c.args.seconds.now))
+distinct-requires c =
+    rw (c.as_slice.ensures.value, c.in_ok-pairs.ensures)
+    (omega (arith, length-zip c.args.firsts.now c.args.seconds.now))
 
 pub returns-in_err-distinct : goal.returns-in_err-distinct
 returns-in_err-distinct c =
-    let p = err_from_is_err_and c.from_residual-in_err-distinct.result c.from_residual-in_err-distinct.ensures.1 in
-    rw (p.1, p.2) (elim c.in_err-distinct.ensures [ inl memory ↦ inl memory | inr first ↦ inr (rw (c.as_slice.ensures.value, c.in_ok-pairs.ensures) at first) ])
+    let p = err_from_is_err_and c.from_residual-in_err-distinct.result
+    c.from_residual-in_err-distinct.ensures.1 in
+    rw (p.1, p.2)
+    (elim c.in_err-distinct.ensures [
+      | inl memory ↦ inl memory
+      | inr first ↦ inr (rw (c.as_slice.ensures.value, c.in_ok-pairs.ensures) at first)
+    ])
 
 pub returns : goal.returns
-returns c = pairs_apart (zip c.args.firsts.now c.args.seconds.now) (rw (c.as_slice.ensures.value, c.in_ok-pairs.ensures) at c.in_ok-distinct.ensures.1)
+returns c = pairs_apart (zip c.args.firsts.now c.args.seconds.now)
+    (rw (c.as_slice.ensures.value, c.in_ok-pairs.ensures) at c.in_ok-distinct.ensures.1)

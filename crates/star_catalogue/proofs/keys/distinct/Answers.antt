@@ -14,7 +14,9 @@ was_there is_new true e old = refl
 was_there is_new false e old = cc
 
 pub loop-place-init : goal.loop-place-init
-loop-place-init g c = nothing_inserted g.K.PartialEq.eq c.args.keys.now c.in_ok-set.set.keys c.in_ok-set.ensures.empty c.in_ok-set.ensures.unique
+loop-place-init g c =
+    nothing_inserted g.K.PartialEq.eq c.args.keys.now c.in_ok-set.set.keys c.in_ok-set.ensures.empty
+    c.in_ok-set.ensures.unique
 
 pub returns-then-not-is_new : goal.returns-then-not-is_new
 returns-then-not-is_new g c =
@@ -23,8 +25,10 @@ returns-then-not-is_new g c =
     let key = c.index-keys-place.result in
     let within : place < length keys = omega arith in
     let at = slice_get_read keys (length keys) place key refl within c.index-keys-place.is in
-    let there = was_there c.in_ok-is_new.is_new _ c.in_ok-is_new.ensures.added c.if-not-is_new.true in
-    let first = inserted_before g.K.PartialEq.eq keys place key c.loop-place.set.keys c.loop-place.invariant at there in
+    let there = was_there c.in_ok-is_new.is_new _ c.in_ok-is_new.ensures.added
+    c.if-not-is_new.true in
+    let first = inserted_before g.K.PartialEq.eq keys place key c.loop-place.set.keys
+    c.loop-place.invariant at there in
     inr (ap (option_map (DuplicateKey c.args.table)) first)
 
 pub loop-place-preserved : goal.loop-place-preserved
@@ -34,5 +38,7 @@ loop-place-preserved g c =
     let key = c.index-keys-place.result in
     let within : place < length keys = omega arith in
     let at = slice_get_read keys (length keys) place key refl within c.index-keys-place.is in
-    let fresh = was_absent c.in_ok-is_new.is_new _ c.in_ok-is_new.ensures.added c.if-not-is_new.false in
-    inserted_more g.K.PartialEq.eq keys place key c.loop-place.set.keys c.insert_full.new.self.keys c.loop-place.invariant at fresh c.in_ok-is_new.ensures.keys c.in_ok-is_new.ensures.unique
+    let fresh = was_absent c.in_ok-is_new.is_new _ c.in_ok-is_new.ensures.added
+    c.if-not-is_new.false in
+    inserted_more g.K.PartialEq.eq keys place key c.loop-place.set.keys c.insert_full.new.self.keys
+    c.loop-place.invariant at fresh c.in_ok-is_new.ensures.keys c.in_ok-is_new.ensures.unique

@@ -6,11 +6,15 @@ use Rattle.star_catalogue.proofs.keys.is_rising.Goals as goal
 
 pub loop-place-preserved : goal.loop-place-preserved
 loop-place-preserved c =
-    rise_more c.loop-place.place (zip c.args.firsts.now c.args.seconds.now) c.pair_at-before.result c.pair_at-here.result c.loop-place.invariant c.loop-place.auto.place c.pair_at-before.ensures c.pair_at-here.ensures
+    rise_more c.loop-place.place
+    (zip c.args.firsts.now c.args.seconds.now) c.pair_at-before.result c.pair_at-here.result
+    c.loop-place.invariant c.loop-place.auto.place c.pair_at-before.ensures
+    c.pair_at-here.ensures
     (c.rises.ensures.0 c.if-not-rises.false)
 
 pub returns : goal.returns
 returns c = λ _.
     let pairs = zip c.args.firsts.now c.args.seconds.now in
-    let all : length pairs ≤ c.loop-place.place = omega (arith, length-zip c.args.firsts.now c.args.seconds.now) in
+    let all : length pairs ≤ c.loop-place.place =
+    omega (arith, length-zip c.args.firsts.now c.args.seconds.now) in
     rising_apart c.loop-place.place pairs c.loop-place.invariant all

@@ -11,4 +11,6 @@ returns c =
     let first_fits : FitsSigned w64 (get_or firsts place (pos 0)) = search rules in
     let second_fits : FitsSigned w64 (get_or seconds place (pos 0)) = search rules in
     rw (to_z-of_z first_fits, to_z-of_z second_fits)
-    (slice_get-zip_some firsts seconds place (get_or firsts place (pos 0)) (get_or seconds place (pos 0)) (slice_get-get_or firsts place (pos 0) c.requires.first) (slice_get-get_or seconds place (pos 0) c.requires.second))
+    (slice_get-zip_some firsts seconds place (get_or firsts place (pos 0))
+    (get_or seconds place (pos 0)) (slice_get-get_or firsts place (pos 0) c.requires.first)
+    (slice_get-get_or seconds place (pos 0) c.requires.second))

@@ -8,21 +8,35 @@ use Rattle.star_catalogue.proofs.Refers.{cell_absent, cell_known, number_of_row}
 use Rattle.star_catalogue.proofs.references.check_cell.Goals as goal
 
 pub at-number-requires : goal.at-number-requires
-at-number-requires c = rw (c.numbers.ensures, length-numbers_at (place_of c.args.column) (rows_in c.args.tables.now (table_of c.args.column)), c.requires.table) c.requires.row
+at-number-requires c =
+    rw (
+      c.numbers.ensures,
+      length-numbers_at (place_of c.args.column) (rows_in c.args.tables.now (table_of c.args.column)),
+      c.requires.table,
+    ) c.requires.row
 
 pub returns-in-None : goal.returns-in-None
 returns-in-None c =
     let rows = rows_in c.args.tables.now Lineorder in
-    let there : slice_get (numbers_of c.args.column rows) c.args.row ≡ Some c.at-number.result = rw (c.numbers.ensures, c.requires.table) at c.at-number.ensures in
+    let there : slice_get (numbers_of c.args.column rows) c.args.row ≡ Some c.at-number.result =
+    rw (c.numbers.ensures, c.requires.table) at c.at-number.ensures in
     let fits : FitsSigned w64 c.at-number.result = search rules in
-    let number = number_of_row c.args.column rows c.args.row c.at-number.result c.requires.row there in
-    cell_absent c.args.tables.now (c.args.row + 1) (get_or rows c.args.row []) c.args.column c.in-Some.table c.at-number.result (sym c.in-Some.ensures) number (λ place at. let bad = (rw (to_z-of_z fits) at (c.in-None.ensures place).1) at in cc bad)
+    let number =
+    number_of_row c.args.column rows c.args.row c.at-number.result c.requires.row there in
+    cell_absent c.args.tables.now (c.args.row + 1)
+    (get_or rows c.args.row []) c.args.column c.in-Some.table c.at-number.result
+    (sym c.in-Some.ensures) number
+    (λ place at. let bad = (rw (to_z-of_z fits) at (c.in-None.ensures place).1) at in cc bad)
 
 pub returns-in-Some-find : goal.returns-in-Some-find
 returns-in-Some-find c =
     let rows = rows_in c.args.tables.now Lineorder in
-    let there : slice_get (numbers_of c.args.column rows) c.args.row ≡ Some c.at-number.result = rw (c.numbers.ensures, c.requires.table) at c.at-number.ensures in
+    let there : slice_get (numbers_of c.args.column rows) c.args.row ≡ Some c.at-number.result =
+    rw (c.numbers.ensures, c.requires.table) at c.at-number.ensures in
     let fits : FitsSigned w64 c.at-number.result = search rules in
-    let number = number_of_row c.args.column rows c.args.row c.at-number.result c.requires.row there in
+    let number =
+    number_of_row c.args.column rows c.args.row c.at-number.result c.requires.row there in
     let found = (c.in-Some-find.ensures c.in-Some-find.field-0).0 refl in
-    cell_known c.args.tables.now (c.args.row + 1) (get_or rows c.args.row []) c.args.column c.in-Some.table c.at-number.result c.in-Some-find.field-0 (sym c.in-Some.ensures) number (rw (to_z-of_z fits) at found)
+    cell_known c.args.tables.now (c.args.row + 1)
+    (get_or rows c.args.row []) c.args.column c.in-Some.table c.at-number.result
+    c.in-Some-find.field-0 (sym c.in-Some.ensures) number (rw (to_z-of_z fits) at found)

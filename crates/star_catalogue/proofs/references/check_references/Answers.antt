@@ -12,7 +12,9 @@ pub returns-in_err-check_row : goal.returns-in_err-check_row
 returns-in_err-check_row c =
     let p = err_from_is_err_and c.from_residual.result c.from_residual.ensures.1 in
     let within : c.loop-row.row < length (rows_in c.args.tables.now Lineorder) = omega arith in
-    rw (p.1, p.2) (absent_here c.args.tables.now c.loop-row.row c.in_err-check_row.field-0.0 within c.in_err-check_row.ensures c.loop-row.invariant)
+    rw (p.1, p.2)
+    (absent_here c.args.tables.now c.loop-row.row c.in_err-check_row.field-0.0 within
+    c.in_err-check_row.ensures c.loop-row.invariant)
 
 pub loop-row-preserved : goal.loop-row-preserved
 loop-row-preserved c =

@@ -13,17 +13,27 @@ use Rattle.star_catalogue.proofs.Refers.{after_all, foreign_keys_numbers, row_he
 use Rattle.star_catalogue.proofs.references.check_row.Goals as goal
 
 -- a column at a place of a list that is the one of the columns that refer
-number_at_place : (columns : List ColumnId) (i : ℕ) → columns ≡ foreign_keys → i < length columns → IsNumberOf Lineorder (get_or columns i DDatekey)
-number_at_place columns i are within = rw are (All-get_or (IsNumberOf Lineorder) foreign_keys i DDatekey (rw are at within) foreign_keys_numbers)
+number_at_place : (columns : List ColumnId) (i : ℕ) → columns ≡ foreign_keys → i < length columns
+    → IsNumberOf Lineorder (get_or columns i DDatekey)
+number_at_place columns i are within =
+    rw are (All-get_or (IsNumberOf Lineorder) foreign_keys i DDatekey
+    (rw are at within) foreign_keys_numbers)
 
-there : (columns : List ColumnId) (i : ℕ) → columns ≡ foreign_keys → i < length columns → slice_get foreign_keys i ≡ Some (get_or columns i DDatekey)
-there columns i are within = ap (λ (cs : List ColumnId). slice_get cs i) (sym are) ∙ slice_get-get_or columns i DDatekey within
+there : (columns : List ColumnId) (i : ℕ) → columns ≡ foreign_keys → i < length columns
+    → slice_get foreign_keys i ≡ Some (get_or columns i DDatekey)
+there columns i are within =
+    ap (λ (cs : List ColumnId). slice_get cs i) (sym are)
+    ∙ slice_get-get_or columns i DDatekey within
 
 pub check_cell-requires-clause-table : goal.check_cell-requires-clause-table
-check_cell-requires-clause-table c = (number_at_place c.foreign_key_columns-column-items.result.now c.loop-column.column-index c.foreign_key_columns-column-items.ensures c.loop-column-test.true).table
+check_cell-requires-clause-table c =
+    (number_at_place c.foreign_key_columns-column-items.result.now c.loop-column.column-index
+    c.foreign_key_columns-column-items.ensures c.loop-column-test.true).table
 
 pub check_cell-requires-clause-kind : goal.check_cell-requires-clause-kind
-check_cell-requires-clause-kind c = (number_at_place c.foreign_key_columns-column-items.result.now c.loop-column.column-index c.foreign_key_columns-column-items.ensures c.loop-column-test.true).kind
+check_cell-requires-clause-kind c =
+    (number_at_place c.foreign_key_columns-column-items.result.now c.loop-column.column-index
+    c.foreign_key_columns-column-items.ensures c.loop-column-test.true).kind
 
 pub returns-in_err-check_cell : goal.returns-in_err-check_cell
 returns-in_err-check_cell c =
@@ -31,21 +41,32 @@ returns-in_err-check_cell c =
     let columns = c.foreign_key_columns-column-items.result.now in
     let i = c.loop-column.column-index in
     rw (p.1, p.2)
-    (row_here c.args.tables.now (c.args.row + 1) (get_or (rows_in c.args.tables.now Lineorder) c.args.row []) i (get_or columns i DDatekey) c.in_err-check_cell.field-0.0
-    (there columns i c.foreign_key_columns-column-items.ensures c.loop-column-test.true) c.in_err-check_cell.ensures c.loop-column.invariant)
+    (row_here c.args.tables.now (c.args.row + 1)
+    (get_or (rows_in c.args.tables.now Lineorder) c.args.row []) i
+    (get_or columns i DDatekey) c.in_err-check_cell.field-0.0
+    (there columns i c.foreign_key_columns-column-items.ensures c.loop-column-test.true)
+    c.in_err-check_cell.ensures c.loop-column.invariant)
 
 pub loop-column-preserved : goal.loop-column-preserved
 loop-column-preserved c =
     let columns = c.foreign_key_columns-column-items.result.now in
     let i = c.loop-column.column-index in
-    row_on c.args.tables.now (c.args.row + 1) (get_or (rows_in c.args.tables.now Lineorder) c.args.row []) i (get_or columns i DDatekey)
-    (there columns i c.foreign_key_columns-column-items.ensures c.loop-column-test.true) c.in_ok-check_cell.ensures c.loop-column.invariant
+    row_on c.args.tables.now (c.args.row + 1)
+    (get_or (rows_in c.args.tables.now Lineorder) c.args.row []) i (get_or columns i DDatekey)
+    (there columns i c.foreign_key_columns-column-items.ensures c.loop-column-test.true)
+    c.in_ok-check_cell.ensures c.loop-column.invariant
 
 pub returns : goal.returns
 returns c =
     let row = get_or (rows_in c.args.tables.now Lineorder) c.args.row [] in
-    let all : length foreign_keys ≡ c.loop-column.column-index = rw c.foreign_key_columns-column-items.ensures at (exactly c.foreign_key_columns-column-items.result.now c.loop-column.column-index c.loop-column.auto.column-index-end c.loop-column-test.false) in
-    c.loop-column.invariant ∙ after_all (cell_fault c.args.tables.now (c.args.row + 1) row) foreign_keys c.loop-column.column-index all
+    let all : length foreign_keys ≡ c.loop-column.column-index =
+    rw c.foreign_key_columns-column-items.ensures at
+    (exactly c.foreign_key_columns-column-items.result.now c.loop-column.column-index
+    c.loop-column.auto.column-index-end c.loop-column-test.false) in
+    c.loop-column.invariant
+    ∙ after_all (cell_fault c.args.tables.now (c.args.row + 1) row) foreign_keys
+    c.loop-column.column-index all
   where
-    exactly : (columns : List ColumnId) (i : ℕ) → i ≤ length columns → length columns ≤ i → length columns ≡ i
+    exactly : (columns : List ColumnId) (i : ℕ) → i ≤ length columns → length columns ≤ i
+        → length columns ≡ i
     exactly columns i up down = omega arith

@@ -6,5 +6,6 @@ invariant-loop-place l =
     let numbers = map (λ e. e.number) l.ordered in
     record {
       len : length l.places.items ≡ length l.ordered;
-      lead : All (λ number. slice_get numbers (slice_index l.places.items number) ≡ Some number) (take l.place numbers);
+      lead : All (λ number. slice_get numbers (slice_index l.places.items number) ≡ Some number)
+          (take l.place numbers);
     }

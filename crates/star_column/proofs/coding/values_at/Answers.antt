@@ -10,4 +10,5 @@ loop-number-preserved c =
     let place = c.loop-number.number-index in
     let number = get_or items place 0 in
     let within : place < length items = omega (arith, c.loop-number.auto.number-items) in
-    map_over_more (λ (n : ℕ). slice_index c.args.values.now n) numbers items place number c.loop-number-test.true c.loop-number.invariant (get_or_default items place 0 number within)
+    map_over_more (λ (n : ℕ). slice_index c.args.values.now n) numbers items place number
+    c.loop-number-test.true c.loop-number.invariant (get_or_default items place 0 number within)

@@ -8,6 +8,8 @@ use Rattle.star_column.proofs.law.texts_have_one_code.Goals as goal
 pub returns : goal.returns
 returns c = record {
   some = has_code;
-  one = λ texts text code h. sym (low_in-place (dictionary_of texts) (IsDictionary-dictionary_of texts).sorted code text h);
-  next = λ texts text code h. high_in-place (dictionary_of texts) (IsDictionary-dictionary_of texts).sorted code text h;
+  one = λ texts text code h. sym
+      (low_in-place (dictionary_of texts) (IsDictionary-dictionary_of texts).sorted code text h);
+  next = λ texts text code h. high_in-place (dictionary_of texts)
+      (IsDictionary-dictionary_of texts).sorted code text h;
 }

@@ -11,13 +11,20 @@ returns-in_default c =
       | in_default-via-in-Some+in_default w ↦ w.in_default.ensures'.reached
       | in_default-via-in_default w ↦ rw w.in_default.is-0 at c.least_of.ensures.reached
     ] in
-    rw none (record { low = ap (λ r. r.low) c.point.ensures; high = ap (λ r. r.high) c.point.ensures })
+    rw none (record {
+      low = ap (λ r. r.low) c.point.ensures;
+      high = ap (λ r. r.high) c.point.ensures;
+    })
 
 pub returns : goal.returns
 returns c =
     let fits_low : FitsSigned w64 c.in-Some-Some.low = search rules in
     let fits_high : FitsSigned w64 c.in-Some-Some.high = search rules in
     record {
-      low = rw to_z-of_z (least_is c.args.numbers.now c.in-Some-Some.low c.in-Some-Some.ensures.bound c.in-Some-Some.ensures.reached);
-      high = rw to_z-of_z (greatest_is c.args.numbers.now c.in-Some-Some.high c.in-Some-Some.ensures'.bound c.in-Some-Some.ensures'.reached);
+      low = rw to_z-of_z
+          (least_is c.args.numbers.now c.in-Some-Some.low c.in-Some-Some.ensures.bound
+          c.in-Some-Some.ensures.reached);
+      high = rw to_z-of_z
+          (greatest_is c.args.numbers.now c.in-Some-Some.high c.in-Some-Some.ensures'.bound
+          c.in-Some-Some.ensures'.reached);
     }

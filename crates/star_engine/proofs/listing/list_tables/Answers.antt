@@ -12,10 +12,13 @@ pub loop-table-preserved : goal.loop-table-preserved
 loop-table-preserved c =
     let part : TableId → List ℕ = λ table. table_text table (rows_in c.args.catalogue.now table) in
     let at = slice_get-get_or TABLES c.loop-table.table-index Date c.loop-table-test.true in
-    rw c.in_ok-push_table.ensures (one_more part TABLES c.loop-table.table-index _ [] (string_bytes c.loop-table.text) at c.loop-table.invariant)
+    rw c.in_ok-push_table.ensures
+    (one_more part TABLES c.loop-table.table-index _ []
+    (string_bytes c.loop-table.text) at c.loop-table.invariant)
 
 pub returns : goal.returns
 unfolding listing_of
 returns c =
     let part : TableId → List ℕ = λ table. table_text table (rows_in c.args.catalogue.now table) in
-    all_parts part TABLES c.loop-table.table-index [] (string_bytes c.loop-table.text) c.loop-table-test.false c.loop-table.invariant
+    all_parts part TABLES c.loop-table.table-index []
+    (string_bytes c.loop-table.text) c.loop-table-test.false c.loop-table.invariant

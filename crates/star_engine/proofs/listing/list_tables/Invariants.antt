@@ -6,4 +6,6 @@ use Rattle.star_report.proofs.Parts.{HasGrown}
 use Rattle.star_engine.proofs.listing.list_tables.Given as goal
 
 abbrev pub invariant-loop-table : goal.invariant-loop-table
-invariant-loop-table l = HasGrown (λ table. table_text table (rows_in l.catalogue table)) TABLES l.table-index [] (string_bytes l.text)
+invariant-loop-table l =
+    HasGrown (λ table. table_text table (rows_in l.catalogue table)) TABLES l.table-index []
+    (string_bytes l.text)

@@ -7,5 +7,9 @@ use Rattle.star_engine.proofs.listing.listing.Goals as goal
 pub returns : goal.returns
 returns c =
     MatchResult-weaker c.list_tables.result c.list_tables.ensures
-    (λ text made. (c.in_ok-catalogue.ensures.loadable, made ∙ listing_texts c.in_ok-catalogue.catalogue (text_of c.args.texts.now) c.in_ok-catalogue.ensures.rows))
+    (λ text made. (
+      c.in_ok-catalogue.ensures.loadable,
+      made ∙ listing_texts c.in_ok-catalogue.catalogue
+          (text_of c.args.texts.now) c.in_ok-catalogue.ensures.rows,
+    ))
     (λ fault is. rw is tt)

@@ -8,12 +8,18 @@ use Rattle.star_engine.proofs.listing.push_columns.Goals as goal
 
 pub loop-place-preserved : goal.loop-place-preserved
 loop-place-preserved c =
-    let part : ColumnId → List ℕ = λ column. column_text (rows_in c.args.catalogue.now c.args.table) column (kind_of column) in
+    let part : ColumnId → List ℕ =
+    λ column. column_text (rows_in c.args.catalogue.now c.args.table) column (kind_of column) in
     let grown = rw c.column_at.ensures.table at c.in_ok-push_column.ensures in
-    rw grown (one_more part (columns_of c.args.table) c.loop-place.place c.column_at.result (string_bytes c.args.text.now) (string_bytes c.loop-place.text) c.column_at.ensures.at c.loop-place.invariant)
+    rw grown (one_more part (columns_of c.args.table) c.loop-place.place c.column_at.result
+    (string_bytes c.args.text.now) (string_bytes c.loop-place.text) c.column_at.ensures.at
+    c.loop-place.invariant)
 
 pub returns : goal.returns
 returns c =
-    let part : ColumnId → List ℕ = λ column. column_text (rows_in c.args.catalogue.now c.args.table) column (kind_of column) in
-    let past : length (columns_of c.args.table) ≤ c.loop-place.place = omega (arith, c.width-place-end.ensures, c.loop-place-test.false) in
-    all_parts part (columns_of c.args.table) c.loop-place.place (string_bytes c.args.text.now) (string_bytes c.loop-place.text) past c.loop-place.invariant
+    let part : ColumnId → List ℕ =
+    λ column. column_text (rows_in c.args.catalogue.now c.args.table) column (kind_of column) in
+    let past : length (columns_of c.args.table) ≤ c.loop-place.place =
+    omega (arith, c.width-place-end.ensures, c.loop-place-test.false) in
+    all_parts part (columns_of c.args.table) c.loop-place.place (string_bytes c.args.text.now)
+    (string_bytes c.loop-place.text) past c.loop-place.invariant

@@ -7,4 +7,5 @@ use Rattle.star_engine.proofs.listing.push_columns.Given as goal
 
 abbrev pub invariant-loop-place : goal.invariant-loop-place
 invariant-loop-place l =
-    HasGrown (λ column. column_text (rows_in l.catalogue l.table) column (kind_of column)) (columns_of l.table) l.place (string_bytes l.fn.text) (string_bytes l.text)
+    HasGrown (λ column. column_text (rows_in l.catalogue l.table) column (kind_of column))
+    (columns_of l.table) l.place (string_bytes l.fn.text) (string_bytes l.text)

@@ -10,7 +10,8 @@ returns-clause-least c =
     let a = c.args.self.now in
     let b = c.args.other.now in
     least_same _ _ (hull (range_of a) (range_of b)) (search rules)
-    (least_hull (Holds (range_of a)) (Holds (range_of b)) _ _ (least_held (range_of a) a.ordered) (least_held (range_of b) b.ordered))
+    (least_hull (Holds (range_of a)) (Holds (range_of b)) _ _ (least_held (range_of a) a.ordered)
+    (least_held (range_of b) b.ordered))
 
 pub returns-clause-ends : goal.returns-clause-ends
 returns-clause-ends c = range_same _ _ (search rules) (search rules)

@@ -7,4 +7,5 @@ pub returns-clause-least : goal.returns-clause-least
 returns-clause-least c =
     let a = c.args.self.now in
     let b = c.args.other.now in
-    rw (c.narrow.ensures.bounds, c.mul_wide.ensures) (least_products (range_of a) (range_of b) a.ordered b.ordered)
+    rw (c.narrow.ensures.bounds, c.mul_wide.ensures)
+    (least_products (range_of a) (range_of b) a.ordered b.ordered)

@@ -6,4 +6,5 @@ use Rattle.star_interval.proofs.Interval.times.Goals as goal
 pub returns-clause-least : goal.returns-clause-least
 returns-clause-least c =
     let a = c.args.self.now in
-    rw (c.narrow.ensures.bounds, c.times_wide.ensures) (least_multiples c.args.n (range_of a) a.ordered)
+    rw (c.narrow.ensures.bounds, c.times_wide.ensures)
+    (least_multiples c.args.n (range_of a) a.ordered)

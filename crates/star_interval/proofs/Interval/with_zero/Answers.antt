@@ -9,4 +9,5 @@ pub returns-clause-least : goal.returns-clause-least
 returns-clause-least c =
     let a = c.args.self.now in
     least_same _ _ (hull (range_of a) (only (pos 0))) (search rules)
-    (least_hull (Holds (range_of a)) (λ z. z ≡ pos 0) _ _ (least_held (range_of a) a.ordered) (least_only (pos 0)))
+    (least_hull (Holds (range_of a)) (λ z. z ≡ pos 0) _ _ (least_held (range_of a) a.ordered)
+    (least_only (pos 0)))

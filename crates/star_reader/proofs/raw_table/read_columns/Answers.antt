@@ -15,5 +15,6 @@ read_records-requires c =
 
 pub returns : goal.returns
 returns c =
-    let left : HasLeft c.records_reader-reader.result (records_of c.args.text.now) = rw c.requires.plain at c.records_reader-reader.ensures in
+    let left : HasLeft c.records_reader-reader.result (records_of c.args.text.now) =
+    rw c.requires.plain at c.records_reader-reader.ensures in
     c.read_records.ensures c.args.table (records_of c.args.text.now) left c.requires.empty

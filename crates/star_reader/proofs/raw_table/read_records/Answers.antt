@@ -7,13 +7,17 @@ use Rattle.star_reader.proofs.TableSteps.{AddsRecord}
 use Rattle.star_reader.proofs.raw_table.read_records.Goals as goal
 
 pub loop-rows-init : goal.loop-rows-init
-loop-rows-init c = λ table lines left empty. steps.start table c.args.most lines c.args.columns.now c.args.reader.now empty left
+loop-rows-init c = λ table lines left empty. steps.start table c.args.most lines c.args.columns.now
+    c.args.reader.now empty left
 
 pub returns-then-not-branch : goal.returns-then-not-branch
 returns-then-not-branch c = λ table lines left empty.
     let h = c.loop-rows.invariant table lines left empty in
-    let read : ReadsFirst c.in_ok-read_next.field-0 h.lines (fields_read c.read_next.new.row) c.read_next.new.reader = c.in_ok-read_next.ensures.reads h.lines h.left in
-    steps.whole table c.args.most lines c.loop-rows.rows c.loop-rows.columns c.loop-rows.reader h (rw c.if-not-branch.true at read)
+    let read : ReadsFirst c.in_ok-read_next.field-0 h.lines
+    (fields_read c.read_next.new.row) c.read_next.new.reader =
+    c.in_ok-read_next.ensures.reads h.lines h.left in
+    steps.whole table c.args.most lines c.loop-rows.rows c.loop-rows.columns c.loop-rows.reader h
+    (rw c.if-not-branch.true at read)
 
 pub push_record-requires : goal.push_record-requires
 push_record-requires c = omega (arith, c.requires, c.loop-rows.auto.columns)
@@ -21,35 +25,62 @@ push_record-requires c = omega (arith, c.requires, c.loop-rows.auto.columns)
 pub returns-in_err-push_record : goal.returns-in_err-push_record
 returns-in_err-push_record c = λ table lines left empty.
     let h = c.loop-rows.invariant table lines left empty in
-    let read : ReadsFirst c.in_ok-read_next.field-0 h.lines (fields_read c.read_next.new.row) c.read_next.new.reader = c.in_ok-read_next.ensures.reads h.lines h.left in
-    let next : TakesFirst h.lines (fields_read c.read_next.new.row) c.read_next.new.reader = rw c.if-not-branch.false at read in
-    let p = err_from_is_err_and c.from_residual-in_err-push_record.result c.from_residual-in_err-push_record.ensures.1 in
+    let read : ReadsFirst c.in_ok-read_next.field-0 h.lines
+    (fields_read c.read_next.new.row) c.read_next.new.reader =
+    c.in_ok-read_next.ensures.reads h.lines h.left in
+    let next : TakesFirst h.lines (fields_read c.read_next.new.row) c.read_next.new.reader =
+    rw c.if-not-branch.false at read in
+    let p = err_from_is_err_and c.from_residual-in_err-push_record.result
+    c.from_residual-in_err-push_record.ensures.1 in
     rw (p.1, p.2) (elim c.in_err-push_record.ensures.pushed [
       | inl memory ↦ inl memory
-      | inr here ↦ inr (steps.faulty table c.args.most lines c.loop-rows.rows c.loop-rows.columns c.loop-rows.reader c.read_next.new.reader (fields_read c.read_next.new.row) _ h next c.loop-rows-test.true here)
+      | inr here ↦
+          inr (steps.faulty table c.args.most lines c.loop-rows.rows c.loop-rows.columns
+          c.loop-rows.reader c.read_next.new.reader
+          (fields_read c.read_next.new.row) _ h next c.loop-rows-test.true here)
     ])
 
 pub loop-rows-preserved : goal.loop-rows-preserved
 loop-rows-preserved c = λ table lines left empty.
     let h = c.loop-rows.invariant table lines left empty in
-    let read : ReadsFirst c.in_ok-read_next.field-0 h.lines (fields_read c.read_next.new.row) c.read_next.new.reader = c.in_ok-read_next.ensures.reads h.lines h.left in
-    let next : TakesFirst h.lines (fields_read c.read_next.new.row) c.read_next.new.reader = rw c.if-not-branch.false at read in
+    let read : ReadsFirst c.in_ok-read_next.field-0 h.lines
+    (fields_read c.read_next.new.row) c.read_next.new.reader =
+    c.in_ok-read_next.ensures.reads h.lines h.left in
+    let next : TakesFirst h.lines (fields_read c.read_next.new.row) c.read_next.new.reader =
+    rw c.if-not-branch.false at read in
     let pushed = c.in_ok-push_record.ensures.pushed in
-    let adds : AddsRecord (c.loop-rows.rows + 1) (fields_read c.read_next.new.row) c.loop-rows.columns c.push_record.new.columns =
-    record { no_fault = pushed.0; columns = pushed.1; width = pushed.2; kinds = c.push_record.ensures.kinds } in
-    steps.more table c.args.most lines c.loop-rows.rows c.loop-rows.columns c.push_record.new.columns c.loop-rows.reader c.read_next.new.reader (fields_read c.read_next.new.row) h next c.loop-rows-test.true adds
+    let adds : AddsRecord (c.loop-rows.rows + 1)
+    (fields_read c.read_next.new.row) c.loop-rows.columns c.push_record.new.columns =
+    record {
+      no_fault = pushed.0;
+      columns = pushed.1;
+      width = pushed.2;
+      kinds = c.push_record.ensures.kinds;
+    } in
+    steps.more table c.args.most lines c.loop-rows.rows c.loop-rows.columns
+    c.push_record.new.columns c.loop-rows.reader c.read_next.new.reader
+    (fields_read c.read_next.new.row) h next c.loop-rows-test.true adds
 
 pub returns-then-branch : goal.returns-then-branch
 returns-then-branch c = λ table lines left empty.
     let h = c.loop-rows.invariant table lines left empty in
-    let read : ReadsFirst c.in_ok-read_next-2.field-0 h.lines (fields_read c.read_next-2.new.row) c.read_next-2.new.reader = c.in_ok-read_next-2.ensures.reads h.lines h.left in
-    let next : TakesFirst h.lines (fields_read c.read_next-2.new.row) c.read_next-2.new.reader = rw c.if-branch.true at read in
-    inr (steps.too_many table c.args.most lines c.loop-rows.rows c.loop-rows.columns c.loop-rows.reader c.read_next-2.new.reader (fields_read c.read_next-2.new.row) h next c.loop-rows-test.false)
+    let read : ReadsFirst c.in_ok-read_next-2.field-0 h.lines
+    (fields_read c.read_next-2.new.row) c.read_next-2.new.reader =
+    c.in_ok-read_next-2.ensures.reads h.lines h.left in
+    let next : TakesFirst h.lines (fields_read c.read_next-2.new.row) c.read_next-2.new.reader =
+    rw c.if-branch.true at read in
+    inr (steps.too_many table c.args.most lines c.loop-rows.rows c.loop-rows.columns
+    c.loop-rows.reader c.read_next-2.new.reader
+    (fields_read c.read_next-2.new.row) h next c.loop-rows-test.false)
 
 pub returns : goal.returns
 returns c = λ table lines left empty.
     let h = c.loop-rows.invariant table lines left empty in
-    let read : ReadsFirst c.in_ok-read_next-2.field-0 h.lines (fields_read c.read_next-2.new.row) c.read_next-2.new.reader = c.in_ok-read_next-2.ensures.reads h.lines h.left in
-    let w = steps.whole table c.args.most lines c.loop-rows.rows c.loop-rows.columns c.loop-rows.reader h (rw c.if-branch.false at read) in
-    let all : c.loop-rows.rows ≡ c.args.most = omega (arith, c.loop-rows.auto.rows-end, c.loop-rows-test.false) in
+    let read : ReadsFirst c.in_ok-read_next-2.field-0 h.lines
+    (fields_read c.read_next-2.new.row) c.read_next-2.new.reader =
+    c.in_ok-read_next-2.ensures.reads h.lines h.left in
+    let w = steps.whole table c.args.most lines c.loop-rows.rows c.loop-rows.columns
+    c.loop-rows.reader h (rw c.if-branch.false at read) in
+    let all : c.loop-rows.rows ≡ c.args.most =
+    omega (arith, c.loop-rows.auto.rows-end, c.loop-rows-test.false) in
     rw all at w

@@ -14,7 +14,8 @@ use Rattle.star_reader.proofs.record.push_record.Goals as goal
 pub returns-then-cell_count-columns-clause-pushed : goal.returns-then-cell_count-columns-clause-pushed
 returns-then-cell_count-columns-clause-pushed c =
     let width = length-map c.args.columns.now kind_of in
-    inr (wrong_count (map kind_of c.args.columns.now) c.args.at_row (fields_read c.args.line.now) (rw width (λ same. c.if-cell_count-columns.true (c.cell_count.ensures ∙ same))))
+    inr (wrong_count (map kind_of c.args.columns.now) c.args.at_row (fields_read c.args.line.now)
+    (rw width (λ same. c.if-cell_count-columns.true (c.cell_count.ensures ∙ same))))
 
 pub loop-place-init : goal.loop-place-init
 loop-place-init c = pushes.start c.args.at_row (map kind_of c.args.columns.now) _ c.args.columns.now
@@ -24,46 +25,73 @@ returns-in_err-push_cell-in-Some-clause-pushed c =
     let ks : List Kind = map kind_of c.args.columns.now in
     let fields : List (List ℕ) = fields_read c.args.line.now in
     let width : length ks ≡ length c.args.columns.now = length-map c.args.columns.now kind_of in
-    let all : length (cells_of (length ks) fields) ≡ length ks = rw width (sym c.cell_count.ensures ∙ c.if-cell_count-columns.false) in
-    let within : c.loop-place.place < length c.loop-place.columns = omega (arith, c.loop-place.auto.columns) in
-    let at = slice_get-get_or c.loop-place.columns c.loop-place.place c.index-columns-place.result within in
-    let at_kind = pushes.kind_there c.args.columns.now c.loop-place.columns c.loop-place.place _ c.loop-place.invariant.kinds at in
-    let at_cell = cell_at (length ks) fields c.loop-place.place (omega (arith, width)) ∙ sym c.in-Some.ensures in
+    let all : length (cells_of (length ks) fields) ≡ length ks =
+    rw width (sym c.cell_count.ensures ∙ c.if-cell_count-columns.false) in
+    let within : c.loop-place.place < length c.loop-place.columns =
+    omega (arith, c.loop-place.auto.columns) in
+    let at = slice_get-get_or c.loop-place.columns c.loop-place.place c.index-columns-place.result
+    within in
+    let at_kind =
+    pushes.kind_there c.args.columns.now c.loop-place.columns c.loop-place.place _
+    c.loop-place.invariant.kinds at in
+    let at_cell =
+    cell_at (length ks) fields c.loop-place.place (omega (arith, width))
+    ∙ sym c.in-Some.ensures in
     let p = err_from_is_err_and c.from_residual.result c.from_residual.ensures.1 in
     rw (p.1, p.2) (elim c.in_err-push_cell-in-Some.ensures.pushed [
       | inl memory ↦ inl memory
-      | inr fault ↦ inr (right_count ks c.args.at_row fields all ∙ pushes.faulty c.args.at_row ks (cells_of (length ks) fields) c.loop-place.place c.args.columns.now c.loop-place.columns _ _ _ c.loop-place.invariant at_kind at_cell fault)
+      | inr fault ↦
+          inr (right_count ks c.args.at_row fields all
+          ∙ pushes.faulty c.args.at_row ks
+          (cells_of (length ks) fields) c.loop-place.place c.args.columns.now c.loop-place.columns _
+          _ _ c.loop-place.invariant at_kind at_cell fault)
     ])
 
 pub returns-in_err-push_cell-in-Some-clause-kinds : goal.returns-in_err-push_cell-in-Some-clause-kinds
 returns-in_err-push_cell-in-Some-clause-kinds c =
-    let within : c.loop-place.place < length c.loop-place.columns = omega (arith, c.loop-place.auto.columns) in
-    let at = slice_get-get_or c.loop-place.columns c.loop-place.place c.index-columns-place.result within in
-    pushes.kinds_kept c.args.columns.now c.loop-place.columns c.loop-place.place _ c.push_cell.new.self c.loop-place.invariant.kinds at c.push_cell.ensures.kind
+    let within : c.loop-place.place < length c.loop-place.columns =
+    omega (arith, c.loop-place.auto.columns) in
+    let at = slice_get-get_or c.loop-place.columns c.loop-place.place c.index-columns-place.result
+    within in
+    pushes.kinds_kept c.args.columns.now c.loop-place.columns c.loop-place.place _
+    c.push_cell.new.self c.loop-place.invariant.kinds at c.push_cell.ensures.kind
 
 pub unreachable-requires : goal.unreachable-requires
 unreachable-requires c =
     let all = sym c.cell_count.ensures ∙ c.if-cell_count-columns.false in
-    field_there (length c.args.columns.now) (fields_read c.args.line.now) c.loop-place.place all (omega arith) (sym c.in-None.ensures)
+    field_there (length c.args.columns.now) (fields_read c.args.line.now) c.loop-place.place all
+    (omega arith) (sym c.in-None.ensures)
 
 pub loop-place-preserved : goal.loop-place-preserved
 loop-place-preserved c =
     let ks : List Kind = map kind_of c.args.columns.now in
     let fields : List (List ℕ) = fields_read c.args.line.now in
     let width : length ks ≡ length c.args.columns.now = length-map c.args.columns.now kind_of in
-    let within : c.loop-place.place < length c.loop-place.columns = omega (arith, c.loop-place.auto.columns) in
-    let at = slice_get-get_or c.loop-place.columns c.loop-place.place c.index-columns-place.result within in
-    let at_kind = pushes.kind_there c.args.columns.now c.loop-place.columns c.loop-place.place _ c.loop-place.invariant.kinds at in
-    let at_cell = cell_at (length ks) fields c.loop-place.place (omega (arith, width)) ∙ sym c.in-Some.ensures in
-    pushes.more c.args.at_row ks (cells_of (length ks) fields) c.loop-place.place c.args.columns.now c.loop-place.columns _ c.in-Some.field.now _ c.push_cell.new.self
-    c.loop-place.invariant at_kind at_cell c.in_ok-push_cell-in-Some.ensures.pushed.0 at c.in_ok-push_cell-in-Some.ensures.pushed.1 c.push_cell.ensures.kind
+    let within : c.loop-place.place < length c.loop-place.columns =
+    omega (arith, c.loop-place.auto.columns) in
+    let at = slice_get-get_or c.loop-place.columns c.loop-place.place c.index-columns-place.result
+    within in
+    let at_kind =
+    pushes.kind_there c.args.columns.now c.loop-place.columns c.loop-place.place _
+    c.loop-place.invariant.kinds at in
+    let at_cell =
+    cell_at (length ks) fields c.loop-place.place (omega (arith, width))
+    ∙ sym c.in-Some.ensures in
+    pushes.more c.args.at_row ks
+    (cells_of (length ks) fields) c.loop-place.place c.args.columns.now c.loop-place.columns _
+    c.in-Some.field.now _ c.push_cell.new.self
+    c.loop-place.invariant at_kind at_cell c.in_ok-push_cell-in-Some.ensures.pushed.0 at
+    c.in_ok-push_cell-in-Some.ensures.pushed.1 c.push_cell.ensures.kind
 
 pub returns-clause-pushed : goal.returns-clause-pushed
 returns-clause-pushed c =
     let ks : List Kind = map kind_of c.args.columns.now in
     let fields : List (List ℕ) = fields_read c.args.line.now in
     let width : length ks ≡ length c.args.columns.now = length-map c.args.columns.now kind_of in
-    let all : length (cells_of (length ks) fields) ≡ length ks = rw width (sym c.cell_count.ensures ∙ c.if-cell_count-columns.false) in
+    let all : length (cells_of (length ks) fields) ≡ length ks =
+    rw width (sym c.cell_count.ensures ∙ c.if-cell_count-columns.false) in
     let past : length ks ≤ c.loop-place.place = omega (arith, width) in
-    let w = pushes.whole c.args.at_row ks (cells_of (length ks) fields) c.loop-place.place c.args.columns.now c.loop-place.columns c.loop-place.invariant past all in
+    let w = pushes.whole c.args.at_row ks
+    (cells_of (length ks) fields) c.loop-place.place c.args.columns.now c.loop-place.columns
+    c.loop-place.invariant past all in
     (right_count ks c.args.at_row fields all ∙ w.no_fault, w.columns, w.width ∙ width)

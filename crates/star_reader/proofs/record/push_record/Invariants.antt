@@ -7,4 +7,6 @@ use Rattle.star_reader.proofs.record.push_record.Given as goal
 
 abbrev pub invariant-loop-place : goal.invariant-loop-place
 invariant-loop-place l =
-    HasPushed l.at_row (map kind_of l.fn.columns) (cells_of (length (map kind_of l.fn.columns)) (fields_read l.line)) l.place l.fn.columns l.columns
+    HasPushed l.at_row (map kind_of l.fn.columns)
+    (cells_of (length (map kind_of l.fn.columns)) (fields_read l.line)) l.place l.fn.columns
+    l.columns

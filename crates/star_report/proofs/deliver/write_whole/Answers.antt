@@ -11,15 +11,19 @@ loop-sent-preserved g c =
     let takes = rw whole at c.in-Ok.ensures.takes in
     let within = rw whole at c.in-Ok.ensures.within in
     let some : 0 < c.in-Ok.count = omega (arith, c.in-Ok.count-test.1) in
-    let left : 0 < length (take (length c.args.text.now - c.loop-sent.sent) (drop c.loop-sent.sent c.args.text.now)) =
+    let left : 0
+    < length (take (length c.args.text.now - c.loop-sent.sent)
+    (drop c.loop-sent.sent c.args.text.now)) =
     rw whole (omega (arith, length-drop c.loop-sent.sent c.args.text.now, c.loop-sent-test.true)) in
-    let was : g.S.Sink.is_failed c.loop-sent.sink ≡ false = elim (cases_Bool (g.S.Sink.is_failed c.loop-sent.sink)) [
+    let was : g.S.Sink.is_failed c.loop-sent.sink ≡ false =
+    elim (cases_Bool (g.S.Sink.is_failed c.loop-sent.sink)) [
       | inl failed ↦ let bad = rw c.in-Ok.is at c.write.ensures.stays_failed failed left in cc
       | inr fine ↦ fine
     ] in
     record {
       sent = record {
-        within = omega (arith, within, length-drop c.loop-sent.sent c.args.text.now, c.loop-sent-test.true);
+        within = omega
+            (arith, within, length-drop c.loop-sent.sent c.args.text.now, c.loop-sent-test.true);
         holds = sends_more _ _ _ c.loop-sent.sent c.in-Ok.count c.args.text.now h.holds takes;
         goes_on = λ sent. c.in-Ok.ensures.goes_on (inl some) ∙ was;
       };
@@ -27,4 +31,6 @@ loop-sent-preserved g c =
     }
 
 pub returns-clause-empty : goal.returns-clause-empty
-returns-clause-empty g c = λ none. let e = ap length none in (refl, c.loop-sent.invariant.untouched (omega (arith, c.loop-sent.invariant.sent.within)))
+returns-clause-empty g c = λ none. let e =
+    ap length none in
+    (refl, c.loop-sent.invariant.untouched (omega (arith, c.loop-sent.invariant.sent.within)))

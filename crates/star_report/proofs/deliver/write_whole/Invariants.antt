@@ -4,7 +4,8 @@ use Rattle.star_report.proofs.deliver.write_whole.Given as goal
 
 abbrev pub invariant-loop-sent : goal.invariant-loop-sent
 invariant-loop-sent g l = record {
-  sent : HasSent (g.S.Sink.contents l.fn.sink) (g.S.Sink.contents l.sink) (g.S.Sink.is_failed l.sink) l.text l.sent;
+  sent : HasSent (g.S.Sink.contents l.fn.sink) (g.S.Sink.contents l.sink)
+      (g.S.Sink.is_failed l.sink) l.text l.sent;
   untouched : l.sent ≡ 0 → l.sink ≡ l.fn.sink;
 }
 

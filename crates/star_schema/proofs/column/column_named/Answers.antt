@@ -6,6 +6,7 @@ use Rattle.star_schema.proofs.column.column_named.Goals as goal
 
 pub returns : goal.returns
 returns c = λ column. (
-  λ found. found_named column_name c.args.name.now COLUMNS column (sym c.first_named.ensures ∙ found),
+  λ found. found_named column_name c.args.name.now COLUMNS column
+      (sym c.first_named.ensures ∙ found),
   λ named. c.first_named.ensures ∙ rw (← named) (column_by_name column),
 )

@@ -8,16 +8,20 @@ column_at-first-requires c = let some = width_some c.table_of.result in omega ar
 
 pub overflow_sub-result : goal.overflow_sub-result
 overflow_sub-result c =
-    let after = place_after_first c.args.column c.column_at-first.result (rw c.table_of.ensures at c.column_at-first.ensures.at) in
+    let after = place_after_first c.args.column c.column_at-first.result
+    (rw c.table_of.ensures at c.column_at-first.ensures.at) in
     omega (arith, after)
 
 pub returns-clause-place : goal.returns-clause-place
 returns-clause-place c =
-    let after = place_after_first c.args.column c.column_at-first.result (rw c.table_of.ensures at c.column_at-first.ensures.at) in
+    let after = place_after_first c.args.column c.column_at-first.result
+    (rw c.table_of.ensures at c.column_at-first.ensures.at) in
     omega (arith, after)
 
 pub returns-clause-there : goal.returns-clause-there
 returns-clause-there c =
-    let after = place_after_first c.args.column c.column_at-first.result (rw c.table_of.ensures at c.column_at-first.ensures.at) in
-    let place : index_of c.args.column - index_of c.column_at-first.result ≡ place_of c.args.column = omega (arith, after) in
+    let after = place_after_first c.args.column c.column_at-first.result
+    (rw c.table_of.ensures at c.column_at-first.ensures.at) in
+    let place : index_of c.args.column - index_of c.column_at-first.result
+    ≡ place_of c.args.column = omega (arith, after) in
     rw place (at_place c.args.column)

@@ -7,7 +7,10 @@ use Rattle.star_schema.proofs.table.column_at.Goals as goal
 
 pub returns-clause-table : goal.returns-clause-table
 returns-clause-table c =
-    let within : c.args.place < length c.columns.result.now = omega (arith, c.requires, ap length c.columns.ensures.columns) in
-    let at : slice_get (columns_of c.args.table) c.args.place ≡ Some (get_or c.columns.result.now c.args.place DDatekey) =
-    rw (← c.columns.ensures.columns) (slice_get-get_or c.columns.result.now c.args.place DDatekey within) in
+    let within : c.args.place < length c.columns.result.now =
+    omega (arith, c.requires, ap length c.columns.ensures.columns) in
+    let at : slice_get (columns_of c.args.table) c.args.place
+    ≡ Some (get_or c.columns.result.now c.args.place DDatekey) =
+    rw (← c.columns.ensures.columns)
+    (slice_get-get_or c.columns.result.now c.args.place DDatekey within) in
     in_table c.args.table c.args.place _ at

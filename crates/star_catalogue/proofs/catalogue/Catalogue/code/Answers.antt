@@ -4,4 +4,10 @@ use Rattle.star_catalogue.proofs.KeyLists.{length-texts_at}
 use Rattle.star_catalogue.proofs.catalogue.Catalogue.code.Goals as goal
 
 pub code_at-requires : goal.code_at-requires
-code_at-requires c = rw (c.texts.ensures, length-texts_at (place_of c.args.column) (rows_in c.deref.result.now (table_of c.args.column)), c.deref.ensures, c.self.view_is) c.requires.row
+code_at-requires c =
+    rw (
+      c.texts.ensures,
+      length-texts_at (place_of c.args.column) (rows_in c.deref.result.now (table_of c.args.column)),
+      c.deref.ensures,
+      c.self.view_is,
+    ) c.requires.row

@@ -4,4 +4,12 @@ use Rattle.star_catalogue.proofs.KeyLists.{length-numbers_at}
 use Rattle.star_catalogue.proofs.catalogue.Catalogue.number.Goals as goal
 
 pub at-requires : goal.at-requires
-at-requires c = rw (c.numbers.ensures, length-numbers_at (place_of c.args.column) (rows_in c.deref.result.now (table_of c.args.column)), c.deref.ensures, c.self.view_is) c.requires.row
+at-requires c =
+    rw (
+      c.numbers.ensures,
+      length-numbers_at (place_of c.args.column)
+          (rows_in c.deref.result.now (table_of c.args.column)),
+      c.deref.ensures,
+      c.self.view_is,
+    )
+    c.requires.row

@@ -11,72 +11,111 @@ use Rattle.star_catalogue.proofs.keys.Keys.build.Goals as goal
 pub numbers-numbers-requires : goal.numbers-numbers-requires
 numbers-numbers-requires c =
     let table = c.args.raw.now.table in
-    let key : key_of table ≡ One c.in-One.column = ap key_of (sym c.table-table.ensures) ∙ sym c.in-One.ensures in
-    rw c.place_of.ensures.place (number_at_place table c.in-One.column (key_column table c.in-One.column key))
+    let key : key_of table ≡ One c.in-One.column =
+    ap key_of (sym c.table-table.ensures) ∙ sym c.in-One.ensures in
+    rw c.place_of.ensures.place
+    (number_at_place table c.in-One.column (key_column table c.in-One.column key))
 
 pub build-requires : goal.build-requires
-build-requires c = rw (c.numbers-numbers.ensures.numbers, length-numbers_at c.place_of.result c.args.raw.now.rows) c.requires
+build-requires c =
+    rw (c.numbers-numbers.ensures.numbers, length-numbers_at c.place_of.result c.args.raw.now.rows)
+    c.requires
 
 pub returns-in_err-index-in-One : goal.returns-in_err-index-in-One
 returns-in_err-index-in-One c =
     let table = c.args.raw.now.table in
     let rows = c.args.raw.now.rows in
-    let key : key_of table ≡ One c.in-One.column = ap key_of (sym c.table-table.ensures) ∙ sym c.in-One.ensures in
+    let key : key_of table ≡ One c.in-One.column =
+    ap key_of (sym c.table-table.ensures) ∙ sym c.in-One.ensures in
     let p = err_from_is_err_and c.from_residual.result c.from_residual.ensures.1 in
     rw (p.1, p.2) (elim c.in_err-index-in-One.ensures [
       | inl memory ↦ inl memory
-      | inr first ↦ inr (fault_of_one table c.in-One.column rows key ∙ rw (c.table-table.ensures, c.numbers-numbers.ensures.numbers, c.place_of.ensures.place) at first)
+      | inr first ↦
+          inr (fault_of_one table c.in-One.column rows key
+          ∙ rw (c.table-table.ensures, c.numbers-numbers.ensures.numbers, c.place_of.ensures.place)
+          at first)
     ])
 
 pub returns-in_ok-index-in-One : goal.returns-in_ok-index-in-One
 returns-in_ok-index-in-One c =
     let table = c.args.raw.now.table in
     let rows = c.args.raw.now.rows in
-    let key : key_of table ≡ One c.in-One.column = ap key_of (sym c.table-table.ensures) ∙ sym c.in-One.ensures in
-    let numbers : c.numbers-numbers.result.now ≡ numbers_at (place_of c.in-One.column) rows = c.numbers-numbers.ensures.numbers ∙ ap (λ place. numbers_at place rows) c.place_of.ensures.place in
+    let key : key_of table ≡ One c.in-One.column =
+    ap key_of (sym c.table-table.ensures) ∙ sym c.in-One.ensures in
+    let numbers : c.numbers-numbers.result.now ≡ numbers_at (place_of c.in-One.column) rows =
+    c.numbers-numbers.ensures.numbers
+    ∙ ap (λ place. numbers_at place rows) c.place_of.ensures.place in
     let is = c.in_ok-index-in-One.ensures.0 ∙ numbers in (
       keys_of_one table c.in-One.column rows key ∙ ap (map one) (sym is),
-      apart_of_one table c.in-One.column rows key (numbers_apart (numbers_at (place_of c.in-One.column) rows) (rw numbers at c.in_ok-index-in-One.ensures.1)),
+      apart_of_one table c.in-One.column rows key
+          (numbers_apart (numbers_at (place_of c.in-One.column) rows)
+          (rw numbers at c.in_ok-index-in-One.ensures.1)),
     )
 
 pub numbers-firsts-requires : goal.numbers-firsts-requires
 numbers-firsts-requires c =
     let table = c.args.raw.now.table in
-    let key : key_of table ≡ Two c.in-Two.first c.in-Two.second = ap key_of (sym c.table-table.ensures) ∙ sym c.in-Two.ensures in
-    rw c.place_of-in-Two.ensures.place (number_at_place table c.in-Two.first (key_pair table c.in-Two.first c.in-Two.second key).0)
+    let key : key_of table ≡ Two c.in-Two.first c.in-Two.second =
+    ap key_of (sym c.table-table.ensures) ∙ sym c.in-Two.ensures in
+    rw c.place_of-in-Two.ensures.place
+    (number_at_place table c.in-Two.first (key_pair table c.in-Two.first c.in-Two.second key).0)
 
 pub numbers-seconds-requires : goal.numbers-seconds-requires
 numbers-seconds-requires c =
     let table = c.args.raw.now.table in
-    let key : key_of table ≡ Two c.in-Two.first c.in-Two.second = ap key_of (sym c.table-table.ensures) ∙ sym c.in-Two.ensures in
-    rw c.place_of-in-Two-2.ensures.place (number_at_place table c.in-Two.second (key_pair table c.in-Two.first c.in-Two.second key).1)
+    let key : key_of table ≡ Two c.in-Two.first c.in-Two.second =
+    ap key_of (sym c.table-table.ensures) ∙ sym c.in-Two.ensures in
+    rw c.place_of-in-Two-2.ensures.place
+    (number_at_place table c.in-Two.second
+    (key_pair table c.in-Two.first c.in-Two.second key).1)
 
 pub check_pairs-requires-clause-len : goal.check_pairs-requires-clause-len
 check_pairs-requires-clause-len c =
     let rows = c.args.raw.now.rows in
-    ap length c.numbers-firsts.ensures.numbers ∙ length-numbers_at c.place_of-in-Two.result rows ∙ sym (ap length c.numbers-seconds.ensures.numbers ∙ length-numbers_at c.place_of-in-Two-2.result rows)
+    ap length c.numbers-firsts.ensures.numbers ∙ length-numbers_at c.place_of-in-Two.result rows
+    ∙ sym (ap length c.numbers-seconds.ensures.numbers
+    ∙ length-numbers_at c.place_of-in-Two-2.result rows)
 
 pub check_pairs-requires-clause-few : goal.check_pairs-requires-clause-few
-check_pairs-requires-clause-few c = rw (c.numbers-firsts.ensures.numbers, length-numbers_at c.place_of-in-Two.result c.args.raw.now.rows) c.requires
+check_pairs-requires-clause-few c =
+    rw (
+      c.numbers-firsts.ensures.numbers,
+      length-numbers_at c.place_of-in-Two.result c.args.raw.now.rows,
+    ) c.requires
 
 pub returns-in_err-check_pairs-in-Two : goal.returns-in_err-check_pairs-in-Two
 returns-in_err-check_pairs-in-Two c =
     let table = c.args.raw.now.table in
     let rows = c.args.raw.now.rows in
-    let key : key_of table ≡ Two c.in-Two.first c.in-Two.second = ap key_of (sym c.table-table.ensures) ∙ sym c.in-Two.ensures in
-    let p = err_from_is_err_and c.from_residual-in_err-check_pairs-in-Two.result c.from_residual-in_err-check_pairs-in-Two.ensures.1 in
+    let key : key_of table ≡ Two c.in-Two.first c.in-Two.second =
+    ap key_of (sym c.table-table.ensures) ∙ sym c.in-Two.ensures in
+    let p = err_from_is_err_and c.from_residual-in_err-check_pairs-in-Two.result
+    c.from_residual-in_err-check_pairs-in-Two.ensures.1 in
     rw (p.1, p.2) (elim c.in_err-check_pairs-in-Two.ensures [
       | inl memory ↦ inl memory
       | inr first ↦ inr (fault_of_two table c.in-Two.first c.in-Two.second rows key
-          ∙ rw (c.table-table.ensures, c.numbers-firsts.ensures.numbers, c.numbers-seconds.ensures.numbers, c.place_of-in-Two.ensures.place, c.place_of-in-Two-2.ensures.place) at first)
+          ∙ rw (
+            c.table-table.ensures,
+            c.numbers-firsts.ensures.numbers,
+            c.numbers-seconds.ensures.numbers,
+            c.place_of-in-Two.ensures.place,
+            c.place_of-in-Two-2.ensures.place,
+          ) at first)
     ])
 
 pub returns-in_ok-check_pairs-in-Two : goal.returns-in_ok-check_pairs-in-Two
 returns-in_ok-check_pairs-in-Two c =
     let table = c.args.raw.now.table in
     let rows = c.args.raw.now.rows in
-    let key : key_of table ≡ Two c.in-Two.first c.in-Two.second = ap key_of (sym c.table-table.ensures) ∙ sym c.in-Two.ensures in (
+    let key : key_of table ≡ Two c.in-Two.first c.in-Two.second =
+    ap key_of (sym c.table-table.ensures) ∙ sym c.in-Two.ensures in (
       length_of_two table c.in-Two.first c.in-Two.second rows key,
       apart_of_two table c.in-Two.first c.in-Two.second rows key
-          (rw (c.numbers-firsts.ensures.numbers, c.numbers-seconds.ensures.numbers, c.place_of-in-Two.ensures.place, c.place_of-in-Two-2.ensures.place) at c.in_ok-check_pairs-in-Two.ensures),
+          (rw (
+            c.numbers-firsts.ensures.numbers,
+            c.numbers-seconds.ensures.numbers,
+            c.place_of-in-Two.ensures.place,
+            c.place_of-in-Two-2.ensures.place,
+          ) at
+          c.in_ok-check_pairs-in-Two.ensures),
     )

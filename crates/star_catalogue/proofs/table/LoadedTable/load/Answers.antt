@@ -7,15 +7,22 @@ use Rattle.star_catalogue.proofs.table.LoadedTable.load.Goals as goal
 pub returns-in_err-loaded : goal.returns-in_err-loaded
 returns-in_err-loaded c =
     let read = c.in_ok-raw.ensures in
-    let p = err_from_is_err_and c.from_residual-in_err-loaded.result c.from_residual-in_err-loaded.ensures.1 in
+    let p = err_from_is_err_and c.from_residual-in_err-loaded.result
+    c.from_residual-in_err-loaded.ensures.1 in
     rw (p.1, p.2) (elim c.in_err-loaded.ensures [
       | inl memory ↦ inl memory
-      | inr repeat ↦ inr (rw (table_complete c.args.table c.args.limits.rows c.args.text.now read.0) (rw (read.1, read.2) at repeat))
+      | inr repeat ↦
+          inr (rw (table_complete c.args.table c.args.limits.rows c.args.text.now read.0)
+          (rw (read.1, read.2) at repeat))
     ])
 
 pub returns : goal.returns
 returns c =
     let read = c.in_ok-raw.ensures in
     let kept = c.in_ok-loaded.ensures in
-    let same = c.in_ok-new.ensures.ok ∙ kept.0 in
-    (read.0, ap (λ (t : Table). t.table) same ∙ read.1, ap (λ (t : Table). t.rows) same ∙ read.2, rw (read.1, read.2) at kept.1)
+    let same = c.in_ok-new.ensures.ok ∙ kept.0 in (
+      read.0,
+      ap (λ (t : Table). t.table) same ∙ read.1,
+      ap (λ (t : Table). t.rows) same ∙ read.2,
+      rw (read.1, read.2) at kept.1,
+    )

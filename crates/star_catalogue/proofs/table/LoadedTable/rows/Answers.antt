@@ -4,4 +4,5 @@ use Rattle.star_catalogue.specs.Private.Columns.{values}
 use Rattle.star_catalogue.proofs.table.LoadedTable.rows.Goals as goal
 
 pub returns : goal.returns
-returns c = rw (← c.self.view_is) (sym (length-first_rows c.self.inside.rows (map values c.self.inside.columns.items)))
+returns c = rw (← c.self.view_is)
+    (sym (length-first_rows c.self.inside.rows (map values c.self.inside.columns.items)))

@@ -12,20 +12,33 @@ use Rattle.star_catalogue.proofs.table.LoadedTable.texts.Goals as goal
 pub unreachable-requires : goal.unreachable-requires
 unreachable-requires c =
     let kept = c.self.inside in
-    let of_table : table_of c.args.column ≡ kept.table = rw (← c.self.view_is) at c.requires.table in
-    let at : slice_get (kinds_of kept.table) c.place_of.result ≡ Some kind.Text = rw c.place_of.ensures.place (kind_at kept.table c.args.column kind.Text of_table c.requires.kind) in
-    let column = column_at kept.table kept.rows kept.columns.items c.place_of.result kind.Text c.index.result.now c.self.invariant.columns at c.index.ensures in
+    let of_table : table_of c.args.column ≡ kept.table =
+    rw (← c.self.view_is) at c.requires.table in
+    let at : slice_get (kinds_of kept.table) c.place_of.result ≡ Some kind.Text =
+    rw c.place_of.ensures.place
+    (kind_at kept.table c.args.column kind.Text of_table c.requires.kind) in
+    let column =
+    column_at kept.table kept.rows kept.columns.items c.place_of.result kind.Text
+    c.index.result.now c.self.invariant.columns at c.index.ensures in
     let bad = rw c.in-Numbers.is at column.kind in
     cc bad
 
 pub returns : goal.returns
 returns c =
     let kept = c.self.inside in
-    let of_table : table_of c.args.column ≡ kept.table = rw (← c.self.view_is) at c.requires.table in
-    let at : slice_get (kinds_of kept.table) c.place_of.result ≡ Some kind.Text = rw c.place_of.ensures.place (kind_at kept.table c.args.column kind.Text of_table c.requires.kind) in
-    let column = column_at kept.table kept.rows kept.columns.items c.place_of.result kind.Text c.index.result.now c.self.invariant.columns at c.index.ensures in
+    let of_table : table_of c.args.column ≡ kept.table =
+    rw (← c.self.view_is) at c.requires.table in
+    let at : slice_get (kinds_of kept.table) c.place_of.result ≡ Some kind.Text =
+    rw c.place_of.ensures.place
+    (kind_at kept.table c.args.column kind.Text of_table c.requires.kind) in
+    let column =
+    column_at kept.table kept.rows kept.columns.items c.place_of.result kind.Text
+    c.index.result.now c.self.invariant.columns at c.index.ensures in
     let full = rw c.in-Texts.is at column.full in
     let there = rw c.in-Texts.is at column.there in
     let all : length c.in-Texts.texts ≡ kept.rows = sym (length-map c.in-Texts.texts Text) ∙ full in
     rw (← c.self.view_is)
-    (sym (texts_are kept.rows (map values kept.columns.items) c.place_of.result c.in-Texts.texts all there) ∙ ap (λ place. texts_at place (first_rows kept.rows (map values kept.columns.items))) c.place_of.ensures.place)
+    (sym (texts_are kept.rows
+    (map values kept.columns.items) c.place_of.result c.in-Texts.texts all there)
+    ∙ ap (λ place. texts_at place (first_rows kept.rows (map values kept.columns.items)))
+    c.place_of.ensures.place)

@@ -3,5 +3,8 @@ use Rattle.star_column.proofs.distinct.Distinct.into_ordered.Goals as goal
 
 pub returns : goal.returns
 returns c =
-    let h = IsOrderOf-sorted c.as_slice.result.now c.in_ok-ordered.ordered.items c.sort_unstable.new.self.items c.in_ok-ordered.ensures.texts c.in_ok-ordered.ensures.numbers c.sort_unstable.ensures.permutation (rw c.as_slice.ensures.keys c.as_slice.ensures.unique) c.sort_unstable.ensures.sorted in
+    let h = IsOrderOf-sorted c.as_slice.result.now c.in_ok-ordered.ordered.items
+    c.sort_unstable.new.self.items c.in_ok-ordered.ensures.texts c.in_ok-ordered.ensures.numbers
+    c.sort_unstable.ensures.permutation (rw c.as_slice.ensures.keys c.as_slice.ensures.unique)
+    c.sort_unstable.ensures.sorted in
     rw (← c.self.view_is, ← c.as_slice.ensures.keys) h

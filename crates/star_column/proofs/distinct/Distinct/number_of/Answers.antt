@@ -8,4 +8,6 @@ pub returns-clause-number : goal.returns-clause-number
 returns-clause-number c =
     let bytes_of = λ (text : Bor (List ℕ)). text.now in
     let stored = c.in_ok-number.ensures.stored in
-    slice_get-map bytes_of c.insert_full.new.self.keys c.in_ok-number.number ∙ ap (option_map bytes_of) stored.1 ∙ ap Some (sym (same_text c.args.text.now stored.0.now (sym stored.2)))
+    slice_get-map bytes_of c.insert_full.new.self.keys c.in_ok-number.number
+    ∙ ap (option_map bytes_of) stored.1
+    ∙ ap Some (sym (same_text c.args.text.now stored.0.now (sym stored.2)))

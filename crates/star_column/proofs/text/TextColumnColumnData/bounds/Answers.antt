@@ -10,7 +10,9 @@ returns-clause-low c = least-codes_of c.args.self.now
 pub returns-clause-high : goal.returns-clause-high
 returns-clause-high c =
     let fits : FitsSigned w64 c.from.result = search rules in
-    rw (to_z-of_z, c.from.ensures, c.saturating_sub.ensures, c.entries.ensures) (greatest-codes_of c.args.self.now)
+    rw (to_z-of_z, c.from.ensures, c.saturating_sub.ensures, c.entries.ensures)
+    (greatest-codes_of c.args.self.now)
 
 pub returns-clause-held : goal.returns-clause-held
-returns-clause-held c = all_between _ (codes_of c.args.self.now) (returns-clause-low c) (returns-clause-high c)
+returns-clause-held c =
+    all_between _ (codes_of c.args.self.now) (returns-clause-low c) (returns-clause-high c)

@@ -1,5 +1,3 @@
-use Rattle.std.proofs.Common.{◌≡◌, ◌∷◌, [], sym, ap, ◌∙◌, length, subst}
-use Rattle.star_flat.specs.Private.Cut.{IsCut}
 use Rattle.star_flat.proofs.CutLemmas.{none_cut, no_texts}
 use Rattle.star_flat.proofs.texts.FlatTexts.new.Goals as goal
 

@@ -6,7 +6,8 @@ use Rattle.star_reader.proofs.raw_table.RawTable.into_columns.Goals as goal
 pub returns-clause-columns : goal.returns-clause-columns
 returns-clause-columns c =
     let raw = c.self.inside in
-    rw (← c.self.view_is, length-first_rows raw.rows (map values raw.columns.items)) c.self.invariant
+    rw (← c.self.view_is, length-first_rows raw.rows (map values raw.columns.items))
+    c.self.invariant
 
 pub returns-clause-rows : goal.returns-clause-rows
 returns-clause-rows c =

@@ -14,32 +14,58 @@ use Rattle.star_reader.proofs.raw_table.RawTable.number.Goals as goal
 pub unreachable-requires : goal.unreachable-requires
 unreachable-requires c =
     let raw = c.self.inside in
-    let at : slice_get (kinds_of raw.table) c.args.place ≡ Some kind.Number = rw (← c.self.view_is) at c.requires.place in
-    let column = column_at raw.table raw.rows raw.columns.items c.args.place kind.Number c.index.result.now c.self.invariant at c.index.ensures in
+    let at : slice_get (kinds_of raw.table) c.args.place ≡ Some kind.Number =
+    rw (← c.self.view_is) at c.requires.place in
+    let column =
+    column_at raw.table raw.rows raw.columns.items c.args.place kind.Number c.index.result.now
+    c.self.invariant at c.index.ensures in
     let bad = rw c.in-Texts.is at column.kind in
     cc bad
 
 pub index-requires-in-Numbers : goal.index-requires-in-Numbers
 index-requires-in-Numbers c =
     let raw = c.self.inside in
-    let at : slice_get (kinds_of raw.table) c.args.place ≡ Some kind.Number = rw (← c.self.view_is) at c.requires.place in
-    let column = column_at raw.table raw.rows raw.columns.items c.args.place kind.Number c.index.result.now c.self.invariant at c.index.ensures in
+    let at : slice_get (kinds_of raw.table) c.args.place ≡ Some kind.Number =
+    rw (← c.self.view_is) at c.requires.place in
+    let column =
+    column_at raw.table raw.rows raw.columns.items c.args.place kind.Number c.index.result.now
+    c.self.invariant at c.index.ensures in
     let full = rw c.in-Numbers.is at column.full in
-    let row : c.args.row < length (first_rows raw.rows (map values raw.columns.items)) = rw (← c.self.view_is) at c.requires.row in
-    omega (arith, row, full, c.in-Numbers.numbers.ok.0, length-map c.in-Numbers.numbers.items Number, length-first_rows raw.rows (map values raw.columns.items))
+    let row : c.args.row < length (first_rows raw.rows (map values raw.columns.items)) =
+    rw (← c.self.view_is) at c.requires.row in
+    omega (
+      arith,
+      row,
+      full,
+      c.in-Numbers.numbers.ok.0,
+      length-map c.in-Numbers.numbers.items Number,
+      length-first_rows raw.rows (map values raw.columns.items),
+    )
 
 pub returns : goal.returns
 returns c =
     let raw = c.self.inside in
-    let at : slice_get (kinds_of raw.table) c.args.place ≡ Some kind.Number = rw (← c.self.view_is) at c.requires.place in
-    let column = column_at raw.table raw.rows raw.columns.items c.args.place kind.Number c.index.result.now c.self.invariant at c.index.ensures in
+    let at : slice_get (kinds_of raw.table) c.args.place ≡ Some kind.Number =
+    rw (← c.self.view_is) at c.requires.place in
+    let column =
+    column_at raw.table raw.rows raw.columns.items c.args.place kind.Number c.index.result.now
+    c.self.invariant at c.index.ensures in
     let there = rw c.in-Numbers.is at column.there in
     let full = rw c.in-Numbers.is at column.full in
-    let row : c.args.row < length (first_rows raw.rows (map values raw.columns.items)) = rw (← c.self.view_is) at c.requires.row in
-    let below : c.args.row < raw.rows = omega (arith, row, length-first_rows raw.rows (map values raw.columns.items)) in
-    let within : c.args.row < length (map Number c.in-Numbers.numbers.items) = omega (arith, full, below) in
-    let inside : c.args.row < length c.in-Numbers.numbers.items = omega (arith, within, length-map c.in-Numbers.numbers.items Number) in
-    let here = slice_get_read c.in-Numbers.numbers.items (length c.in-Numbers.numbers.items) c.args.row c.index-in-Numbers.result.now refl inside c.index-in-Numbers.ensures in
+    let row : c.args.row < length (first_rows raw.rows (map values raw.columns.items)) =
+    rw (← c.self.view_is) at c.requires.row in
+    let below : c.args.row < raw.rows =
+    omega (arith, row, length-first_rows raw.rows (map values raw.columns.items)) in
+    let within : c.args.row < length (map Number c.in-Numbers.numbers.items) =
+    omega (arith, full, below) in
+    let inside : c.args.row < length c.in-Numbers.numbers.items =
+    omega (arith, within, length-map c.in-Numbers.numbers.items Number) in
+    let here = slice_get_read c.in-Numbers.numbers.items
+    (length c.in-Numbers.numbers.items) c.args.row c.index-in-Numbers.result.now refl inside
+    c.index-in-Numbers.ensures in
     let fits : FitsSigned w64 c.index-in-Numbers.result.now = search rules in
-    rw (← c.self.view_is) (rw (to_z-of_z w64 _ fits) (value_there raw.rows (map values raw.columns.items) c.args.row c.args.place (map Number c.in-Numbers.numbers.items) below there within
+    rw (← c.self.view_is)
+    (rw (to_z-of_z w64 _ fits)
+    (value_there raw.rows (map values raw.columns.items) c.args.row c.args.place
+    (map Number c.in-Numbers.numbers.items) below there within
     ∙ slice_get-map Number c.in-Numbers.numbers.items c.args.row ∙ ap (option_map Number) here))

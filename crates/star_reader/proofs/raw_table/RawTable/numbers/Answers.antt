@@ -11,9 +11,18 @@ use Rattle.star_reader.proofs.raw_table.RawTable.numbers.Goals as goal
 pub returns : goal.returns
 returns c =
     let raw = c.self.inside in
-    let at : slice_get (kinds_of raw.table) c.args.place ≡ Some kind.Number = rw (← c.self.view_is) at c.requires in
-    let column = column_at raw.table raw.rows raw.columns.items c.args.place kind.Number c.index.result.now c.self.invariant at c.index.ensures in
+    let at : slice_get (kinds_of raw.table) c.args.place ≡ Some kind.Number =
+    rw (← c.self.view_is) at c.requires in
+    let column =
+    column_at raw.table raw.rows raw.columns.items c.args.place kind.Number c.index.result.now
+    c.self.invariant at c.index.ensures in
     let full = rw c.in-Numbers.is at column.full in
     let there = rw c.in-Numbers.is at column.there in
-    let all : length c.in-Numbers.numbers.items ≡ raw.rows = sym (length-map c.in-Numbers.numbers.items Number) ∙ full in
-    rw (← c.self.view_is) record { numbers = c.as_slice.ensures.value ∙ sym (numbers_are raw.rows (map values raw.columns.items) c.args.place c.in-Numbers.numbers.items all there) }
+    let all : length c.in-Numbers.numbers.items ≡ raw.rows =
+    sym (length-map c.in-Numbers.numbers.items Number) ∙ full in
+    rw (← c.self.view_is)
+    record {
+      numbers = c.as_slice.ensures.value
+          ∙ sym (numbers_are raw.rows
+          (map values raw.columns.items) c.args.place c.in-Numbers.numbers.items all there);
+    }

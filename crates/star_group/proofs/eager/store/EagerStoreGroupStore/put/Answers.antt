@@ -1,7 +1,6 @@
 use Rattle.std.proofs.Common.{⊎_elim, sym, ◌∙◌, true≢false}
 use Rattle.star_group.specs.Eager.{group_of}
 use Rattle.star_group.specs.Stores.{Put}
-use Rattle.star_group.proofs.Contents.{stays_all}
 use Rattle.star_group.proofs.Rooms.{room_stays}
 use Rattle.star_group.proofs.eager.store.EagerStoreGroupStore.put.Goals as goal
 
@@ -12,5 +11,5 @@ unreachable-requires c =
     let u : Put = record { keys = c.args.keys.now; values = c.args.values.now } in
     let room = c.requires.room in
     ⊎_elim {C = ⊥} (λ e. let no : ⊥ = cc (e, c.in-Err-Overflow.field-0-is) in no)
-    (λ over. true≢false (sym (over room.0 room.1) ∙ stays_all d room.0 u s.few_keys c.requires.keys room.1.fit (room_stays d room.0 u room.2)))
+    (λ over. true≢false (sym (over room.0 room.1) ∙ room_stays d room.0 u room.2))
     c.in-Err-Overflow.ensures.overflow

@@ -1,0 +1,137 @@
+-- Ranges of small programs, by computation: what multiplies, adds up, is read and is reached.
+use Rattle.std.proofs.Common.{◌≡◌, List, [], ◌∷◌, Option, Some, None, pos, refl}
+use Rattle.std.specs.Prelude.{ℤ, neg_ℤ}
+use Rattle.star_schema.specs.declared.table.TableId.TheVariants.{Date, Supplier, Lineorder}
+use Rattle.star_schema.specs.declared.column.ColumnId.{ColumnId}
+use Rattle.star_schema.specs.declared.column.ColumnId.TheVariants.{LoExtendedprice, LoQuantity, LoRevenue, LoTax}
+use Rattle.star_schema.specs.declared.group.Aggregate.{Aggregate}
+use Rattle.star_schema.specs.declared.group.Aggregate.TheVariants.{Sum, Count, Min, Max}
+use Rattle.star_schema.specs.Schema.{column_of}
+use Rattle.star_interval.specs.Range.{Range, only, is_i64}
+use Rattle.star_program.specs.Code.{Code, Stop, Each}
+use Rattle.star_program.specs.World.{World}
+use Rattle.star_program.proofs.Sample.{sample, great_prices, plain}
+use Rattle.star_admission.specs.Refusals.{Reason, Overflow, reached}
+use Rattle.star_admission.specs.Admissible.{Refusal, Refused, first_refusal}
+use Rattle.star_admission.proofs.Words.{const, load, add, mul, put, read, acts, over}
+
+abbrev great_bounds : ColumnId → Range
+great_bounds LoQuantity = record { low = pos 1; high = pos 50 }
+great_bounds LoExtendedprice = only (pos 4000000000)
+great_bounds LoRevenue = only (pos 5000000000)
+great_bounds LoTax = record { low = neg_ℤ (pos 3000000000000000000); high = pos 4000000000000000000 }
+great_bounds _ = only (pos 0)
+
+-- prices and revenues whose product leaves 64 bits
+abbrev great : World
+great = record sample { bounds = great_bounds }
+
+-- what refuses a body with one group of these aggregates
+abbrev refusal : World → List Aggregate → Code → Option Refusal
+refusal w gs body = first_refusal w 100 (over (plain gs ∷ []) body)
+
+-- a range from the one to the other leaves 64 bits, and is computed from no column
+abbrev leaves : ℤ → ℤ → Reason
+leaves low high = Overflow (record { low = low; high = high }) []
+
+-- ---- what is reached
+
+-- columns in the order of the schema, and not of their loads
+reached_in_order : refusal great (Sum ∷ []) (Each Lineorder 0 (acts (load 1 LoRevenue 0 ∷ load 2 LoExtendedprice 0 ∷ mul 3 1 2 ∷ []) Stop) Stop)
+    ≡ Some (Refused (4, Overflow (only (pos 20000000000000000000)) ((LoExtendedprice, only (pos 4000000000)) ∷ (LoRevenue, only (pos 5000000000)) ∷ [])))
+unfolding column_of is_i64 reached
+reached_in_order = refl
+
+-- a SUM reaches the columns of all that was put for it, and of nothing else
+sum_reaches : refusal great (Sum ∷ Count ∷ Sum ∷ [])
+    (Each Lineorder 0 (acts (load 1 LoQuantity 0 ∷ load 2 LoRevenue 0 ∷ const 3 (pos 3000000000000000000) ∷ put 0 [] (1 ∷ 2 ∷ []) ∷ put 0 [] (1 ∷ 3 ∷ []) ∷ []) Stop) Stop)
+    ≡ Some (Refused (6, Overflow (record { low = pos 0; high = pos 15000000025000000000 }) ((LoRevenue, only (pos 5000000000)) ∷ [])))
+unfolding column_of is_i64 reached
+sum_reaches = refl
+
+-- ---- what adds up
+
+-- the turns of a scan in a scan are those of both together
+nested_sum : refusal sample (Sum ∷ []) (Each Date 0 (Each Supplier 1 (acts (const 2 (pos 2000000000000000000) ∷ put 0 [] (2 ∷ []) ∷ []) Stop) Stop) Stop)
+    ≡ Some (Refused (4, leaves (pos 0) (pos 12000000000000000000)))
+unfolding is_i64 reached
+nested_sum = refl
+
+-- negative numbers up to 0, since fewer may be put
+negative_sum : refusal sample (Sum ∷ []) (Each Supplier 0 (acts (const 1 (neg_ℤ (pos 5000000000000000000)) ∷ put 0 [] (1 ∷ []) ∷ []) Stop) Stop)
+    ≡ Some (Refused (3, leaves (neg_ℤ (pos 10000000000000000000)) (pos 0)))
+unfolding is_i64 reached
+negative_sum = refl
+
+-- numbers of both signs down from 0 and up from it
+sum_both_ways : refusal great (Sum ∷ []) (Each Lineorder 0 (acts (load 1 LoTax 0 ∷ put 0 [] (1 ∷ []) ∷ []) Stop) Stop)
+    ≡ Some (Refused (
+      3,
+      Overflow (record { low = neg_ℤ (pos 15000000000000000000); high = pos 20000000000000000000 })
+          ((LoTax, record { low = neg_ℤ (pos 3000000000000000000); high = pos 4000000000000000000 }) ∷ []),
+    ))
+unfolding column_of is_i64 reached
+sum_both_ways = refl
+
+-- one update after another, outside scans too
+added_sum : refusal sample (Sum ∷ []) (acts (const 0 (pos 5000000000000000000) ∷ put 0 [] (0 ∷ []) ∷ put 0 [] (0 ∷ []) ∷ []) Stop)
+    ≡ Some (Refused (3, leaves (pos 0) (pos 10000000000000000000)))
+unfolding is_i64 reached
+added_sum = refl
+
+-- ---- what is read
+
+-- a great number that a scan of no rows puts, read with 0 as its default and squared
+abbrev squared_of_none : Code
+squared_of_none = Each Date 0 (acts (const 1 (pos 9000000000000000000) ∷ put 0 [] (1 ∷ []) ∷ []) Stop) (acts (read 2 0 0 (pos 0) ∷ mul 3 2 2 ∷ []) Stop)
+
+-- adds up to nothing
+sum_of_none : refusal great_prices (Sum ∷ []) squared_of_none ≡ None
+unfolding is_i64 reached
+sum_of_none = refl
+
+-- and is among the numbers all the same
+min_of_none : refusal great_prices (Min ∷ []) squared_of_none ≡ Some (Refused (5, leaves (pos 0) (pos 81000000000000000000000000000000000000)))
+unfolding is_i64 reached
+min_of_none = refl
+
+-- 5, read with 7 as its default, times a great number
+abbrev five_or_seven : Code
+five_or_seven = acts (const 0 (pos 5) ∷ put 0 [] (0 ∷ []) ∷ read 1 0 0 (pos 7) ∷ const 2 (pos 4000000000000000000) ∷ mul 3 1 2 ∷ []) Stop
+
+-- least and greatest numbers don't go down to 0
+min_without_zero : refusal sample (Min ∷ []) five_or_seven ≡ Some (Refused (5, leaves (pos 20000000000000000000) (pos 28000000000000000000)))
+unfolding is_i64 reached
+min_without_zero = refl
+
+max_without_zero : refusal sample (Max ∷ []) five_or_seven ≡ Some (Refused (5, leaves (pos 20000000000000000000) (pos 28000000000000000000)))
+unfolding is_i64 reached
+max_without_zero = refl
+
+-- and sums do
+sum_with_zero : refusal sample (Sum ∷ []) five_or_seven ≡ Some (Refused (5, leaves (pos 0) (pos 28000000000000000000)))
+unfolding is_i64 reached
+sum_with_zero = refl
+
+-- of the aggregates the one that is asked for
+second_read : refusal sample (Sum ∷ Sum ∷ []) (acts (const 0 (pos 1) ∷ const 1 (pos 5000000000000000000) ∷ put 0 [] (0 ∷ 1 ∷ []) ∷ read 2 0 1 (pos 0) ∷ add 3 2 2 ∷ []) Stop)
+    ≡ Some (Refused (5, leaves (pos 0) (pos 10000000000000000000)))
+unfolding is_i64 reached
+second_read = refl
+
+-- a count goes from 0 to the turns, each time 1
+count_read : refusal sample (Count ∷ []) (Each Date 0 (acts (put 0 [] [] ∷ []) Stop) (acts (read 1 0 0 (pos 2) ∷ const 2 (pos 4000000000000000000) ∷ mul 3 1 2 ∷ []) Stop))
+    ≡ Some (Refused (5, leaves (pos 0) (pos 12000000000000000000)))
+unfolding is_i64 reached
+count_read = refl
+
+-- the default counts where an update comes before, and though a count is never NULL
+default_read : refusal sample (Count ∷ []) (acts (put 0 [] [] ∷ read 0 0 0 (neg_ℤ (pos 9000000000000000000)) ∷ add 1 0 0 ∷ []) Stop)
+    ≡ Some (Refused (3, leaves (neg_ℤ (pos 18000000000000000000)) (pos 2)))
+unfolding is_i64 reached
+default_read = refl
+
+-- least numbers of none have the default alone
+default_of_none : refusal sample (Min ∷ []) (acts (read 0 0 0 (pos 9000000000000000000) ∷ add 1 0 0 ∷ []) Stop) ≡ Some (Refused (2, leaves (pos 18000000000000000000) (pos 18000000000000000000)))
+unfolding is_i64 reached
+default_of_none = refl

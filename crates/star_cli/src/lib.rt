@@ -1,0 +1,9 @@
+//! The commands of the program `star`: their words, the files that they read, the lines of their faults and their exit statuses.
+#![tactic(auto)]
+
+mod commands;
+mod failure;
+mod files;
+mod words;
+
+pub use crate::commands::{command, run};

@@ -1,0 +1,105 @@
+-- Each list of puts has a content.
+use Rattle.std.proofs.Common.{◌≡◌, ℕ, zero, suc, ◌+◌, ◌<◌, Bool, true, false, ◌||◌, ℤ, pos, ◌+ℤ◌, List, [], ◌∷◌, Option, Some, None, length, map, get_or, cond, ap, sym, ◌∙◌, subst, refl, arith, true≢false}
+use Rattle.std.specs.Int.{int_min, int_max}
+use Rattle.std.specs.List.{list_any, AllByRecursion, IsDistinct}
+use Rattle.std.specs.Option.{unwrap_or}
+use Rattle.star_schema.specs.declared.group.Aggregate.{Aggregate}
+use Rattle.star_schema.specs.declared.group.Aggregate.TheVariants.{Sum, Count, Min, Max}
+use Rattle.star_schema.specs.Groups.{aggregate, joined, numbers_for}
+use Rattle.star_program.specs.declared.key.KeyValue.{KeyValue}
+use Rattle.star_program.specs.Keys.{same_keys}
+use Rattle.star_group.specs.Stores.{Put, Group, aggregate_at, IsContent, key_lists, number_at, puts_of}
+use Rattle.star_group.proofs.JoinedParts.{joined_more, more}
+use Rattle.star_group.proofs.KeyLists.{all_there, keys_decide, some_put}
+use Rattle.star_group.proofs.OwnGroups.{all_more, all_mapped}
+
+-- ---- each key list once
+
+abbrev once_lists : List Put → List (List KeyValue)
+once_lists [] = []
+once_lists (u ∷ us) = cond (list_any (same_keys u.keys) (once_lists us)) (once_lists us) (u.keys ∷ once_lists us)
+
+none_same : {A : Type 0} (p : A → Bool) (xs : List A) → list_any p xs ≡ false → AllByRecursion (λ x. p x ≡ false) xs
+none_same p [] h = tt
+none_same p (x ∷ xs) h = by (p x) refl h (none_same p xs)
+  where
+    by : (b : Bool) → p x ≡ b → (b || list_any p xs) ≡ false → (list_any p xs ≡ false → AllByRecursion (λ y. p y ≡ false) xs) → AllByRecursion (λ y. p y ≡ false) (x ∷ xs)
+    by true e h later = absurd (true≢false h)
+    by false e h later = (e, later h)
+
+once_distinct : (us : List Put) → IsDistinct same_keys (once_lists us)
+unfolding IsDistinct
+once_distinct [] = tt
+once_distinct (u ∷ us) = by (list_any (same_keys u.keys) (once_lists us)) refl (once_distinct us)
+  where
+    by : (b : Bool) → list_any (same_keys u.keys) (once_lists us) ≡ b → IsDistinct same_keys (once_lists us) → IsDistinct same_keys (cond b (once_lists us) (u.keys ∷ once_lists us))
+    by true e rest = rest
+    by false e rest = (none_same (same_keys u.keys) (once_lists us) e, rest)
+
+once_are : (us : List Put) (ks : List KeyValue) → list_any (same_keys ks) (once_lists us) ≡ list_any (same_keys ks) (key_lists us)
+once_are [] ks = refl
+once_are (u ∷ us) ks = by (list_any (same_keys u.keys) (once_lists us)) refl (once_are us ks)
+  where
+    known : (b : Bool) → same_keys ks u.keys ≡ b → list_any (same_keys u.keys) (once_lists us) ≡ true → list_any (same_keys ks) (once_lists us) ≡ (b || list_any (same_keys ks) (once_lists us))
+    known true e there = ap (λ l. list_any (same_keys l) (once_lists us)) ((keys_decide ks u.keys).0 e) ∙ there
+    known false e there = refl
+
+    by : (b : Bool) → list_any (same_keys u.keys) (once_lists us) ≡ b → list_any (same_keys ks) (once_lists us) ≡ list_any (same_keys ks) (key_lists us)
+        → list_any (same_keys ks) (cond b (once_lists us) (u.keys ∷ once_lists us)) ≡ (same_keys ks u.keys || list_any (same_keys ks) (key_lists us))
+    by true e rest = known (same_keys ks u.keys) refl e ∙ ap (λ b. same_keys ks u.keys || b) rest
+    by false e rest = ap (λ b. same_keys ks u.keys || b) rest
+
+-- ---- and its aggregates
+
+abbrev numbers_from : List Aggregate → ℕ → List Put → List ℤ
+numbers_from [] place us = []
+numbers_from (g ∷ gs) place us = unwrap_or (aggregate g (numbers_for place us)) (pos 0) ∷ numbers_from gs (place + 1) us
+
+number_from : (gs : List Aggregate) (p : ℕ) (us : List Put) (a : ℕ) → a < length gs → get_or (numbers_from gs p us) a (pos 0) ≡ unwrap_or (aggregate (get_or gs a Count) (numbers_for (p + a) us)) (pos 0)
+number_from [] p us a h = absurd (omega (arith, h))
+number_from (g ∷ gs) p us zero h = let here : p ≡ p + 0 = omega arith in ap (λ n. unwrap_or (aggregate g (numbers_for n us)) (pos 0)) here
+number_from (g ∷ gs) p us (suc a) h =
+    let next : (p + 1) + a ≡ p + suc a = omega arith in
+    number_from gs (p + 1) us a (omega (arith, h)) ∙ ap (λ n. unwrap_or (aggregate (get_or gs a Count) (numbers_for n us)) (pos 0)) next
+
+some_joined : (f : ℤ → ℤ → ℤ) (z : ℤ) (zs : List ℤ) → joined f (z ∷ zs) ≡ Some (unwrap_or (joined f (z ∷ zs)) (pos 0))
+some_joined f z zs = joined_more f z zs ∙ by (joined f zs) ∙ ap (λ r. Some (unwrap_or r (pos 0))) (sym (joined_more f z zs))
+  where
+    by : (r : Option ℤ) → more f z r ≡ Some (unwrap_or (more f z r) (pos 0))
+    by None = refl
+    by (Some y) = refl
+
+some_total : (g : Aggregate) (z : ℤ) (zs : List ℤ) → aggregate g (z ∷ zs) ≡ Some (unwrap_or (aggregate g (z ∷ zs)) (pos 0))
+some_total Count z zs = refl
+some_total Sum z zs = some_joined (λ x y. x +ℤ y) z zs
+some_total Min z zs = some_joined int_min z zs
+some_total Max z zs = some_joined int_max z zs
+
+module _ (d : Group) (us : List Put) where
+  abbrev entry : List KeyValue → Put
+  entry ks = record { keys = ks; values = numbers_from d.aggregates 0 (puts_of ks us) }
+
+  lists_of : (kss : List (List KeyValue)) → key_lists (map entry kss) ≡ kss
+  lists_of [] = refl
+  lists_of (ks ∷ kss) = ap (λ r. ks ∷ r) (lists_of kss)
+
+  entry_total : (ks : List KeyValue) → list_any (same_keys ks) (key_lists us) ≡ true → (place : ℕ) → place < length d.aggregates → aggregate (aggregate_at d place) (numbers_for place (puts_of ks us)) ≡ Some (number_at place (entry ks))
+  entry_total ks there place h =
+      let some = some_put ks us there in
+      let zeros : 0 + place ≡ place = omega arith in
+      ap (λ ws. aggregate (aggregate_at d place) (numbers_for place ws)) some.2 ∙ some_total (aggregate_at d place) (number_at place some.0) (numbers_for place some.1)
+      ∙ ap (λ ws. Some (unwrap_or (aggregate (aggregate_at d place) (numbers_for place ws)) (pos 0))) (sym some.2)
+      ∙ ap Some (sym (number_from d.aggregates 0 (puts_of ks us) place h ∙ ap (λ n. unwrap_or (aggregate (aggregate_at d place) (numbers_for n (puts_of ks us))) (pos 0)) zeros))
+
+  abbrev Told : Put → Type 0
+  Told e = (place : ℕ) → place < length d.aggregates → aggregate (aggregate_at d place) (numbers_for place (puts_of e.keys us)) ≡ Some (number_at place e)
+
+  abbrev pub made : List Put
+  made = map entry (once_lists us)
+
+  pub made_content : IsContent d us made
+  made_content = record {
+    keys = λ ks. ap (list_any (same_keys ks)) (lists_of (once_lists us)) ∙ once_are us ks;
+    once = subst (IsDistinct same_keys) (sym (lists_of (once_lists us))) (once_distinct us);
+    numbers = all_mapped entry Told (once_lists us) (all_more (λ ks. list_any (same_keys ks) (once_lists us) ≡ true) (λ ks. Told (entry ks)) (λ ks h. entry_total ks (sym (once_are us ks) ∙ h)) (once_lists us) (all_there (once_lists us)));
+  }

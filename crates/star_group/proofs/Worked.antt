@@ -1,0 +1,67 @@
+-- A worked content: two puts with one key list, and one with another.
+use Rattle.std.proofs.Common.{◌≡◌, ◌<◌, ℕ, zero, suc, Bool, true, false, ◌||◌, ℤ, pos, List, [], ◌∷◌, Some, arith, refl, sym, true≢false}
+use Rattle.std.specs.List.{IsDistinct}
+use Rattle.star_schema.specs.declared.group.Aggregate.TheVariants.{Sum, Count, Min}
+use Rattle.star_schema.specs.declared.group.Shape.TheVariants.{Cube}
+use Rattle.star_schema.specs.Groups.{aggregate, numbers_for}
+use Rattle.star_program.specs.declared.key.KeyValue.TheVariants.{Number}
+use Rattle.star_program.specs.Keys.{same_keys}
+use Rattle.star_group.specs.Stores.{Put, Group, aggregate_at, IsContent, combined, number_at, puts_of}
+
+abbrev sales : Group
+sales = record { shape = Cube; count = 1; aggregates = Sum ∷ Count ∷ Min ∷ [] }
+
+abbrev one : ℤ → Put
+one z = record { keys = Number (pos 1) ∷ []; values = z ∷ pos 1 ∷ z ∷ [] }
+
+abbrev two : ℤ → Put
+two z = record { keys = Number (pos 2) ∷ []; values = z ∷ pos 1 ∷ z ∷ [] }
+
+abbrev puts : List Put
+puts = one (pos 4) ∷ two (pos 5) ∷ one (pos 3) ∷ []
+
+abbrev ones : Put
+ones = record { keys = Number (pos 1) ∷ []; values = pos 7 ∷ pos 2 ∷ pos 3 ∷ [] }
+
+either : (a b : Bool) → (a || (b || false)) ≡ (a || (b || (a || false)))
+either true b = refl
+either false true = refl
+either false false = refl
+
+abbrev HasAt : Put → ℕ → Type 0
+HasAt entry place = aggregate (aggregate_at sales place) (numbers_for place (puts_of entry.keys puts)) ≡ Some (number_at place entry)
+
+at_ones : (place : ℕ) → place < 3 → HasAt ones place
+at_ones zero h = refl
+at_ones (suc zero) h = refl
+at_ones (suc (suc zero)) h = refl
+at_ones (suc (suc (suc place))) h = absurd (omega (arith, h))
+
+at_two : (place : ℕ) → place < 3 → HasAt (two (pos 5)) place
+at_two zero h = refl
+at_two (suc zero) h = refl
+at_two (suc (suc zero)) h = refl
+at_two (suc (suc (suc place))) h = absurd (omega (arith, h))
+
+pub worked_content : IsContent sales puts (ones ∷ two (pos 5) ∷ [])
+unfolding IsDistinct
+worked_content = record {
+  keys = λ ks. either (same_keys ks (Number (pos 1) ∷ [])) (same_keys ks (Number (pos 2) ∷ []));
+  once = ((refl, tt), (tt, tt));
+  numbers = (at_ones, (at_two, tt));
+}
+
+-- each key list is there once, and none is left out
+pub no_key_list_twice : IsContent sales puts (ones ∷ ones ∷ two (pos 5) ∷ []) → ⊥
+unfolding IsDistinct
+no_key_list_twice c = true≢false c.once.0.0
+
+pub no_key_list_left_out : IsContent sales puts (ones ∷ []) → ⊥
+no_key_list_left_out c = true≢false (sym (c.keys (Number (pos 2) ∷ [])))
+
+-- counts are added, and not counted
+pub counts_are_added : combined Count (pos 2 ∷ pos 1 ∷ []) ≡ Some (pos 3)
+counts_are_added = refl
+
+pub no_counts_are_none : combined Count [] ≡ Some (pos 0)
+no_counts_are_none = refl

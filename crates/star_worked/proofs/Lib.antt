@@ -1,0 +1,10 @@
+mod Sample
+mod Conditions
+mod Rows
+mod Numbers
+mod Fitting
+mod Plans
+mod Words
+mod Trees
+mod Faults
+mod FaultWords

@@ -1,0 +1,189 @@
+-- What every plan keeps: it is sound and within limits.
+use Rattle.std.proofs.Common.{◌≡◌, ℕ, zero, suc, ◌≤◌, true, false, List, [], ◌∷◌, refl, arith}
+use Rattle.std.specs.Prelude.{pos, codes, map, replicate}
+use Rattle.star_schema.specs.declared.table.TableId.TheVariants.{Date, Part, Lineorder}
+use Rattle.star_schema.specs.declared.column.ColumnId.TheVariants.{DDatekey, DYear, CCustkey, PSize, PBrand1, PPartkey, LoPartkey, LoOrderdate, LoCommitdate, LoTax, LoShipmode}
+use Rattle.star_schema.specs.declared.group.Shape.TheVariants.{Plain}
+use Rattle.star_schema.specs.declared.group.Direction.TheVariants.{Ascending}
+use Rattle.star_schema.specs.declared.group.GroupColumn.TheVariants.{Key, Aggregate}
+use Rattle.star_schema.specs.Schema.{column_of}
+use Rattle.star_query.specs.declared.token.Relation.TheVariants.{Equal}
+use Rattle.star_plan.specs.declared.tree.Join.{Join}
+use Rattle.star_plan.specs.Joins.{is_foreign}
+use Rattle.star_plan.specs.Limits.{IsWithinLimits, comparisons_of, operands_of, measure_operands}
+use Rattle.star_plan.specs.Meaning.{Condition, either, both, negation, compare, between, Expression, column, constant, add, sub, mul, counted, summed, least, greatest, Plan}
+use Rattle.star_plan.specs.Sound.{IsSound, in_scope, condition_is_sound, expression_is_sound, measure_is_sound, are_distinct, is_column}
+use Rattle.star_worked.proofs.Sample.{number, text}
+
+abbrev by_order : Join
+by_order = record { foreign = LoOrderdate; key = DDatekey }
+
+abbrev by_commit : Join
+by_commit = record { foreign = LoCommitdate; key = DDatekey }
+
+abbrev of_part : Join
+of_part = record { foreign = LoPartkey; key = PPartkey }
+
+-- ---- sound: date is joined, and part isn't
+
+abbrev dated : List Join
+dated = by_order ∷ []
+
+scopes : map (in_scope dated) (Lineorder ∷ Date ∷ Part ∷ []) ≡ true ∷ true ∷ false ∷ []
+unfolding column_of
+scopes = refl
+
+abbrev good : Condition
+good = compare DYear Equal (number 1993)
+
+abbrev unjoined : Condition
+unjoined = compare PBrand1 Equal (text (codes "MFGR#12"))
+
+comparisons_sound : map (condition_is_sound dated)
+    (good ∷ unjoined ∷ compare DYear Equal (text (codes "1993")) ∷ compare LoShipmode Equal (number 1) ∷ compare LoShipmode Equal (text (codes "AIR")) ∷ [])
+    ≡ true ∷ false ∷ false ∷ false ∷ true ∷ []
+unfolding column_of
+comparisons_sound = refl
+
+betweens_sound : map (condition_is_sound dated)
+    (between DYear (number 1) (number 2) ∷ between DYear (text []) (number 2) ∷ between DYear (number 1) (text []) ∷ between PSize (number 1) (number 2) ∷ [])
+    ≡ true ∷ false ∷ false ∷ false ∷ []
+unfolding column_of
+betweens_sound = refl
+
+conditions_sound : map (condition_is_sound dated)
+    (either good good ∷ either unjoined good ∷ either good unjoined ∷ both good good ∷ both unjoined good ∷ both good unjoined ∷ negation good ∷ negation unjoined ∷ [])
+    ≡ true ∷ false ∷ false ∷ true ∷ false ∷ false ∷ true ∷ false ∷ []
+unfolding column_of
+conditions_sound = refl
+
+abbrev tax : Expression
+tax = column LoTax
+
+-- texts are no numbers, and part isn't joined
+abbrev mode : Expression
+mode = column LoShipmode
+
+expressions_sound : map (expression_is_sound dated)
+    (tax ∷ column DYear ∷ mode ∷ column PSize ∷ constant (pos 1) ∷ add tax tax ∷ add mode tax ∷ add tax mode ∷ sub mode tax ∷ sub tax mode ∷ mul mode tax ∷ mul tax mode ∷ [])
+    ≡ true ∷ true ∷ false ∷ false ∷ true ∷ true ∷ false ∷ false ∷ false ∷ false ∷ false ∷ false ∷ []
+unfolding column_of
+expressions_sound = refl
+
+measures_sound : map (measure_is_sound dated) (counted ∷ summed tax ∷ summed mode ∷ least mode ∷ greatest mode ∷ []) ≡ true ∷ true ∷ false ∷ false ∷ false ∷ []
+unfolding column_of
+measures_sound = refl
+
+joins_distinct : map are_distinct (dated ∷ (by_order ∷ of_part ∷ []) ∷ (by_order ∷ by_commit ∷ []) ∷ (by_order ∷ of_part ∷ by_commit ∷ []) ∷ []) ≡ true ∷ true ∷ false ∷ false ∷ []
+unfolding column_of
+joins_distinct = refl
+
+foreign_keys : is_foreign LoOrderdate DDatekey ∷ is_foreign LoOrderdate CCustkey ∷ is_foreign LoOrderdate DYear ∷ is_foreign LoTax DDatekey ∷ is_foreign DDatekey LoOrderdate ∷ []
+    ≡ true ∷ false ∷ false ∷ false ∷ false ∷ []
+unfolding column_of
+foreign_keys = refl
+
+columns_of_a_group : map (is_column 2 3) (Key 1 ∷ Key 2 ∷ Aggregate 2 ∷ Aggregate 3 ∷ []) ≡ true ∷ false ∷ true ∷ false ∷ []
+columns_of_a_group = refl
+
+-- select d_year, sum(lo_tax) from lineorder, date
+--     where lo_orderdate = d_datekey and d_year = 1993 group by d_year order by d_year
+abbrev taxes : Plan
+taxes = record {
+  joins = dated;
+  conjuncts = good ∷ [];
+  shape = Plain;
+  keys = DYear ∷ [];
+  measures = summed tax ∷ [];
+  names = codes "sum1" ∷ [];
+  items = Key 0 ∷ Aggregate 0 ∷ [];
+  sorts = record { column = Key 0; direction = Ascending } ∷ [];
+}
+
+taxes_sound : IsSound taxes
+unfolding column_of
+taxes_sound = record { joins = refl; distinct = refl; conjuncts = refl; keys = refl; measures = refl; names = refl; items = refl; shown = omega arith; sorts = refl }
+
+no_foreign_key : IsSound (record taxes { joins = record { foreign = LoTax; key = DDatekey } ∷ [] }) → ⊥
+unfolding column_of
+no_foreign_key sound = let broken : false ≡ true = sound.joins in cc
+
+joined_twice : IsSound (record taxes { joins = by_order ∷ by_commit ∷ [] }) → ⊥
+unfolding column_of
+joined_twice sound = let broken : false ≡ true = sound.distinct in cc
+
+conjunct_not_joined : IsSound (record taxes { conjuncts = good ∷ unjoined ∷ [] }) → ⊥
+unfolding column_of
+conjunct_not_joined sound = let broken : false ≡ true = sound.conjuncts in cc
+
+key_not_joined : IsSound (record taxes { keys = DYear ∷ PBrand1 ∷ [] }) → ⊥
+unfolding column_of
+key_not_joined sound = let broken : false ≡ true = sound.keys in cc
+
+sum_of_texts : IsSound (record taxes { measures = summed mode ∷ [] }) → ⊥
+unfolding column_of
+sum_of_texts sound = let broken : false ≡ true = sound.measures in cc
+
+name_missing : IsSound (record taxes { names = [] }) → ⊥
+name_missing sound = let few : 0 ≡ 1 = sound.names in omega (arith, few)
+
+item_past_the_group : IsSound (record taxes { items = Key 1 ∷ [] }) → ⊥
+item_past_the_group sound = let broken : false ≡ true = sound.items in cc
+
+nothing_shown : IsSound (record taxes { items = [] }) → ⊥
+nothing_shown sound = let none : 1 ≤ 0 = sound.shown in omega (arith, none)
+
+sort_past_the_group : IsSound (record taxes { sorts = record { column = Aggregate 1; direction = Ascending } ∷ [] }) → ⊥
+sort_past_the_group sound = let broken : false ≡ true = sound.sorts in cc
+
+-- ---- within limits, at each limit and one past it
+
+comparisons_counted : map comparisons_of (good ∷ between DYear (number 1) (number 2) ∷ negation good ∷ either good (negation good) ∷ both (negation good) (both good good) ∷ []) ≡ 1 ∷ 1 ∷ 2 ∷ 3 ∷ 4 ∷ []
+comparisons_counted = refl
+
+operands_counted : map operands_of (tax ∷ constant (pos 1) ∷ add tax tax ∷ sub tax (add tax tax) ∷ mul (sub tax tax) (mul tax tax) ∷ []) ≡ 1 ∷ 1 ∷ 2 ∷ 3 ∷ 4 ∷ []
+operands_counted = refl
+
+measures_counted : map measure_operands (counted ∷ summed (add tax tax) ∷ least tax ∷ greatest tax ∷ []) ≡ 0 ∷ 2 ∷ 1 ∷ 1 ∷ []
+measures_counted = refl
+
+abbrev largest : Plan
+largest = record {
+  joins = replicate 4 by_order;
+  conjuncts = replicate 256 good;
+  shape = Plain;
+  keys = replicate 6 DYear;
+  measures = summed (add tax tax) ∷ replicate 6 (summed tax);
+  names = [];
+  items = replicate 16 (Key 0);
+  sorts = replicate 16 (record { column = Key 0; direction = Ascending });
+}
+
+largest_within : IsWithinLimits largest
+largest_within = record { joins = omega arith; comparisons = omega arith; keys = omega arith; measures = omega arith; operands = omega arith; items = omega arith; sorts = omega arith }
+
+five_joins : IsWithinLimits (record largest { joins = replicate 5 by_order }) → ⊥
+five_joins within = let many : 5 ≤ 4 = within.joins in omega (arith, many)
+
+comparison_too_many : IsWithinLimits (record largest { conjuncts = negation good ∷ replicate 255 good }) → ⊥
+comparison_too_many within = let many : 257 ≤ 256 = within.comparisons in omega (arith, many)
+
+seven_keys : IsWithinLimits (record largest { keys = replicate 7 DYear }) → ⊥
+seven_keys within = let many : 7 ≤ 6 = within.keys in omega (arith, many)
+
+nine_measures : IsWithinLimits (record largest { measures = replicate 9 counted }) → ⊥
+nine_measures within = let many : 9 ≤ 8 = within.measures in omega (arith, many)
+
+-- a sum of one operand more than so many
+abbrev chain : ℕ → Expression
+chain zero = tax
+chain (suc n) = add (chain n) tax
+
+operand_too_many : IsWithinLimits (record largest { measures = summed (chain 511) ∷ least tax ∷ [] }) → ⊥
+operand_too_many within = let many : 513 ≤ 512 = within.operands in omega (arith, many)
+
+item_too_many : IsWithinLimits (record largest { items = replicate 17 (Key 0) }) → ⊥
+item_too_many within = let many : 17 ≤ 16 = within.items in omega (arith, many)
+
+sort_key_too_many : IsWithinLimits (record largest { sorts = replicate 17 (record { column = Key 0; direction = Ascending }) }) → ⊥
+sort_key_too_many within = let many : 17 ≤ 16 = within.sorts in omega (arith, many)
