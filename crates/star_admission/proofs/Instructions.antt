@@ -4,11 +4,10 @@ use Rattle.std.proofs.lemmas.Bool.{eq-eqb, and_from}
 use Rattle.std.specs.Prelude.{ℤ, pos, ◌+ℤ◌, ◌-ℤ◌, ◌*ℤ◌, map, nat_eq, not, if◌then◌else◌, unwrap_or, slice_index_or}
 use Rattle.std.specs.Option.{option_map, option_or}
 use Rattle.star_schema.specs.declared.table.TableId.{TableId}
-use Rattle.star_schema.specs.declared.table.TableId.TheVariants.{Date, Customer, Supplier, Part, Lineorder}
 use Rattle.star_schema.specs.declared.column.ColumnId.{ColumnId}
 use Rattle.star_schema.specs.declared.group.Aggregate.{Aggregate}
 use Rattle.star_schema.specs.declared.group.Aggregate.TheVariants.{Sum, Count, Min, Max}
-use Rattle.star_schema.specs.Schema.{is_table, table_of, references}
+use Rattle.star_schema.specs.Schema.{table_of, references}
 use Rattle.star_schema.specs.Groups.{numbers_for}
 use Rattle.star_interval.specs.Range.{Holds, only, corner_range, is_i64, fits_i64}
 use Rattle.star_interval.specs.Laws.{KeepsValues}
@@ -22,23 +21,28 @@ use Rattle.star_program.specs.declared.op.Operator.{Operator}
 use Rattle.star_program.specs.declared.op.Operator.TheVariants.{Add, Sub, Mul, Less}
 use Rattle.star_program.specs.declared.program.Parts.{Parts}
 use Rattle.star_program.specs.World.{World, IsLoaded, IsRowOf, edge_of, is_text}
-use Rattle.star_program.specs.Values.{Value, Number, Text, Place, Row, Flag, kind_of_value, Registers, with_entry, number_in, flag_in, row_in}
-use Rattle.star_program.specs.Faults.{Fault, unless, kind_fault, operand_fault, is_number, is_row, is_row_of, both_fault, binary_fault, numbers_fault, keys_fault, place_fault, target_fault, target_of, operands_fault, group_at, fault_of}
+use Rattle.star_program.specs.declared.value.Value.{Value}
+use Rattle.star_program.specs.declared.value.Value.TheVariants.{Number, Text, Place, Row, Flag}
+use Rattle.star_program.specs.Values.{kind_of_value, Registers, with_entry, number_in, flag_in, row_in}
+use Rattle.star_program.specs.declared.fault.Fault.{Fault}
+use Rattle.star_program.specs.Faults.{unless, kind_fault, operand_fault, is_number, is_row, is_row_of, both_fault, binary_fault, numbers_fault, keys_fault, place_fault, target_fault, target_of, operands_fault, group_at, fault_of}
 use Rattle.star_program.specs.Puts.{Update, aligned, overflows, total}
 use Rattle.star_program.specs.Effects.{Store, Effect, GoesOn, EndsTurn, Traps, sets, sets_answer, fitting, answer_of, loaded, sets_found, keeps, puts, update_of, puts_update, does, unless_fault, kinds_in, act}
+use Rattle.star_common.proofs.Firsts.{or_none}
+use Rattle.star_program.proofs.Unless.{unless_none}
+use Rattle.star_schema.proofs.Same.{table_same}
 use Rattle.star_admission.specs.Ranges.{Known, KnownNumber, KnownText, KnownPlace, KnownRow, KnownFlag, known_kind, Table, range_at, origin_at, given, loaded_known, computed, answer_known, kinds_known}
-use Rattle.star_admission.specs.Tallies.{Tally, no_tally, plus, Tallies, no_tallies, plus_all, read_range}
-use Rattle.star_admission.specs.Contexts.{Context, put_known, put_tally, op_gain, after_op}
-use Rattle.star_admission.specs.Refusals.{Reason, Faulty, refuses, is_some_table, refers_to, overflow_of, sum_overflow, sums_overflow, target_again, kind_reason, known_reason, op_reason}
+use Rattle.star_admission.specs.Tallies.{Share, sum_range, read_range}
+use Rattle.star_admission.proofs.Tally.{Tally, no_tally, plus, Tallies, no_tallies, plus_all, tally_of}
+use Rattle.star_admission.specs.Fitting.{FromColumn, FitsValue, FitsAt, Agrees}
+use Rattle.star_admission.specs.Contexts.{Context, put_known, after_op}
+use Rattle.star_admission.proofs.Gains.{put_tally, op_gain}
+use Rattle.star_admission.specs.Refusals.{Reason, Faulty, refuses, is_some_table, refers_to, overflow_of, sum_overflow, sums_overflow, target_again, kind_reason, source_reason, range_reason, op_reason}
 use Rattle.star_admission.proofs.Numbers.{holds_itself, fits_held}
 use Rattle.star_admission.proofs.TallyOrder.{AtMost, at_most_plus}
-use Rattle.star_admission.proofs.Tallied.{IsTallied, tallied_more, tallied_put, no_overflow, read_holds, sums_fit, tallies_fit, tallies_fit_less}
+use Rattle.star_admission.proofs.Tallied.{IsTallied, tallied_more, tallied_put, no_overflow, read_holds, range_fits, sums_fit, tallies_fit, tallies_fit_less}
 
 -- ---- no fault, and no reason
-
-pub neither_none : {A : Type 0} (a b : Option A) → option_or a b ≡ None → (a ≡ None) × (b ≡ None)
-neither_none None b e = (refl, e)
-neither_none (Some x) b e = absurd (cc)
 
 pub both_none : {A : Type 0} (a b : Option A) → a ≡ None → b ≡ None → option_or a b ≡ None
 both_none None b p q = q
@@ -48,10 +52,6 @@ pub unmapped_none : {A B : Type 0} (f : A → B) (o : Option A) → option_map f
 unmapped_none f None e = refl
 unmapped_none f (Some x) e = absurd (cc)
 
-pub unless_none : (b : Bool) (x : Fault) → unless b x ≡ None → b ≡ true
-unless_none true x e = refl
-unless_none false x e = absurd (cc)
-
 pub refuses_none : (b : Bool) (x : Reason) → refuses b x ≡ None → b ≡ false
 refuses_none true x e = absurd (cc)
 refuses_none false x e = refl
@@ -60,64 +60,16 @@ pub not_refuses_none : (b : Bool) (x : Reason) → refuses (not b) x ≡ None �
 not_refuses_none true x e = refl
 not_refuses_none false x e = absurd (cc)
 
--- ---- one table
-
-date_same : (t : TableId) → is_table Date t ≡ true → Date ≡ t
-date_same Date e = refl
-date_same _ e = absurd (cc)
-
-customer_same : (t : TableId) → is_table Customer t ≡ true → Customer ≡ t
-customer_same Customer e = refl
-customer_same _ e = absurd (cc)
-
-supplier_same : (t : TableId) → is_table Supplier t ≡ true → Supplier ≡ t
-supplier_same Supplier e = refl
-supplier_same _ e = absurd (cc)
-
-part_same : (t : TableId) → is_table Part t ≡ true → Part ≡ t
-part_same Part e = refl
-part_same _ e = absurd (cc)
-
-lineorder_same : (t : TableId) → is_table Lineorder t ≡ true → Lineorder ≡ t
-lineorder_same Lineorder e = refl
-lineorder_same _ e = absurd (cc)
-
-table_same : (s t : TableId) → is_table s t ≡ true → s ≡ t
-table_same Date t e = date_same t e
-table_same Customer t e = customer_same t e
-table_same Supplier t e = supplier_same t e
-table_same Part t e = part_same t e
-table_same Lineorder t e = lineorder_same t e
-
 -- ---- what is known fits what is there
-
-abbrev pub FromColumn : World → Option ColumnId → ℤ → Type 0
-FromColumn w None z = Unit {0}
-FromColumn w (Some c) z = (row : ℕ) × (row < w.size (table_of c)) × (z ≡ w.number c row)
-
-abbrev pub FitsValue : World → Known → Value → Type 0
-FitsValue w (KnownNumber r reach origin) (Number z) = Holds r z × FromColumn w origin z
-FitsValue w (KnownText c) (Text d n) = c ≡ d
-FitsValue w (KnownPlace c) (Place d n) = c ≡ d
-FitsValue w (KnownRow t) (Row s n) = (t ≡ s) × (n < w.size t)
-FitsValue w KnownFlag (Flag b) = Unit {0}
-FitsValue w _ _ = ⊥
-
-abbrev pub FitsAt : World → Option Known → Option Value → Type 0
-FitsAt w None None = Unit {0}
-FitsAt w (Some k) (Some v) = FitsValue w k v
-FitsAt w _ _ = ⊥
-
-abbrev pub Agrees : World → Table → Registers → Type 0
-Agrees w known regs = (r : ℕ) → FitsAt w (known r) (regs r)
 
 same_kind : (w : World) (k : Option Known) (v : Option Value) → FitsAt w k v
     → option_map known_kind k ≡ option_map kind_of_value v
 same_kind w None None h = refl
 same_kind w (Some (KnownNumber r reach origin)) (Some (Number z)) h = refl
-same_kind w (Some (KnownText c)) (Some (Text d n)) h = ap (λ x. Some (known_kind (KnownText x))) h
+same_kind w (Some (KnownText c)) (Some (Text d n)) h =
+    ap (λ x. Some (known_kind (KnownText x))) h.0
 same_kind w (Some (KnownPlace c)) (Some (Place d n)) h =
-    ap (λ x. Some (known_kind (KnownPlace x))) h
+    ap (λ x. Some (known_kind (KnownPlace x))) h.0
 same_kind w (Some (KnownRow t)) (Some (Row s n)) h = ap (λ x. Some (known_kind (KnownRow x))) h.0
 same_kind w (Some KnownFlag) (Some (Flag b)) h = refl
 same_kind w _ _ h = absurd h
@@ -131,9 +83,9 @@ same_fault : (w : World) (parts : Parts) (inside : Bool) (twice : Option Fault) 
     → fault_of parts inside twice (kinds_known known) op ≡ None
     → fault_of parts inside None (kinds_in regs) op ≡ None
 same_fault w parts inside twice known regs op h e =
-    let p = neither_none (place_fault parts inside op) _ e in
-    let q = neither_none (target_fault parts.registers (target_of op)) _ p.1 in
-    let r = neither_none twice (operands_fault parts (kinds_known known) op) q.1 in
+    let p = or_none (place_fault parts inside op) _ e in
+    let q = or_none (target_fault parts.registers (target_of op)) _ p.1 in
+    let r = or_none twice (operands_fault parts (kinds_known known) op) q.1 in
     both_none (place_fault parts inside op) _ p.0
     (both_none (target_fault parts.registers (target_of op)) _ q.0
     (subst (λ kinds. operands_fault parts kinds op ≡ None) (kinds_same w known regs h) r.1))
@@ -162,7 +114,7 @@ number_at : (w : World) (count r : ℕ) (known : Table) (regs : Registers)
     → operand_fault count (kinds_known known) is_number r ≡ None → Agrees w known regs
     → Holds (range_at (known r)) (number_in (regs r))
     × FromColumn w (origin_at (known r)) (number_in (regs r))
-number_at w count r known regs e h = number_fits w (known r) (regs r) (neither_none _ _ e).1 (h r)
+number_at w count r known regs e h = number_fits w (known r) (regs r) (or_none _ _ e).1 (h r)
 
 row_fits : (w : World) (t : TableId) (k : Option Known) (v : Option Value)
     → is_row_of t (option_map known_kind k) ≡ true → FitsAt w k v → row_in v < w.size t
@@ -184,7 +136,7 @@ put_numbers : (w : World) (count : ℕ) (known : Table) (regs : Registers) (vs :
     → AllHold (map known vs) (map (λ r. number_in (regs r)) vs)
 put_numbers w count known regs [] e h = tt
 put_numbers w count known regs (r ∷ rs) e h =
-    let p = neither_none (operand_fault count (kinds_known known) is_number r)
+    let p = or_none (operand_fault count (kinds_known known) is_number r)
     (numbers_fault count (kinds_known known) rs) e in
     ((number_at w count r known regs p.0 h).0, put_numbers w count known regs rs p.1 h)
 
@@ -206,17 +158,18 @@ held_at [] (v ∷ vs) a h = absurd h
 held_at (k ∷ ks) [] a h = absurd h
 
 -- a group without a SUM that leaves 64 bits
-pub sums_fit_64 : (w : World) (gs : List Aggregate) (a : ℕ) (t : ℕ → Tally)
-    → sums_overflow w gs a t ≡ None → sums_fit gs a t ≡ true
+pub sums_fit_64 : (w : World) (gs : List Aggregate) (a : ℕ) (t : ℕ → List Share)
+    → sums_overflow w gs a t ≡ None → sums_fit gs a (λ k. tally_of (t k)) ≡ true
 sums_fit_64 w [] a t e = refl
 sums_fit_64 w (g ∷ gs) a t e =
-    let p = neither_none (sum_overflow w g (t a)) (sums_overflow w gs (suc a) t) e in
+    let p = or_none (sum_overflow w g (t a)) (sums_overflow w gs (suc a) t) e in
     one_fits w g gs a t p.0 (sums_fit_64 w gs (suc a) t p.1)
   where
-    one_fits : (w : World) (g : Aggregate) (gs : List Aggregate) (a : ℕ) (t : ℕ → Tally)
-        → sum_overflow w g (t a) ≡ None → sums_fit gs (suc a) t ≡ true
-        → sums_fit (g ∷ gs) a t ≡ true
-    one_fits w Sum gs a t e q = and_from _ _ (not_refuses_none _ _ e) q
+    one_fits : (w : World) (g : Aggregate) (gs : List Aggregate) (a : ℕ) (t : ℕ → List Share)
+        → sum_overflow w g (t a) ≡ None → sums_fit gs (suc a) (λ k. tally_of (t k)) ≡ true
+        → sums_fit (g ∷ gs) a (λ k. tally_of (t k)) ≡ true
+    one_fits w Sum gs a t e q =
+        and_from _ _ (range_fits (t a) (not_refuses_none (fits_i64 (sum_range (t a))) _ e)) q
     one_fits w Count gs a t e q = q
     one_fits w Min gs a t e q = q
     one_fits w Max gs a t e q = q
@@ -257,7 +210,7 @@ module _ (w : World) (catalogue : IsLoaded w) (parts : Parts) (x : Context) (y :
       → both_fault parts.registers (kinds_known x.known) is_number a b ≡ None → overflow_of w (computed operation (x.known a) (x.known b)) ≡ None
       → IsGood w (with_entry x.known t (computed operation (x.known a) (x.known b))) (plus_all y no_tallies) s.visits (sets_answer regs s t (fitting (operation (number_in (regs a)) (number_in (regs b)))))
   good_result operation keeps t a b p e =
-      let q = neither_none (operand_fault parts.registers (kinds_known x.known) is_number a) (operand_fault parts.registers (kinds_known x.known) is_number b) p in
+      let q = or_none (operand_fault parts.registers (kinds_known x.known) is_number a) (operand_fault parts.registers (kinds_known x.known) is_number b) p in
       let held = keeps (range_at (x.known a)) (range_at (x.known b)) (number_in (regs a)) (number_in (regs b)) (number_at w parts.registers a x.known regs q.0 agrees).0 (number_at w parts.registers b x.known regs q.1 agrees).0 in
       let z = operation (number_in (regs a)) (number_in (regs b)) in
       let r = corner_range operation (range_at (x.known a)) (range_at (x.known b)) in
@@ -272,9 +225,10 @@ module _ (w : World) (catalogue : IsLoaded w) (parts : Parts) (x : Context) (y :
   good_answer Less t a b e r = good_sets t KnownFlag (Flag _) tt
   good_answer _ t a b e r = good_sets t KnownFlag (Flag _) tt
 
-  good_loaded : (b : Bool) (t : ℕ) (c : ColumnId) (n : ℕ) → n < w.size (table_of c) → IsGood w (with_entry x.known t (loaded_known w c b)) (plus_all y no_tallies) s.visits (sets regs s t (loaded w c n b))
-  good_loaded true t c n h = good_sets t (loaded_known w c true) (Text c (w.code c n)) refl
-  good_loaded false t c n h =
+  good_loaded : (b : Bool) (t : ℕ) (c : ColumnId) (n : ℕ) → is_text c ≡ b → n < w.size (table_of c) → IsGood w (with_entry x.known t (loaded_known w c b)) (plus_all y no_tallies) s.visits (sets regs s t (loaded w c n b))
+  good_loaded true t c n e h =
+      good_sets t (loaded_known w c true) (Text c (w.code c n)) (refl, catalogue.coded c n e h)
+  good_loaded false t c n e h =
       good_sets t (loaded_known w c false) (Number (w.number c n))
       (catalogue.held c n h, (n, h, refl))
 
@@ -329,7 +283,7 @@ module _ (w : World) (catalogue : IsLoaded w) (parts : Parts) (x : Context) (y :
           (numbers_for a
           (if b then update_of (group_at parts g) regs ks vs ∷ s.updates_of h else s.updates_of h))
       put_entry true h a =
-          tallied_put (y h a) _ _ _ (numbers_for a (s.updates_of h)) (tallied h a) (held a)
+          tallied_put (y h a) _ _ (numbers_for a (s.updates_of h)) (tallied h a) (held a)
       put_entry false h a = still h a
 
       quiet : overflows (group_at parts g) (s.updates_of g)
@@ -347,7 +301,8 @@ module _ (w : World) (catalogue : IsLoaded w) (parts : Parts) (x : Context) (y :
       go true p = absurd (cc)
       go false p = (agrees, (λ h a. put_entry (nat_eq h g) h a), refl)
 
-  good_read : (t g i : ℕ) (so_far : Tally) (d : GroupDecl) (n : ℤ) → AtMost (y g i) so_far
+  good_read : (t g i : ℕ) (so_far : List Share) (d : GroupDecl) (n : ℤ)
+      → AtMost (y g i) (tally_of so_far)
       → IsGood w (with_entry x.known t
       (given (read_range (slice_index_or d.aggregates i Count) so_far (only n))))
       (plus_all y no_tallies) s.visits
@@ -356,54 +311,56 @@ module _ (w : World) (catalogue : IsLoaded w) (parts : Parts) (x : Context) (y :
       good_sets t (given (read_range (slice_index_or d.aggregates i Count) so_far (only n)))
       (Number (unwrap_or (total d i (s.updates_of g)) n)) (
         read_holds (slice_index_or d.aggregates i Count) so_far n (numbers_for i (s.updates_of g))
-            (tallied_more (y g i) so_far (numbers_for i (s.updates_of g)) h (tallied g i)),
+            (tallied_more (y g i) (tally_of so_far) (numbers_for i (s.updates_of g)) h (tallied g i)),
         tt,
       )
 
-  does_good : (op : Op) (m : Tallies)
+  does_good : (pending : ℕ → Bool) (op : Op) (m : Tallies)
       → operands_fault parts (kinds_known x.known) op ≡ None
-      → known_reason w parts x op ≡ None
-      → ((g a : ℕ) → x.open_groups g ≡ false → AtMost (y g a) (x.so_far g a))
+      → source_reason pending x op ≡ None
+      → range_reason w parts x op ≡ None
+      → ((g a : ℕ) → pending g ≡ false → AtMost (y g a) (tally_of (x.so_far g a)))
       → ((g a : ℕ) → AtMost (plus (y g a) (op_gain parts x op g a)) (m g a))
       → ((g : ℕ) → tallies_fit (group_at parts g).aggregates 0 (m g) ≡ true)
       → IsGood w (after_op w parts x op).known (plus_all y (op_gain parts x op)) s.visits (does w parts regs s op)
-  does_good (Assign t (Const z)) m e r closed room fit = good_sets t (given (only z)) (Number z) (holds_itself z, tt)
-  does_good (Assign t (Edge g c b)) m e r closed room fit = good_sets t (KnownPlace c) (Place c (edge_of w g c b)) refl
-  does_good (Assign t (Load c q)) m e r closed room fit =
-      good_loaded (is_text c) t c (row_in (regs q))
-      (row_fits w (table_of c) (x.known q) (regs q) (unless_none _ _ (neither_none (operand_fault parts.registers (kinds_known x.known) is_row q) _ e).1) (agrees q))
-  does_good (Assign t (Find table k)) m e r closed room fit =
+  does_good pending (Assign t (Const z)) m e from r closed room fit = good_sets t (given (only z)) (Number z) (holds_itself z, tt)
+  does_good pending (Assign t (Edge g c b)) m e from r closed room fit = good_sets t (KnownPlace c) (Place c (edge_of w g c b)) (refl, catalogue.counted g c b)
+  does_good pending (Assign t (Load c q)) m e from r closed room fit =
+      good_loaded (is_text c) t c (row_in (regs q)) refl
+      (row_fits w (table_of c) (x.known q) (regs q) (unless_none _ _ (or_none (operand_fault parts.registers (kinds_known x.known) is_row q) _ e).1) (agrees q))
+  does_good pending (Assign t (Find table k)) m e from r closed room fit =
       good_found t table (w.find table (number_in (regs k)))
-      (is_found table (origin_at (x.known k)) (number_in (regs k)) (not_refuses_none _ _ r) (number_at w parts.registers k x.known regs e agrees).1)
-  does_good (Assign t (Binary o a b)) m e r closed room fit = good_answer o t a b e r
-  does_good (Assign t (Within q a b)) m e r closed room fit = good_sets t KnownFlag (Flag _) tt
-  does_good (Assign t (Not a)) m e r closed room fit = good_sets t KnownFlag (Flag _) tt
-  does_good (Assign t (Read g i d)) m e r closed room fit =
-      good_read t g i (x.so_far g i) (group_at parts g) d (closed g i (refuses_none (x.open_groups g) _ r))
-  does_good (Keep k) m e r closed room fit = good_keeps (flag_in (regs k))
-  does_good (Put g ks vs) m e r closed room fit =
-      good_put g ks vs (m g) (neither_none (keys_fault parts.registers (kinds_known x.known) (group_at parts g).keys ks) _ e).1
+      (is_found table (origin_at (x.known k)) (number_in (regs k)) (not_refuses_none _ _ from) (number_at w parts.registers k x.known regs e agrees).1)
+  does_good pending (Assign t (Binary o a b)) m e from r closed room fit = good_answer o t a b e r
+  does_good pending (Assign t (Within q a b)) m e from r closed room fit = good_sets t KnownFlag (Flag _) tt
+  does_good pending (Assign t (Not a)) m e from r closed room fit = good_sets t KnownFlag (Flag _) tt
+  does_good pending (Assign t (Read g i d)) m e from r closed room fit =
+      good_read t g i (x.so_far g i) (group_at parts g) d (closed g i (refuses_none (pending g) _ from))
+  does_good pending (Keep k) m e from r closed room fit = good_keeps (flag_in (regs k))
+  does_good pending (Put g ks vs) m e from r closed room fit =
+      good_put g ks vs (m g) (or_none (keys_fault parts.registers (kinds_known x.known) (group_at parts g).keys ks) _ e).1
       (λ a. subst (λ b. AtMost (plus (y g a) (if b then put_tally (group_at parts g) x.known vs a else no_tally)) (m g a)) (eq-eqb g g refl) (room g a)) (fit g)
 
 -- one instruction of an admissible program
 pub act_good : (w : World) → IsLoaded w
     → (parts : Parts) (x : Context) (y : Tallies) (regs : Registers) (s : Store)
     → Agrees w x.known regs → AreTallied y s
-    → (op : Op) (m : Tallies)
-    → op_reason w parts x op ≡ None
-    → ((g a : ℕ) → x.open_groups g ≡ false → AtMost (y g a) (x.so_far g a))
+    → (pending : ℕ → Bool) (op : Op) (m : Tallies)
+    → op_reason w parts pending x op ≡ None
+    → ((g a : ℕ) → pending g ≡ false → AtMost (y g a) (tally_of (x.so_far g a)))
     → ((g a : ℕ) → AtMost (plus (y g a) (op_gain parts x op g a)) (m g a))
     → ((g : ℕ) → tallies_fit (group_at parts g).aggregates 0 (m g) ≡ true)
     → IsGood w (after_op w parts x op).known (plus_all y (op_gain parts x op)) s.visits
     (act w parts x.inside regs s op)
-act_good w catalogue parts x y regs s agrees tallied op m e closed room fit =
+act_good w catalogue parts x y regs s agrees tallied pending op m e closed room fit =
     let again = target_again x.written (target_of op) in
-    let p = neither_none (kind_reason parts x op) (known_reason w parts x op) e in
+    let p = or_none (kind_reason parts x op) _ e in
+    let known = or_none (source_reason pending x op) (range_reason w parts x op) p.1 in
     let q = unmapped_none Faulty (fault_of parts x.inside again (kinds_known x.known) op) p.0 in
-    let a = neither_none (place_fault parts x.inside op) _ q in
-    let b = neither_none (target_fault parts.registers (target_of op)) _ a.1 in
-    let c = neither_none again (operands_fault parts (kinds_known x.known) op) b.1 in
+    let a = or_none (place_fault parts x.inside op) _ q in
+    let b = or_none (target_fault parts.registers (target_of op)) _ a.1 in
+    let c = or_none again (operands_fault parts (kinds_known x.known) op) b.1 in
     good_unless w (after_op w parts x op).known (plus_all y (op_gain parts x op)) s.visits
     (fault_of parts x.inside None (kinds_in regs) op) (does w parts regs s op)
     (same_fault w parts x.inside again x.known regs op agrees q)
-    (does_good w catalogue parts x y regs s agrees tallied op m c.1 p.1 closed room fit)
+    (does_good w catalogue parts x y regs s agrees tallied pending op m c.1 known.0 known.1 closed room fit)

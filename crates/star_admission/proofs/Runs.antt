@@ -1,27 +1,33 @@
 -- The run of an admissible program: it ends with no trap, within its quote.
-use Rattle.std.proofs.Common.{◌≡◌, ℕ, ◌+◌, ◌*◌, ◌^◌, ◌≤◌, ◌<◌, Bool, true, false, Option, Some, None, refl, sym, subst, arith, zero-add}
-use Rattle.std.specs.Prelude.{nat_lt, not, if◌then◌else◌, nat_eq}
+use Rattle.std.proofs.Common.{◌≡◌, ℕ, ◌+◌, ◌*◌, ◌^◌, ◌≤◌, ◌<◌, Bool, true, Option, Some, None, refl, sym, subst, arith, zero-add, ◌∙◌}
+use Rattle.std.specs.Prelude.{nat_lt, not}
 use Rattle.std.proofs.Math.Nat.{mul-le-mul_right, mul-le-mul_left}
-use Rattle.star_program.specs.declared.op.Op.{Op}
-use Rattle.star_program.specs.declared.op.Op.TheVariants.{Put}
 use Rattle.star_program.specs.declared.program.Parts.{Parts}
 use Rattle.star_program.specs.Code.{Code, Stop, Then, Each, code_size}
 use Rattle.star_program.specs.World.{World, IsLoaded}
-use Rattle.star_program.specs.Values.{Row, Registers, no_registers, with_entry}
-use Rattle.star_program.specs.Faults.{BadRegister, WrittenTwice, unless, group_at}
+use Rattle.star_program.specs.declared.value.Value.TheVariants.{Row}
+use Rattle.star_program.specs.Values.{Registers, no_registers, with_entry}
+use Rattle.star_program.specs.declared.fault.Fault.TheVariants.{BadRegister, WrittenTwice}
+use Rattle.star_program.specs.Faults.{unless, group_at}
 use Rattle.star_program.specs.Effects.{Store, empty_store, act}
 use Rattle.star_program.specs.Run.{End, Ended, Trapped, Limited, EndsWith, turns, after, meaning, meaning_of, unless_unshown, run_while}
 use Rattle.star_program.specs.Shown.{shown_fault}
+use Rattle.star_program.proofs.Unless.{unless_none}
 use Rattle.star_admission.specs.Laws.{IsAccepted}
 use Rattle.star_admission.specs.Ranges.{KnownRow}
-use Rattle.star_admission.specs.Tallies.{Tally, no_tally, plus, times, Tallies, no_tallies, plus_all, times_all}
-use Rattle.star_admission.specs.Contexts.{Context, at_first, put_tally, puts_to, op_gain, after_op, in_scan, after_scan, gain}
-use Rattle.star_admission.specs.Refusals.{Faulty, op_reason, scan_reason, before, at_place, first_reason}
+use Rattle.star_admission.proofs.Tally.{Tally, no_tally, plus, times, Tallies, no_tallies, plus_all, times_all, tally_of}
+use Rattle.star_admission.specs.Contexts.{Context, at_first, after_op, in_scan, after_scan, at_end}
+use Rattle.star_admission.specs.Refusals.{Faulty, op_reason, scan_reason}
+use Rattle.star_admission.specs.Private.Forward.{code_puts_to, open_with, none_open, first_reason}
+use Rattle.star_admission.specs.Standing.{instructions_of, reason_of, at_place}
 use Rattle.star_admission.specs.Quote.{turns_met, quote}
-use Rattle.star_admission.specs.Moments.{whole_gain}
-use Rattle.star_admission.proofs.TallyOrder.{AtMost, lies_in_refl, at_most_refl, at_most_plus, at_most_assoc, at_most_both}
-use Rattle.star_admission.proofs.Tallied.{tallies_fit, tallies_fit_few, tallies_fit_less, nothing_fits}
-use Rattle.star_admission.proofs.Instructions.{neither_none, unmapped_none, unless_none, Agrees, agrees_entry, AreTallied, act_good}
+use Rattle.star_common.proofs.Firsts.{first_answer_none, or_none}
+use Rattle.star_admission.proofs.TallyOrder.{AtMost, lies_in_refl, at_most_refl, at_most_trans, at_most_plus, at_most_assoc, at_most_both}
+use Rattle.star_admission.proofs.Gains.{op_gain, op_counted, gain, gained, whole_gain}
+use Rattle.star_admission.proofs.Forward.{first_standing}
+use Rattle.star_admission.proofs.Tallied.{tallies_fit, tallies_fit_few, nothing_fits}
+use Rattle.star_admission.specs.Fitting.{Agrees}
+use Rattle.star_admission.proofs.Instructions.{unmapped_none, agrees_entry, AreTallied, act_good}
 use Rattle.star_admission.proofs.Turns.{Safe, all_tallied_more, safe_more, safe_follow, safe_scans, safe_each}
 use Rattle.star_admission.proofs.Sound.{quoted_each, in_time, or_false_left, at_place_none, ends_fitting, IsReady, ready_then, ready_in, ready_after, op_room}
 
@@ -30,26 +36,28 @@ AllFit parts m = (g : ℕ) → tallies_fit (group_at parts g).aggregates 0 (m g)
 
 module _ (w : World) (catalogue : IsLoaded w) (parts : Parts) (may : ℕ → Bool) (m : Tallies)
     (fit : AllFit parts m) where
-  pub sound : (c : Code) (at : ℕ) (x : Context) (y : Tallies) (regs : Registers) (s : Store)
-      → IsReady w parts m x y at c → Agrees w x.known regs → AreTallied y s
+  pub sound : (c : Code) (at : ℕ) (pending : ℕ → Bool) (x : Context) (y : Tallies)
+      (regs : Registers) (s : Store)
+      → IsReady w parts m pending x y at c → Agrees w x.known regs → AreTallied y s
       → ((k : ℕ) → k < s.visits + turns_met w.size 1 c → may k ≡ true)
       → Safe (plus_all y (gain w parts x c)) (s.visits + turns_met w.size 1 c)
       (meaning w parts may c at x.inside regs s)
-  sound Stop at x y regs s ready agrees tallied allowed = (
+  sound Stop at pending x y regs s ready agrees tallied allowed = (
     all_tallied_more y (plus_all y no_tallies) s (λ g a. at_most_plus (y g a) no_tally) tallied,
     omega arith,
   )
-  sound (Then op rest) at x y regs s ready agrees tallied allowed =
+  sound (Then op rest) at pending x y regs s ready agrees tallied allowed =
       let add = op_gain parts x op in
       let more = gain w parts (after_op w parts x op) rest in
       safe_follow w (after_op w parts x op).known (plus_all y add)
       (plus_all y (plus_all add more)) s.visits (s.visits + turns_met w.size 1 rest) at
       (act w parts x.inside regs s op) (meaning w parts may rest (at + 1) x.inside)
-      (act_good w catalogue parts (before rest x) y regs s agrees tallied op m
+      (act_good w catalogue parts x y regs s agrees tallied (open_with pending rest) op m
       (at_place_none at _
-      (neither_none (at_place at (op_reason w parts (before rest x) op)) _ ready.accepted).0)
-      (λ g a o. ready.closed g a (or_false_left (x.open_groups g) (puts_to g rest) o))
-      (op_room w parts m x y at op rest ready)
+      (or_none (at_place at (op_reason w parts (open_with pending rest) x op))
+      _ ready.accepted).0)
+      (λ g a o. ready.closed g a (or_false_left (pending g) (code_puts_to g rest) o))
+      (op_room w parts m pending x y at op rest ready)
       fit)
       (λ g a. at_most_both (y g a) (y g a) (add g a) (plus (add g a) (more g a))
       (at_most_refl (y g a)) (at_most_plus (add g a) (more g a)))
@@ -60,20 +68,20 @@ module _ (w : World) (catalogue : IsLoaded w) (parts : Parts) (may : ℕ → Boo
       (meaning w parts may rest (at + 1) x.inside regs' s')
       (λ g a. at_most_assoc (y g a) (add g a) (more g a))
       (omega arith)
-      (sound rest (at + 1) (after_op w parts x op) (plus_all y add) regs' s'
-      (ready_then w parts m x y at op rest ready) agrees' tallied'
+      (sound rest (at + 1) pending (after_op w parts x op) (plus_all y add) regs' s'
+      (ready_then w parts m pending x y at op rest ready) agrees' tallied'
       (λ k h. allowed k (omega arith))))
-  sound (Each table r body rest) at x y regs s ready agrees tallied allowed =
+  sound (Each table r body rest) at pending x y regs s ready agrees tallied allowed =
       let rows = w.size table in
-      let inner = in_scan w x table r body rest in
+      let inner = in_scan w x table r in
       let add = gain w parts inner body in
-      let later = after_scan x r body (times_all rows add) in
+      let later = after_scan x (at_end w parts inner body) in
       let more = gain w parts later rest in
       let turn : ℕ → Store → End =
       λ j. meaning w parts may body (at + 1) true (with_entry regs r (Row table j)) in
       let next : Store → End = meaning w parts may rest (at + 1 + code_size body) x.inside regs in
-      let p = neither_none (at_place at (scan_reason parts x r)) _ ready.accepted in
-      let here = neither_none (unless (nat_lt r parts.registers) BadRegister)
+      let p = or_none (at_place at (scan_reason parts x r)) _ ready.accepted in
+      let here = or_none (unless (nat_lt r parts.registers) BadRegister)
       (unless (not (x.written r)) WrittenTwice)
       (unmapped_none Faulty _ (at_place_none at (scan_reason parts x r) p.0)) in
       let whole = quoted_each w table r body rest in
@@ -88,105 +96,108 @@ module _ (w : World) (catalogue : IsLoaded w) (parts : Parts) (may : ℕ → Boo
       (safe_each y add more s.visits (turns_met w.size 1 body)
       (turns_met w.size 1 rest) rows may turn next
       allowed'
-      (λ j s' lt q b. sound body (at + 1) inner (plus_all y (times_all j add))
+      (λ j s' lt q b. sound body (at + 1) (open_with pending (Each table r body rest)) inner
+      (plus_all y (times_all j add))
       (with_entry regs r (Row table j)) s'
-      (ready_in w parts m x y at table r body rest ready j lt)
+      (ready_in w parts m pending x y at table r body rest ready j lt)
       (agrees_entry w x.known regs r (KnownRow table) (Row table j) agrees (refl, lt)) q
       (λ k h. allowed' k
       (in_time s.visits s'.visits (turns_met w.size 1 body)
       (turns_met w.size 1 rest) rows j k lt b h)))
-      (λ s' q b. sound rest (at + 1 + code_size body) later
+      (λ s' q b. sound rest (at + 1 + code_size body) pending later
       (plus_all y (times_all rows add)) regs s'
-      (ready_after w parts m x y at table r body rest ready) agrees q
+      (ready_after w parts m pending x y at table r body rest ready) agrees q
       (λ k h. allowed' k (omega (arith, b, h))))
       s tallied refl))
 
 -- ---- few updates
 
--- a put adds at most one number
-one_each : (parts : Parts) (x : Context) (op : Op) (g a : ℕ) → (op_gain parts x op g a).many ≤ 1
-one_each parts x (Put h ks vs) g a = of_put (nat_eq g h)
-  where
-    of_put : (b : Bool) → (if b then put_tally (group_at parts h) x.known vs a else no_tally).many
-        ≤ 1
-    of_put true = omega arith
-    of_put false = omega arith
-one_each parts x _ g a = omega arith
+then_few : (so_far n next size q last : ℕ) → next ≤ so_far + n → last ≤ next + size * (n + q)
+    → last ≤ so_far + (1 + size) * (n + q)
+then_few so_far n next size q last h k = omega arith
 
-then_few : (n op rest size q : ℕ) → op ≤ 1 → n * rest ≤ size * (n + q)
-    → n * (op + rest) ≤ (1 + size) * (n + q)
-then_few n op rest size q h k = let m : n * op ≤ n * 1 = mul-le-mul_left n h in omega arith
-
-each_few : (n rows turn more body rest q qb qr : ℕ) → q ≡ n * rows + qb + qr
-    → n * rows * turn ≤ body * (n * rows + qb) → n * more ≤ rest * (n + qr)
-    → n * (rows * turn + more) ≤ (1 + body + rest) * (n + q)
-each_few n rows turn more body rest q qb qr e h k =
+each_few : (so_far n rows inside last body rest q qb qr : ℕ) → q ≡ n * rows + qb + qr
+    → inside ≤ so_far + body * (n * rows + qb) → last ≤ inside + rest * (n + qr)
+    → last ≤ so_far + (1 + body + rest) * (n + q)
+each_few so_far n rows inside last body rest q qb qr e h k =
     let a : body * (n * rows + qb) ≤ body * (n + q) = mul-le-mul_left body (omega arith) in
     let b : rest * (n + qr) ≤ rest * (n + q) = mul-le-mul_left rest (omega arith) in
     omega arith
 
 -- the numbers put for an aggregate, by the number of instructions and the quote
-few : (w : World) (parts : Parts) (x : Context) (c : Code) (g a : ℕ) → x.met
-    * (gain w parts x c g a).many ≤ code_size c * (x.met + turns_met w.size x.met c)
+few : (w : World) (parts : Parts) (x : Context) (c : Code) (g a : ℕ)
+    → (tally_of ((at_end w parts x c).so_far g a)).many
+    ≤ (tally_of (x.so_far g a)).many + code_size c * (x.met + turns_met w.size x.met c)
 few w parts x Stop g a = omega arith
 few w parts x (Then op rest) g a =
-    then_few x.met (op_gain parts x op g a).many _ (code_size rest) (turns_met w.size x.met rest)
-    (one_each parts x op g a) (few w parts (after_op w parts x op) rest g a)
+    then_few (tally_of (x.so_far g a)).many x.met _ (code_size rest)
+    (turns_met w.size x.met rest) _
+    (op_counted w parts x op g a) (few w parts (after_op w parts x op) rest g a)
 few w parts x (Each t r body rest) g a =
-    each_few x.met (w.size t) _ _ (code_size body) (code_size rest)
+    let inner = in_scan w x t r in
+    each_few (tally_of (x.so_far g a)).many x.met (w.size t) _ _ (code_size body) (code_size rest)
     (turns_met w.size x.met (Each t r body rest)) (turns_met w.size (x.met * w.size t) body)
     (turns_met w.size x.met rest) refl
-    (few w parts (in_scan w x t r body rest) body g a)
-    (few w parts
-    (after_scan x r body (times_all (w.size t) (gain w parts (in_scan w x t r body rest) body)))
-    rest g a)
+    (few w parts inner body g a)
+    (few w parts (after_scan x (at_end w parts inner body)) rest g a)
 
-few_enough : (size q m : ℕ) → size ≤ 4096 → q ≤ 10 ^ 15 → 1 * m ≤ size * (1 + q)
-    → 0 + 1 * m < 2 ^ 63
+few_enough : (size q m : ℕ) → size ≤ 4096 → q ≤ 10 ^ 15 → m ≤ 0 + size * (1 + q)
+    → m < 2 ^ 63
 few_enough size q m h k b = let a : size * (1 + q) ≤ 4096 * (1 + q) =
     mul-le-mul_right (1 + q) h in omega arith
 
 -- ---- a whole program
 
-nothing_plus : (t : Tally) → AtMost (plus no_tally t) t
-nothing_plus t =
-    record {
-      above = omega arith;
-      below = omega arith;
-      many = omega arith;
-      each = lies_in_refl t.each;
-    }
+-- what the code of a program adds, met once
+all_gained : (w : World) (parts : Parts) (g a : ℕ)
+    → AtMost (plus no_tally (gain w parts at_first parts.body g a)) (whole_gain w parts g a)
+all_gained w parts g a =
+    at_most_trans _ _ _ (once_more (gain w parts at_first parts.body g a))
+    (gained w parts at_first parts.body g a)
+  where
+    once_more : (t : Tally) → AtMost (plus no_tally t) (plus no_tally (times 1 t))
+    once_more t =
+        record {
+          above = omega arith;
+          below = omega arith;
+          many = omega arith;
+          each = lies_in_refl t.each;
+        }
 
-plus_once : (t : Tally) → AtMost t (plus no_tally (times 1 t))
-plus_once t =
-    record {
-      above = omega arith;
-      below = omega arith;
-      many = omega arith;
-      each = lies_in_refl t.each;
-    }
+-- no instruction is refused
+pub not_refused : (w : World) (parts : Parts) → IsAccepted w parts
+    → first_reason w parts none_open at_first 1 parts.body ≡ None
+not_refused w parts accepted =
+    first_standing w parts
+    ∙ first_answer_none (reason_of w parts) (instructions_of w parts)
+    accepted.admissible.instructions
 
 -- before the first instruction
-pub ready_first : (w : World) (parts : Parts) → first_reason w parts at_first 1 parts.body ≡ None
-    → IsReady w parts (whole_gain w parts) at_first no_tallies 1 parts.body
+pub ready_first : (w : World) (parts : Parts)
+    → first_reason w parts none_open at_first 1 parts.body ≡ None
+    → IsReady w parts (whole_gain w parts) none_open at_first no_tallies 1 parts.body
 ready_first w parts accepted = record {
   some = omega arith;
   accepted = accepted;
   closed = λ g a o. at_most_refl no_tally;
-  room = λ g a. nothing_plus (whole_gain w parts g a);
+  room = all_gained w parts;
 }
 
 pub all_fit : (w : World) (parts : Parts) → IsAccepted w parts → AllFit parts (whole_gain w parts)
 all_fit w parts accepted g =
-    tallies_fit_less (group_at parts g).aggregates 0 (whole_gain w parts g) _
-    (λ k. plus_once (whole_gain w parts g k))
-    (tallies_fit_few (group_at parts g).aggregates 0
-    (plus_all no_tallies (times_all 1 (whole_gain w parts)) g)
-    (ends_fitting w parts at_first 1 parts.body accepted.admissible.instructions
+    tallies_fit_few (group_at parts g).aggregates 0 (whole_gain w parts g)
+    (ends_fitting w parts none_open at_first 1 parts.body (not_refused w parts accepted)
     (λ h. nothing_fits (group_at parts h).aggregates 0 (no_tallies h) (λ k. (refl, refl))) g)
     (λ a. few_enough (code_size parts.body)
     (quote w.size parts) _ accepted.limits.instructions accepted.cheap
-    (few w parts at_first parts.body g a)))
+    (few w parts at_first parts.body g a))
+
+-- few enough to be counted
+pub few_puts : (w : World) (parts : Parts) → IsAccepted w parts
+    → (g a : ℕ) → (whole_gain w parts g a).many < 2 ^ 63
+few_puts w parts accepted g a =
+    few_enough (code_size parts.body) (quote w.size parts) (whole_gain w parts g a).many
+    accepted.limits.instructions accepted.cheap (few w parts at_first parts.body g a)
 
 pub nothing_tallied : AreTallied no_tallies empty_store
 nothing_tallied g a =
@@ -197,12 +208,12 @@ pub never_traps : (w : World) (parts : Parts) (may : ℕ → Bool) → IsAccepte
     → ((k : ℕ) → k < quote w.size parts → may k ≡ true)
     → Safe (whole_gain w parts) (quote w.size parts) (meaning_of w may parts)
 never_traps w parts may accepted allowed =
-    safe_more (plus_all no_tallies (whole_gain w parts)) (whole_gain w parts)
+    safe_more (plus_all no_tallies (gain w parts at_first parts.body)) (whole_gain w parts)
     (0 + quote w.size parts) (quote w.size parts) (meaning_of w may parts)
-    (λ g a. nothing_plus (whole_gain w parts g a)) (omega arith)
+    (all_gained w parts) (omega arith)
     (sound w accepted.loaded parts may (whole_gain w parts)
-    (all_fit w parts accepted) parts.body 1 at_first no_tallies no_registers empty_store
-    (ready_first w parts accepted.admissible.instructions) (λ r. tt) nothing_tallied
+    (all_fit w parts accepted) parts.body 1 none_open at_first no_tallies no_registers empty_store
+    (ready_first w parts (not_refused w parts accepted)) (λ r. tt) nothing_tallied
     (λ k h. allowed k (subst (λ v. k < v) (zero-add (quote w.size parts)) h)))
 
 -- ---- and its report

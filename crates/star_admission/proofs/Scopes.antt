@@ -7,9 +7,9 @@ use Rattle.std.proofs.lemmas.List.Elements.{filter-append}
 use Rattle.star_program.specs.declared.program.Parts.{Parts}
 use Rattle.star_program.specs.Code.{Code, Stop, Then, Each, code_size}
 use Rattle.star_program.specs.World.{World}
-use Rattle.star_admission.specs.Tallies.{times_all}
-use Rattle.star_admission.specs.Contexts.{Context, after_op, in_scan, after_scan, gain}
-use Rattle.star_admission.specs.Standing.{Enclosing, Standing, standing, writes_to, has_scan, scope_of, in_scope, last_writer}
+use Rattle.star_admission.specs.Contexts.{Context, after_op, in_scan, after_scan, at_end}
+use Rattle.star_admission.specs.Standing.{Enclosing, Standing, standing, has_scan}
+use Rattle.star_admission.specs.Told.{writes_to, scope_of, in_scope, last_writer}
 
 -- ---- tests that are true or false
 
@@ -143,18 +143,18 @@ same_any p q (i ∷ is) h =
 pub stand_in : (w : World) (parts : Parts) (c : Code) (round : List Enclosing) (x : Context)
     (at n : ℕ) → has_scan round n ≡ true
     → EachOf (λ i. has_scan i.round n ≡ true) (standing w parts round x at c)
-stand_in w parts Stop round x at n h = tt
+stand_in w parts Stop round x at n h = (h, tt)
 stand_in w parts (Then op rest) round x at n h =
     (h, stand_in w parts rest round (after_op w parts x op) (at + 1) n h)
 stand_in w parts (Each table r body rest) round x at n h =
-    let inner = in_scan w x table r body rest in
+    let inner = in_scan w x table r in
     let new : Enclosing = record { number = at; table = table } in (
       h,
       each_both _ (standing w parts (new ∷ round) inner (at + 1) body) _
           (stand_in w parts body (new ∷ round) inner (at + 1) n
           (or_true (nat_eq at n) (has_scan round n) h))
           (stand_in w parts rest round
-          (after_scan x r body (times_all (w.size table) (gain w parts inner body)))
+          (after_scan x (at_end w parts inner body))
           (at + 1 + code_size body) n h),
     )
 
@@ -162,18 +162,18 @@ stand_in w parts (Each table r body rest) round x at n h =
 pub scoped_in : (w : World) (parts : Parts) (c : Code) (round : List Enclosing) (x : Context)
     (at n : ℕ) → has_scan round n ≡ true
     → EachOf (λ i. has_scan (scope_of i) n ≡ true) (standing w parts round x at c)
-scoped_in w parts Stop round x at n h = tt
+scoped_in w parts Stop round x at n h = (h, tt)
 scoped_in w parts (Then op rest) round x at n h =
     (h, scoped_in w parts rest round (after_op w parts x op) (at + 1) n h)
 scoped_in w parts (Each table r body rest) round x at n h =
-    let inner = in_scan w x table r body rest in
+    let inner = in_scan w x table r in
     let new : Enclosing = record { number = at; table = table } in (
       or_true (nat_eq at n) (has_scan round n) h,
       each_both _ (standing w parts (new ∷ round) inner (at + 1) body) _
           (scoped_in w parts body (new ∷ round) inner (at + 1) n
           (or_true (nat_eq at n) (has_scan round n) h))
           (scoped_in w parts rest round
-          (after_scan x r body (times_all (w.size table) (gain w parts inner body)))
+          (after_scan x (at_end w parts inner body))
           (at + 1 + code_size body) n h),
     )
 
@@ -181,7 +181,7 @@ scoped_in w parts (Each table r body rest) round x at n h =
 pub scoped_below : (w : World) (parts : Parts) (c : Code) (round : List Enclosing) (x : Context)
     (at : ℕ) → AreBelow at round
     → EachOf (λ i. AreBelow (at + code_size c) (scope_of i)) (standing w parts round x at c)
-scoped_below w parts Stop round x at h = tt
+scoped_below w parts Stop round x at h = (below_more at (at + 0) round (omega arith) h, tt)
 scoped_below w parts (Then op rest) round x at h = (
   below_more at (at + (1 + code_size rest)) round (omega arith) h,
   each_so _ _ (standing w parts round (after_op w parts x op) (at + 1) rest)
@@ -191,8 +191,8 @@ scoped_below w parts (Then op rest) round x at h = (
       (below_more at (at + 1) round (omega arith) h)),
 )
 scoped_below w parts (Each table r body rest) round x at h =
-    let inner = in_scan w x table r body rest in
-    let later = after_scan x r body (times_all (w.size table) (gain w parts inner body)) in
+    let inner = in_scan w x table r in
+    let later = after_scan x (at_end w parts inner body) in
     let new : Enclosing = record { number = at; table = table } in
     let end = at + (1 + code_size body + code_size rest) in (
       (omega arith, below_more at end round (omega arith) h),
@@ -210,7 +210,7 @@ scoped_below w parts (Each table r body rest) round x at h =
 
 -- ---- the last that writes a register in scope
 
-last_or_both : (o : Option Standing) (xs ys : List Standing) → last_or o (xs ++ ys)
+pub last_or_both : (o : Option Standing) (xs ys : List Standing) → last_or o (xs ++ ys)
     ≡ last_or (last_or o xs) ys
 last_or_both o [] ys = refl
 last_or_both o (x ∷ xs) ys = last_or_both (Some x) xs ys

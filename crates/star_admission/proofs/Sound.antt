@@ -1,5 +1,5 @@
 -- An admissible program never traps and makes no more turns than its quote.
-use Rattle.std.proofs.Common.{◌≡◌, ℕ, ◌+◌, ◌*◌, ◌≤◌, ◌<◌, Bool, true, false, Option, Some, None, refl, sym, ap, subst, arith}
+use Rattle.std.proofs.Common.{◌≡◌, ℕ, ◌+◌, ◌*◌, ◌≤◌, ◌<◌, Bool, true, false, List, [], ◌∷◌, ◌++◌, Option, Some, None, refl, sym, ap, subst, arith}
 use Rattle.std.specs.Prelude.{nat_eq, ◌||◌, if◌then◌else◌}
 use Rattle.std.proofs.lemmas.Bool.{eqb-true}
 use Rattle.std.proofs.Math.Nat.{mul-le-mul_right}
@@ -10,13 +10,18 @@ use Rattle.star_program.specs.declared.program.Parts.{Parts}
 use Rattle.star_program.specs.Code.{Code, Stop, Then, Each, code_size}
 use Rattle.star_program.specs.World.{World}
 use Rattle.star_program.specs.Faults.{group_at}
-use Rattle.star_admission.specs.Tallies.{Tally, no_tally, plus, times, Tallies, plus_all, times_all}
-use Rattle.star_admission.specs.Contexts.{Context, op_puts_to, puts_to, put_tally, op_gain, after_op, in_scan, after_scan, gain}
-use Rattle.star_admission.specs.Refusals.{known_reason, op_reason, kind_reason, scan_reason, before, at_place, first_reason}
+use Rattle.star_common.proofs.Firsts.{or_none}
+use Rattle.star_admission.specs.Tallies.{Share, Shares}
+use Rattle.star_admission.proofs.Tally.{Tally, no_tally, plus, times, Tallies, plus_all, times_all, tally_of}
+use Rattle.star_admission.specs.Contexts.{Context, put_share, after_op, in_scan, after_scan, at_end}
+use Rattle.star_admission.specs.Private.Forward.{code_puts_to, open_with, first_reason}
+use Rattle.star_admission.specs.Standing.{op_puts_to, at_place}
+use Rattle.star_admission.specs.Refusals.{source_reason, range_reason, op_reason, kind_reason, scan_reason}
+use Rattle.star_admission.proofs.Gains.{put_tally, op_gain, op_gained, gain, scan_gained}
 use Rattle.star_admission.specs.Quote.{turns_met}
-use Rattle.star_admission.proofs.TallyOrder.{AtMost, at_most_refl, at_most_trans, at_most_plus, at_most_assoc, at_most_both, at_most_turn, at_most_times, at_most_once, at_most_spread, at_most_product, at_most_times_both, at_most_nothing}
-use Rattle.star_admission.proofs.Tallied.{sums_fit, sums_fit_less}
-use Rattle.star_admission.proofs.Instructions.{neither_none, sums_fit_64}
+use Rattle.star_admission.proofs.TallyOrder.{AtMost, at_most_refl, at_most_trans, at_most_plus, at_most_assoc, at_most_both, at_most_turn, at_most_times, at_most_once, at_most_times_both, at_most_nothing}
+use Rattle.star_admission.proofs.Tallied.{sums_fit}
+use Rattle.star_admission.proofs.Instructions.{sums_fit_64}
 
 -- ---- the quote
 
@@ -66,73 +71,68 @@ op_adds_nothing parts x (Put h ks vs) g a e =
     if_false (nat_eq g h) (put_tally (group_at parts h) x.known vs a) e
 op_adds_nothing parts x _ g a e = at_most_refl no_tally
 
-adds_nothing : (w : World) (parts : Parts) (x : Context) (c : Code) (g a : ℕ) → puts_to g c ≡ false
+adds_nothing : (w : World) (parts : Parts) (x : Context) (c : Code) (g a : ℕ)
+    → code_puts_to g c ≡ false
     → AtMost (gain w parts x c g a) no_tally
 adds_nothing w parts x Stop g a e = at_most_refl no_tally
 adds_nothing w parts x (Then op rest) g a e =
     at_most_both _ no_tally _ no_tally
-    (op_adds_nothing parts x op g a (or_false_left (op_puts_to g op) (puts_to g rest) e))
-    (adds_nothing w parts _ rest g a (or_false_right (op_puts_to g op) (puts_to g rest) e))
+    (op_adds_nothing parts x op g a (or_false_left (op_puts_to g op) (code_puts_to g rest) e))
+    (adds_nothing w parts _ rest g a (or_false_right (op_puts_to g op) (code_puts_to g rest) e))
 adds_nothing w parts x (Each t r body rest) g a e =
     at_most_both _ no_tally _ no_tally
     (at_most_trans _ (times (w.size t) no_tally) no_tally
     (at_most_times_both (w.size t) _ no_tally
-    (adds_nothing w parts (in_scan w x t r body rest) body g a
-    (or_false_left (puts_to g body) (puts_to g rest) e)))
+    (adds_nothing w parts (in_scan w x t r) body g a
+    (or_false_left (code_puts_to g body) (code_puts_to g rest) e)))
     (record { above = omega arith; below = omega arith; many = omega arith; each = tt }))
-    (adds_nothing w parts _ rest g a (or_false_right (puts_to g body) (puts_to g rest) e))
+    (adds_nothing w parts _ rest g a (or_false_right (code_puts_to g body) (code_puts_to g rest) e))
 
 -- ---- sums that fit at each put fit at the end
 
-abbrev pub SumsFit : Parts → Tallies → Type 0
-SumsFit parts y = (g : ℕ) → sums_fit (group_at parts g).aggregates 0 (y g) ≡ true
+abbrev pub SumsFit : Parts → Shares → Type 0
+SumsFit parts y = (g : ℕ)
+    → sums_fit (group_at parts g).aggregates 0 (λ a. tally_of (y g a)) ≡ true
 
-op_fits : (w : World) (parts : Parts) (x : Context) (op : Op) → known_reason w parts x op ≡ None
+op_fits : (w : World) (parts : Parts) (x : Context) (op : Op) → range_reason w parts x op ≡ None
     → SumsFit parts x.so_far → SumsFit parts (after_op w parts x op).so_far
 op_fits w parts x (Put h ks vs) e fit g = go (nat_eq g h) refl
   where
+    put_to : ℕ → Bool → ℕ → List Share
+    put_to g b a = (if b then put_share parts x h vs a ∷ [] else []) ++ x.so_far g a
+
     go : (b : Bool) → nat_eq g h ≡ b
         → sums_fit (group_at parts g).aggregates 0
-        (plus_all x.so_far (times_all x.met (op_gain parts x (Put h ks vs))) g) ≡ true
+        (λ a. tally_of ((after_op w parts x (Put h ks vs)).so_far g a)) ≡ true
     go true p = subst
         (λ z. sums_fit (group_at parts z).aggregates 0
-        (plus_all x.so_far (times_all x.met (op_gain parts x (Put h ks vs))) z) ≡ true)
+        (λ a. tally_of ((after_op w parts x (Put h ks vs)).so_far z a)) ≡ true)
         (sym (eqb-true g h p)) (sums_fit_64 w (group_at parts h).aggregates 0 _ e)
-    go false p = sums_fit_less (group_at parts g).aggregates 0 _ (x.so_far g)
-        (λ a. subst (λ b. AtMost
-        (plus (x.so_far g a)
-        (times x.met (if b then put_tally (group_at parts h) x.known vs a else no_tally)))
-        (x.so_far g a)) (sym p) (at_most_nothing x.met (x.so_far g a)))
-        (fit g)
-op_fits w parts x _ e fit g =
-    sums_fit_less (group_at parts g).aggregates 0 _ (x.so_far g)
-    (λ a. at_most_nothing x.met (x.so_far g a)) (fit g)
+    go false p = subst
+        (λ b. sums_fit (group_at parts g).aggregates 0 (λ a. tally_of (put_to g b a)) ≡ true)
+        (sym p) (fit g)
+op_fits w parts x _ e fit g = fit g
 
-pub ends_fitting : (w : World) (parts : Parts) (x : Context) (at : ℕ) (c : Code)
-    → first_reason w parts x at c ≡ None → SumsFit parts x.so_far
-    → SumsFit parts (plus_all x.so_far (times_all x.met (gain w parts x c)))
-ends_fitting w parts x at Stop e fit g =
-    sums_fit_less (group_at parts g).aggregates 0 _ (x.so_far g)
-    (λ a. at_most_nothing x.met (x.so_far g a)) (fit g)
-ends_fitting w parts x at (Then op rest) e fit g =
-    let p = neither_none _ _ e in
-    let q = neither_none (kind_reason parts (before rest x) op)
-    (known_reason w parts (before rest x) op) (at_place_none at _ p.0) in
-    sums_fit_less (group_at parts g).aggregates 0 _ _ (λ a. at_most_spread x.met (x.so_far g a) _ _)
-    (ends_fitting w parts (after_op w parts x op) (at + 1) rest p.1
-    (op_fits w parts (before rest x) op q.1 fit) g)
-ends_fitting w parts x at (Each t r body rest) e fit g =
-    let inner = in_scan w x t r body rest in
-    let p = neither_none _ _ e in
-    let q = neither_none (first_reason w parts inner (at + 1) body) _ p.1 in
-    let after_body = ends_fitting w parts inner (at + 1) body q.0 fit in
-    let before_rest : SumsFit parts
-    (plus_all x.so_far (times_all x.met (times_all (w.size t) (gain w parts inner body)))) =
-    λ h. sums_fit_less (group_at parts h).aggregates 0 _ _
-    (λ a. at_most_product x.met (w.size t) (x.so_far h a) _) (after_body h) in
-    sums_fit_less (group_at parts g).aggregates 0 _ _ (λ a. at_most_spread x.met (x.so_far g a) _ _)
-    (ends_fitting w parts (after_scan x r body (times_all (w.size t) (gain w parts inner body)))
-    (at + 1 + code_size body) rest q.1 before_rest g)
+pub ends_fitting : (w : World) (parts : Parts) (pending : ℕ → Bool) (x : Context) (at : ℕ)
+    (c : Code)
+    → first_reason w parts pending x at c ≡ None → SumsFit parts x.so_far
+    → SumsFit parts (at_end w parts x c).so_far
+ends_fitting w parts pending x at Stop e fit = fit
+ends_fitting w parts pending x at (Then op rest) e fit =
+    let p = or_none _ _ e in
+    let q = or_none (kind_reason parts x op) _ (at_place_none at _ p.0) in
+    let known = or_none (source_reason (open_with pending rest) x op)
+    (range_reason w parts x op) q.1 in
+    ends_fitting w parts pending (after_op w parts x op) (at + 1) rest p.1
+    (op_fits w parts x op known.1 fit)
+ends_fitting w parts pending x at (Each t r body rest) e fit =
+    let inner = in_scan w x t r in
+    let p = or_none _ _ e in
+    let q = or_none (first_reason w parts (open_with pending (Each t r body rest)) inner
+    (at + 1) body) _ p.1 in
+    ends_fitting w parts pending (after_scan x (at_end w parts inner body))
+    (at + 1 + code_size body) rest
+    q.1 (ends_fitting w parts (open_with pending (Each t r body rest)) inner (at + 1) body q.0 fit)
 
 -- ---- the run
 
@@ -148,55 +148,63 @@ in_time start visits inner later rows j k lt b h =
 
 -- where no instruction is refused, what is known before some code, and what is put so far: at most
 -- y, in groups that aren't open at most what is known, and with all that the code adds at most m
-pub record IsReady (w : World) (parts : Parts) (m : Tallies) (x : Context) (y : Tallies) (at : ℕ)
+pub record IsReady (w : World) (parts : Parts) (m : Tallies) (pending : ℕ → Bool) (x : Context)
+    (y : Tallies) (at : ℕ)
     (c : Code) : Type 0 where
   pub some : 1 ≤ x.met
-  pub accepted : first_reason w parts x at c ≡ None
-  pub closed : (g a : ℕ) → x.open_groups g ≡ false → AtMost (y g a) (x.so_far g a)
+  pub accepted : first_reason w parts pending x at c ≡ None
+  pub closed : (g a : ℕ) → pending g ≡ false → AtMost (y g a) (tally_of (x.so_far g a))
   pub room : (g a : ℕ) → AtMost (plus (y g a) (gain w parts x c g a)) (m g a)
 
 -- after an instruction
-pub ready_then : (w : World) (parts : Parts) (m : Tallies) (x : Context) (y : Tallies) (at : ℕ)
-    (op : Op) (rest : Code) → IsReady w parts m x y at (Then op rest)
-    → IsReady w parts m (after_op w parts x op) (plus_all y (op_gain parts x op)) (at + 1) rest
-ready_then w parts m x y at op rest ready =
+pub ready_then : (w : World) (parts : Parts) (m : Tallies) (pending : ℕ → Bool) (x : Context)
+    (y : Tallies) (at : ℕ)
+    (op : Op) (rest : Code) → IsReady w parts m pending x y at (Then op rest)
+    → IsReady w parts m pending (after_op w parts x op) (plus_all y (op_gain parts x op)) (at + 1)
+    rest
+ready_then w parts m pending x y at op rest ready =
     let add = op_gain parts x op in
     record {
       some = ready.some;
-      accepted = (neither_none (at_place at (op_reason w parts (before rest x) op)) _
+      accepted = (or_none (at_place at (op_reason w parts (open_with pending rest) x op)) _
           ready.accepted).1;
-      closed = λ g a o. at_most_both (y g a) (x.so_far g a) (add g a) (times x.met (add g a))
-          (ready.closed g a o) (at_most_once x.met (add g a) ready.some);
+      closed = λ g a o. at_most_trans _ _ _
+          (at_most_both (y g a) (tally_of (x.so_far g a)) (add g a) (times x.met (add g a))
+          (ready.closed g a o) (at_most_once x.met (add g a) ready.some))
+          (op_gained w parts x op g a);
       room = λ g a. at_most_trans _ _ _
           (at_most_assoc (y g a) (add g a) (gain w parts (after_op w parts x op) rest g a))
           (ready.room g a);
     }
 
 -- in a scan, before turn j
-pub ready_in : (w : World) (parts : Parts) (m : Tallies) (x : Context) (y : Tallies) (at : ℕ)
-    (table : TableId) (r : ℕ) (body rest : Code) → IsReady w parts m x y at (Each table r body rest)
+pub ready_in : (w : World) (parts : Parts) (m : Tallies) (pending : ℕ → Bool) (x : Context)
+    (y : Tallies) (at : ℕ)
+    (table : TableId) (r : ℕ) (body rest : Code) → IsReady w parts m pending x y at
+    (Each table r body rest)
     → (j : ℕ) → j < w.size table
-    → IsReady w parts m (in_scan w x table r body rest)
-    (plus_all y (times_all j (gain w parts (in_scan w x table r body rest) body))) (at + 1) body
-ready_in w parts m x y at table r body rest ready j lt =
-    let inner = in_scan w x table r body rest in
+    → IsReady w parts m (open_with pending (Each table r body rest)) (in_scan w x table r)
+    (plus_all y (times_all j (gain w parts (in_scan w x table r) body))) (at + 1) body
+ready_in w parts m pending x y at table r body rest ready j lt =
+    let inner = in_scan w x table r in
     let add = gain w parts inner body in
     let rows = w.size table in
-    let p = neither_none (at_place at (scan_reason parts x r)) _ ready.accepted in
-    let more = gain w parts (after_scan x r body (times_all rows add)) rest in
+    let p = or_none (at_place at (scan_reason parts x r)) _ ready.accepted in
+    let more = gain w parts (after_scan x (at_end w parts inner body)) rest in
     record {
       some = met_once x.met rows j ready.some lt;
-      accepted = (neither_none (first_reason w parts inner (at + 1) body) _ p.1).0;
+      accepted = (or_none (first_reason w parts (open_with pending (Each table r body rest))
+          inner (at + 1) body) _ p.1).0;
       closed = λ g a o. at_most_trans (plus (y g a) (times j (add g a)))
-          (plus (y g a) (times j no_tally)) (x.so_far g a)
+          (plus (y g a) (times j no_tally)) (tally_of (x.so_far g a))
           (at_most_both (y g a) (y g a) (times j (add g a)) (times j no_tally)
           (at_most_refl (y g a))
           (at_most_times_both j (add g a) no_tally
           (adds_nothing w parts inner body g a
-          (or_false_left (puts_to g body) (puts_to g rest)
-          (or_false_right (x.open_groups g) _ o)))))
-          (at_most_trans (plus (y g a) (times j no_tally)) (y g a) (x.so_far g a)
-          (at_most_nothing j (y g a)) (ready.closed g a (or_false_left (x.open_groups g) _ o)));
+          (or_false_left (code_puts_to g body) (code_puts_to g rest)
+          (or_false_right (pending g) _ o)))))
+          (at_most_trans (plus (y g a) (times j no_tally)) (y g a) (tally_of (x.so_far g a))
+          (at_most_nothing j (y g a)) (ready.closed g a (or_false_left (pending g) _ o)));
       room = λ g a. at_most_trans _ _ _ (at_most_turn j (y g a) (add g a))
           (at_most_trans _ _ _
           (at_most_both (y g a) (y g a) (times (j + 1) (add g a))
@@ -209,32 +217,38 @@ ready_in w parts m x y at table r body rest ready j lt =
     next_below j rows h = omega arith
 
 -- after a scan
-pub ready_after : (w : World) (parts : Parts) (m : Tallies) (x : Context) (y : Tallies) (at : ℕ)
-    (table : TableId) (r : ℕ) (body rest : Code) → IsReady w parts m x y at (Each table r body rest)
-    → IsReady w parts m
-    (after_scan x r body
-    (times_all (w.size table) (gain w parts (in_scan w x table r body rest) body)))
-    (plus_all y (times_all (w.size table) (gain w parts (in_scan w x table r body rest) body)))
+pub ready_after : (w : World) (parts : Parts) (m : Tallies) (pending : ℕ → Bool) (x : Context)
+    (y : Tallies) (at : ℕ)
+    (table : TableId) (r : ℕ) (body rest : Code) → IsReady w parts m pending x y at
+    (Each table r body rest)
+    → IsReady w parts m pending
+    (after_scan x (at_end w parts (in_scan w x table r) body))
+    (plus_all y (times_all (w.size table) (gain w parts (in_scan w x table r) body)))
     (at + 1 + code_size body) rest
-ready_after w parts m x y at table r body rest ready =
-    let inner = in_scan w x table r body rest in
+ready_after w parts m pending x y at table r body rest ready =
+    let inner = in_scan w x table r in
     let add = times_all (w.size table) (gain w parts inner body) in
-    let p = neither_none (at_place at (scan_reason parts x r)) _ ready.accepted in
+    let p = or_none (at_place at (scan_reason parts x r)) _ ready.accepted in
     record {
       some = ready.some;
-      accepted = (neither_none (first_reason w parts inner (at + 1) body) _ p.1).1;
-      closed = λ g a o. at_most_both (y g a) (x.so_far g a) (add g a) (times x.met (add g a))
-          (ready.closed g a o) (at_most_once x.met (add g a) ready.some);
+      accepted = (or_none (first_reason w parts (open_with pending (Each table r body rest))
+          inner (at + 1) body) _ p.1).1;
+      closed = λ g a o. at_most_trans _ _ _
+          (at_most_both (y g a) (tally_of (x.so_far g a)) (add g a) (times x.met (add g a))
+          (ready.closed g a o) (at_most_once x.met (add g a) ready.some))
+          (scan_gained w parts x table r body rest g a);
       room = λ g a. at_most_trans _ _ _
-          (at_most_assoc (y g a) (add g a) (gain w parts (after_scan x r body add) rest g a))
+          (at_most_assoc (y g a) (add g a) (gain w parts (after_scan x (at_end w parts inner body))
+          rest g a))
           (ready.room g a);
     }
 
 -- the instruction itself
-pub op_room : (w : World) (parts : Parts) (m : Tallies) (x : Context) (y : Tallies) (at : ℕ)
-    (op : Op) (rest : Code) → IsReady w parts m x y at (Then op rest)
+pub op_room : (w : World) (parts : Parts) (m : Tallies) (pending : ℕ → Bool) (x : Context)
+    (y : Tallies) (at : ℕ)
+    (op : Op) (rest : Code) → IsReady w parts m pending x y at (Then op rest)
     → (g a : ℕ) → AtMost (plus (y g a) (op_gain parts x op g a)) (m g a)
-op_room w parts m x y at op rest ready g a =
+op_room w parts m pending x y at op rest ready g a =
     let more = gain w parts (after_op w parts x op) rest in
     at_most_trans _ _ _
     (at_most_both (y g a) (y g a) (op_gain parts x op g a)

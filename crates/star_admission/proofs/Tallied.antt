@@ -1,6 +1,6 @@
 -- Tallies hold what numbers add up to.
-use Rattle.std.proofs.Common.{◌≡◌, ℕ, suc, ◌+◌, ◌^◌, ◌≤◌, ◌<◌, Bool, true, false, List, [], ◌∷◌, length, Option, Some, None, refl, sym, ap, subst, ◌∙◌, arith}
-use Rattle.std.specs.Prelude.{ℤ, pos, negsuc, ◌+ℤ◌, nat_lt, nat_le, ◌&&◌, ◌||◌, not, cond, unwrap_or}
+use Rattle.std.proofs.Common.{◌≡◌, ℕ, zero, suc, ◌+◌, ◌^◌, ◌≤◌, ◌<◌, Bool, true, false, List, [], ◌∷◌, length, Option, Some, None, refl, sym, ap, subst, ◌∙◌, arith}
+use Rattle.std.specs.Prelude.{ℤ, pos, negsuc, neg_ℤ, ◌+ℤ◌, nat_lt, nat_le, ◌&&◌, ◌||◌, not, cond, unwrap_or}
 use Rattle.std.specs.List.{list_any}
 use Rattle.std.specs.Int.{int_min, int_max}
 use Rattle.std.proofs.lemmas.Int.{ints, clamps}
@@ -9,13 +9,13 @@ use borrow.Author.Differences.{up, down, sum_is_lem}
 use Rattle.star_schema.specs.declared.group.Aggregate.{Aggregate}
 use Rattle.star_schema.specs.declared.group.Aggregate.TheVariants.{Sum, Count, Min, Max}
 use Rattle.star_schema.specs.Groups.{belongs, members, joined, joined_with, aggregate, numbers_for}
-use Rattle.star_interval.specs.Range.{Range, Holds, only, is_i64}
+use Rattle.star_interval.specs.Range.{Range, Holds, only, is_i64, fits_i64}
 use Rattle.star_interval.proofs.Ranges.{holds_within}
 use Rattle.star_program.specs.declared.key.KeyValue.{KeyValue}
 use Rattle.star_program.specs.Keys.{value_cmp}
 use Rattle.star_program.specs.Puts.{Update, leaves, some_leaves}
-use Rattle.star_admission.specs.Ranges.{Reach}
-use Rattle.star_admission.specs.Tallies.{Tally, once, joined_range, plus, sum_range, aggregate_range, hull_with, read_range, sum_fits}
+use Rattle.star_admission.specs.Tallies.{Share, sum_range, aggregate_range, hull_with, read_range}
+use Rattle.star_admission.proofs.Tally.{Tally, once, joined_range, plus, tally_of, tally_sum, tally_range, sum_fits, sum_range_is, range_is}
 use Rattle.star_admission.specs.Moments.{sum_of}
 use Rattle.star_admission.specs.Laws.{TotalLies}
 use Rattle.star_admission.proofs.Numbers.{holds_itself, holds_hull_left, holds_hull_right, fits_in, up_grows}
@@ -79,9 +79,9 @@ tallied_more t u vs p w =
     }
 
 -- with one number more
-pub tallied_put : (t : Tally) (r : Range) (reach : Reach) (v : ℤ) (vs : List ℤ) → IsTallied t vs
-    → Holds r v → IsTallied (plus t (once r reach)) (v ∷ vs)
-tallied_put t r reach v vs w h = record {
+pub tallied_put : (t : Tally) (r : Range) (v : ℤ) (vs : List ℤ) → IsTallied t vs
+    → Holds r v → IsTallied (plus t (once r)) (v ∷ vs)
+tallied_put t r v vs w h = record {
   above = omega (arith, (up_grows v r.high h.to).0);
   below = omega (arith, (up_grows r.low v h.from).1);
   many = omega arith;
@@ -102,7 +102,7 @@ abbrev pub sums_fit : List Aggregate → ℕ → (ℕ → Tally) → Bool
 sums_fit [] a t = true
 sums_fit (g ∷ gs) a t = aggregate_fits g (t a) && sums_fit gs (suc a) t
 
-abbrev counted_fits : Aggregate → Tally → Bool
+abbrev pub counted_fits : Aggregate → Tally → Bool
 counted_fits Sum t = sum_fits t
 counted_fits Count t = nat_lt t.many (2 ^ 63)
 counted_fits _ t = true
@@ -128,10 +128,30 @@ tallies_fit_few (g ∷ gs) a t e h =
     and_from (counted_fits g (t a)) (tallies_fit gs (suc a) t) (tally_fit g (t a) p.0 (h a))
     (tallies_fit_few gs (suc a) t p.1 h)
 
-sum_ends : (t : Tally) → sum_fits t ≡ true → (t.below ≤ 2 ^ 63) × (t.above < 2 ^ 63)
+pub sum_ends : (t : Tally) → sum_fits t ≡ true → (t.below ≤ 2 ^ 63) × (t.above < 2 ^ 63)
 sum_ends t e =
     let p = and_parts (nat_le t.below (2 ^ 63)) (nat_lt t.above (2 ^ 63)) e in
     (leb-true t.below (2 ^ 63) p.0, ltb-true t.above (2 ^ 63) p.1)
+
+low_fits : (n : ℕ) → is_i64 (neg_ℤ (pos n)) ≡ true → nat_le n (2 ^ 63) ≡ true
+unfolding is_i64
+low_fits zero e = le-leb 0 (2 ^ 63) (omega arith)
+low_fits (suc n) e = le-leb (suc n) (2 ^ 63) (ltb-true n (2 ^ 63) e)
+
+high_fits : (n : ℕ) → is_i64 (pos n) ≡ true → nat_lt n (2 ^ 63) ≡ true
+unfolding is_i64
+high_fits n e = e
+
+-- where the range of what puts give fits 64 bits
+pub range_fits : (ss : List Share) → fits_i64 (sum_range ss) ≡ true
+    → sum_fits (tally_of ss) ≡ true
+range_fits ss e =
+    let t = tally_of ss in
+    let fits : fits_i64 (tally_sum t) ≡ true =
+    subst (λ r. fits_i64 r ≡ true) (sum_range_is ss) e in
+    let p = and_parts (is_i64 (neg_ℤ (pos t.below))) (is_i64 (pos t.above)) fits in
+    and_from (nat_le t.below (2 ^ 63)) (nat_lt t.above (2 ^ 63)) (low_fits t.below p.0)
+    (high_fits t.above p.1)
 
 sum_fits_less : (t u : Tally) → AtMost t u → sum_fits u ≡ true → sum_fits t ≡ true
 sum_fits_less t u p e =
@@ -306,17 +326,17 @@ max_keeps r x y p q =
     record { from = omega (arith, ints, clamps); to = omega (arith, ints, clamps) }
 
 pub sums_lie : (t : Tally) (vs : List ℤ) → sum_up vs ≤ t.above → sum_down vs ≤ t.below
-    → Holds (sum_range t) (sum_of vs)
+    → Holds (tally_sum t) (sum_of vs)
 sums_lie t vs p q =
     let s = sum_between vs in
     record { from = omega (arith, ints, s.0, s.1, q); to = omega (arith, ints, s.0, s.1, p) }
 
 -- an aggregate of tallied numbers lies in its range, where it is there
 pub aggregate_lies : (g : Aggregate) (t : Tally) (vs : List ℤ) → IsTallied t vs
-    → TotalLies (aggregate_range g t) (aggregate g vs)
+    → TotalLies (tally_range g t) (aggregate g vs)
 aggregate_lies Sum t [] w = tt
 aggregate_lies Sum t (v ∷ vs) w =
-    subst (TotalLies (Some (sum_range t))) (sym (joined_sum v vs))
+    subst (TotalLies (Some (tally_sum t))) (sym (joined_sum v vs))
     (sums_lie t (v ∷ vs) w.above w.below)
 aggregate_lies Count t vs w =
     record { from = omega (arith, ints); to = omega (arith, ints, w.many) }
@@ -330,7 +350,15 @@ read_lies None (Some z) default h = absurd h
 read_lies (Some r) None default h = holds_hull_right r (only default) default (holds_itself default)
 read_lies (Some r) (Some z) default h = holds_hull_left r (only default) z h
 
-pub read_holds : (g : Aggregate) (t : Tally) (default : ℤ) (vs : List ℤ) → IsTallied t vs
-    → Holds (read_range g t (only default)) (unwrap_or (aggregate g vs) default)
-read_holds g t default vs w =
-    read_lies (aggregate_range g t) (aggregate g vs) default (aggregate_lies g t vs w)
+-- an aggregate of what puts gave lies in its range, where it is there
+pub shares_lie : (g : Aggregate) (ss : List Share) (vs : List ℤ) → IsTallied (tally_of ss) vs
+    → TotalLies (aggregate_range g ss) (aggregate g vs)
+shares_lie g ss vs w =
+    subst (λ o. TotalLies o (aggregate g vs)) (sym (range_is g ss))
+    (aggregate_lies g (tally_of ss) vs w)
+
+pub read_holds : (g : Aggregate) (ss : List Share) (default : ℤ) (vs : List ℤ)
+    → IsTallied (tally_of ss) vs
+    → Holds (read_range g ss (only default)) (unwrap_or (aggregate g vs) default)
+read_holds g ss default vs w =
+    read_lies (aggregate_range g ss) (aggregate g vs) default (shares_lie g ss vs w)

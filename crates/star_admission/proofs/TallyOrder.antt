@@ -4,7 +4,7 @@ use Rattle.std.proofs.Math.Nat.{mul-le-mul_right, mul-le-mul_left}
 use Rattle.star_interval.specs.Range.{Range, IsWithin}
 use Rattle.star_interval.proofs.Ranges.{within_trans, within_hull_left, within_hull_right, hull_within}
 use Rattle.std.proofs.lemmas.Int.{ints}
-use Rattle.star_admission.specs.Tallies.{Tally, no_tally, joined_range, plus, times}
+use Rattle.star_admission.proofs.Tally.{Tally, no_tally, joined_range, plus, times}
 
 -- a range that may be missing lies in another
 abbrev pub LiesIn : Option Range → Option Range → Type 0

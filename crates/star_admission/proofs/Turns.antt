@@ -7,10 +7,11 @@ use Rattle.star_program.specs.Effects.{Store, Effect, GoesOn, EndsTurn, Traps}
 use Rattle.star_program.specs.Run.{End, Ended, Trapped, Limited, follow, after, begin, visited, turns, scans}
 use Rattle.star_program.specs.World.{World}
 use Rattle.star_admission.specs.Ranges.{Table}
-use Rattle.star_admission.specs.Tallies.{Tallies, times, plus_all, times_all}
+use Rattle.star_admission.proofs.Tally.{Tallies, times, plus_all, times_all}
 use Rattle.star_admission.proofs.TallyOrder.{AtMost, at_most_plus, at_most_assoc, at_most_turn}
 use Rattle.star_admission.proofs.Tallied.{tallied_more}
-use Rattle.star_admission.proofs.Instructions.{Agrees, AreTallied, IsGood}
+use Rattle.star_admission.specs.Fitting.{Agrees}
+use Rattle.star_admission.proofs.Instructions.{AreTallied, IsGood}
 
 -- the run ends with no trap, within these sums and so many visits
 abbrev pub Safe : Tallies → ℕ → End → Type 0

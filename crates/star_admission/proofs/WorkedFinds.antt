@@ -4,6 +4,7 @@ use Rattle.star_schema.specs.declared.table.TableId.TheVariants.{Date, Customer,
 use Rattle.star_schema.specs.declared.column.ColumnId.TheVariants.{DDatekey, DYear, LoOrderdate}
 use Rattle.star_schema.specs.declared.group.Aggregate.TheVariants.{Sum}
 use Rattle.star_schema.specs.Schema.{column_of}
+use Rattle.star_common.specs.First.{first_answer}
 use Rattle.star_interval.specs.Range.{only, is_i64}
 use Rattle.star_program.specs.declared.op.Op.{Op}
 use Rattle.star_program.specs.declared.program.Parts.{Parts}
@@ -37,7 +38,7 @@ abbrev years : List Op
 years = load 1 LoOrderdate 0 ∷ find 2 Date 1 ∷ load 3 DYear 2 ∷ []
 
 years_accepted : refusal years 3 ≡ None
-unfolding column_of is_i64 reached
+unfolding column_of is_i64 reached first_answer
 years_accepted = refl
 
 -- one visit, one look-up, one update, of 7
@@ -47,24 +48,24 @@ years_run = (refl, refl, refl, refl)
 
 -- a date's number finds no customer
 other_table_refused : refusal (load 1 LoOrderdate 0 ∷ find 2 Customer 1 ∷ []) 1 ≡ Some (Refused (3, NotAForeignKey))
-unfolding column_of is_i64 reached
+unfolding column_of is_i64 reached first_answer
 other_table_refused = refl
 
 -- nor is a row found by a key of its own table
 own_key_refused : refusal (load 1 LoOrderdate 0 ∷ find 2 Date 1 ∷ load 3 DDatekey 2 ∷ find 4 Date 3 ∷ []) 1 ≡ Some (Refused (5, NotAForeignKey))
-unfolding column_of is_i64 reached
+unfolding column_of is_i64 reached first_answer
 own_key_refused = refl
 
 -- nor by what a foreign key was computed to
 computed_refused : refusal (load 1 LoOrderdate 0 ∷ const 2 (pos 0) ∷ add 3 1 2 ∷ find 4 Date 3 ∷ []) 1 ≡ Some (Refused (5, NotAForeignKey))
-unfolding column_of is_i64 reached
+unfolding column_of is_i64 reached first_answer
 computed_refused = refl
 
 given_refused : refusal (const 1 (pos 7) ∷ find 2 Date 1 ∷ []) 1 ≡ Some (Refused (3, NotAForeignKey))
-unfolding column_of is_i64 reached
+unfolding column_of is_i64 reached first_answer
 given_refused = refl
 
 -- nothing refers to lines
 line_refused : refusal (load 1 LoOrderdate 0 ∷ find 2 Lineorder 1 ∷ []) 1 ≡ Some (Refused (3, NotAForeignKey))
-unfolding column_of is_i64 reached
+unfolding column_of is_i64 reached first_answer
 line_refused = refl

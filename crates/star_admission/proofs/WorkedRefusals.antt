@@ -7,13 +7,14 @@ use Rattle.star_schema.specs.declared.column.ColumnId.{ColumnId}
 use Rattle.star_schema.specs.declared.column.ColumnId.TheVariants.{LoLinenumber, LoExtendedprice}
 use Rattle.star_schema.specs.declared.group.Aggregate.TheVariants as aggregate
 use Rattle.star_schema.specs.Schema.{column_of}
+use Rattle.star_common.specs.First.{first_answer}
 use Rattle.star_interval.specs.Range.{Range, only, is_i64}
 use Rattle.star_program.specs.declared.op.Op.TheVariants as op
 use Rattle.star_program.specs.declared.op.Operation.TheVariants as operation
 use Rattle.star_program.specs.declared.op.Operator.TheVariants as operator
 use Rattle.star_program.specs.declared.program.Parts.{Parts}
 use Rattle.star_program.specs.Code.{Stop, Then, Each}
-use Rattle.star_program.specs.Faults.{WrittenTwice, Misplaced}
+use Rattle.star_program.specs.declared.fault.Fault.TheVariants.{WrittenTwice, Misplaced}
 use Rattle.star_program.specs.World.{World}
 use Rattle.star_program.proofs.Sample.{sample, great_prices, plain, program, assign, above_average, find_by_quantity, read_while_putting, written_twice, keep_outside, shows_no_key, scan_in_scan, doubled_difference}
 use Rattle.star_admission.specs.Quote.{quote}
@@ -52,30 +53,34 @@ squared_price = program 10 (plain (aggregate.Sum ∷ []) ∷ []) 0
 -- ---- refusals
 
 above_average_accepted : first_refusal sample 10 above_average ≡ None
-unfolding column_of is_i64 reached
+unfolding column_of is_i64 reached first_answer
 above_average_accepted = refl
 
 above_average_too_costly : first_refusal sample 9 above_average ≡ Some (TooCostly 10)
+unfolding first_answer is_i64
 above_average_too_costly = refl
 
 find_by_quantity_refused : first_refusal sample 5 find_by_quantity
     ≡ Some (Refused (3, NotAForeignKey))
-unfolding column_of is_i64 reached
+unfolding column_of is_i64 reached first_answer
 find_by_quantity_refused = refl
 
 read_while_putting_refused : first_refusal sample 5 read_while_putting
     ≡ Some (Refused (3, OpenGroup))
-unfolding column_of is_i64 reached
+unfolding column_of is_i64 reached first_answer
 read_while_putting_refused = refl
 
 written_twice_refused : first_refusal sample 0 written_twice
     ≡ Some (Refused (2, Faulty WrittenTwice))
+unfolding first_answer is_i64
 written_twice_refused = refl
 
 keep_outside_refused : first_refusal sample 0 keep_outside ≡ Some (Refused (3, Faulty Misplaced))
+unfolding first_answer is_i64
 keep_outside_refused = refl
 
 shows_no_key_refused : first_refusal sample 0 shows_no_key ≡ Some (BadShow 1)
+unfolding first_answer is_i64
 shows_no_key_refused = refl
 
 scan_in_scan_quoted : quote sample.size scan_in_scan ≡ 9
@@ -85,7 +90,7 @@ scan_in_scan_quoted = refl
 doubled_difference_refused : first_refusal great_prices 10 doubled_difference
     ≡ Some (Refused
     (12, Overflow (record { low = neg_ℤ (pos 18000000000000000000); high = pos 0 }) []))
-unfolding column_of is_i64 reached
+unfolding column_of is_i64 reached first_answer
 doubled_difference_refused = refl
 
 -- the filter narrows no range: all eleven prices count
@@ -95,11 +100,11 @@ first_lines_refused : first_refusal one_line_more 11 first_lines
       Overflow (record { low = pos 0; high = pos 9900000000000000000 })
           ((LoExtendedprice, only (pos 900000000000000000)) ∷ []),
     ))
-unfolding column_of is_i64 reached
+unfolding column_of is_i64 reached first_answer
 first_lines_refused = refl
 
 first_lines_accepted : first_refusal great_prices 10 first_lines ≡ None
-unfolding column_of is_i64 reached
+unfolding column_of is_i64 reached first_answer
 first_lines_accepted = refl
 
 squared_price_refused : first_refusal widest_price 5 squared_price
@@ -108,5 +113,5 @@ squared_price_refused : first_refusal widest_price 5 squared_price
       Overflow (record { low = pos 250000; high = pos 999999999999999998000000000000000001 })
           ((LoExtendedprice, record { low = pos 500; high = pos 999999999999999999 }) ∷ []),
     ))
-unfolding column_of is_i64 reached
+unfolding column_of is_i64 reached first_answer
 squared_price_refused = refl

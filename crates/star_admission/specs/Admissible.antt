@@ -1,16 +1,17 @@
 -- Which programs are admissible, and what refuses the others.
-use Rattle.std.specs.Prelude.{◌≡◌, ℕ, nat_le, Bool, true, false, Option, Some, None}
+use Rattle.std.specs.Prelude.{◌≡◌, ℕ, nat_le, Bool, true, false, All, Option, Some, None}
 use Rattle.std.specs.Option.{option_map, option_or}
+use Rattle.star_common.specs.First.{first_answer}
 use Rattle.star_program.specs.declared.program.Parts.{Parts}
 use Rattle.star_program.specs.World.{World}
 use Rattle.star_program.specs.Shown.{shown_fault}
-use Rattle.star_admission.specs.Contexts.{at_first}
 use Rattle.star_admission.specs.Quote.{quote}
-use Rattle.star_admission.specs.Refusals.{Reason, first_reason}
+use Rattle.star_admission.specs.Refusals.{Reason}
+use Rattle.star_admission.specs.Standing.{instructions_of, reason_of}
 
--- no instruction is refused, and the report names what is there
+-- no instruction in its context has a reason to refuse it, and the report names what is there
 pub record IsAdmissible (w : World) (parts : Parts) : Type 0 where
-  pub instructions : first_reason w parts at_first 1 parts.body ≡ None
+  pub instructions : All (λ i. reason_of w parts i ≡ None) (instructions_of w parts)
   pub report : shown_fault parts ≡ None
 
 pub data Refusal : Type 0 where
@@ -30,5 +31,5 @@ cost_refusal visits false = Some (TooCostly visits)
 abbrev pub first_refusal : World → ℕ → Parts → Option Refusal
 first_refusal w most parts =
     option_or (cost_refusal (quote w.size parts) (nat_le (quote w.size parts) most))
-    (option_or (option_map Refused (first_reason w parts at_first 1 parts.body))
+    (option_or (option_map Refused (first_answer (reason_of w parts) (instructions_of w parts)))
     (option_map BadShow (shown_fault parts)))

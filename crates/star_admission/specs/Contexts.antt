@@ -1,6 +1,7 @@
 -- What stands round an instruction and before it, and so what is known there before a run.
-use Rattle.std.specs.Prelude.{ℕ, ◌*◌, pos, Bool, true, false, ◌||◌, nat_eq, List, map, slice_index_or, Option, Some, None, if◌then◌else◌}
+use Rattle.std.specs.Prelude.{ℕ, ◌*◌, pos, Bool, true, false, ◌||◌, nat_eq, List, [], ◌∷◌, ◌++◌, map, slice_index_or, Option, Some, None, if◌then◌else◌}
 use Rattle.star_schema.specs.declared.table.TableId.{TableId}
+use Rattle.star_schema.specs.declared.group.Aggregate.{Aggregate}
 use Rattle.star_schema.specs.declared.group.Aggregate.TheVariants.{Count}
 use Rattle.star_interval.specs.Range.{only}
 use Rattle.star_program.specs.declared.group.GroupDecl.{GroupDecl}
@@ -15,7 +16,7 @@ use Rattle.star_program.specs.Values.{with_entry}
 use Rattle.star_program.specs.Faults.{group_at, target_of}
 use Rattle.star_program.specs.Puts.{aligned}
 use Rattle.star_admission.specs.Ranges.{Known, KnownPlace, KnownRow, KnownFlag, Table, range_at, reach_at, given, loaded_known, answer_known}
-use Rattle.star_admission.specs.Tallies.{Tally, no_tally, once, Tallies, no_tallies, plus_all, times_all, read_range}
+use Rattle.star_admission.specs.Tallies.{Share, Shares, no_shares, read_range}
 
 pub record Context : Type 0 where
   -- whether a scan stands round it
@@ -26,10 +27,8 @@ pub record Context : Type 0 where
   pub known : Table
   -- the targets of earlier instructions, in scope or not
   pub written : ℕ → Bool
-  -- what earlier puts can add up to
-  pub so_far : Tallies
-  -- the groups that a later instruction puts to, or one in a scan round it
-  pub open_groups : ℕ → Bool
+  -- what earlier puts give
+  pub so_far : Shares
 
 -- at the first instruction
 abbrev pub at_first : Context
@@ -38,39 +37,33 @@ at_first = record {
   met = 1;
   known = λ r. None;
   written = λ r. false;
-  so_far = no_tallies;
-  open_groups = λ g. false;
+  so_far = no_shares;
 }
 
 -- ---- puts
-
-abbrev pub op_puts_to : ℕ → Op → Bool
-op_puts_to h (Put g ks vs) = nat_eq h g
-op_puts_to h _ = false
-
-abbrev pub puts_to : ℕ → Code → Bool
-puts_to g Stop = false
-puts_to g (Then op rest) = op_puts_to g op || puts_to g rest
-puts_to g (Each table r body rest) = puts_to g body || puts_to g rest
 
 -- what is known of the numbers of a put, one for each aggregate of its group: COUNT is given 1
 abbrev pub put_known : GroupDecl → Table → List ℕ → List (Option Known)
 put_known d known values = aligned (Some (given (only (pos 1)))) d.aggregates (map known values)
 
-abbrev pub known_tally : Option Known → Tally
-known_tally k = once (range_at k) (reach_at k)
+abbrev pub known_share : ℕ → Option Known → Share
+known_share met k = record { met = met; range = range_at k; reach = reach_at k }
 
--- what one put adds to an aggregate
-abbrev pub put_tally : GroupDecl → Table → List ℕ → ℕ → Tally
-put_tally d known values a = known_tally (slice_index_or (put_known d known values) a None)
+-- what one put gives an aggregate
+abbrev pub put_share : Parts → Context → ℕ → List ℕ → ℕ → Share
+put_share parts x g vs a =
+    known_share x.met (slice_index_or (put_known (group_at parts g) x.known vs) a None)
 
--- what an instruction adds each time
-abbrev pub op_gain : Parts → Context → Op → Tallies
-op_gain parts x (Put g ks vs) h a =
-    if nat_eq h g then put_tally (group_at parts g) x.known vs a else no_tally
-op_gain parts x _ h a = no_tally
+-- what an instruction gives each aggregate: a put one share, and others none
+abbrev pub op_shares : Parts → Context → Op → Shares
+op_shares parts x (Put g ks vs) h a = if nat_eq h g then put_share parts x g vs a ∷ [] else []
+op_shares parts x _ h a = []
 
 -- ---- after an instruction
+
+-- an aggregate of a group, by their numbers
+abbrev pub aggregate_at : Parts → ℕ → ℕ → Aggregate
+aggregate_at parts g a = slice_index_or (group_at parts g).aggregates a Count
 
 -- what is known of what an operation makes
 abbrev pub operation_known : World → Parts → Context → Operation → Known
@@ -79,7 +72,8 @@ operation_known w parts x (Edge e c text) = KnownPlace c
 operation_known w parts x (Load c r) = loaded_known w c (is_text c)
 operation_known w parts x (Find table k) = KnownRow table
 operation_known w parts x (Binary o l r) = answer_known o (x.known l) (x.known r)
-operation_known w parts x (Read g a n) = given (read_range (slice_index_or (group_at parts g).aggregates a Count) (x.so_far g a) (only n))
+operation_known w parts x (Read g a n) =
+    given (read_range (aggregate_at parts g a) (x.so_far g a) (only n))
 operation_known w parts x _ = KnownFlag
 
 -- what is known of its target
@@ -99,39 +93,28 @@ abbrev pub after_op : World → Parts → Context → Op → Context
 after_op w parts x op = record x {
   known = learned x.known (target_of op) (result_known w parts x op);
   written = λ q. x.written q || is_target (target_of op) q;
-  so_far = plus_all x.so_far (times_all x.met (op_gain parts x op));
+  so_far = λ g a. op_shares parts x op g a ++ x.so_far g a;
 }
 
 -- ---- scans
 
-abbrev pub writes : Code → ℕ → Bool
-writes Stop q = false
-writes (Then op rest) q = is_target (target_of op) q || writes rest q
-writes (Each table r body rest) q = nat_eq r q || writes body q || writes rest q
-
--- in a scan with this body, after which the rest comes
-abbrev pub in_scan : World → Context → TableId → ℕ → Code → Code → Context
-in_scan w x table r body rest = record {
+abbrev pub in_scan : World → Context → TableId → ℕ → Context
+in_scan w x table r = record {
   inside = true;
   met = x.met * w.size table;
   known = with_entry x.known r (KnownRow table);
   written = λ q. x.written q || nat_eq r q;
   so_far = x.so_far;
-  open_groups = λ g. x.open_groups g || (puts_to g body || puts_to g rest);
 }
 
--- after a scan, whose turns together add so much; what was written in it is out of scope
-abbrev pub after_scan : Context → ℕ → Code → Tallies → Context
-after_scan x r body gained = record x {
-  written = λ q. x.written q || (nat_eq r q || writes body q);
-  so_far = plus_all x.so_far (times_all x.met gained);
-}
+-- after a scan, by the context at the end of its body: what was written there is out of scope
+abbrev pub after_scan : Context → Context → Context
+after_scan x body_end = record x { written = body_end.written; so_far = body_end.so_far }
 
--- what some code adds, each time that it is met
-abbrev pub gain : World → Parts → Context → Code → Tallies
-gain w parts x Stop = no_tallies
-gain w parts x (Then op rest) =
-    plus_all (op_gain parts x op) (gain w parts (after_op w parts x op) rest)
-gain w parts x (Each table r body rest) =
-    let turns = times_all (w.size table) (gain w parts (in_scan w x table r body rest) body) in
-    plus_all turns (gain w parts (after_scan x r body turns) rest)
+-- ---- at the end of some code
+
+abbrev pub at_end : World → Parts → Context → Code → Context
+at_end w parts x Stop = x
+at_end w parts x (Then op rest) = at_end w parts (after_op w parts x op) rest
+at_end w parts x (Each table r body rest) =
+    at_end w parts (after_scan x (at_end w parts (in_scan w x table r) body)) rest

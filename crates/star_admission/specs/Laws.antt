@@ -1,8 +1,8 @@
 -- What a verifier's yes is worth.
-use Rattle.std.specs.Prelude.{ℕ, ◌^◌, ◌≤◌, ℤ, List, Option, Some, None, slice_index_or}
-use Rattle.star_schema.specs.declared.group.Aggregate.TheVariants.{Count}
+use Rattle.std.specs.Prelude.{◌≡◌, ℕ, ◌^◌, ◌≤◌, ◌<◌, ℤ, List, length, Option, Some, None, slice_index_or}
+use Rattle.star_schema.specs.declared.group.Aggregate.TheVariants.{Sum, Count}
 use Rattle.star_schema.specs.Groups.{members, aggregate, numbers_for}
-use Rattle.star_interval.specs.Range.{Range, Holds}
+use Rattle.star_interval.specs.Range.{Range, Holds, FitsI64}
 use Rattle.star_program.specs.declared.key.KeyValue.{KeyValue}
 use Rattle.star_program.specs.declared.program.Parts.{Parts}
 use Rattle.star_program.specs.Limits.{IsWithinLimits}
@@ -11,10 +11,10 @@ use Rattle.star_program.specs.Keys.{value_cmp}
 use Rattle.star_program.specs.Faults.{group_at}
 use Rattle.star_program.specs.Effects.{Store}
 use Rattle.star_program.specs.Run.{End, EndsWith}
-use Rattle.star_admission.specs.Tallies.{aggregate_range}
+use Rattle.star_admission.specs.Tallies.{sum_range, most_of, aggregate_range}
 use Rattle.star_admission.specs.Quote.{quote}
 use Rattle.star_admission.specs.Admissible.{IsAdmissible}
-use Rattle.star_admission.specs.Moments.{whole_gain}
+use Rattle.star_admission.specs.Moments.{all_shares}
 
 -- a program is admissible over a loaded catalogue, and no more visits are quoted than any run may
 -- make
@@ -38,6 +38,13 @@ TotalLies (Some r) (Some z) = Holds r z
 abbrev pub TotalsLie : World → Parts → Store → Type 0
 TotalsLie w parts s = (g place : ℕ) (keys : List (Option KeyValue))
     → TotalLies (aggregate_range (slice_index_or (group_at parts g).aggregates place Count)
-    (whole_gain w parts g place))
+    (all_shares w parts g place))
     (aggregate (slice_index_or (group_at parts g).aggregates place Count)
     (numbers_for place (members value_cmp keys (s.updates_of g))))
+
+-- what can add up to the SUMs and the COUNTs of all groups fits 64 bits
+pub record SumsFit (w : World) (parts : Parts) : Type 0 where
+  pub sums : (g place : ℕ) → place < length (group_at parts g).aggregates
+      → slice_index_or (group_at parts g).aggregates place Count ≡ Sum
+      → FitsI64 (sum_range (all_shares w parts g place))
+  pub counts : (g place : ℕ) → most_of (all_shares w parts g place) < 2 ^ 63

@@ -3,7 +3,12 @@ pub mod Tallies
 pub mod Quote
 pub mod Contexts
 pub mod Refusals
+pub mod Standing
+pub mod Told
 pub mod Admissible
+pub mod Fitting
 pub mod Moments
 pub mod Laws
-pub mod Standing
+pub mod Meetings
+pub mod Bounds
+pub mod Private

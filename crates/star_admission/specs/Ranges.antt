@@ -7,8 +7,10 @@ use Rattle.star_interval.specs.Range.{Range, only, corner_range}
 use Rattle.star_program.specs.declared.op.Operator.{Operator}
 use Rattle.star_program.specs.declared.op.Operator.TheVariants.{Add, Sub, Mul}
 use Rattle.star_program.specs.World.{World, is_column}
-use Rattle.star_program.specs.Values.{Kind, NumberKind, TextKind, PlaceKind, RowKind, FlagKind}
+use Rattle.star_program.specs.declared.value.Kind.{Kind}
+use Rattle.star_program.specs.declared.value.Kind.TheVariants as kind
 use Rattle.star_program.specs.Faults.{Kinds}
+use Rattle.star_program.specs.declared.value.Kind.TheVariants as kind
 
 -- the columns that a number is computed from
 abbrev pub Reach : Type 0
@@ -30,11 +32,11 @@ pub data Known : Type 0 where
   KnownFlag : Known
 
 abbrev pub known_kind : Known → Kind
-known_kind (KnownNumber r reach origin) = NumberKind
-known_kind (KnownText c) = TextKind c
-known_kind (KnownPlace c) = PlaceKind c
-known_kind (KnownRow t) = RowKind t
-known_kind KnownFlag = FlagKind
+known_kind (KnownNumber r reach origin) = kind.Number
+known_kind (KnownText c) = kind.Text c
+known_kind (KnownPlace c) = kind.Place c
+known_kind (KnownRow t) = kind.Row t
+known_kind KnownFlag = kind.Flag
 
 -- what is known of the registers in scope, by their numbers
 abbrev pub Table : Type 0

@@ -1,5 +1,5 @@
--- What refuses a program: the conditions on an instruction in its context, and the first of them (interval analysis: Moore, Interval Analysis, 1966).
-use Rattle.std.specs.Prelude.{ℕ, suc, ◌+◌, Bool, true, false, ◌||◌, not, nat_lt, List, [], ◌∷◌, filter, map, Option, Some, None}
+-- What refuses an instruction in its context (interval analysis: Moore, Interval Analysis, 1966).
+use Rattle.std.specs.Prelude.{ℕ, suc, Bool, true, false, not, nat_lt, List, [], ◌∷◌, filter, map, Option, Some, None}
 use Rattle.std.specs.Option.{option_map, option_or}
 use Rattle.star_schema.specs.declared.table.TableId.{TableId}
 use Rattle.star_schema.specs.declared.column.ColumnId.{ColumnId}
@@ -10,14 +10,15 @@ use Rattle.star_schema.specs.Schema.{is_table, references}
 use Rattle.star_interval.specs.Range.{Range, fits_i64}
 use Rattle.star_program.specs.declared.op.Op.{Op}
 use Rattle.star_program.specs.declared.op.Op.TheVariants.{Assign, Put}
-use Rattle.star_program.specs.declared.op.Operation.TheVariants.{Find, Binary, Read}
+use Rattle.star_program.specs.declared.op.Operation.TheVariants.{Find, Read}
 use Rattle.star_program.specs.declared.program.Parts.{Parts}
-use Rattle.star_program.specs.Code.{Code, Stop, Then, Each, code_size}
 use Rattle.star_program.specs.World.{World}
-use Rattle.star_program.specs.Faults.{Fault, BadRegister, WrittenTwice, unless, group_at, target_of, fault_of}
-use Rattle.star_admission.specs.Ranges.{Reach, Known, KnownNumber, origin_at, kinds_known, answer_known}
-use Rattle.star_admission.specs.Tallies.{Tally, sum_range, sum_fits, times_all}
-use Rattle.star_admission.specs.Contexts.{Context, after_op, puts_to, in_scan, after_scan, gain}
+use Rattle.star_program.specs.declared.fault.Fault.{Fault}
+use Rattle.star_program.specs.declared.fault.Fault.TheVariants.{BadRegister, WrittenTwice}
+use Rattle.star_program.specs.Faults.{unless, group_at, target_of, fault_of}
+use Rattle.star_admission.specs.Ranges.{Reach, Known, KnownNumber, origin_at, kinds_known}
+use Rattle.star_admission.specs.Tallies.{Share, reach_of, sum_range}
+use Rattle.star_admission.specs.Contexts.{Context, result_known, after_op}
 
 -- why an instruction is refused
 pub data Reason : Type 0 where
@@ -51,44 +52,55 @@ refers_to t (Some c) = is_some_table t (references c)
 unfoldable pub reached : World → Reach → List (ColumnId × Range)
 reached w reach = map (λ c. (c, w.bounds c)) (filter reach COLUMNS)
 
--- what arithmetic makes leaves 64 bits
+-- a range leaves 64 bits
+abbrev pub overflow : World → Range → Reach → Option Reason
+overflow w r reach = refuses (not (fits_i64 r)) (Overflow r (reached w reach))
+
 abbrev pub overflow_of : World → Known → Option Reason
-overflow_of w (KnownNumber r reach origin) =
-    refuses (not (fits_i64 r)) (Overflow r (reached w reach))
+overflow_of w (KnownNumber r reach origin) = overflow w r reach
 overflow_of w _ = None
 
-abbrev pub sum_overflow : World → Aggregate → Tally → Option Reason
-sum_overflow w Sum t = refuses (not (sum_fits t)) (Overflow (sum_range t) (reached w t.reach))
-sum_overflow w _ t = None
+abbrev pub sum_overflow : World → Aggregate → List Share → Option Reason
+sum_overflow w Sum ss = overflow w (sum_range ss) (reach_of ss)
+sum_overflow w _ ss = None
 
 -- the first SUM that leaves 64 bits, from the aggregate at a place on
-abbrev pub sums_overflow : World → List Aggregate → ℕ → (ℕ → Tally) → Option Reason
-sums_overflow w [] place tally = None
-sums_overflow w (g ∷ gs) place tally =
-    option_or (sum_overflow w g (tally place)) (sums_overflow w gs (suc place) tally)
+abbrev pub sums_overflow : World → List Aggregate → ℕ → (ℕ → List Share) → Option Reason
+sums_overflow w [] place shares = None
+sums_overflow w (g ∷ gs) place shares =
+    option_or (sum_overflow w g (shares place)) (sums_overflow w gs (suc place) shares)
 
 -- ---- an instruction
 
--- by its kinds: registers that are written already, among them
+-- a target that an earlier instruction writes
 abbrev pub target_again : (ℕ → Bool) → Option ℕ → Option Fault
 target_again written None = None
 target_again written (Some t) = unless (not (written t)) WrittenTwice
 
+-- by its kinds
 abbrev pub kind_reason : Parts → Context → Op → Option Reason
 kind_reason parts x op =
     option_map Faulty
     (fault_of parts x.inside (target_again x.written (target_of op)) (kinds_known x.known) op)
 
--- and by what is known beside them
-abbrev pub known_reason : World → Parts → Context → Op → Option Reason
-known_reason w parts x (Assign t (Find table k)) = refuses (not (refers_to table (origin_at (x.known k)))) NotAForeignKey
-known_reason w parts x (Assign t (Read g a n)) = refuses (x.open_groups g) OpenGroup
-known_reason w parts x (Assign t (Binary o l r)) = overflow_of w (answer_known o (x.known l) (x.known r))
-known_reason w parts x (Put g ks vs) = sums_overflow w (group_at parts g).aggregates 0 ((after_op w parts x (Put g ks vs)).so_far g)
-known_reason w parts x _ = None
+-- by what a find looks for, and by what a read reads: `pending` are the groups still put to
+abbrev pub source_reason : (ℕ → Bool) → Context → Op → Option Reason
+source_reason pending x (Assign t (Find table k)) =
+    refuses (not (refers_to table (origin_at (x.known k)))) NotAForeignKey
+source_reason pending x (Assign t (Read g a n)) = refuses (pending g) OpenGroup
+source_reason pending x _ = None
 
-abbrev pub op_reason : World → Parts → Context → Op → Option Reason
-op_reason w parts x op = option_or (kind_reason parts x op) (known_reason w parts x op)
+-- by the range of its result, or those of the sums that it puts to
+abbrev pub range_reason : World → Parts → Context → Op → Option Reason
+range_reason w parts x (Put g ks vs) =
+    sums_overflow w (group_at parts g).aggregates 0 ((after_op w parts x (Put g ks vs)).so_far g)
+range_reason w parts x op = overflow_of w (result_known w parts x op)
+
+-- the first of these
+abbrev pub op_reason : World → Parts → (ℕ → Bool) → Context → Op → Option Reason
+op_reason w parts pending x op =
+    option_or (kind_reason parts x op)
+    (option_or (source_reason pending x op) (range_reason w parts x op))
 
 -- of a scan its target alone
 abbrev pub scan_reason : Parts → Context → ℕ → Option Reason
@@ -96,26 +108,3 @@ scan_reason parts x r =
     option_map Faulty
     (option_or (unless (nat_lt r parts.registers) BadRegister)
     (unless (not (x.written r)) WrittenTwice))
-
--- ---- a program
-
--- with a later instruction, whose groups are open here
-abbrev pub before : Code → Context → Context
-before rest x = record x { open_groups = λ g. x.open_groups g || puts_to g rest }
-
-abbrev pub at_place : {A : Type 0} → ℕ → Option A → Option (ℕ × A)
-at_place at None = None
-at_place at (Some reason) = Some (at, reason)
-
--- the first instruction of some code that is refused, where they are numbered from here on, and why
-abbrev pub first_reason : World → Parts → Context → ℕ → Code → Option (ℕ × Reason)
-first_reason w parts x at Stop = None
-first_reason w parts x at (Then op rest) =
-    option_or (at_place at (op_reason w parts (before rest x) op))
-    (first_reason w parts (after_op w parts x op) (at + 1) rest)
-first_reason w parts x at (Each table r body rest) =
-    let inner = in_scan w x table r body rest in
-    option_or (at_place at (scan_reason parts x r))
-    (option_or (first_reason w parts inner (at + 1) body)
-    (first_reason w parts (after_scan x r body (times_all (w.size table) (gain w parts inner body)))
-    (at + 1 + code_size body) rest))

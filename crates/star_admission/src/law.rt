@@ -1,22 +1,42 @@
 //! Laws of admission: functions with no body, whose clauses are the laws.
 
-ghost use Rattle.std.specs.Prelude.{◌≡◌, ◌↔◌, ◌≤◌, ℕ, None};
+ghost use Rattle.std.specs.List.{last_or};
+ghost use Rattle.std.specs.Option.{option_map};
+ghost use Rattle.std.specs.Prelude.{◌≡◌, ◌↔◌, ◌≤◌, ◌^◌, ◌∷◌, ℕ, All, List, None, Some};
 ghost use Rattle.star_common.specs.First.{first_answer};
+ghost use Rattle.star_schema.specs.declared.column.ColumnId.{ColumnId};
+ghost use Rattle.star_interval.specs.Range.{Range};
+ghost use Rattle.star_program.specs.declared.op.Op.TheVariants.{Put};
 ghost use Rattle.star_program.specs.declared.program.Parts.{Parts};
+ghost use Rattle.star_program.specs.Code.{Code, Then};
+ghost use Rattle.star_program.specs.Effects.{Store, update_of};
+ghost use Rattle.star_program.specs.Faults.{group_at};
+ghost use Rattle.star_program.specs.Limits.{IsWithinLimits};
 ghost use Rattle.star_program.specs.Run.{EndsWith, bounded_run_of, run_of};
+ghost use Rattle.star_program.specs.Values.{Registers};
 ghost use Rattle.star_program.specs.World.{World};
-ghost use Rattle.star_admission.specs.Admissible.{IsAdmissible, first_refusal};
-ghost use Rattle.star_admission.specs.Contexts.{at_first};
-ghost use Rattle.star_admission.specs.Laws.{EndsWithin, IsAccepted, TotalsLie};
-ghost use Rattle.star_admission.specs.Moments.{AtEveryMoment};
+ghost use Rattle.star_group.specs.Stores.{HasRoom, group_declared};
+ghost use Rattle.star_admission.specs.Admissible.{IsAdmissible, Refused, first_refusal};
+ghost use Rattle.star_admission.specs.Bounds.{AreI64, FitsI128};
+ghost use Rattle.star_admission.specs.Contexts.{Context, at_end, at_first};
+ghost use Rattle.star_admission.specs.Laws.{EndsWithin, IsAccepted, SumsFit, TotalsLie};
+ghost use Rattle.star_admission.specs.Meetings.{IsMetWithinQuote};
+ghost use Rattle.star_admission.specs.Moments.{AtEveryMoment, Throughout};
 ghost use Rattle.star_admission.specs.Quote.{quote};
-ghost use Rattle.star_admission.specs.Refusals.{first_reason};
-ghost use Rattle.star_admission.specs.Standing.{AreTold, instructions_of, reason_of};
+ghost use Rattle.star_admission.specs.Private.Forward.{first_reason, none_open};
+ghost use Rattle.star_admission.specs.Refusals.{Overflow};
+ghost use Rattle.star_admission.specs.Standing.{instructions_of, reason_of};
+ghost use Rattle.star_admission.specs.Tallies.{Shares};
+ghost use Rattle.star_admission.specs.Told.{AreTold};
 
 /// An admissible program runs to its end with no trap, over any loaded catalogue.
 ///
-/// It visits at most what is quoted, a bound of at least that never stops it, and at every moment
-/// its numbers and the sums of its updates lie in their ranges; so do all totals at the end.
+/// It visits at most what is quoted, and a bound of at least that never stops it. At every moment,
+/// before each instruction and at each end, its registers hold what is known of them, and nothing
+/// where nothing is known: numbers in their ranges, and where they were loaded from a column its
+/// numbers; codes and places of their columns' texts; rows of their tables. The sums over any of its
+/// updates lie in their ranges, which fit 64 bits, and so do the counts: what the condition of a put
+/// asks for holds of each. All totals at the end lie in their ranges.
 pub fn admissible_programs_never_trap()
     ensures ends { (w : World) (parts : Parts)
         → IsAccepted w parts → EndsWithin (quote w.size parts) (run_of w parts) }
@@ -24,8 +44,44 @@ pub fn admissible_programs_never_trap()
         → IsAccepted w parts → quote w.size parts ≤ most
         → EndsWithin (quote w.size parts) (bounded_run_of w most parts) }
     ensures moments { (w : World) (parts : Parts) → IsAccepted w parts → AtEveryMoment w parts }
+    ensures sums { (w : World) (parts : Parts) → IsAccepted w parts → SumsFit w parts }
     ensures totals { (w : World) (parts : Parts)
         → IsAccepted w parts → EndsWith (run_of w parts) (TotalsLie w parts) }
+{}
+
+/// Before each put of a run in which that holds of every moment, the updates of its group with this
+/// one are such as a store asks for: the sums of each key list add up within 64 bits, and so do the
+/// counts.
+pub fn each_put_has_room()
+    ensures { (w : World) (parts : Parts) (all : Shares) (x : Context) (group : ℕ)
+        (keys values : List ℕ) (rest : Code) (at : ℕ) (registers : Registers) (s : Store)
+        → Throughout w parts all x (Then (Put group keys values) rest) at registers s
+        → HasRoom (group_declared (group_at parts group))
+        (update_of (group_at parts group) registers keys values ∷ s.updates_of group) }
+{}
+
+/// No program makes more turns than it is quoted: its run with a bound of at least the quote is its
+/// run without a bound, whether it comes to its end or traps.
+pub fn a_bound_of_the_quote_never_stops_a_run()
+    ensures { (w : World) (parts : Parts) (most : ℕ) → quote w.size parts ≤ most
+        → bounded_run_of w most parts ≡ run_of w parts }
+{}
+
+/// An instruction in a scan is met no more often than turns are quoted, and another once.
+pub fn instructions_are_met_within_the_quote()
+    ensures { (w : World) (parts : Parts)
+        → All (IsMetWithinQuote w parts) (instructions_of w parts) }
+{}
+
+/// Each bound that a refusal tells of a range fits 128 bits, of a program within its limits where no
+/// more visits are allowed than any run may make: its numbers are of 64 bits, and so are the bounds
+/// of the columns.
+pub fn told_bounds_fit_128_bits()
+    ensures { (w : World) (most : ℕ) (parts : Parts) (at : ℕ) (range : Range)
+        (columns : List (ColumnId × Range))
+        → IsWithinLimits parts → most ≤ 10 ^ 15 → AreI64 w parts
+        → first_refusal w most parts ≡ Some (Refused (at, Overflow range columns))
+        → FitsI128 range }
 {}
 
 /// Nothing refuses a program exactly where it is admissible and its quote is within the limit on
@@ -36,18 +92,25 @@ pub fn admissible_programs_within_the_limit_are_not_refused()
         ↔ (IsAdmissible w parts × (quote w.size parts ≤ most)) }
 {}
 
-/// The context of each instruction is told by the scans round it and the instructions before and
-/// after it, and the first that is refused in its context decides.
+/// The context of each instruction is told by the scans round it and the instructions before it,
+/// and so is what stands at the end of each body.
 ///
 /// Instructions are numbered in the order of the text. What is known of a register is what the last
 /// instruction before that writes it in scope makes, and where there is none nothing is known; what
 /// is written is in scope where all scans stand round that stand round its instruction, and a
-/// scan's row in the scan. What a group can add up to is the sum, over the puts before, of as often
-/// as each is met times what it adds; how often that is is the product of the row counts of the
-/// scans round it. A group is open where a later instruction puts to it, or one in a scan round.
+/// scan's row in the scan. What was put is told by the puts before, with how often each is met: the
+/// product of the row counts of the scans round it. The last of the contexts is that at the end of
+/// the program.
 pub fn instructions_are_judged_in_their_contexts()
     ensures told { (w : World) (parts : Parts) → AreTold w parts }
-    ensures first { (w : World) (parts : Parts)
-        → first_reason w parts at_first 1 parts.body
+    ensures last { (w : World) (parts : Parts)
+        → option_map (λ i. i.context) (last_or None (instructions_of w parts))
+        ≡ Some (at_end w parts at_first parts.body) }
+{}
+
+/// One pass over the code of a program finds the first instruction that is refused.
+fn one_pass_finds_the_first()
+    ensures { (w : World) (parts : Parts)
+        → first_reason w parts none_open at_first 1 parts.body
         ≡ first_answer (reason_of w parts) (instructions_of w parts) }
 {}

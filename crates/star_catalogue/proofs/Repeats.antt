@@ -1,72 +1,152 @@
 -- The first key of a list that an earlier one equals.
-use Rattle.std.proofs.Common.{◌≡◌, ◌≢◌, ◌+◌, ◌<◌, ◌++◌, ℕ, List, [], ◌∷◌, AllPairs, Bool, true, false, Option, Some, None, drop, get_or, length, map, take, refl, sym, ap, ◌∙◌, inl, inr, arith, length-take}
+use Rattle.std.proofs.Common.{◌≡◌, ◌≢◌, ◌↔◌, ◌+◌, ◌<◌, ◌≤◌, ◌++◌, ℕ, List, [], ◌∷◌, AllPairs, Bool, true, false, cond, Option, Some, None, drop, get_or, length, map, take, refl, sym, ap, ◌∙◌, inl, inr, arith, length-take, true≢false}
 use Rattle.std.specs.Bool.{Decides}
+use Rattle.std.specs.Cmp.{IsEquivalence}
 use Rattle.std.specs.List.{enumerate_from, list_any, slice_get, IsDistinct}
-use Rattle.std.proofs.Math.Seq.{take-length}
 use Rattle.std.proofs.lemmas.Bool.{cases_Bool}
-use Rattle.std.proofs.lemmas.List.{get_or_default, get_or-take, take_more, take-map}
+use Rattle.std.proofs.lemmas.List.{get_or_default, get_or-take, length-take-le, take_all, take_more, take-map}
 use Rattle.std.proofs.lemmas.List.Folds.{list_any_none}
 use Rattle.std.proofs.lemmas.List.FromFn.{get_or-enumerate_from, length-enumerate_from}
-use Rattle.std.proofs.lemmas.Option.{get_or_from_slice_get, slice_get_within}
+use Rattle.std.proofs.lemmas.Map.Keys.{any_passes_from_place, IsDistinct-push}
+use Rattle.std.proofs.lemmas.Option.{get_or_from_slice_get, slice_get-get_or, slice_get_within}
 use Rattle.star_common.specs.First.{first_answer}
 use Rattle.star_common.proofs.Firsts.{enumerated_at, first_answer_here, first_answer_none, first_answer_on}
-use Rattle.indexmap.specs.IndexSet.{insert_key}
+use Rattle.star_column.proofs.Trees.{pushed_before, pushed_cases, pushed_here}
+use Rattle.star_catalogue.specs.Private.Keys.{ArePlaces, StandsAt}
 use Rattle.star_catalogue.specs.Load.{first_repeat, repeat_at}
 
 abbrev pub repeats_from : {K : Type 0} → (K → K → Bool) → List K → ℕ → Option ℕ
 repeats_from same keys place =
     first_answer (λ (p, k). repeat_at same keys p k) (drop place (enumerate_from 0 keys))
 
--- the keys before a place are those of a set, and none of them repeats an earlier one
+-- what leads from the keys before a place to where they stand, and none of them repeats an earlier
 pub record HasInserted {K : Type 0} (same : K → K → Bool) (keys : List K) (place : ℕ)
-    (set : List K) : Type 0 where
-  pub inserted : set ≡ take place keys
+    (place_of : K → Option ℕ) : Type 0 where
+  pub places : ArePlaces same place_of (take place keys)
   pub no_repeat : first_repeat same keys ≡ repeats_from same keys place
-  pub unique : IsDistinct same set
+  pub unique : IsDistinct same (take place keys)
 
-module _ {K : Type 0} (same : K → K → Bool) (keys : List K) where
+module _ {K : Type 0} (same : K → K → Bool) (laws : IsEquivalence same) (keys : List K) where
   numbered : (place : ℕ) (key : K) → slice_get keys place ≡ Some key
       → slice_get (enumerate_from 0 keys) place ≡ Some (place, key)
   numbered place key at = let same_place : 0 + place ≡ place =
       omega arith in enumerated_at 0 keys place key at ∙ ap (λ (p : ℕ). Some (p, key)) same_place
 
-  pub nothing_inserted : (set : List K) → set ≡ [] → IsDistinct same set
-      → HasInserted same keys 0 set
-  unfolding first_repeat
-  nothing_inserted set empty unique = record { inserted = empty; no_repeat = refl; unique = unique }
+  pub nothing_inserted : (place_of : K → Option ℕ) → ((key : K) → place_of key ≡ None)
+      → HasInserted same keys 0 place_of
+  unfolding first_repeat IsDistinct
+  nothing_inserted place_of none = record {
+    places = record {
+      found = λ key place. (
+        λ e. absurd (cc (none key, e)),
+        λ at. absurd (let within = slice_get_within [] place at.stored at.there in omega arith),
+      );
+    };
+    no_repeat = refl;
+    unique = tt;
+  }
+
+  -- a key that leads to no place is none of the earlier ones
+  fresh_key : (place : ℕ) (key : K) (place_of : K → Option ℕ) → HasInserted same keys place place_of
+      → place_of key ≡ None → list_any (same key) (take place keys) ≡ false
+  fresh_key place key place_of h none =
+      list_any_none (same key) (take place keys) (λ k d within.
+      elim (cases_Bool (same key (get_or (take place keys) k d))) [
+        | inl equal ↦
+            let found = (h.places.found key k).1 (record {
+              stored = get_or (take place keys) k d;
+              there = slice_get-get_or (take place keys) k d within;
+              equal = equal;
+            }) in
+            absurd (cc (none, found))
+        | inr other ↦ other
+      ])
 
   -- one more key, which is new
-  pub inserted_more : (place : ℕ) (key : K) (old new : List K) → HasInserted same keys place old
-      → slice_get keys place ≡ Some key → list_any (same key) old ≡ false
-      → new ≡ insert_key same old key
-      → IsDistinct same new → HasInserted same keys (place + 1) new
-  inserted_more place key old new h at is_new inserts unique =
-      let fresh : list_any (same key) (take place keys) ≡ false = rw (← h.inserted) is_new in
-      let none : repeat_at same keys place key ≡ None = rw fresh refl in
+  pub inserted_more : (place : ℕ) (key : K) (old new : K → Option ℕ) → HasInserted same keys place old
+      → slice_get keys place ≡ Some key → old key ≡ None
+      → ((q : K) → new q ≡ cond (same key q) (Some place) (old q))
+      → HasInserted same keys (place + 1) new
+  inserted_more place key old new h at none step =
+      let fresh = fresh_key place key old h none in
+      let no : repeat_at same keys place key ≡ None = rw fresh refl in
       let within = slice_get_within keys place key at in
+      let count : length (take place keys) ≡ place = length-take-le place keys (omega arith) in
+      let more : take (place + 1) keys ≡ take place keys ++ key ∷ [] =
+      take_more keys place key within
+      ∙ ap (λ k. take place keys ++ k ∷ []) (get_or_from_slice_get keys place key key at) in
       record {
-        inserted = inserts
-            ∙ rw is_new (ap (λ ks. ks ++ key ∷ []) h.inserted
-            ∙ sym (take_more keys place key within
-            ∙ ap (λ k. take place keys ++ k ∷ []) (get_or_from_slice_get keys place key key at)));
+        places = rw more (record { found = found fresh count });
         no_repeat = h.no_repeat
             ∙ first_answer_on (λ (p, k). repeat_at same keys p k) (enumerate_from 0 keys) place
-            (place, key) (numbered place key at) none;
-        unique = unique;
+            (place, key) (numbered place key at) no;
+        unique = rw more (IsDistinct-push laws (take place keys) key h.unique fresh);
       }
+    where
+      found : list_any (same key) (take place keys) ≡ false → length (take place keys) ≡ place
+          → (q : K) (n : ℕ)
+          → (new q ≡ Some n) ↔ StandsAt same (take place keys ++ key ∷ []) n q
+      found fresh count q n = elim (cases_Bool (same key q)) [
+        | inl equal ↦
+            let is : new q ≡ Some place = rw equal at (step q) in (
+              λ e.
+                  let here : place ≡ n = cc (is, e) in
+                  record {
+                    stored = key;
+                    there = ap (slice_get (take place keys ++ key ∷ [])) (sym here ∙ sym count)
+                        ∙ pushed_here (take place keys) key;
+                    equal = laws.symm q key ∙ equal;
+                  },
+              λ stands. elim (pushed_cases (take place keys) key n stands.stored stands.there) [
+                | inl earlier ↦
+                    let there = (h.places.found key n).1 (record {
+                      stored = stands.stored;
+                      there = earlier;
+                      equal = sym (laws.congr q key stands.stored (laws.symm q key ∙ equal))
+                          ∙ stands.equal;
+                    }) in
+                    absurd (cc (none, there))
+                | inr here ↦ is ∙ ap Some (sym (here.0 ∙ count))
+              ],
+            )
+        | inr other ↦
+            let is : new q ≡ old q = rw other at (step q) in (
+              λ e.
+                  let stands = (h.places.found q n).0 (sym is ∙ e) in
+                  record {
+                    stored = stands.stored;
+                    there = pushed_before (take place keys) key n stands.stored stands.there;
+                    equal = stands.equal;
+                  },
+              λ stands. elim (pushed_cases (take place keys) key n stands.stored stands.there) [
+                | inl earlier ↦ is ∙ (h.places.found q n).1
+                    (record { stored = stands.stored; there = earlier; equal = stands.equal })
+                | inr here ↦
+                    let equal : same q key ≡ true = ap (same q) here.1 ∙ stands.equal in
+                    absurd (true≢false (sym (laws.symm key q ∙ equal) ∙ other))
+              ],
+            )
+      ]
 
   -- a key that repeats an earlier one
-  pub inserted_before : (place : ℕ) (key : K) (old : List K) → HasInserted same keys place old
-      → slice_get keys place ≡ Some key → list_any (same key) old ≡ true
+  pub inserted_before : (place n : ℕ) (key : K) (old : K → Option ℕ)
+      → HasInserted same keys place old → slice_get keys place ≡ Some key → old key ≡ Some n
       → first_repeat same keys ≡ Some (place + 1)
-  inserted_before place key old h at is_old =
-      let there : list_any (same key) (take place keys) ≡ true = rw (← h.inserted) is_old in
+  inserted_before place n key old h at is_old =
+      let stands = (h.places.found key n).0 is_old in
+      let there : list_any (same key) (take place keys) ≡ true =
+      any_passes_from_place (same key) (take place keys) n stands.stored stands.there
+      stands.equal in
       let some : repeat_at same keys place key ≡ Some (place + 1) = rw there refl in
       h.no_repeat ∙ first_answer_here (λ (p, k). repeat_at same keys p k)
       (enumerate_from 0 keys) place (place, key) (place + 1) (numbered place key at) some
 
-  pub all_inserted : (set : List K) → HasInserted same keys (length keys) set → set ≡ keys
-  all_inserted set h = h.inserted ∙ take-length keys
+  pub all_inserted : (place_of : K → Option ℕ) (place : ℕ) → length keys ≤ place
+      → HasInserted same keys place place_of
+      → ArePlaces same place_of keys × IsDistinct same keys
+  all_inserted place_of place all h =
+      let whole : take place keys ≡ keys = take_all place keys all in
+      (rw whole at h.places, rw whole at h.unique)
 
 any-map : {K L : Type 0} (test : K → Bool) (other : L → Bool) (f : K → L)
     → ((k : K) → other (f k) ≡ test k)

@@ -1,3 +1,4 @@
 pub mod Load
 pub mod FaultTexts
 pub mod Private
+pub mod ColumnBounds

@@ -10,7 +10,9 @@ ghost use Rattle.star_schema.specs.Sizes.{size_of};
 ghost use Rattle.star_schema.specs.Tables.{IsRowOf};
 ghost use Rattle.star_schema.specs.Texts.{texts_of};
 ghost use Rattle.star_schema.specs.declared.table.TableId.{TableId};
-ghost use Rattle.star_column.specs.Dictionary.{HasCode, dictionary_of, high_in, low_in};
+ghost use Rattle.star_schema.specs.Dictionary.{HasCode, codes_of, dictionary_of, high_in, low_in};
+ghost use Rattle.star_column.specs.Width.{bits_of};
+ghost use Rattle.star_catalogue.specs.ColumnBounds.{HasI64Bounds};
 ghost use Rattle.star_catalogue.specs.Load.{load_fault, text_of};
 
 use crate::fault::LoadFault;
@@ -19,7 +21,7 @@ use crate::tables::Tables;
 use crate::texts::Texts;
 use star_column::ColumnData;
 use star_interval::Interval;
-use star_schema::{ColumnId, Kind, Limits, Sizes, TableId};
+use star_schema::{ColumnId, Kind, Limits, Sizes, TableId, kind_of};
 use std::alloc::Global;
 use std::marker::Model;
 
@@ -32,12 +34,14 @@ pub struct Catalogue {
 impl Model for Catalogue {
     ghost use Rattle.star_schema.specs.Database.{Database};
     ghost use Rattle.star_schema.specs.Loadable.{IsSound};
+    ghost use Rattle.star_catalogue.specs.ColumnBounds.{HasI64Bounds};
 
     ghost Value = { Database };
 
     ghost view = { λ catalogue. catalogue.tables.value };
 
-    ghost invariant = { λ catalogue. IsSound catalogue.tables.value };
+    ghost invariant = { λ catalogue. IsSound catalogue.tables.value
+        × HasI64Bounds catalogue.tables.value };
 }
 
 impl Catalogue {
@@ -58,10 +62,13 @@ impl Catalogue {
     }
 
     /// What holds of every catalogue: each row of a table has a value for each column, of the
-    /// column's kind; keys tell the rows of each table apart, and each foreign key is found.
+    /// column's kind; keys tell the rows of each table apart, and each foreign key is found; and
+    /// the bounds of each column of numbers, which are 0 and 0 where there is no row, lie in 64
+    /// bits.
     pub fn law(&self)
         ensures sound { IsSound self.now }
         ensures rows { (table : TableId) → All (IsRowOf table) (rows_in self.now table) }
+        ensures bounds { HasI64Bounds self.now }
     {
         self.tables.law();
     }
@@ -158,6 +165,21 @@ impl Catalogue {
             ≡ greatest (numbers_of column (rows_in self.now (table_of column))) }
     {
         self.tables.numbers(column).bounds()
+    }
+
+    /// How many bits the word of a value has in a column: of a number, or of a text's code. It is
+    /// the least of 8, 16, 32 and 64 in which the difference of the bounds of the column's numbers,
+    /// or codes, fits, and 8 where its table has no rows.
+    pub fn bits(&self, column: ColumnId) -> u32
+        ensures numbers { kind_of column ≡ Kind.Number
+            → result ≡ bits_of (numbers_of column (rows_in self.now (table_of column))) }
+        ensures texts { kind_of column ≡ Kind.Text
+            → result ≡ bits_of (codes_of (texts_of column (rows_in self.now (table_of column)))) }
+    {
+        match kind_of(column) {
+            Kind::Number => self.tables.numbers(column).bits(),
+            Kind::Text => self.tables.texts(column).bits(),
+        }
     }
 
     /// The row of a table, from 0, whose key is this number, if there is one. The keys of lineorder

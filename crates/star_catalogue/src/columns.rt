@@ -4,14 +4,14 @@ ghost use Rattle.std.specs.Prelude.{◌≡◌, ◌<◌, ◌^◌, All, IfOk, leng
 ghost use Rattle.star_reader.specs.Columns.{kind_of as raw_kind, values as raw_values};
 ghost use Rattle.star_catalogue.specs.Private.Columns.{kind_of, values};
 
-use star_column::{NumberColumn, TextColumn};
+use star_column::{NumberColumn, PackedColumn, TextColumn};
 use star_reader::RawColumn;
 use std::alloc::{AllocError, Global};
 
 /// A column of a table.
 #[derive(Drop)]
 pub enum Column {
-    Numbers(NumberColumn),
+    Numbers(PackedColumn),
     Texts(TextColumn),
 }
 
@@ -24,7 +24,10 @@ impl Column {
         ensures values { IfOk result (λ column. values column ≡ raw_values raw) }
     {
         match raw {
-            RawColumn::Numbers(numbers) => Ok(Column::Numbers(NumberColumn::build(numbers)?)),
+            RawColumn::Numbers(numbers) => {
+                let plain = NumberColumn::build(numbers)?;
+                Ok(Column::Numbers(PackedColumn::build(alloc, &plain)?))
+            }
             RawColumn::Texts(texts) => Ok(Column::Texts(TextColumn::from_flat(alloc, texts)?)),
         }
     }

@@ -1,65 +1,146 @@
 // The keys of tables, which no two rows share.
 
-ghost use Rattle.std.specs.Prelude.{◌≡◌, ◌≢◌, ◌↔◌, ◌<◌, ◌^◌, ◌∷◌, ℕ, ℤ, List, [], AllPairs, IfOk, IsTrue, MatchResult, Some, length, slice_get};
+ghost use Rattle.std.specs.Prelude.{◌≡◌, ◌≢◌, ◌↔◌, ◌<◌, ◌^◌, ◌-ℤ◌, ◌≤ℤ◌, ◌∷◌, ℕ, ℤ, List, [], All, AllPairs, IfOk, IfSome, IsTrue, MatchResult, Some, length, slice_get};
 ghost use Rattle.std.specs.List.{IsDistinct, zip};
+ghost use Rattle.std.specs.BTreeMap.{get};
+ghost use Rattle.std.specs.Int.RustNames.{unsigned_abs};
 ghost use Rattle.std.specs.Option.{option_map};
 ghost use Rattle.std.specs.Ordering.{int_eq};
 ghost use Rattle.std.specs.declared.cmp.Ordering.TheVariants.{Less};
 ghost use Rattle.star_common.specs.Memory.{UnlessMemory};
 ghost use Rattle.star_schema.specs.Loadable.{HasDistinctKeys, keys_of};
-ghost use Rattle.star_catalogue.specs.Private.Keys.{AreKept, pair_cmp, same_pair};
+ghost use Rattle.star_catalogue.specs.Private.Keys.{AreKept, ArePlaces, dense_at, pair_cmp, row_in, row_of, same_pair};
 ghost use Rattle.star_catalogue.specs.Load.{first_repeat, keys_fault};
 
 use crate::fault::LoadFault;
-use indexmap::IndexSet;
 use star_reader::RawTable;
 use star_schema::{Key, TableId, key_of, place_of};
 use std::alloc::{AllocError, Global};
-use std::hash::Hash;
-use std::marker::Model;
+use std::collections::BTreeMap;
 
-/// The keys of a table in the order of its rows, or the first record whose key an earlier one has.
-fn distinct<K: Copy + Eq + Hash + Drop>(
+/// The place of each key of a table, from 0, or the first record whose key an earlier one has. A
+/// tree, so that no keys are slow to find.
+fn places_of<K: Copy + Ord + Drop>(
     alloc: Global,
     table: TableId,
     keys: &[K],
-) -> Result<IndexSet<K>, LoadFault>
+) -> Result<BTreeMap<K, u32>, LoadFault>
     requires { length keys.now < 2 ^ 32 }
     ensures { MatchResult result
-        (λ set. (set.keys ≡ keys.now) × IsDistinct K.eq keys.now)
+        (λ places. ArePlaces K.eq (get K.cmp places) keys.now × IsDistinct K.eq keys.now)
         (λ fault. UnlessMemory LoadFault.OutOfMemory fault
         (option_map (LoadFault.DuplicateKey table) (first_repeat K.eq keys.now) ≡ Some fault)) }
 {
-    let mut set = IndexSet::with_capacity(alloc, keys.len())?;
+    let mut places = BTreeMap::new(alloc);
     for (place, key) in keys.iter().enumerate() {
-        let (_, is_new) = set.insert_full(*key)?;
-        if !is_new {
+        let before = places.insert(*key, place as u32)?;
+        if before.is_some() {
             return Err(LoadFault::DuplicateKey {
                 table,
                 at_row: place as u32 + 1,
             });
         }
     }
-    Ok(set)
+    Ok(places)
 }
 
-/// Different numbers, at most 4,294,967,295 of them, each with its place from 0. A contract sees
-/// them as a list.
+/// What stands where no row has the key: one more than any row's place.
+const NO_ROW: u32 = u32::MAX;
+
+/// So many numbers for each key, and some more, may lie between the least key and the greatest for
+/// a row to be kept for each of them.
+const NUMBERS_FOR_EACH: u64 = 8;
+
+const NUMBERS_FREE: u64 = 131_072;
+
+fn least_of(keys: &[i64]) -> Option<i64>
+    ensures { IfSome result (λ least. All (λ key. least ≤ℤ key) keys.now) }
+{
+    keys.iter().copied().min()
+}
+
+fn greatest_of(keys: &[i64]) -> Option<i64>
+    ensures { IfSome result (λ greatest. All (λ key. key ≤ℤ greatest) keys.now) }
+{
+    keys.iter().copied().max()
+}
+
+/// The least key, and how many numbers there are from it to the greatest, where these are few for so
+/// many keys.
+fn dense_range(keys: &[i64]) -> Option<(i64, usize)>
+    requires { length keys.now < 2 ^ 32 }
+    ensures least { IfSome result (λ range. All (λ key. range.0 ≤ℤ key) keys.now) }
+    ensures within { IfSome result
+        (λ range. All (λ key. unsigned_abs (key -ℤ range.0) < range.1) keys.now) }
+{
+    let (Some(least), Some(greatest)) = (least_of(keys), greatest_of(keys)) else {
+        return None;
+    };
+    let span = greatest.abs_diff(least);
+    if span < keys.len() as u64 * NUMBERS_FOR_EACH + NUMBERS_FREE {
+        Some((least, span as usize + 1))
+    } else {
+        None
+    }
+}
+
+/// For each number from the least key on its place among the keys, or the first record whose key an
+/// earlier one has.
+fn rows_from(
+    alloc: Global,
+    table: TableId,
+    keys: &[i64],
+    least: i64,
+    span: usize,
+) -> Result<Vec<u32>, LoadFault>
+    requires few { length keys.now < 2 ^ 32 }
+    requires least { All (λ key. least ≤ℤ key) keys.now }
+    requires within { All (λ key. unsigned_abs (key -ℤ least) < span) keys.now }
+    ensures { MatchResult result
+        (λ rows. ArePlaces int_eq (dense_at least rows.items) keys.now × IsDistinct int_eq keys.now)
+        (λ fault. UnlessMemory LoadFault.OutOfMemory fault
+        (option_map (LoadFault.DuplicateKey table) (first_repeat int_eq keys.now) ≡ Some fault)) }
+{
+    let mut rows = vec![in alloc; NO_ROW; span]?;
+    for (place, key) in keys.iter().enumerate() {
+        let slot = key.abs_diff(least) as usize;
+        if rows[slot] != NO_ROW {
+            return Err(LoadFault::DuplicateKey {
+                table,
+                at_row: place as u32 + 1,
+            });
+        }
+        rows[slot] = place as u32;
+    }
+    Ok(rows)
+}
+
+/// The row that a number leads to, if there is one, by the rows from the least key on.
+fn find_from(least: i64, rows: &[u32], key: i64) -> Option<u32>
+    ensures { result ≡ dense_at least rows.now key }
+{
+    if key < least {
+        return None;
+    }
+    match rows.get(key.abs_diff(least) as usize) {
+        Some(row) => row_in_slot(*row),
+        None => None,
+    }
+}
+
+fn row_in_slot(row: u32) -> Option<u32>
+    ensures { result ≡ row_of (Some row) }
+{
+    if row == NO_ROW { None } else { Some(row) }
+}
+
+/// The rows of a table by their keys of one number.
 #[derive(Drop)]
-pub struct KeyIndex {
-    keys: IndexSet<i64>,
-}
-
-impl Model for KeyIndex {
-    ghost use Rattle.std.specs.Prelude.{◌<◌, ◌^◌, ℤ, List, length};
-    ghost use Rattle.std.specs.List.{IsDistinct};
-    ghost use Rattle.std.specs.Ordering.{int_eq};
-
-    ghost Value = { List ℤ };
-
-    ghost view = { λ index. index.keys.keys };
-
-    ghost invariant = { λ index. (length index.keys.keys < 2 ^ 32) × IsDistinct int_eq index.keys.keys };
+pub enum KeyIndex {
+    /// For each number from the least key on the row with that key, or `NO_ROW`.
+    Dense { least: i64, rows: Vec<u32> },
+    /// The row of each key.
+    Tree(BTreeMap<i64, u32>),
 }
 
 impl KeyIndex {
@@ -67,23 +148,27 @@ impl KeyIndex {
     pub(crate) fn build(alloc: Global, table: TableId, keys: &[i64]) -> Result<KeyIndex, LoadFault>
         requires { length keys.now < 2 ^ 32 }
         ensures { MatchResult result
-            (λ index. (index ≡ keys.now) × IsDistinct int_eq keys.now)
+            (λ index. ArePlaces int_eq (row_in index) keys.now × IsDistinct int_eq keys.now)
             (λ fault. UnlessMemory LoadFault.OutOfMemory fault
             (option_map (LoadFault.DuplicateKey table) (first_repeat int_eq keys.now)
             ≡ Some fault)) }
     {
-        Ok(KeyIndex {
-            keys: distinct(alloc, table, keys)?,
-        })
+        match dense_range(keys) {
+            Some((least, span)) => {
+                let rows = rows_from(alloc, table, keys, least, span)?;
+                Ok(KeyIndex::Dense { least, rows })
+            }
+            None => Ok(KeyIndex::Tree(places_of(alloc, table, keys)?)),
+        }
     }
 
-    /// The place of a number, if it is one of these.
+    /// The row that a number leads to, if there is one.
     pub(crate) fn find(&self, key: i64) -> Option<u32>
-        ensures { (place : ℕ) → (result ≡ Some place) ↔ (slice_get self.now place ≡ Some key) }
+        ensures { result ≡ row_in self.now key }
     {
-        match self.keys.get_index_of(&key) {
-            Some(place) => Some(place as u32),
-            None => None,
+        match self {
+            KeyIndex::Dense { least, rows } => find_from(*least, rows.as_slice(), key),
+            KeyIndex::Tree(rows) => rows.get(&key).copied(),
         }
     }
 }
@@ -150,7 +235,7 @@ pub(crate) fn check_pairs(
         return Ok(());
     }
     let pairs = pairs_of(alloc, firsts, seconds)?;
-    distinct(alloc, table, pairs.as_slice())?;
+    places_of(alloc, table, pairs.as_slice())?;
     Ok(())
 }
 

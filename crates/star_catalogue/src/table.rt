@@ -14,7 +14,7 @@ ghost use Rattle.star_catalogue.specs.Load.{keys_fault, table_fault};
 use crate::columns::{Column, build_columns};
 use crate::fault::LoadFault;
 use crate::keys::Keys;
-use star_column::{NumberColumn, TextColumn};
+use star_column::{PackedColumn, TextColumn};
 use star_reader::{RawTable, ReadFault, read_table};
 use star_schema::{ColumnId, Kind, Limits, TableId, place_of};
 use std::alloc::Global;
@@ -113,7 +113,7 @@ impl LoadedTable {
     }
 
     /// A column of numbers.
-    pub(crate) fn numbers(&self, column: ColumnId) -> &NumberColumn
+    pub(crate) fn numbers(&self, column: ColumnId) -> &PackedColumn
         requires table { table_of column ≡ self.now.table }
         requires kind { kind_of column ≡ Kind.Number }
         ensures { result.now ≡ numbers_of column self.now.rows }

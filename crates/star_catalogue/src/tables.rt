@@ -14,7 +14,7 @@ ghost use Rattle.star_catalogue.specs.Load.{tables_fault, text_of};
 use crate::fault::LoadFault;
 use crate::table::LoadedTable;
 use crate::texts::Texts;
-use star_column::{NumberColumn, TextColumn};
+use star_column::{PackedColumn, TextColumn};
 use star_schema::{ColumnId, Kind, Limits, TableId, table_of};
 use std::alloc::Global;
 use std::marker::Model;
@@ -103,7 +103,7 @@ impl Tables {
     }
 
     /// A column of numbers.
-    pub(crate) fn numbers(&self, column: ColumnId) -> &NumberColumn
+    pub(crate) fn numbers(&self, column: ColumnId) -> &PackedColumn
         requires { kind_of column ≡ Kind.Number }
         ensures { result.now ≡ numbers_of column (rows_in self.now (table_of column)) }
     {

@@ -1,40 +1,65 @@
 // The commands of the program.
 
+use crate::answers::{Bytes, answer};
 use crate::failure::Failure;
 use crate::files::{Folder, read_file};
 use crate::words::{Task, task_of};
-use star_engine::{check, sample, trial_program};
-use star_schema::{Limits, Out};
+use star_engine::sample;
+use star_schema::Out;
 use std::alloc::AllocError;
 use std::io::Write;
 use std::rt::{Env, Files};
 use std::{env, io};
 
-// Answers the words on `out`, or tells why it can't.
-fn answer<'a, R: Files + AllocGlobal, W: Write>(
-    rt: &R,
-    words: &'a [String],
-    out: &mut Out<W>,
-) -> Result<(), Failure<'a>> {
-    match task_of(rt.alloc(), words)? {
-        Task::CheckSample => check(rt.alloc(), &sample(), Limits::widest(), out)?,
-        Task::Check { folder } => {
-            let files = Folder::read(rt, folder)?;
-            check(rt.alloc(), &files.texts(), Limits::widest(), out)?;
+// The bytes that are read for a task.
+#[derive(Drop)]
+struct Read {
+    tables: Option<Folder>,
+    file: Vec<u8>,
+}
+
+// Reads what a task is about: the file of a program first, and then the tables.
+fn read_for<'a, R: Files + AllocGlobal>(rt: &R, task: Task<'a>) -> Result<Read, Failure<'a>> {
+    Ok(match task {
+        Task::CheckSample => Read {
+            tables: None,
+            file: Vec::new(rt.alloc()),
+        },
+        Task::Check { folder } => Read {
+            tables: Some(Folder::read(rt, folder)?),
+            file: Vec::new(rt.alloc()),
+        },
+        Task::Trial { folder, file, .. } => {
+            let file = read_file(rt, file)?;
+            Read {
+                tables: Some(Folder::read(rt, folder)?),
+                file,
+            }
         }
-        Task::Trial {
-            folder,
-            file,
-            limits,
-        } => {
-            let program = read_file(rt, file)?;
-            let files = Folder::read(rt, folder)?;
-            let texts = files.texts();
-            let visits = limits.visits;
-            trial_program(rt.alloc(), &texts, program.as_slice(), visits, limits, out)?;
+    })
+}
+
+impl Read {
+    fn bytes(&self) -> Bytes<'_> {
+        let texts = match &self.tables {
+            Some(tables) => tables.texts(),
+            None => sample(),
+        };
+        Bytes {
+            texts,
+            file: self.file.as_slice(),
         }
     }
-    Ok(())
+}
+
+// The task of the words, and what was read for it.
+fn prepare<'a, R: Files + AllocGlobal>(
+    rt: &R,
+    words: &'a [String],
+) -> Result<(Task<'a>, Read), Failure<'a>> {
+    let task = task_of(rt.alloc(), words)?;
+    let read = read_for(rt, task)?;
+    Ok((task, read))
 }
 
 /// Does what the words ask for, the program's own name left off, and gives the exit status: 0 where
@@ -47,9 +72,11 @@ pub fn command<R: Files + AllocGlobal, W: Write, E: Write>(
     out: &mut W,
     err: &mut E,
 ) -> u8 {
-    let done = answer(rt, words, &mut Out::new(&mut *out));
-    match done {
-        Ok(()) => 0,
+    match prepare(rt, words) {
+        Ok((task, read)) => {
+            let mut sink = Out::new(&mut *out);
+            answer(rt.alloc(), task, &read.bytes(), &mut sink, err)
+        }
         Err(failure) => told(failure, out, err),
     }
 }
@@ -69,7 +96,16 @@ fn read_words<R: Env + AllocGlobal>(rt: &R) -> io::Result<Vec<String>> {
     Ok(words)
 }
 
-/// Does what the words of the program's own command line ask for, and gives the exit status of `command`.
+fn failure_of_words(error: &io::Error) -> Failure<'static> {
+    if error.kind() == io::ErrorKind::OutOfMemory {
+        Failure::from(AllocError)
+    } else {
+        Failure::NotText
+    }
+}
+
+/// Does what the words of the program's own command line ask for, and gives the exit status of
+/// `command`; 2 too where a word is not UTF-8.
 pub fn run<R: Env + Files + AllocGlobal, W: Write, E: Write>(
     rt: &R,
     out: &mut W,
@@ -77,6 +113,6 @@ pub fn run<R: Env + Files + AllocGlobal, W: Write, E: Write>(
 ) -> u8 {
     match read_words(rt) {
         Ok(words) => command(rt, words.as_slice(), out, err),
-        Err(_) => told(Failure::from(AllocError), out, err),
+        Err(error) => told(failure_of_words(&error), out, err),
     }
 }

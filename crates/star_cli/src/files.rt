@@ -1,10 +1,11 @@
 // The files that a command reads.
 
 use crate::failure::Failure;
-use star_engine::Texts;
+use star_engine::{FileFault, Tally, Texts, read_expected};
 use std::alloc::AllocError;
+use std::fs::{File, OpenFile};
+use std::io;
 use std::rt::Files;
-use std::{fs, io};
 
 /// The most bytes that a table file may have.
 const MOST_TABLE_BYTES: u64 = 1_000_000_000_000;
@@ -22,7 +23,7 @@ pub(crate) struct Folder {
     lineorder: Vec<u8>,
 }
 
-fn failure_of<'a>(error: &io::Error, name: &'a str) -> Failure<'a> {
+fn failure_of_open<'a>(error: &io::Error, name: &'a str) -> Failure<'a> {
     if error.kind() == io::ErrorKind::OutOfMemory {
         Failure::from(AllocError)
     } else {
@@ -30,20 +31,37 @@ fn failure_of<'a>(error: &io::Error, name: &'a str) -> Failure<'a> {
     }
 }
 
-// The bytes of a file of at most so many, which a failure names so.
+fn failure_of_read(fault: FileFault, name: &str) -> Failure<'_> {
+    match fault {
+        FileFault::Memory => Failure::from(AllocError),
+        FileFault::Failed => Failure::File(name),
+    }
+}
+
+// How many bytes an open file is told to have. Of what is no regular file nothing is known.
+fn told_size(file: &impl OpenFile) -> u64 {
+    match file.metadata() {
+        Ok(metadata) if metadata.is_file() => metadata.len(),
+        _ => 0,
+    }
+}
+
+// The bytes of a file of at most so many, which a failure names so. It is opened once. A file that
+// is told to have more is not read: it may be sparse, and larger than any memory.
 fn read_at_most<'a, R: Files + AllocGlobal>(
     rt: &R,
     path: &str,
     name: &'a str,
     most: u64,
 ) -> Result<Vec<u8>, Failure<'a>> {
-    let bytes = fs::metadata(rt, path)
-        .map_err(|error| failure_of(&error, name))?
-        .len();
-    if bytes > most {
+    let mut file = File::open(rt, path).map_err(|error| failure_of_open(&error, name))?;
+    let expected = told_size(&file);
+    if expected > most {
         return Err(Failure::File(name));
     }
-    fs::read(rt, path).map_err(|error| failure_of(&error, name))
+    read_expected(rt.alloc(), &mut file, most, expected, &mut Tally::new()).map_err(
+        |fault| failure_of_read(fault, name),
+    )
 }
 
 /// Reads the file of a program, which a failure names as the words do.

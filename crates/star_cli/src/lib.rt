@@ -1,9 +1,12 @@
 //! The commands of the program `star`: their words, the files that they read, the lines of their faults and their exit statuses.
 #![tactic(auto)]
 
+mod answers;
 mod commands;
 mod failure;
 mod files;
 mod words;
 
+pub use crate::answers::{Bytes, answer};
 pub use crate::commands::{command, run};
+pub use crate::words::Task;

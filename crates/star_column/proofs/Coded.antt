@@ -1,17 +1,19 @@
 -- A column of texts as the column of its codes.
-use Rattle.std.proofs.Common.{◌≡◌, ℕ, ℤ, pos, ◌-◌, ◌<◌, ◌≤ℤ◌, List, [], ◌∷◌, Some, length, get_or, refl, sym, ap, ◌∙◌, arith}
+use Rattle.std.proofs.Common.{◌≡◌, ℕ, ℤ, pos, ◌-◌, ◌-ℤ◌, ◌<◌, ◌≤ℤ◌, List, [], ◌∷◌, Some, length, get_or, refl, sym, ap, ◌∙◌, arith}
 use Rattle.std.specs.List.{All, Contains, slice_get}
 use Rattle.std.specs.Option.{option_map}
 use Rattle.std.proofs.lemmas.Int.{ints}
 use Rattle.std.proofs.lemmas.List.{get_or-map, length-map}
 use Rattle.std.proofs.lemmas.List.Elements.{All-map, Contains-get_or}
-use Rattle.std.proofs.lemmas.Option.{slice_get-map, slice_get-get_or, slice_get_within}
+use Rattle.std.proofs.lemmas.Option.{slice_get-map, slice_get-get_or}
 use Rattle.star_schema.specs.Bounds.{least, greatest}
-use Rattle.star_column.specs.Dictionary.{dictionary_of, codes_of, low_in}
-use Rattle.star_column.proofs.Dictionaries.{IsDictionary-dictionary_of}
-use Rattle.star_column.proofs.Members.{contains_here}
-use Rattle.star_column.proofs.Extremes.{least_is, greatest_is}
-use Rattle.star_column.proofs.Places.{low_in-place, slice_get-low_in}
+use Rattle.std.specs.Int.RustNames.{unsigned_abs}
+use Rattle.star_column.specs.Width.{bits_of, least_width}
+use Rattle.star_schema.specs.Dictionary.{dictionary_of, codes_of, low_in}
+use Rattle.star_schema.proofs.Dictionaries.{IsDictionary-dictionary_of}
+use Rattle.star_common.proofs.Members.{contains_here}
+use Rattle.star_schema.proofs.Extremes.{least_is, greatest_is}
+use Rattle.star_schema.proofs.TextPlaces.{code_within, low_in-place, slice_get-low_in}
 
 module _ (texts : List (List ℕ)) where
   -- the code of a row whose text stands at a place of the dictionary is that place
@@ -27,13 +29,6 @@ module _ (texts : List (List ℕ)) where
       ∙ ap (option_map (λ text. pos (low_in ds text))) (sym stands ∙ there)
       ∙ ap (λ n. Some (pos n)) place
 
-  -- a text of the column has its code for a place
-  pub has_code : (t : List ℕ) → Contains texts t
-      → slice_get (dictionary_of texts) (low_in (dictionary_of texts) t) ≡ Some t
-  has_code t h = let made =
-      IsDictionary-dictionary_of texts in
-      slice_get-low_in (dictionary_of texts) made.sorted t ((made.holds t).1 h)
-
   -- each place of the dictionary is the code of some row
   code_used : (n : ℕ) → n < length (dictionary_of texts) → Contains (codes_of texts) (pos n)
   code_used n h =
@@ -47,18 +42,13 @@ module _ (texts : List (List ℕ)) where
       ∙ ap pos (low_in-place ds made.sorted n d (slice_get-get_or ds n [] h)) in
       (there.0, rw length-map there.1, code)
 
-  code_within : (t : List ℕ) → Contains texts t
-      → low_in (dictionary_of texts) t < length (dictionary_of texts)
-  code_within t h =
-      slice_get_within (dictionary_of texts) (low_in (dictionary_of texts) t) t (has_code t h)
-
   above_codes : (z : ℤ) → ((n : ℕ) → n < length (dictionary_of texts) → pos n ≤ℤ z)
       → All (λ n. n ≤ℤ z) (codes_of texts)
   above_codes z above =
       All-map (λ n. n ≤ℤ z)
       (λ text. pos (low_in (dictionary_of texts) text)) texts
       (λ k d h. above (low_in (dictionary_of texts) (get_or texts k d))
-      (code_within (get_or texts k d) (Contains-get_or texts k d h)))
+      (code_within texts (get_or texts k d) (Contains-get_or texts k d h)))
 
 pub least-codes_of : (texts : List (List ℕ)) → pos 0 ≡ least (codes_of texts)
 unfolding least
@@ -81,3 +71,13 @@ greatest-codes_of (t ∷ ts) =
     greatest_is (codes_of texts) (pos (length (dictionary_of texts) - 1))
     (above_codes texts (pos (length (dictionary_of texts) - 1)) (λ n h. omega (arith, ints)))
     (code_used texts (length (dictionary_of texts) - 1) (omega (arith, some)))
+
+-- codes are packed by how many texts there are
+pub least_width-codes_of : (texts : List (List ℕ))
+    → least_width (length (dictionary_of texts) - 1) ≡ bits_of (codes_of texts)
+unfolding bits_of
+least_width-codes_of texts =
+    let last = length (dictionary_of texts) - 1 in
+    let span : last ≡ unsigned_abs (pos last -ℤ pos 0) = omega (arith, ints) in
+    ap least_width span
+    ∙ (λ i. least_width (unsigned_abs (greatest-codes_of texts i -ℤ least-codes_of texts i)))

@@ -1,47 +1,13 @@
--- The least and the greatest of some numbers.
-use Rattle.std.proofs.Common.{◌≡◌, ℤ, ◌≤ℤ◌, List, [], ◌∷◌, refl, arith, ⊎_elim}
-use Rattle.std.specs.List.{All, Contains, fold}
-use Rattle.std.specs.Int.{int_min, int_max}
-use Rattle.std.proofs.lemmas.Int.{ints, fold-int_min_bounds, fold-int_max_bounds, fold-int_min_reached, fold-int_max_reached}
-use Rattle.std.proofs.lemmas.List.Elements.{All-cons, All-nil, All-contains, All-head, All-tail}
+-- The numbers of a column lie between its bounds.
+use Rattle.std.proofs.Common.{◌≡◌, ℤ, List}
+use Rattle.std.specs.List.{All}
 use Rattle.star_schema.specs.Bounds.{least, greatest}
+use Rattle.star_schema.proofs.Extremes.{least_below, greatest_above}
 use Rattle.star_interval.specs.Range.{Range, Holds}
 
--- each number lies between the two
 pub all_between : (r : Range) (zs : List ℤ) → r.low ≡ least zs → r.high ≡ greatest zs
     → All (Holds r) zs
-unfolding least greatest
-all_between r [] low high = All-nil (Holds r)
-all_between r (z ∷ zs) low high =
-    let least = fold-int_min_bounds z zs r.low low in
-    let greatest = fold-int_max_bounds z zs r.high high in
-    All-cons (Holds r) z zs (record { from = least.0; to = greatest.0 })
-    (λ k d h. record { from = least.1 k d h; to = greatest.1 k d h })
-
--- a number that is no greater than any, and is one of them
-pub least_is : (zs : List ℤ) (z : ℤ) → All (λ n. z ≤ℤ n) zs → Contains zs z → z ≡ least zs
-unfolding least
-least_is [] z below one = absurd (omega (arith, one.1))
-least_is (x ∷ xs) z below one =
-    let r = fold int_min x xs in
-    let bounds = fold-int_min_bounds x xs r refl in
-    let above : r ≤ℤ z =
-    All-contains (λ n. r ≤ℤ n) (x ∷ xs) z (All-cons (λ n. r ≤ℤ n) x xs bounds.0 bounds.1) one in
-    let upto : z ≤ℤ r = ⊎_elim {C = z ≤ℤ r} (λ first. rw first (All-head (λ n. z ≤ℤ n) x xs below))
-    (λ later. All-contains (λ n. z ≤ℤ n) xs r (All-tail (λ n. z ≤ℤ n) x xs below) later)
-    (fold-int_min_reached x xs r refl) in
-    omega (arith, ints)
-
--- a number that is no less than any, and is one of them
-pub greatest_is : (zs : List ℤ) (z : ℤ) → All (λ n. n ≤ℤ z) zs → Contains zs z → z ≡ greatest zs
-unfolding greatest
-greatest_is [] z above one = absurd (omega (arith, one.1))
-greatest_is (x ∷ xs) z above one =
-    let r = fold int_max x xs in
-    let bounds = fold-int_max_bounds x xs r refl in
-    let below : z ≤ℤ r =
-    All-contains (λ n. n ≤ℤ r) (x ∷ xs) z (All-cons (λ n. n ≤ℤ r) x xs bounds.0 bounds.1) one in
-    let upto : r ≤ℤ z = ⊎_elim {C = r ≤ℤ z} (λ first. rw first (All-head (λ n. n ≤ℤ z) x xs above))
-    (λ later. All-contains (λ n. n ≤ℤ z) xs r (All-tail (λ n. n ≤ℤ z) x xs above) later)
-    (fold-int_max_reached x xs r refl) in
-    omega (arith, ints)
+all_between r zs low high k d h = record {
+  from = rw low (least_below zs k d h);
+  to = rw high (greatest_above zs k d h);
+}

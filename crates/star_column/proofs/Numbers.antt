@@ -10,10 +10,12 @@ use Rattle.std.specs.Option.{option_map}
 use Rattle.star_column.specs.Private.Codes.{texts_at, AreCodes, AreNumbers, LeadBack}
 use Rattle.star_column.specs.Private.Order.{IsOrderOf}
 use Rattle.star_column.specs.declared.distinct.Numbered.{Numbered}
-use Rattle.star_column.specs.Dictionary.{dictionary_of}
-use Rattle.star_column.proofs.Dictionaries.{IsDictionary-dictionary_of, one_dictionary}
+use Rattle.star_schema.specs.Dictionary.{codes_of, dictionary_of}
+use Rattle.star_column.specs.Width.{bits_of, least_width}
+use Rattle.star_column.proofs.Coded.{least_width-codes_of}
+use Rattle.star_schema.proofs.Dictionaries.{IsDictionary-dictionary_of, one_dictionary}
 use Rattle.star_column.proofs.Enumerated.{nothing}
-use Rattle.star_column.proofs.Members.{from_contains_map, map_agree}
+use Rattle.star_common.proofs.Members.{from_contains_map, map_agree}
 
 -- ---- one more row
 texts_at-append : (ds es : List (List ℕ)) (ns : List ℕ) → All (λ n. n < length ds) ns
@@ -189,22 +191,56 @@ module _ (ds : List (List ℕ)) (ordered : List Numbered) (order : IsOrderOf ds 
   }
 
 -- what a column keeps, as its parts were built
-pub coded_column : (ds : List (List ℕ)) (ordered lent listed : List Numbered)
-    (made ts : List (List ℕ)) (ns places values codes : List ℕ)
-    → AreNumbers ds ns ts → length ts < 2 ^ 32 → IsOrderOf ds ordered → lent ≡ ordered
-    → made ≡ map (λ e. e.text.now) lent
-    → listed ≡ ordered → LeadBack places (map (λ e. e.number) listed) → values ≡ places
-    → codes ≡ map (λ n. get_or values n 0) ns
-    → AreCodes made codes × (texts_at made codes ≡ ts)
-coded_column ds ordered lent listed made ts ns places values codes numbered few order same built
-    also lead read coded_by =
-    let is : made ≡ map (λ (e : Numbered). e.text.now) ordered =
-    built ∙ ap (map (λ (e : Numbered). e.text.now)) same in
-    let leads = subst (λ xs. LeadBack places (map (λ (e : Numbered). e.number) xs)) also lead in
-    rw (is, coded_by, read) (
-      are_codes ds ordered order places leads ns ts numbered few,
-      coded ds ordered order places leads ns ts numbered,
-    )
+module _ (ds : List (List ℕ)) (ordered lent listed : List Numbered) (ts : List (List ℕ))
+    (ns places values : List ℕ)
+    (numbered : AreNumbers ds ns ts) (few : length ts < 2 ^ 32) (order : IsOrderOf ds ordered)
+    (same : lent ≡ ordered) (also : listed ≡ ordered)
+    (lead : LeadBack places (map (λ e. e.number) listed)) (read : values ≡ places) where
+  leads : LeadBack places (map (λ (e : Numbered). e.number) ordered)
+  leads = subst (λ xs. LeadBack places (map (λ (e : Numbered). e.number) xs)) also lead
+
+  pub coded_column : (made : List (List ℕ)) (codes : List ℕ)
+      → made ≡ map (λ e. e.text.now) lent → codes ≡ map (λ n. get_or values n 0) ns
+      → AreCodes made codes × (texts_at made codes ≡ ts)
+  coded_column made codes built coded_by =
+      let is : made ≡ map (λ (e : Numbered). e.text.now) ordered =
+      built ∙ ap (map (λ (e : Numbered). e.text.now)) same in
+      rw (is, coded_by, read) (
+        are_codes ds ordered order places leads ns ts numbered few,
+        coded ds ordered order places leads ns ts numbered,
+      )
+
+  -- each place is below the count of them
+  module _ (len : length places ≡ length listed) where
+    places_count : length values ≡ length ordered
+    places_count = ap length read ∙ len ∙ ap length also
+
+    pub places_fit : All (λ n. get_or values n 0 < length values) ns
+    places_fit = All-weaker (λ n. n < length ds) (λ n. get_or values n 0 < length values)
+        (λ n h. let within =
+        slice_get_within (dictionary ds ordered order places leads) (get_or places n 0)
+        (get_or ds n []) (stands_at ds ordered order places leads n h) in
+        rw read
+        (omega (
+          arith,
+          within,
+          length-map ordered (λ (e : Numbered). e.text.now),
+          ap length read,
+          places_count,
+        )))
+        ns numbered.within
+
+    pub width_of_column : (made : List (List ℕ)) (codes : List ℕ) (width : ℕ)
+        → made ≡ map (λ e. e.text.now) lent → codes ≡ map (λ n. get_or values n 0) ns
+        → width ≡ least_width (length values - 1)
+        → width ≡ bits_of (codes_of (texts_at made codes))
+    width_of_column made codes width built coded_by is =
+        let column = coded_column made codes built coded_by in
+        let count : length values ≡ length (dictionary_of (texts_at made codes)) =
+        places_count ∙ sym (length-map ordered (λ (e : Numbered). e.text.now))
+        ∙ sym (ap length (built ∙ ap (map (λ (e : Numbered). e.text.now)) same))
+        ∙ ap length column.0.dictionary_is in
+        is ∙ ap (λ n. least_width (n - 1)) count ∙ least_width-codes_of (texts_at made codes)
 
 -- ---- the code of a row
 pub length-texts_at : (dictionary : List (List ℕ)) (codes : List ℕ)

@@ -17,7 +17,7 @@ use Rattle.std.proofs.lemmas.Option.{get_or_from_slice_get, slice_get-get_or, sl
 use Rattle.std.proofs.lemmas.Simd.{map-map}
 use Rattle.star_column.specs.declared.distinct.Numbered.{Numbered}
 use Rattle.star_column.proofs.Enumerated.{nothing}
-use Rattle.star_column.specs.Dictionary.{text_cmp}
+use Rattle.star_schema.specs.Dictionary.{text_cmp}
 use Rattle.star_column.specs.Private.Order.{IsOrderOf}
 
 abbrev text_of : Numbered → Bor (List ℕ)

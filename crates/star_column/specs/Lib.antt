@@ -1,2 +1,2 @@
-pub mod Dictionary
+pub mod Width
 pub mod Private

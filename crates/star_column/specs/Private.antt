@@ -2,3 +2,4 @@ pub mod Bounds
 pub mod Codes
 pub mod Edge
 pub mod Order
+pub mod Words

@@ -1,7 +1,7 @@
 // From the texts of rows to their codes: first each row's text gets a number, in the order of first
 // meeting, and then each number is replaced by the place of its text in the dictionary.
 
-ghost use Rattle.std.specs.Prelude.{◌≡◌, ◌+◌, ◌<◌, ◌≤◌, ◌^◌, ◌++◌, ◌∷◌, [], All, IfOk, OnOk, length, map, slice_index, take};
+ghost use Rattle.std.specs.Prelude.{◌≡◌, ◌+◌, ◌<◌, ◌≤◌, ◌^◌, ◌++◌, ◌∷◌, [], All, IfOk, OnOk, length, map, take};
 ghost use Rattle.star_column.specs.Private.Codes.{AreNumbers, LeadBack};
 
 use crate::distinct::{Distinct, Numbered};
@@ -62,15 +62,4 @@ pub(crate) fn places_of(alloc: Global, ordered: &[Numbered<'_>]) -> Result<Vec<u
         places[numbered.number as usize] = place as u32;
     }
     Ok(places)
-}
-
-/// For each number the value that stands at that place.
-pub(crate) fn values_at(mut numbers: Vec<u32>, values: &[u32]) -> Vec<u32>
-    requires { All (λ number. number < length values.now) numbers.items }
-    ensures { result.items ≡ map (λ number. slice_index values.now number) numbers.items }
-{
-    for number in numbers.iter_mut() {
-        *number = values[*number as usize];
-    }
-    numbers
 }

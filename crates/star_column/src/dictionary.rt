@@ -2,7 +2,7 @@
 
 ghost use Rattle.std.specs.Prelude.{◌≡◌, ◌<◌, ◌^◌, Some, IfOk, count_by, length, map, slice_get};
 ghost use Rattle.std.specs.List.Sorted.{IsStrictlySortedBy};
-ghost use Rattle.star_column.specs.Dictionary.{text_cmp, low_in, high_in};
+ghost use Rattle.star_schema.specs.Dictionary.{text_cmp, low_in, high_in};
 ghost use Rattle.star_column.specs.Private.Edge.{is_after};
 
 use crate::distinct::Numbered;
@@ -21,7 +21,7 @@ pub(crate) struct Dictionary {
 impl Model for Dictionary {
     ghost use Rattle.std.specs.Prelude.{◌<◌, ◌^◌, ℕ, List, length};
     ghost use Rattle.std.specs.List.Sorted.{IsStrictlySortedBy};
-    ghost use Rattle.star_column.specs.Dictionary.{text_cmp};
+    ghost use Rattle.star_schema.specs.Dictionary.{text_cmp};
 
     ghost Value = { List (List ℕ) };
 

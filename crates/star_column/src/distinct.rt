@@ -4,8 +4,8 @@ ghost use Rattle.std.specs.Prelude.{◌≡◌, ◌⊎◌, ◌<◌, ◌^◌, ◌+
 ghost use Rattle.std.specs.List.{range_with_len};
 ghost use Rattle.star_column.specs.Private.Order.{IsOrderOf};
 
-use indexmap::IndexSet;
 use std::alloc::{AllocError, Global};
+use std::collections::BTreeMap;
 use std::convert::AsSlice;
 use std::marker::Model;
 
@@ -26,17 +26,23 @@ impl AsSlice<u8> for Numbered<'_> {
 
 /// Different texts, numbered from 0 in the order in which they were first met. A contract sees them
 /// as a list in that order.
+///
+/// A text's number is found in a tree, so that no texts are slow to number.
 #[derive(Drop)]
 pub(crate) struct Distinct<'t> {
-    texts: IndexSet<&'t [u8]>,
+    texts: Vec<&'t [u8]>,
+    numbers: BTreeMap<&'t [u8], u32>,
 }
 
 impl<'t> Model for Distinct<'t> {
     ghost use Rattle.std.specs.Prelude.{ℕ, List, map};
+    ghost use Rattle.star_column.specs.Private.Order.{AreNumbered};
 
     ghost Value = { List (List ℕ) };
 
-    ghost view = { λ distinct. map (λ text. text.now) distinct.texts.keys };
+    ghost view = { λ distinct. map (λ text. text.now) distinct.texts.items };
+
+    ghost invariant = { λ distinct. AreNumbered distinct.texts.items distinct.numbers };
 }
 
 impl<'t> Distinct<'t> {
@@ -45,7 +51,8 @@ impl<'t> Distinct<'t> {
         ensures { result ≡ [] }
     {
         Distinct {
-            texts: IndexSet::new(alloc),
+            texts: Vec::new(alloc),
+            numbers: BTreeMap::new(alloc),
         }
     }
 
@@ -56,11 +63,17 @@ impl<'t> Distinct<'t> {
         ensures texts { OnOk result
             ((self.new ≡ self.old) ⊎ (self.new ≡ self.old ++ text.now ∷ [])) }
     {
-        let (number, _) = self.texts.insert_full(text)?;
-        Ok(number as u32)
+        if let Some(number) = self.numbers.get(&text) {
+            return Ok(*number);
+        }
+        let number = self.texts.len() as u32;
+        self.texts.reserve(1)?;
+        self.numbers.insert(text, number)?;
+        self.texts.push_reserved(text);
+        Ok(number)
     }
 
-    /// The texts in the order of their bytes, with their numbers. The set is let go.
+    /// The texts in the order of their bytes, with their numbers. They are let go here.
     pub(crate) fn into_ordered(self, alloc: Global) -> Result<Vec<Numbered<'t>>, AllocError>
         requires { length self < 2 ^ 32 }
         ensures { IfOk result (λ ordered. IsOrderOf self.entry ordered.items) }

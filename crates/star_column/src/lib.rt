@@ -6,10 +6,12 @@ mod coding;
 mod column;
 mod dictionary;
 mod distinct;
-pub mod law;
 mod number;
+mod packed;
 mod text;
+mod words;
 
 pub use column::ColumnData;
 pub use number::NumberColumn;
+pub use packed::PackedColumn;
 pub use text::TextColumn;

@@ -1,6 +1,6 @@
 // Columns of numbers.
 
-ghost use Rattle.std.specs.Prelude.{◌≡◌, ◌<◌, ◌^◌, ◌≤ℤ◌, [], All, Contains, IfSome, IsOkAnd, MatchOption, vec_len};
+ghost use Rattle.std.specs.Prelude.{◌≡◌, ◌<◌, ◌^◌, ◌≤ℤ◌, [], All, Contains, IfSome, IsOkAnd, MatchOption, length, vec_len};
 ghost use Rattle.star_column.specs.Private.Bounds.{AreBounds};
 
 use crate::column::ColumnData;
@@ -39,6 +39,14 @@ impl NumberColumn {
         numbers.shrink_to_fit();
         let bounds = bounds_of(numbers.as_slice());
         Ok(NumberColumn { numbers, bounds })
+    }
+
+    /// The numbers.
+    pub(crate) fn numbers(&self) -> &[i64]
+        ensures numbers { result.now ≡ self.now }
+        ensures few { length result.now < 2 ^ 32 }
+    {
+        self.numbers.as_slice()
     }
 }
 

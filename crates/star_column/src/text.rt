@@ -1,11 +1,13 @@
 // Columns of texts.
 
 ghost use Rattle.std.specs.Prelude.{◌≡◌, ◌<◌, ◌^◌, IfOk, length, map, slice_get};
-ghost use Rattle.star_column.specs.Dictionary.{dictionary_of, codes_of, low_in, high_in, HasCode};
+ghost use Rattle.star_schema.specs.Dictionary.{dictionary_of, codes_of, low_in, high_in, HasCode};
+ghost use Rattle.star_column.specs.Width.{bits_of};
 
-use crate::coding::{number_each, places_of, values_at};
+use crate::coding::{number_each, places_of};
 use crate::column::ColumnData;
 use crate::dictionary::{Dictionary, flatten};
+use crate::words::Words;
 use star_flat::FlatTexts;
 use star_interval::Interval;
 use std::alloc::{AllocError, Global};
@@ -14,22 +16,28 @@ use std::marker::Model;
 /// A column of texts, which a contract sees as the list of them in the order of the rows.
 ///
 /// It keeps each text once, in a dictionary in the order of bytes, and for each row a code, the
-/// place of its text there. Rows, places and codes count from 0.
+/// place of its text there, in words of the least of 8, 16 and 32 bits in which every code fits. Rows, places and codes count from 0.
 #[derive(Drop)]
 pub struct TextColumn {
-    codes: Vec<u32>,
+    codes: Words,
     dictionary: Dictionary,
 }
 
 impl Model for TextColumn {
     ghost use Rattle.std.specs.Prelude.{ℕ, List};
+    ghost use Rattle.std.specs.Prelude.{◌≡◌};
+    ghost use Rattle.star_schema.specs.Dictionary.{codes_of};
+    ghost use Rattle.star_column.specs.Width.{bits_of};
     ghost use Rattle.star_column.specs.Private.Codes.{texts_at, AreCodes};
+    ghost use Rattle.star_column.specs.Private.Words.{numbers_in, width_of};
 
     ghost Value = { List (List ℕ) };
 
-    ghost view = { λ column. texts_at column.dictionary column.codes.items };
+    ghost view = { λ column. texts_at column.dictionary (numbers_in column.codes) };
 
-    ghost invariant = { λ column. AreCodes column.dictionary column.codes.items };
+    ghost invariant = { λ column. AreCodes column.dictionary (numbers_in column.codes)
+        × (width_of column.codes
+        ≡ bits_of (codes_of (texts_at column.dictionary (numbers_in column.codes)))) };
 }
 
 impl TextColumn {
@@ -44,7 +52,7 @@ impl TextColumn {
 
     /// The column of these texts, of which there are at most 4,294,967,295. They are let go.
     ///
-    /// Only different texts are sorted: a row's text is looked up by its hash.
+    /// Only different texts are sorted: a row's text is looked up in a tree of the different ones.
     pub fn from_flat(alloc: Global, texts: FlatTexts) -> Result<TextColumn, AllocError>
         requires { length texts < 2 ^ 32 }
         ensures { IfOk result (λ column. column ≡ texts) }
@@ -61,7 +69,7 @@ impl TextColumn {
         let ordered = distinct.into_ordered(alloc)?;
         let dictionary = Dictionary::build(alloc, ordered.as_slice())?;
         let places = places_of(alloc, ordered.as_slice())?;
-        let codes = values_at(numbers, places.as_slice());
+        let codes = Words::of_places(alloc, numbers.as_slice(), places.as_slice())?;
         Ok(TextColumn { codes, dictionary })
     }
 
@@ -72,7 +80,7 @@ impl TextColumn {
         ensures stands { slice_get (dictionary_of self.now) result ≡ slice_get self.now row }
         ensures within { result < length (dictionary_of self.now) }
     {
-        self.codes[row as usize]
+        self.codes.at(row as usize) as u32
     }
 
     /// The text that a code stands for.
@@ -88,6 +96,14 @@ impl TextColumn {
         ensures { result ≡ length (dictionary_of self.now) }
     {
         self.dictionary.entries()
+    }
+
+    /// How many bits the word of a row's code has: the least of 8, 16, 32 and 64 in which the
+    /// difference of the bounds of the codes fits, 8 where there is no row.
+    pub fn bits(&self) -> u32
+        ensures { result ≡ bits_of (codes_of self.now) }
+    {
+        self.codes.bits()
     }
 
     /// How many texts of the dictionary are less than this one.

@@ -1,3 +1,4 @@
 pub mod Lists
 pub mod NumeralLemmas
 pub mod Firsts
+pub mod Members

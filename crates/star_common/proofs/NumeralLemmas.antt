@@ -1,14 +1,16 @@
 -- The number that some digits write.
-use Rattle.std.proofs.Common.{◌≡◌, ◌+◌, ◌*◌, ◌^◌, ◌<◌, ◌≤◌, ℕ, Option, Some, None, IfSome, true, List, [], ◌∷◌, get_or, length, take, arith, refl, lit<, add-one}
+use Rattle.std.proofs.Common.{◌≡◌, ◌+◌, ◌*◌, ◌^◌, ◌<◌, ◌≤◌, ℕ, Option, Some, None, IfSome, Bool, true, false, ◌&&◌, List, [], ◌∷◌, get_or, length, take, arith, refl, lit<, add-one}
 use Rattle.std.specs.Char.{digit_value, is_ascii_digit}
 use Rattle.std.specs.List.{list_all}
-use Rattle.std.specs.Str.Parse.{digits_value}
+use Rattle.std.specs.Prelude.{if◌then◌else◌, nat_le}
+use Rattle.std.specs.Str.Parse.{AllDigits, digits_value}
 use Rattle.std.proofs.Math.Seq.{take-suc}
 use Rattle.std.proofs.lemmas.Bool.{and_parts, leb-true}
-use Rattle.std.proofs.lemmas.Int.Digits.{digits_value_more}
+use Rattle.std.proofs.lemmas.Int.Digits.{digits_value-lt, digits_value_more}
 use Rattle.std.proofs.lemmas.List.Folds.{list_all-append}
 use Rattle.std.proofs.lemmas.Str.{digit_value_digit}
 use Rattle.std.proofs.Math.Nat.{pow-le-pow_right, pow-suc}
+use Rattle.star_common.specs.Numerals.{is_numeral, numeral_of}
 
 -- a digit is a byte from 48 to 57
 pub digit_bounds : (b : ℕ) → is_ascii_digit b ≡ true → (48 ≤ b) × (b ≤ 57)
@@ -50,3 +52,29 @@ pub some_below_power : (o : Option ℕ) (i k : ℕ) → IfSome o (λ n. n < 10 ^
     → IfSome o (λ n. n < 10 ^ k)
 some_below_power None i k h within = tt
 some_below_power (Some n) i k h within = below_power i k n h within
+
+-- a text of digits has them in base 10
+pub all_digits : (text : List ℕ) → list_all is_ascii_digit text ≡ true → AllDigits 10 text
+all_digits [] h = tt
+all_digits (d ∷ text) h =
+    let parts = and_parts (is_ascii_digit d) (list_all is_ascii_digit text) h in
+    let bounds = digit_bounds d parts.0 in
+    let value = digit_value_digit d bounds in
+    (omega (arith, bounds.0, bounds.1, value), all_digits text parts.1)
+
+-- a numeral of so many places is below their power of ten
+pub numeral_below : (places : ℕ) (text : List ℕ) (n : ℕ) → numeral_of places text ≡ Some n
+    → n < 10 ^ places
+numeral_below places text n h = go (is_numeral places text) refl h
+  where
+    go : (b : Bool) → is_numeral places text ≡ b
+        → (if b then Some (digits_value 10 text) else None) ≡ Some n → n < 10 ^ places
+    go false e given = absurd (cc)
+    go true e given =
+        let digits = and_parts (nat_le 1 (length text) && nat_le (length text) places)
+        (list_all is_ascii_digit text) e in
+        let most = and_parts (nat_le 1 (length text)) (nat_le (length text) places) digits.0 in
+        let is : digits_value 10 text ≡ n = cc in
+        let small : n < 10 ^ length text =
+        rw is at (digits_value-lt 10 text (all_digits text digits.1)) in
+        below_power (length text) places n small (leb-true (length text) places most.1)

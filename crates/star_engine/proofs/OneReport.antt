@@ -10,7 +10,7 @@ use Rattle.star_program.proofs.Text.OneProgram.{one_program}
 use Rattle.star_report.specs.Report.{report_text}
 use Rattle.star_report.proofs.OneOrder.{one_outcome}
 use Rattle.star_machine.specs.Trials.{Yields}
-use Rattle.star_machine.specs.WorldOf.{world_of}
+use Rattle.star_world.specs.WorldOf.{world_of}
 use Rattle.star_engine.specs.Trials.{IsReport}
 
 -- a run that comes to its end has one outcome

@@ -14,7 +14,7 @@ use Rattle.star_report.specs.Report.{line_text, report_text, row_text}
 use Rattle.star_machine.specs.declared.fault.TrialFault.{TrialFault}
 use Rattle.star_machine.specs.declared.fault.TrialFault.TheVariants as trial
 use Rattle.star_machine.specs.Trials.{IsFaultOf, Yields}
-use Rattle.star_machine.specs.WorldOf.{world_of}
+use Rattle.star_world.specs.WorldOf.{world_of}
 use Rattle.star_engine.specs.declared.fault.EngineFault.{EngineFault}
 use Rattle.star_engine.specs.declared.fault.EngineFault.TheVariants.{OutOfMemory, Trial}
 use Rattle.star_engine.specs.Faults.{fault_of_trial}

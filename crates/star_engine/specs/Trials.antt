@@ -10,7 +10,7 @@ use Rattle.star_report.specs.Report.{report_text}
 use Rattle.star_machine.specs.declared.fault.TrialFault.{TrialFault}
 use Rattle.star_machine.specs.declared.fault.TrialFault.TheVariants as trial
 use Rattle.star_machine.specs.Trials.{IsFaultOf, Yields}
-use Rattle.star_machine.specs.WorldOf.{world_of}
+use Rattle.star_world.specs.WorldOf.{world_of}
 
 -- a program within the limits that a file spells
 pub record IsProgramOf (file : List ℕ) (program : Parts) : Type 0 where

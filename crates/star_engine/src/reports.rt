@@ -4,7 +4,7 @@ ghost use Rattle.std.specs.Prelude.{◌≤◌, ◌^◌, MatchResult};
 ghost use Rattle.star_schema.specs.Loadable.{IsLoadable, database_of};
 ghost use Rattle.star_catalogue.specs.Load.{text_of};
 ghost use Rattle.star_machine.specs.Trials.{Yields};
-ghost use Rattle.star_machine.specs.WorldOf.{world_of};
+ghost use Rattle.star_world.specs.WorldOf.{world_of};
 ghost use Rattle.star_program.specs.Run.{bounded_run_of};
 ghost use Rattle.star_engine.specs.Private.Steps.{IsNoEnd, IsNoOutcome, IsNoReport};
 ghost use Rattle.star_engine.specs.Trials.{IsReport};

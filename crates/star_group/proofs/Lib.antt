@@ -19,4 +19,5 @@ pub mod KeyLists
 pub mod JoinedParts
 pub mod ContentByKeys
 pub mod ContentMade
+pub mod ContentMore
 pub mod Worked

@@ -1,11 +1,14 @@
 -- A worked content: two puts with one key list, and one with another.
-use Rattle.std.proofs.Common.{◌≡◌, ◌<◌, ℕ, zero, suc, Bool, true, false, ◌||◌, ℤ, pos, List, [], ◌∷◌, Some, arith, refl, sym, true≢false}
+use Rattle.std.proofs.Common.{◌≡◌, ◌<◌, ℕ, zero, suc, Bool, true, false, ◌||◌, ℤ, pos, List, [], ◌∷◌, Some, None, arith, refl, sym, true≢false}
 use Rattle.std.specs.List.{IsDistinct}
 use Rattle.star_schema.specs.declared.group.Aggregate.TheVariants.{Sum, Count, Min}
 use Rattle.star_schema.specs.declared.group.Shape.TheVariants.{Cube}
 use Rattle.star_schema.specs.Groups.{aggregate, numbers_for}
 use Rattle.star_program.specs.declared.key.KeyValue.TheVariants.{Number}
 use Rattle.star_program.specs.Keys.{same_keys}
+use Rattle.std.specs.Prelude.{if◌then◌else◌}
+use Rattle.star_group.specs.Cells.{step}
+use Rattle.star_group.specs.OneMore.{number_of, IsWithPut}
 use Rattle.star_group.specs.Stores.{Put, Group, aggregate_at, IsContent, combined, number_at, puts_of}
 
 abbrev sales : Group
@@ -65,3 +68,47 @@ counts_are_added = refl
 
 pub no_counts_are_none : combined Count [] ≡ Some (pos 0)
 no_counts_are_none = refl
+
+-- ---- with one put more
+
+abbrev twos : ℤ → Put
+twos count = record { keys = Number (pos 2) ∷ []; values = pos 7 ∷ count ∷ pos 2 ∷ [] }
+
+-- two puts of 5 and 2: they add up to 7, there are two, and the least is 2
+worked_more : IsWithPut sales (two (pos 2)) (ones ∷ two (pos 5) ∷ []) (ones ∷ twos (pos 2) ∷ [])
+unfolding IsDistinct number_of
+worked_more = record {
+  keys = λ ks. swapped (same_keys ks (Number (pos 1) ∷ [])) (same_keys ks (Number (pos 2) ∷ []));
+  once = ((refl, tt), (tt, tt));
+  own = own;
+  others = λ ks other place h. kept (same_keys ks (Number (pos 1) ∷ []))
+      (same_keys ks (Number (pos 2) ∷ [])) (number_at place ones) (number_at place (twos (pos 2)))
+      (number_at place (two (pos 5))) other;
+}
+  where
+    swapped : (a b : Bool) → (a || (b || false)) ≡ (b || (a || (b || false)))
+    swapped true true = refl
+    swapped true false = refl
+    swapped false true = refl
+    swapped false false = refl
+
+    own : (place : ℕ) → place < 3 → number_of (Number (pos 2) ∷ []) place (ones ∷ twos (pos 2) ∷ [])
+        ≡ Some (step (aggregate_at sales place) (number_at place (two (pos 2)))
+        (number_of (Number (pos 2) ∷ []) place (ones ∷ two (pos 5) ∷ [])))
+    own zero h = refl
+    own (suc zero) h = refl
+    own (suc (suc zero)) h = refl
+    own (suc (suc (suc place))) h = absurd (omega (arith, h))
+
+    kept : (a b : Bool) (x y z : ℤ) → b ≡ false
+        → (if a then Some x else (if b then Some y else None))
+        ≡ (if a then Some x else (if b then Some z else None))
+    kept true b x y z e = refl
+    kept false false x y z e = refl
+    kept false true x y z e = absurd (true≢false e)
+
+-- a COUNT grows by 1, and not by what is put
+no_greater_count : IsWithPut sales (two (pos 2)) (ones ∷ two (pos 5) ∷ [])
+    (ones ∷ twos (pos 3) ∷ []) → ⊥
+unfolding number_of
+no_greater_count h = let e = h.own 1 (omega arith) in absurd (cc)

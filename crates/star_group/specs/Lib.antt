@@ -1,6 +1,7 @@
 -- What the contracts of star_group cite.
 pub mod Stores
 pub mod Cells
+pub mod OneMore
 pub mod OwnKeys
 pub mod Held
 pub mod Eager

@@ -3,11 +3,19 @@
 ghost use Rattle.std.specs.Prelude.{◌≡◌, ◌<◌, ◌^◌, ℕ, List, ◌∷◌, false, length};
 ghost use Rattle.star_schema.specs.Groups.{numbers_for};
 ghost use Rattle.star_schema.specs.declared.group.Aggregate.TheVariants.{Sum};
+ghost use Rattle.star_group.specs.OneMore.{IsWithPut};
 ghost use Rattle.star_group.specs.Stores.{AddUp, AreOfContent, Group, HasRoom, IsContent, Put, aggregate_at, overflows};
 
 /// Every list of puts has a content.
 pub fn puts_have_content()
     ensures { (d : Group) (puts : List Put) → (content : List Put) × IsContent d puts content }
+{}
+
+/// A content with one put more is a content of the puts and it: the put's key list has the numbers
+/// that it had with those of the put, and each other key list what it had.
+pub fn one_put_changes_one_entry()
+    ensures { (d : Group) (puts content after : List Put) (put : Put) → IsContent d puts content
+        → IsWithPut d put content after → IsContent d (put ∷ puts) after }
 {}
 
 /// The groups of puts are those of their content's key lists, each of which is there once, and their

@@ -15,9 +15,9 @@ use Rattle.star_schema.specs.declared.group.Shape.TheVariants.{Plain, Cube}
 use Rattle.star_schema.specs.declared.group.SortKey.{SortKey}
 use Rattle.star_schema.specs.Groups.{GroupRow as Row, IsGroup, IsMasked}
 use Rattle.star_schema.specs.Order.{AreInOrder, column_cmp, key_cmp, row_cmp, sort_cmp, value_cmp}
-use Rattle.star_column.proofs.Dictionaries.{IsDictionary-dictionary_of}
-use Rattle.star_column.proofs.Places.{nat_cmp-places}
-use Rattle.star_column.proofs.Members.{at_each}
+use Rattle.star_schema.proofs.Dictionaries.{IsDictionary-dictionary_of}
+use Rattle.star_schema.proofs.TextPlaces.{nat_cmp-places}
+use Rattle.star_common.proofs.Members.{at_each}
 use Rattle.star_program.specs.declared.group.GroupDecl.{GroupDecl}
 use Rattle.star_program.specs.declared.group.GroupKey.{GroupKey}
 use Rattle.star_program.specs.declared.group.GroupKey.TheVariants as declared
@@ -28,7 +28,7 @@ use Rattle.star_program.specs.Outcome.{decoded, decoded_keys, decoded_row}
 use Rattle.star_program.specs.Puts.{Update}
 use Rattle.star_machine.specs.Private.Decoded.{AreDecodable, IsDecodable}
 use Rattle.star_machine.specs.Private.Runs.{AreSoundKeys, IsSoundKey}
-use Rattle.star_machine.specs.WorldOf.{column_dictionary, column_texts, world_of}
+use Rattle.star_world.specs.WorldOf.{column_dictionary, column_texts, world_of}
 use Rattle.star_machine.proofs.SortedRows.{sorted_mapped}
 
 -- ---- keys as declared

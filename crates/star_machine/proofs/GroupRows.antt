@@ -1,5 +1,5 @@
 -- The rows of a group: they stand apart by their keys, and agree on what is NULL.
-use Rattle.std.proofs.Common.{◌≡◌, ◌<◌, ⊎_elim, inl, inr, ℕ, zero, suc, ◌+◌, Bool, true, false, true≢false, cond, ℤ, List, [], ◌∷◌, Option, Some, None, length, get_or, map, arith, ap, sym, subst, refl, ◌∙◌}
+use Rattle.std.proofs.Common.{◌≡◌, ◌<◌, ⊎_elim, inl, inr, ℕ, zero, suc, ◌+◌, Bool, true, false, true≢false, cond, ℤ, List, [], ◌∷◌, Option, Some, None, length, get_or, map, arith, ap, sym, refl, ◌∙◌}
 use Rattle.std.specs.Prelude.{IsPermutation}
 use Rattle.std.specs.List.{AllByRecursion, Contains, filter}
 use Rattle.std.specs.Option.{is_some}
@@ -12,7 +12,7 @@ use Rattle.star_schema.specs.declared.group.Aggregate.{Aggregate}
 use Rattle.star_schema.specs.declared.group.Aggregate.TheVariants.{Sum, Count, Min, Max}
 use Rattle.star_schema.specs.declared.group.Shape.{Shape}
 use Rattle.star_schema.specs.Groups.{AreGroups, Entry, GroupRow as Row, IsGroup, aggregate, belongs, joined, joined_with, members, totals_from}
-use Rattle.star_column.proofs.Members.{at_each, contains_cases, contains_here, contains_later, contains_none}
+use Rattle.star_common.proofs.Members.{at_each, contains_cases, contains_here, contains_mapped, contains_none}
 use Rattle.star_program.specs.declared.key.KeyValue.{KeyValue}
 use Rattle.star_program.specs.Keys.{value_cmp}
 use Rattle.star_group.specs.declared.group_row.GroupRow.{GroupRow}
@@ -21,14 +21,6 @@ use Rattle.star_group.specs.Shown.{AreRows, row_shown}
 use Rattle.star_group.specs.Stores.{Group, Put}
 use Rattle.star_group.proofs.GroupKeys.{key_decides, own_belongs}
 use Rattle.star_machine.specs.Private.RowOrder.{AllHaveSameNulls, AreApart, HaveSameNulls, keys_of_row}
-
--- ---- lists
-
-pub contains_mapped : {X Y : Type 0} (f : X → Y) (xs : List X) (x : X) → Contains xs x → Contains (map f xs) (f x)
-contains_mapped f [] x c = absurd (contains_none x c)
-contains_mapped f (y ∷ xs) x c =
-    ⊎_elim {C = Contains (map f (y ∷ xs)) (f x)} (λ e. subst (λ z. Contains (map f (y ∷ xs)) (f z)) e (contains_here (f y) (map f xs)))
-    (λ later. contains_later (f y) (map f xs) (f x) (contains_mapped f xs x later)) (contains_cases y xs x c)
 
 -- ---- apart
 

@@ -1,10 +1,9 @@
-pub mod Loaded
-pub mod Operands
 pub mod Registers
 pub mod Found
 pub mod Stored
 pub mod Filled
 pub mod Fine
+pub mod Checked
 pub mod Performed
 pub mod Turned
 pub mod Started

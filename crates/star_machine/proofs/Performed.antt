@@ -1,27 +1,26 @@
 -- What an instruction does, by what was computed for it.
 use Rattle.std.proofs.Common.{◌≡◌, ◌⊎◌, ⊎_elim, ℕ, ℤ, Bool, true, false, Some, None, Option, ap, sym, subst}
-use Rattle.std.specs.Option.{option_map}
 use Rattle.std.specs.Prelude.{Result, Ok, Err, MatchOption, if◌then◌else◌}
 use Rattle.star_schema.specs.Database.{Database}
 use Rattle.star_program.specs.declared.op.Operator.{Operator}
 use Rattle.star_program.specs.declared.op.Operator.TheVariants.{Add, Sub, Mul, Less}
 use Rattle.star_program.specs.declared.program.Parts.{Parts}
-use Rattle.star_program.specs.Effects.{Store, Effect, GoesOn, Traps, Overflow, answer_of, puts, puts_update, sets_answer}
+use Rattle.star_program.specs.Effects.{Store, Effect, GoesOn, Traps, answer_of, puts, puts_update, sets_answer}
+use Rattle.star_program.specs.declared.fault.TrapKind.TheVariants.{Overflow}
 use Rattle.star_program.specs.Puts.{Update, overflows}
 use Rattle.star_program.specs.declared.group.GroupDecl.{GroupDecl}
 use Rattle.star_group.specs.declared.rows.PutFault.{PutFault}
 use Rattle.star_group.specs.declared.rows.PutFault.TheVariants as memory
-use Rattle.star_program.specs.Values.{Value, Registers, Number, with_entry}
+use Rattle.star_program.specs.declared.value.Value.{Value}
+use Rattle.star_program.specs.Values.{Registers, with_entry}
+use Rattle.star_program.specs.declared.value.Value.TheVariants.{Number}
 use Rattle.star_interval.specs.Range.{is_i64}
 use Rattle.star_machine.specs.declared.fault.Stop.{Stop}
 use Rattle.star_machine.specs.declared.fault.Stop.TheVariants as stop
-use Rattle.star_machine.specs.declared.fault.TrapKind.TheVariants as trap
 use Rattle.star_machine.specs.declared.run.Run.{Run}
-use Rattle.star_machine.specs.declared.value.Value.{Value as Kept}
 use Rattle.star_machine.specs.Private.Acts.{IsMade, IsStop, Sets}
 use Rattle.star_machine.specs.Private.Stops.{stop_of_put}
 use Rattle.star_machine.specs.Private.Runs.{HasDone}
-use Rattle.star_machine.specs.Private.Shown.{value_shown}
 use Rattle.star_machine.specs.Private.Sound.{IsSoundEntry, IsSoundValue}
 
 answer_sound : (database : Database) (o : Operator) (l r : Option Value) → IsSoundEntry database (answer_of o l r)
@@ -39,13 +38,13 @@ answer_sound database o l r = go o
     go _ = tt
 
 module _ (database : Database) (parts : Parts) (registers : Registers) (run : Run) (s : Store) (done : HasDone database parts run s) (t : ℕ) where
-  pub sets : (effect : Effect) (value : Kept) → effect ≡ GoesOn (with_entry registers t (value_shown value)) s → IsSoundValue database (value_shown value)
+  pub sets : (effect : Effect) (value : Value) → effect ≡ GoesOn (with_entry registers t value) s → IsSoundValue database value
       → Sets database parts registers run t effect value
   sets effect value does sound = record { s = s; does = does; done = done; sound = sound }
 
   -- an operator's answer
-  pub answer_made : (o : Operator) (l r : Option Value) (answer : Option Kept) (result : Result Kept Stop) → option_map value_shown answer ≡ answer_of o l r
-      → MatchOption answer (result ≡ Err (stop.Trap trap.Overflow)) (λ value. result ≡ Ok value) → IsMade database parts registers run t (sets_answer registers s t (answer_of o l r)) result
+  pub answer_made : (o : Operator) (l r : Option Value) (answer : Option Value) (result : Result Value Stop) → answer ≡ answer_of o l r
+      → MatchOption answer (result ≡ Err (stop.Trap Overflow)) (λ value. result ≡ Ok value) → IsMade database parts registers run t (sets_answer registers s t (answer_of o l r)) result
   answer_made o l r None result shown is = subst (IsMade database parts registers run t _) (sym is) (ap (sets_answer registers s t) (sym shown))
   answer_made o l r (Some value) result shown is =
       subst (IsMade database parts registers run t _) (sym is) (sets _ value (ap (sets_answer registers s t) (sym shown)) (subst (IsSoundEntry database) (sym shown) (answer_sound database o l r)))

@@ -23,10 +23,10 @@ use Rattle.star_group.specs.Shown.{row_shown}
 use Rattle.star_group.specs.Stores.{group_declared}
 use Rattle.star_machine.specs.Private.Decoded.{AreDecodable, AreSortedGroups, row_cells}
 use Rattle.star_machine.specs.Private.Runs.{AreSoundKeys, HasDone}
-use Rattle.star_machine.specs.WorldOf.{world_of}
+use Rattle.star_world.specs.WorldOf.{world_of}
 use Rattle.star_machine.specs.declared.run.Run.{Run}
 use Rattle.star_machine.proofs.DecodedRows.{decoded_in_order, group_decodable}
-use Rattle.star_machine.proofs.GroupRows.{contains_mapped}
+use Rattle.star_common.proofs.Members.{contains_mapped}
 
 -- ---- the rows have keys as declared
 

@@ -18,7 +18,7 @@ use Rattle.std.proofs.lemmas.Map.Keys.{IsDistinct-IsPermutation, apart_from_dist
 use Rattle.star_schema.specs.declared.group.SortKey.{SortKey}
 use Rattle.star_schema.specs.Groups.{GroupRow as Row}
 use Rattle.star_schema.specs.Order.{AreInOrder, row_cmp}
-use Rattle.star_column.proofs.Members.{at_each, contains_here, contains_later, from_contains_map, of_each}
+use Rattle.star_common.proofs.Members.{at_each, contains_here, contains_later, from_contains_map, of_each}
 use Rattle.star_program.specs.declared.key.KeyValue.{KeyValue}
 use Rattle.star_program.specs.Keys.{value_cmp}
 use Rattle.star_group.specs.declared.group_row.GroupRow.{GroupRow}

@@ -1,4 +1,3 @@
-pub mod WorldOf
 pub mod Trials
 pub mod FaultTexts
 pub mod Private

@@ -7,8 +7,8 @@ ghost use Rattle.star_program.specs.declared.op.Operation.TheVariants as operati
 ghost use Rattle.star_program.specs.World.{World};
 ghost use Rattle.star_machine.specs.declared.act.Flow.TheVariants as Flow;
 ghost use Rattle.star_machine.specs.declared.fault.Stop.TheVariants as Stop;
-ghost use Rattle.star_machine.specs.declared.fault.TrapKind.TheVariants as TrapKind;
-ghost use Rattle.star_machine.specs.declared.value.Value.TheVariants as Value;
+ghost use Rattle.star_program.specs.declared.fault.TrapKind.TheVariants as TrapKind;
+ghost use Rattle.star_program.specs.declared.value.Value.TheVariants as Value;
 ghost use Rattle.star_program.specs.Effects.{Store, assigns, does, kinds_in};
 ghost use Rattle.star_program.specs.Effects as effects;
 ghost use Rattle.star_program.specs.Faults as faults;
@@ -22,16 +22,16 @@ ghost use Rattle.star_machine.specs.Private.Runs.{AreStores, HasDone, IsPlaced};
 ghost use Rattle.std.specs.Prelude.{List};
 ghost use Rattle.star_machine.specs.Private.Shown.{held};
 ghost use Rattle.star_machine.specs.Private.Sound.{AreSound};
-ghost use Rattle.star_machine.specs.WorldOf.{world_of};
+ghost use Rattle.star_world.specs.WorldOf.{world_of};
 
-use crate::check::{check_operands, check_place, check_target};
 use crate::compute::{answer, flag, is_within, number, row, set};
-use crate::fault::{Stop, TrapKind};
+use crate::fault::Stop;
 use crate::lookups::{find, load, place};
 use crate::run::Run;
-use crate::value::{Register, Value};
+use crate::value::Register;
 use star_catalogue::Catalogue;
-use star_program::{Op, Operation, Parts, RegisterList};
+use star_check::check;
+use star_program::{Op, Operation, Parts, RegisterList, TrapKind, Value};
 use star_schema::TableId;
 
 // What follows an instruction.
@@ -230,8 +230,6 @@ pub(crate) fn act(
     ensures work { run.new.lookups + run.new.updates ≤ run.old.lookups + run.old.updates + 1 }
     ensures visits { run.new.visits ≡ run.old.visits }
 {
-    check_place(parts, inside, op)?;
-    check_target(registers, op)?;
-    check_operands(parts, registers, op)?;
+    check(parts, inside, None, registers, op)?;
     perform(catalogue, parts, registers, run, op)
 }

@@ -2,14 +2,13 @@
 
 ghost use Rattle.std.specs.Prelude.{◌≡◌, ◌<◌, ◌+ℤ◌, ◌-ℤ◌, ◌*ℤ◌, ◌&&◌, ◌||◌, true, false, length, MatchOption};
 ghost use Rattle.std.specs.Ordering.{int_cmp, is_eq, is_lt, is_le};
-ghost use Rattle.std.specs.Option.{option_map};
 ghost use Rattle.star_interval.specs.Range.{is_i64};
 ghost use Rattle.star_program.specs.Effects.{answer_of};
 ghost use Rattle.star_program.specs.Values.{number_in, flag_in, row_in, with_entry};
-ghost use Rattle.star_machine.specs.Private.Shown.{held, value_shown};
+ghost use Rattle.star_machine.specs.Private.Shown.{held};
 
-use crate::value::{Register, Value, flag_of, number_of, register, row_of};
-use star_program::Operator;
+use crate::value::{Register, flag_of, number_of, register, row_of};
+use star_program::{Operator, Value};
 
 // The number in a register.
 pub(crate) fn number(registers: &[Register], at: u16) -> i64
@@ -123,7 +122,7 @@ pub(crate) fn answer(
     left: u16,
     right: u16,
 ) -> Option<Value>
-    ensures { option_map value_shown result ≡ answer_of operator (held registers.now left) (held registers.now right) }
+    ensures { result ≡ answer_of operator (held registers.now left) (held registers.now right) }
 {
     match operator {
         Operator::Add => sum(registers, left, right).map(Value::Number),
@@ -147,7 +146,7 @@ pub(crate) fn row(registers: &[Register], at: u16) -> u32
 #[tactic(auto, using(crate::proofs::Registers::held_set))]
 pub(crate) fn set(registers: &mut [Register], target: u16, value: Value)
     requires { target < length registers.old }
-    ensures set { held registers.new ≡ with_entry (held registers.old) target (value_shown value) }
+    ensures set { held registers.new ≡ with_entry (held registers.old) target value }
     ensures len { length registers.new ≡ length registers.old }
 {
     registers[target as usize] = Some(value);

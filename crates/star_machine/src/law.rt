@@ -1,5 +1,4 @@
-//! Laws of the world that programs see, and of trials: functions that do nothing, whose clauses are
-//! the laws.
+//! A law of trials: a function that does nothing, whose clauses are the law.
 
 ghost use Rattle.std.specs.Prelude.{◌≡◌, ◌≤◌, ◌^◌, ℕ, MatchResult, Result};
 ghost use Rattle.star_schema.specs.Database.{Database};
@@ -9,18 +8,13 @@ ghost use Rattle.star_program.specs.declared.program.Parts.{Parts};
 ghost use Rattle.star_admission.specs.Admissible.{IsAdmissible};
 ghost use Rattle.star_program.specs.Limits.{IsWithinLimits};
 ghost use Rattle.star_admission.specs.Quote.{quote};
-ghost use Rattle.star_program.specs.World.{IsLoaded};
 ghost use Rattle.star_machine.specs.declared.fault.TrialFault.{TrialFault};
 ghost use Rattle.star_machine.specs.declared.fault.TrialFault.TheVariants.{OutOfMemory};
 ghost use Rattle.star_machine.specs.Trials.{IsTrial};
-ghost use Rattle.star_machine.specs.WorldOf.{world_of};
+ghost use Rattle.star_world.specs.WorldOf.{world_of};
 
 use star_admission::law::admissible_programs_never_trap;
-
-/// In the world of sound rows each column's bounds hold its numbers, and each foreign key is found.
-pub fn sound_rows_are_loaded()
-    ensures { (database : Database) → IsSound database → IsLoaded (world_of database) }
-{}
+use star_world::law::sound_rows_are_loaded;
 
 /// Over sound rows a trial of an admissible program, with no fewer visits than it is quoted, is
 /// neither trapped nor limited: it answers an outcome of at most as many visits, or that memory was

@@ -2,7 +2,6 @@
 #![tactic(auto)]
 
 mod act;
-mod check;
 mod compute;
 mod fault;
 pub mod law;
@@ -16,6 +15,6 @@ mod trials;
 mod value;
 mod walk;
 
-pub use fault::{TrapKind, TrialFault};
-pub use star_program::{Cell, Outcome};
+pub use fault::TrialFault;
+pub use star_program::{Cell, Fault, Outcome, TrapKind};
 pub use trials::trial;

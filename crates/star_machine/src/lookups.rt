@@ -5,22 +5,20 @@ ghost use Rattle.star_schema.specs.Database.{rows_in};
 ghost use Rattle.star_schema.specs.Schema as schema;
 ghost use Rattle.star_schema.specs.declared.column.Kind.TheVariants as kind;
 ghost use Rattle.star_program.specs.Effects.{loaded};
-ghost use Rattle.star_program.specs.Values.{Place};
+ghost use Rattle.star_program.specs.declared.value.Value.TheVariants.{Place};
 ghost use Rattle.star_program.specs.World as world;
-ghost use Rattle.star_machine.specs.Private.Shown.{value_shown};
 ghost use Rattle.star_machine.specs.Private.Sound.{IsSoundValue};
-ghost use Rattle.star_machine.specs.WorldOf.{world_of, column_dictionary};
+ghost use Rattle.star_world.specs.WorldOf.{world_of, column_dictionary};
 
-use crate::value::Value;
 use star_catalogue::Catalogue;
-use star_program::{Edge, Text};
+use star_program::{Edge, Text, Value};
 use star_schema::{ColumnId, TableId, is_text};
 
 // The place of an edge of a text among the texts of a column.
 #[tactic(auto, using(crate::proofs::Found::kind_text))]
 pub(crate) fn place(catalogue: &Catalogue, edge: Edge, column: ColumnId, text: &Text) -> Value
     requires { world.is_text column ≡ true }
-    ensures { value_shown result ≡ Place column (world.edge_of (world_of catalogue.now) edge column text.now) }
+    ensures { result ≡ Place column (world.edge_of (world_of catalogue.now) edge column text.now) }
 {
     match edge {
         Edge::Low => Value::Place(column, catalogue.low(column, text.as_slice())),
@@ -50,9 +48,9 @@ fn code(catalogue: &Catalogue, column: ColumnId, row: u32) -> u32
 // A column's value in a row.
 pub(crate) fn load(catalogue: &Catalogue, column: ColumnId, row: u32) -> Value
     requires { row < length (rows_in catalogue.now (schema.table_of column)) }
-    ensures value { value_shown result
+    ensures value { result
         ≡ loaded (world_of catalogue.now) column row (world.is_text column) }
-    ensures sound { IsSoundValue catalogue.now (value_shown result) }
+    ensures sound { IsSoundValue catalogue.now result }
 {
     if is_text(column) {
         Value::Text(column, code(catalogue, column, row))

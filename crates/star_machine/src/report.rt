@@ -5,7 +5,6 @@ ghost use Rattle.std.specs.List.{list_all};
 ghost use Rattle.star_program.specs.Shown as shown;
 ghost use Rattle.star_program.specs.Shown.{first_unshown, named_columns, shown_fault};
 
-use crate::check::group_at;
 use star_program::{GroupDecl, Parts, Show};
 use star_schema::{GroupColumn, SortKey};
 
@@ -43,7 +42,7 @@ fn has_all_named(declared: &GroupDecl, parts: &Parts) -> bool
 pub(crate) fn names_what_is_there(parts: &Parts) -> bool
     ensures { IsTrue result ↔ (shown_fault parts.now ≡ None) }
 {
-    match group_at(parts, parts.report) {
+    match parts.group(parts.report) {
         Some(declared) => !parts.shows.as_slice().is_empty() && has_all_named(declared, parts),
         None => false,
     }

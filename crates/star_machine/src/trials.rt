@@ -5,9 +5,9 @@ ghost use Rattle.star_program.specs.Limits.{IsWithinLimits};
 ghost use Rattle.star_program.specs.Run.{meaning_of};
 ghost use Rattle.star_machine.specs.Trials.{IsFaultOf, IsTrial};
 ghost use Rattle.star_machine.specs.Private.Walks.{Finishes};
-ghost use Rattle.star_machine.specs.WorldOf.{world_of};
+ghost use Rattle.star_world.specs.WorldOf.{world_of};
 
-use crate::fault::{TrapKind, TrialFault};
+use crate::fault::TrialFault;
 use crate::machine::Machine;
 use crate::outcome::outcome;
 use crate::report::names_what_is_there;
@@ -15,7 +15,7 @@ use crate::run::Run;
 use crate::start::{empty_registers, start};
 use crate::walk::walk;
 use star_catalogue::Catalogue;
-use star_program::{MOST_SCANS, Outcome, Parts, Program};
+use star_program::{Fault, MOST_SCANS, Outcome, Parts, Program, TrapKind};
 use std::alloc::Global;
 
 // Runs the instructions from the first on. The registers of the program and those of the scans that
@@ -76,7 +76,7 @@ pub fn trial(
     if !names_what_is_there(parts) {
         return Err(TrialFault::Trap {
             at: 0,
-            kind: TrapKind::BadGroup,
+            kind: TrapKind::Wrong(Fault::BadGroup),
         });
     }
     let run = run_through(alloc, catalogue, parts, visits)?;

@@ -1,40 +1,12 @@
 // What registers hold, and what an instruction reads of it.
 
 ghost use Rattle.std.specs.Prelude.{◌≡◌, None, slice_index_or};
-ghost use Rattle.std.specs.Option.{option_map};
-ghost use Rattle.star_schema.specs.Schema as schema;
-ghost use Rattle.star_program.specs.World as world;
 ghost use Rattle.star_program.specs.Values.{number_in, flag_in, row_in, key_in};
-ghost use Rattle.star_machine.specs.Private.Shown.{value_shown};
 
-use star_program::KeyValue;
-use star_schema::{ColumnId, TableId};
-
-// A number, the code of a text of a column, a place among the texts of a column, a row of a table,
-// or a truth value.
-#[derive(Clone, Copy)]
-pub(crate) enum Value {
-    Number(i64),
-    Text(ColumnId, u32),
-    Place(ColumnId, u32),
-    Row(TableId, u32),
-    Flag(bool),
-}
+use star_program::{KeyValue, Value};
 
 // A register, which may be empty.
 pub(crate) type Register = Option<Value>;
-
-pub(crate) fn is_column(column: ColumnId, other: ColumnId) -> bool
-    ensures { result ≡ world.is_column column other }
-{
-    column == other
-}
-
-pub(crate) fn is_table(table: TableId, other: TableId) -> bool
-    ensures { result ≡ schema.is_table table other }
-{
-    table == other
-}
 
 // What stands in a register of this number.
 pub(crate) fn register(registers: &[Register], number: u16) -> Register
@@ -48,7 +20,7 @@ pub(crate) fn register(registers: &[Register], number: u16) -> Register
 
 // The number in a register: codes and places compare as numbers.
 pub(crate) fn number_of(register: Register) -> i64
-    ensures { result ≡ number_in (option_map value_shown register) }
+    ensures { result ≡ number_in register }
 {
     match register {
         Some(Value::Number(number)) => number,
@@ -58,7 +30,7 @@ pub(crate) fn number_of(register: Register) -> i64
 }
 
 pub(crate) fn flag_of(register: Register) -> bool
-    ensures { result ≡ flag_in (option_map value_shown register) }
+    ensures { result ≡ flag_in register }
 {
     match register {
         Some(Value::Flag(flag)) => flag,
@@ -67,7 +39,7 @@ pub(crate) fn flag_of(register: Register) -> bool
 }
 
 pub(crate) fn row_of(register: Register) -> u32
-    ensures { result ≡ row_in (option_map value_shown register) }
+    ensures { result ≡ row_in register }
 {
     match register {
         Some(Value::Row(_, row)) => row,
@@ -76,7 +48,7 @@ pub(crate) fn row_of(register: Register) -> u32
 }
 
 pub(crate) fn key_of(register: Register) -> KeyValue
-    ensures { result ≡ key_in (option_map value_shown register) }
+    ensures { result ≡ key_in register }
 {
     match register {
         Some(Value::Number(number)) => KeyValue::Number(number),

@@ -2,17 +2,17 @@
 
 ghost use Rattle.std.specs.Prelude.{◌≡◌, ◌≤◌, ◌<◌, ◌+◌, ◌*◌, ◌^◌, OnOk, length};
 ghost use Rattle.star_program.specs.Code.{code_size, scan_depth};
-ghost use Rattle.star_machine.specs.Private.Shown.{held, value_shown};
+ghost use Rattle.star_machine.specs.Private.Shown.{held};
 ghost use Rattle.star_machine.specs.Private.Sound.{AreSound, IsSoundValue};
 ghost use Rattle.star_machine.specs.Private.Walks.{Does, HasRun, HasWorked, IsFew, fault_at, means, means_scan, means_turn, means_turns};
 
 use crate::act::{Flow, act};
 use crate::compute::set;
-use crate::fault::{Stop, TrapKind, TrialFault};
+use crate::fault::{Stop, TrialFault};
 use crate::machine::{Machine, Scanned};
 use crate::run::Run;
-use crate::value::{Register, Value};
-use star_program::{Body, Step};
+use crate::value::Register;
+use star_program::{Body, Fault, Step, TrapKind, Value};
 
 // How many instructions a body has.
 fn size(body: &Body) -> u16
@@ -60,9 +60,9 @@ fn turn(
     requires few { IsFew machine.now.most run.old 0 }
     requires sound { AreSound machine.now.catalogue.now (held before.now) }
     requires done { HasRun machine.now run.old }
-    requires row { IsSoundValue machine.now.catalogue.now (value_shown row) }
+    requires row { IsSoundValue machine.now.catalogue.now row }
     ensures ends { Does machine.now run.old run.new
-        (means_turn machine.now scanned.now (held before.now) (value_shown row)) result }
+        (means_turn machine.now scanned.now (held before.now) row) result }
     ensures worked { OnOk result (HasWorked machine.now.most run.old run.new 0) }
     ensures len { length registers.new ≡ length registers.old }
     ensures frames { length frames.new ≡ length frames.old }
@@ -140,7 +140,7 @@ fn scan(
     if scanned.target as usize >= before.len() {
         return Err(TrialFault::Trap {
             at: scanned.at,
-            kind: TrapKind::BadRegister,
+            kind: TrapKind::Wrong(Fault::BadRegister),
         });
     }
     let (registers, deeper) = frames.split_at_mut(before.len());

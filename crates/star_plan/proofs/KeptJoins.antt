@@ -7,6 +7,7 @@ use Rattle.star_schema.specs.declared.table.TableId.{TableId}
 use Rattle.star_schema.specs.declared.table.TableId.TheVariants.{Date, Customer, Supplier, Part, Lineorder}
 use Rattle.star_schema.specs.declared.column.ColumnId.{ColumnId}
 use Rattle.star_schema.specs.Schema.{is_table, key_of, references, table_of}
+use Rattle.star_schema.proofs.Same.{table_same}
 use Rattle.star_query.specs.declared.tree.Condition.{Condition}
 use Rattle.star_query.specs.declared.tree.Condition.TheVariants.{Or', And', Not', Pair as Compared, Compare, Between}
 use Rattle.star_plan.specs.declared.tree.Join.{Join}
@@ -126,21 +127,13 @@ none_to t (j ∷ js) e = let both = and_parts _ _ e in go (is_table (table_of j.
     go true h e rest = absurd (let wrong = rw h at e in cc)
     go false h e rest = rw h (omega arith)
 
-same_table : (s t : TableId) → is_table s t ≡ true → s ≡ t
-same_table Date Date e = refl
-same_table Customer Customer e = refl
-same_table Supplier Supplier e = refl
-same_table Part Part e = refl
-same_table Lineorder Lineorder e = refl
-same_table _ _ e = cc
-
 once : (t : TableId) (js : List Join) → are_distinct js ≡ true → joins_to t js ≤ 1
 unfolding joins_to
 once t [] e = omega arith
 once t (j ∷ js) e = let both = and_parts _ _ e in go (is_table (table_of j.key) t) refl both.0 (once t js both.1)
   where
     go : (b : Bool) → is_table (table_of j.key) t ≡ b → list_all (λ q. not (is_table (table_of q.key) (table_of j.key))) js ≡ true → joins_to t js ≤ 1 → joins_to t (j ∷ js) ≤ 1
-    go true h e rest = let none : joins_to t js ≡ 0 = none_to t js (rw (same_table (table_of j.key) t h) at e) in rw h (omega arith)
+    go true h e rest = let none : joins_to t js ≡ 0 = none_to t js (rw (table_same (table_of j.key) t h) at e) in rw h (omega arith)
     go false h e rest = rw h (omega arith)
 
 -- lineorder has no lone key

@@ -1,6 +1,7 @@
 -- How much a plan holds at most: what the size of a compiled program follows from.
 use Rattle.std.specs.Prelude.{ℕ, ◌+◌, ◌≤◌, length}
 use Rattle.std.specs.List.{sum_by}
+use Rattle.star_query.specs.Limits.{most_aggregates, most_columns, most_comparisons, most_items, most_keys, most_operands}
 use Rattle.star_plan.specs.Meaning.{Condition, either, both, negation, compare, between, Expression, column, constant, add, sub, mul, Measure, counted, summed, least, greatest, Plan}
 
 -- the comparisons and negations of a condition
@@ -28,9 +29,9 @@ measure_operands (greatest e) = operands_of e
 -- at most one join for each dimension; the rest as the grammar of queries limits it
 pub record IsWithinLimits (p : Plan) : Type 0 where
   pub joins : length p.joins ≤ 4
-  pub comparisons : sum_by comparisons_of p.conjuncts ≤ 256
-  pub keys : length p.keys ≤ 6
-  pub measures : length p.measures ≤ 8
-  pub operands : sum_by measure_operands p.measures ≤ 512
-  pub items : length p.items ≤ 16
-  pub sorts : length p.sorts ≤ 16
+  pub comparisons : sum_by comparisons_of p.conjuncts ≤ most_comparisons
+  pub keys : length p.keys ≤ most_columns
+  pub measures : length p.measures ≤ most_aggregates
+  pub operands : sum_by measure_operands p.measures ≤ most_operands
+  pub items : length p.items ≤ most_items
+  pub sorts : length p.sorts ≤ most_keys

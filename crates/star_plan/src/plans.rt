@@ -25,7 +25,7 @@ impl Plan {
     /// What was resolved.
     pub fn tree(&self) -> &PlanTree
         ensures same { result.now ≡ plan_tree self.now }
-        // It is some well named query with its names resolved.
+        // It is some well named query, which some text means, with its names resolved.
         ensures planned { ∥ IsPlanned (shown result.now) ∥₁ }
         // Each dimension is joined once by a foreign key, columns are of joined tables and of the kind that is asked of
         // them, and items and sort keys are columns of the groups.

@@ -4,9 +4,10 @@ use Rattle.std.specs.Prelude.{ℤ, pos}
 use Rattle.star_schema.specs.Schema.{column_of}
 use Rattle.star_interval.specs.Range.{is_i64}
 use Rattle.star_program.specs.declared.program.Parts.{Parts}
-use Rattle.star_program.specs.Faults.{Misplaced, BadGroup, group_at}
+use Rattle.star_program.specs.declared.fault.Fault.TheVariants.{Misplaced, BadGroup}
+use Rattle.star_program.specs.Faults.{group_at}
 use Rattle.star_program.specs.Puts.{total}
-use Rattle.star_program.specs.Effects.{Wrong, AbsentKey, Overflow}
+use Rattle.star_program.specs.declared.fault.TrapKind.TheVariants.{Wrong, AbsentKey, Overflow}
 use Rattle.star_program.specs.Run.{End, Ended, Trapped, Limited, run_of, bounded_run_of}
 use Rattle.star_program.proofs.Sample.{sample, great_prices, above_average, find_by_quantity, read_while_putting, written_twice, keep_outside, shows_no_key, scan_in_scan, doubled_difference}
 

@@ -5,11 +5,13 @@ pub mod Keys
 pub mod World
 pub mod Values
 pub mod Faults
+pub mod TrapTexts
 pub mod Puts
 pub mod Effects
 pub mod Shown
 pub mod Run
 pub mod Outcome
+pub mod Cells
 pub mod Overflow
 pub mod Text
 pub mod Private

@@ -1,12 +1,29 @@
 //! Laws of the meaning of programs: functions with no body, whose clauses are the laws.
 
-ghost use Rattle.std.specs.Prelude.{◌↔◌, IsTrue, List};
+ghost use Rattle.std.specs.Prelude.{◌≡◌, ◌↔◌, ℕ, All, Bool, IsTrue, List};
 ghost use Rattle.star_program.specs.declared.group.GroupDecl.{GroupDecl};
+ghost use Rattle.star_program.specs.declared.outcome.Outcome.{Outcome};
+ghost use Rattle.star_program.specs.declared.program.Parts.{Parts};
+ghost use Rattle.star_program.specs.Cells.{AreCellsShown};
+ghost use Rattle.star_program.specs.Effects.{Store};
+ghost use Rattle.star_program.specs.Outcome.{IsOutcome};
 ghost use Rattle.star_program.specs.Overflow.{LeavesSomewhere};
 ghost use Rattle.star_program.specs.Puts.{Update, overflows};
+ghost use Rattle.star_program.specs.Run.{Ended, run_while};
+ghost use Rattle.star_program.specs.World.{World};
 
 /// An update leaves 64 bits exactly where a SUM or a COUNT over one of its groups, or over all updates, does.
 pub fn updates_overflow_in_their_groups()
     ensures { (d : GroupDecl) (others : List Update) (update : Update)
         → IsTrue (overflows d others update) ↔ LeavesSomewhere d others update }
+{}
+
+/// Each row of an outcome has a cell for each show line, of the kind that its column is declared:
+/// where a key is declared a number it is a number or ALL, and where it is declared a text it is a
+/// text of its column or ALL; an aggregate is a number or NULL, and a count is never NULL. So it is
+/// after any run that comes to its end, with a bound on its visits or without.
+pub fn outcomes_have_a_cell_of_each_column()
+    ensures { (w : World) (may : ℕ → Bool) (parts : Parts) (done : Store) (outcome : Outcome)
+        → run_while w may parts ≡ Ended done → IsOutcome w parts done outcome
+        → All (AreCellsShown w parts) outcome.rows }
 {}

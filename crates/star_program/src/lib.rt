@@ -4,6 +4,7 @@
 #![tactic(auto)]
 
 mod body;
+mod fault;
 mod group;
 mod key;
 pub mod law;
@@ -11,8 +12,10 @@ mod op;
 mod outcome;
 mod program;
 mod spelling;
+mod value;
 
 pub use body::{Body, Step};
+pub use fault::{Fault, TrapKind};
 pub use group::{Aggregates, GroupDecl, GroupKey, GroupKeys};
 pub use key::KeyValue;
 pub use op::{Edge, Op, Operation, Operator, RegisterList, Text};
@@ -26,3 +29,4 @@ pub use spelling::{
     texts_without_a_fault_spell_programs,
 };
 pub use star_common::Items;
+pub use value::{Kind, Value};

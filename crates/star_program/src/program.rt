@@ -1,7 +1,8 @@
 // Programs and their parts.
 
-ghost use Rattle.std.specs.Prelude.{◌≡◌, ◌≤◌, ◌↔◌, All, length, IsSome, IfErr, IfOk, IfSome, IsTrue};
+ghost use Rattle.std.specs.Prelude.{◌≡◌, ◌≤◌, ◌<◌, ◌↔◌, All, length, IsSome, IfErr, IfNone, IfOk, IfSome, IsTrue};
 ghost use Rattle.star_program.specs.Text.Written.{text_of};
+ghost use Rattle.star_program.specs.Faults.{group_at};
 ghost use Rattle.star_program.specs.Limits.{IsSmall, IsWithinLimits};
 ghost use Rattle.star_program.specs.Text.Spellable.{IsSpellable};
 ghost use Rattle.star_program.specs.Text.Spelling.{IsFirstFault, IsRead, Spells};
@@ -136,6 +137,15 @@ impl Program {
 }
 
 impl Parts {
+    /// The group of a number, if it is there. Takes no memory.
+    pub fn group(&self, number: u16) -> Option<&GroupDecl>
+        ensures group { IfSome result (λ group. group.now ≡ group_at self.now number) }
+        ensures there { IfSome result (λ _. number < length self.now.groups) }
+        ensures none { IfNone result (length self.now.groups ≤ number) }
+    {
+        self.groups.as_slice().get(number as usize)
+    }
+
     fn are_within_limits(&self) -> bool
         ensures { IsTrue result ↔ IsWithinLimits self.now }
     {

@@ -15,3 +15,4 @@ pub mod Within
 pub mod Spelling
 pub mod Spelled
 pub mod Reserved
+pub mod FirstFaults

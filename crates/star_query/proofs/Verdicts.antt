@@ -23,11 +23,11 @@ abbrev pub Goes : State → List Mark → State → Type 0
 Goes from [] last = from ≡ last
 Goes from (m ∷ ms) last = (next : State) × (step from m.symbol ≡ to next m) × Goes next ms last
 
-abbrev Fits : Counts → Type 0
+abbrev pub Fits : Counts → Type 0
 Fits n = (p : Part) → number_of n p ≤ limit p
 
 -- what is read through marks
-goes_passed : (ms : List Mark) (from last : State) → Goes from ms last → (rest : List Mark) → passed last rest ≡ passed from (ms ++ rest)
+pub goes_passed : (ms : List Mark) (from last : State) → Goes from ms last → (rest : List Mark) → passed last rest ≡ passed from (ms ++ rest)
 goes_passed [] from last g rest = ap (λ s. passed s rest) (sym g)
 goes_passed (m ∷ ms) from last g rest =
     goes_passed ms g.0 last g.2 rest ∙ (step_moves from m.symbol (record { next = g.0; at = m }) g.1).more (ms ++ rest)
@@ -137,7 +137,7 @@ accepts_run (m ∷ ms) from n q g deep names fits =
 abbrev pub verdict_of : List Symbol → Verdict
 verdict_of xs = run xs begin nothing_counted
 
-fits_at_first : Fits nothing_counted
+pub fits_at_first : Fits nothing_counted
 fits_at_first p = omega (arith, none p)
   where
     none : (p : Part) → number_of nothing_counted p ≤ 0
@@ -148,7 +148,7 @@ fits_at_first p = omega (arith, none p)
     none Comparison = omega arith
     none Operand = omega arith
 
-none_counted : (p : Part) → number_of nothing_counted p ≡ 0
+pub none_counted : (p : Part) → number_of nothing_counted p ≡ 0
 none_counted Item = refl
 none_counted Aggregate = refl
 none_counted GroupColumn = refl
@@ -233,11 +233,11 @@ dead front last n [] way e = λ q same. no_end front (query_marks q) begin last 
 dead front last n (x ∷ left) way e = λ q more same. no_way front (query_marks q) begin last x more q (query_goes q) way same e
 
 -- a query begins with what was read
-begins : (front : List Mark) (last : State) → Goes begin front last → Begins front
+pub begins : (front : List Mark) (last : State) → Goes begin front last → Begins front
 begins front last way =
     let r = state_finishes last in record { phrase = r.0; more = r.1; written = r.2 ∙ goes_passed front begin last way r.1 }
 
-goes_one_more : (front : List Mark) (from last next : State) (m : Mark) → Goes from front last → step last m.symbol ≡ to next m → Goes from (front ++ m ∷ []) next
+pub goes_one_more : (front : List Mark) (from last next : State) (m : Mark) → Goes from front last → step last m.symbol ≡ to next m → Goes from (front ++ m ∷ []) next
 goes_one_more [] from last next m way e = (next, ap (λ s. step s m.symbol) way ∙ e, refl)
 goes_one_more (f ∷ fs) from last next m way e = (way.0, way.1, goes_one_more fs way.0 last next m way.2 e)
 

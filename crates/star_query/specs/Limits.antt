@@ -1,7 +1,31 @@
 -- How much the tree of a query holds at most.
 use Rattle.std.specs.Prelude.{ℕ, ◌+◌, ◌≤◌, length, Option, Some, None}
 use Rattle.std.specs.List.{sum_by}
+use Rattle.star_query.specs.declared.counts.Part.TheVariants as part
+use Rattle.star_query.specs.Derives.{limit}
 use Rattle.star_query.specs.Tree.{Expression, column, constant, add, sub, mul, Condition, either, both, negation, pair, compare, between, Measure, fold, count, Item, plain, aggregate, Tree}
+
+-- ---- the limits
+
+abbrev pub most_items : ℕ
+most_items = limit part.Item
+
+abbrev pub most_aggregates : ℕ
+most_aggregates = limit part.Aggregate
+
+abbrev pub most_operands : ℕ
+most_operands = limit part.Operand
+
+abbrev pub most_comparisons : ℕ
+most_comparisons = limit part.Comparison
+
+abbrev pub most_columns : ℕ
+most_columns = limit part.GroupColumn
+
+abbrev pub most_keys : ℕ
+most_keys = limit part.SortKey
+
+-- ---- what they are of
 
 -- the columns and numbers of an expression
 abbrev pub operands_of : Expression → ℕ
@@ -37,9 +61,9 @@ where_comparisons None = 0
 where_comparisons (Some c) = comparisons_of c
 
 pub record IsWithinLimits (t : Tree) : Type 0 where
-  pub items : length t.items ≤ 16
-  pub aggregates : sum_by aggregates_in t.items ≤ 8
-  pub operands : sum_by item_operands t.items ≤ 512
-  pub comparisons : where_comparisons t.condition ≤ 256
-  pub columns : length t.grouping.columns ≤ 6
-  pub keys : length t.keys ≤ 16
+  pub items : length t.items ≤ most_items
+  pub aggregates : sum_by aggregates_in t.items ≤ most_aggregates
+  pub operands : sum_by item_operands t.items ≤ most_operands
+  pub comparisons : where_comparisons t.condition ≤ most_comparisons
+  pub columns : length t.grouping.columns ≤ most_columns
+  pub keys : length t.keys ≤ most_keys

@@ -1,12 +1,14 @@
 //! Laws of the grammar: functions with no body, whose clauses hold of all texts.
 
-ghost use Rattle.std.specs.Prelude.{◌≡◌, ◌↔◌, ℕ, List, Some};
+ghost use Rattle.std.specs.Prelude.{◌≡◌, ◌≢◌, ◌↔◌, ℕ, List, Some};
 ghost use Rattle.star_query.specs.declared.token.Word.{Word};
+ghost use Rattle.star_query.specs.declared.fault.QueryFault.{QueryFault};
+ghost use Rattle.star_query.specs.declared.fault.QueryFault.TheVariants.{OutOfMemory};
 ghost use Rattle.star_query.specs.Symbols.{spelling, lowered};
 ghost use Rattle.star_query.specs.Cut.{reserved};
 ghost use Rattle.star_query.specs.Tree.{Tree};
 ghost use Rattle.star_query.specs.Grammar.{Mark};
-ghost use Rattle.star_query.specs.Derives.{Means, Begins, symbols_at};
+ghost use Rattle.star_query.specs.Derives.{Means, Begins, IsFirstFault, symbols_at};
 
 /// Each reserved word is what it spells, in any case, and nothing else.
 pub fn reserved_words_are_spelled()
@@ -22,4 +24,17 @@ pub fn one_tree()
 /// How deep a symbol lies and what is counted at it hangs on the symbols up to it alone, so a fault is the first by every query that goes on so.
 pub fn one_front()
     ensures { (a b : List Mark) → Begins a → Begins b → symbols_at a ≡ symbols_at b → a ≡ b }
+{}
+
+/// A text has one first fault, want of memory aside.
+pub fn one_first_fault()
+    ensures { (bytes : List ℕ) (fault other : QueryFault)
+        → fault ≢ OutOfMemory → other ≢ OutOfMemory
+        → IsFirstFault bytes fault → IsFirstFault bytes other → fault ≡ other }
+{}
+
+/// A text that means a tree has none.
+pub fn texts_that_mean_a_tree_have_no_fault()
+    ensures { (bytes : List ℕ) (tree : Tree) (fault : QueryFault)
+        → fault ≢ OutOfMemory → Means bytes tree → IsFirstFault bytes fault → ⊥ }
 {}

@@ -7,6 +7,7 @@ use Rattle.std.specs.Ordering.{is_lt, ordering_reverse, ordering_then}
 use Rattle.std.specs.declared.cmp.Ordering.{Ordering}
 use Rattle.std.specs.declared.cmp.Ordering.TheVariants.{Less, Equal, Greater}
 use Rattle.std.proofs.lemmas.Cmp.{int_cmp_total, lists_total, nat_cmp_total}
+use Rattle.star_common.proofs.Members.{at_each, contains_here, contains_later, contains_mapped, from_contains_map}
 use Rattle.star_schema.specs.declared.group.Aggregate.{Aggregate}
 use Rattle.star_schema.specs.declared.group.GroupColumn.{GroupColumn}
 use Rattle.star_schema.specs.declared.group.GroupColumn.TheVariants as column
@@ -36,7 +37,7 @@ then_turned a b Less e h k = ap (λ o. ordering_then o b) h
 then_turned a b Equal e h k = ap (λ o. ordering_then o b) h ∙ k
 then_turned a b Greater e h k = ap (λ o. ordering_then o b) h
 
-value_turned : IsTurned value_cmp
+pub value_turned : IsTurned value_cmp
 value_turned (Number x) (Number y) = int_cmp_total.antisymm x y
 value_turned (Number x) (Text b) = refl
 value_turned (Text a) (Number y) = refl
@@ -68,24 +69,13 @@ sort_turned : (c : GroupColumn) (d : Direction) (a b : GroupRow Value) → sort_
 sort_turned c Ascending a b = column_turned c a b
 sort_turned c Descending a b = column_turned c b a
 
-row_turned : (sorts : List SortKey) → IsTurned (row_cmp value_cmp sorts)
+pub row_turned : (sorts : List SortKey) → IsTurned (row_cmp value_cmp sorts)
 row_turned [] a b = keys_turned a.keys b.keys
 row_turned (sort ∷ sorts) a b = then_turned _ _ (sort_cmp value_cmp sort b a) (row_cmp value_cmp sorts b a) (sort_turned sort.column sort.direction a b) (row_turned sorts a b)
 
 -- ---- two lists in order with the same elements
 
 module _ {X : Type 0} where
-  at_each : (P : X → Type 0) (xs : List X) (z : X) → Contains xs z → AllByRecursion P xs → P z
-  at_each P [] z c h = absurd (omega (arith, c.1))
-  at_each P (x ∷ xs) z (zero, h, e) each = subst P e each.0
-  at_each P (x ∷ xs) z (suc k, h, e) each = at_each P xs z (k, omega (arith, h), e) each.1
-
-  here : (x : X) (xs : List X) → Contains (x ∷ xs) x
-  here x xs = (0, omega arith, refl)
-
-  later : (x : X) (xs : List X) (z : X) → Contains xs z → Contains (x ∷ xs) z
-  later x xs z c = (suc c.0, omega (arith, c.1), c.2)
-
   module _ (R : X → X → Ordering) (turned : IsTurned R) where
     not_both : (a b : X) → R a b ≡ Less → R b a ≡ Less → ⊥
     not_both a b h k = true≢false (sym (ap is_lt h) ∙ ap is_lt (turned a b) ∙ ap (λ o. is_lt (ordering_reverse o)) k)
@@ -94,13 +84,13 @@ module _ {X : Type 0} where
     same_first x y xs ys up_x up_y (zero, h, e) d = e
     same_first x y xs ys up_x up_y (suc k, h, e) (zero, g, f) = sym f
     same_first x y xs ys up_x up_y (suc k, h, e) (suc j, g, f) =
-        absurd (not_both x y (at_each (λ z. R x z ≡ Less) xs y (j, omega (arith, g), f) up_x) (at_each (λ z. R y z ≡ Less) ys x (k, omega (arith, h), e) up_y))
+        absurd (not_both x y (at_each (λ z. R x z ≡ Less) xs y up_x (j, omega (arith, g), f)) (at_each (λ z. R y z ≡ Less) ys x up_y (k, omega (arith, h), e)))
 
     -- an element after the first stands after the first of the other list too
     after_first : (x y z : X) (xs ys : List X) → y ≡ x → AllByRecursion (λ w. R x w ≡ Less) xs → Contains xs z → Contains (y ∷ ys) z → Contains ys z
     after_first x y z xs ys same up c (suc k, h, e) = (k, omega (arith, h), e)
     after_first x y z xs ys same up c (zero, h, e) =
-        let above = at_each (λ w. R x w ≡ Less) xs z c up in
+        let above = at_each (λ w. R x w ≡ Less) xs z up c in
         let is : z ≡ x = sym e ∙ same in
         let itself : R x x ≡ Less = subst (λ w. R x w ≡ Less) is above in
         absurd (not_both x x itself itself)
@@ -108,27 +98,17 @@ module _ {X : Type 0} where
     pub one_order : (xs ys : List X) → IsStrictlySortedBy R xs → IsStrictlySortedBy R ys → ((z : X) → Contains xs z → Contains ys z) → ((z : X) → Contains ys z → Contains xs z) → xs ≡ ys
     unfolding IsStrictlySortedBy
     one_order [] [] h k f g = refl
-    one_order [] (y ∷ ys) h k f g = absurd (omega (arith, (g y (here y ys)).1))
-    one_order (x ∷ xs) [] h k f g = absurd (omega (arith, (f x (here x xs)).1))
+    one_order [] (y ∷ ys) h k f g = absurd (omega (arith, (g y (contains_here y ys)).1))
+    one_order (x ∷ xs) [] h k f g = absurd (omega (arith, (f x (contains_here x xs)).1))
     one_order (x ∷ xs) (y ∷ ys) h k f g =
-        let first : y ≡ x = same_first x y xs ys h.0 k.0 (f x (here x xs)) (g y (here y ys)) in
-        let rest = one_order xs ys h.1 k.1 (λ z c. after_first x y z xs ys first h.0 c (f z (later x xs z c))) (λ z c. after_first y x z ys xs (sym first) k.0 c (g z (later y ys z c))) in
+        let first : y ≡ x = same_first x y xs ys h.0 k.0 (f x (contains_here x xs)) (g y (contains_here y ys)) in
+        let rest = one_order xs ys h.1 k.1 (λ z c. after_first x y z xs ys first h.0 c (f z (contains_later x xs z c))) (λ z c. after_first y x z ys xs (sym first) k.0 c (g z (contains_later y ys z c))) in
         λ i. sym first i ∷ rest i
 
 -- ---- the rows of some groups
 
-in_map : {X Y : Type 0} (f : X → Y) (xs : List X) (y : Y) → Contains (map f xs) y → (x : X) × Contains xs x × (f x ≡ y)
-in_map f [] y c = absurd (omega (arith, c.1))
-in_map f (x ∷ xs) y (zero, h, e) = (x, here x xs, e)
-in_map f (x ∷ xs) y (suc k, h, e) = let rest = in_map f xs y (k, omega (arith, h), e) in (rest.0, later x xs rest.0 rest.1, rest.2)
-
-map_in : {X Y : Type 0} (f : X → Y) (xs : List X) (x : X) → Contains xs x → Contains (map f xs) (f x)
-map_in f [] x c = absurd (omega (arith, c.1))
-map_in f (w ∷ xs) x (zero, h, e) = (0, omega arith, ap f e)
-map_in f (w ∷ xs) x (suc k, h, e) = later (f w) (map f xs) (f x) (map_in f xs x (k, omega (arith, h), e))
-
 -- a row's keys tell its totals
-same_groups : {K : Type 0} (cmp : K → K → Ordering) (s : Shape) (count : ℕ) (gs : List Aggregate) (us : List (Entry K)) (xs ys : List (GroupRow K)) → AreGroups cmp s count gs us xs → AreGroups cmp s count gs us ys → (g : GroupRow K) → Contains xs g → Contains ys g
+pub same_groups : {K : Type 0} (cmp : K → K → Ordering) (s : Shape) (count : ℕ) (gs : List Aggregate) (us : List (Entry K)) (xs ys : List (GroupRow K)) → AreGroups cmp s count gs us xs → AreGroups cmp s count gs us ys → (g : GroupRow K) → Contains xs g → Contains ys g
 same_groups {K} cmp s count gs us xs ys a b g c =
     let known = a.each g c in
     let found = b.all g.keys known.0 in
@@ -139,9 +119,9 @@ same_groups {K} cmp s count gs us xs ys a b g c =
 module _ (w : World) (parts : Parts) (d : GroupDecl) (us : List Update) where
   among : (xs ys : List (GroupRow Value)) → AreRows w parts d us xs → AreRows w parts d us ys → (z : GroupRow Value) → Contains xs z → Contains ys z
   among xs ys a b z c =
-      let from = in_map (decoded_row w d) a.groups z (subst (λ rows. Contains rows z) a.decoded c) in
+      let from = from_contains_map (decoded_row w d) a.groups z (subst (λ rows. Contains rows z) a.decoded c) in
       let there = same_groups _ _ _ _ _ a.groups b.groups a.each_group b.each_group from.0 from.1 in
-      subst (λ rows. Contains rows z) (sym b.decoded) (subst (Contains (map (decoded_row w d) b.groups)) from.2 (map_in (decoded_row w d) b.groups from.0 there))
+      subst (λ rows. Contains rows z) (sym b.decoded) (subst (Contains (map (decoded_row w d) b.groups)) from.2 (contains_mapped (decoded_row w d) b.groups from.0 there))
 
   one_list : (xs ys : List (GroupRow Value)) → AreRows w parts d us xs → AreRows w parts d us ys → xs ≡ ys
   one_list xs ys a b = one_order (row_cmp value_cmp parts.sorts) (row_turned parts.sorts) xs ys a.in_order b.in_order (among xs ys a b) (among ys xs b a)

@@ -2,3 +2,10 @@ pub mod NamesApart
 pub mod Places
 pub mod KeyColumns
 mod WorkedGroups
+mod WorkedDictionaries
+pub mod Dictionaries
+pub mod Edges
+pub mod Extremes
+pub mod Fronts
+pub mod Same
+pub mod TextPlaces

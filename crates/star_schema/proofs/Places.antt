@@ -1,13 +1,14 @@
 -- The places of the columns in their tables.
 use Rattle.std.specs.Prelude.{◌≡◌, ◌+◌, ◌≤◌, ℕ, zero, suc, Bool, true, false, List, [], ◌∷◌, IfSome, Some, filter, slice_get, refl}
-use Rattle.std.proofs.Common.{subst, lit≤}
+use Rattle.std.proofs.Common.{subst, sym, lit≤}
 use Rattle.std.specs.Prelude.{Option}
 use Rattle.star_schema.specs.declared.table.TableId.{TableId}
-use Rattle.star_schema.specs.declared.table.TableId.TheVariants.{Date, Customer, Supplier, Part, Lineorder}
+use Rattle.star_schema.specs.declared.table.TableId.TheVariants.{Date}
 use Rattle.star_schema.specs.declared.column.ColumnId.{ColumnId}
 use Rattle.star_schema.specs.declared.column.ColumnId.TheVariants.{DDatekey}
 use Rattle.star_schema.specs.declared.column.TheConstants.{COLUMNS}
 use Rattle.star_schema.specs.Schema.{column_of, columns_of, index_of, is_table, place_of, table_of, width_of}
+use Rattle.star_schema.proofs.Same.{table_same}
 
 after_first : (c : ColumnId)
     → IfSome (slice_get (columns_of (table_of c)) 0) (λ d. place_of c + index_of d ≡ index_of c)
@@ -38,14 +39,6 @@ unfolding column_of columns_of
 width_few Date = lit≤ tt
 width_few _ = lit≤ tt
 
-is_table_same : (s t : TableId) → is_table s t ≡ true → t ≡ s
-is_table_same Date Date e = refl
-is_table_same Customer Customer e = refl
-is_table_same Supplier Supplier e = refl
-is_table_same Part Part e = refl
-is_table_same Lineorder Lineorder e = refl
-is_table_same _ _ e = cc
-
 passes_filter : {X : Type 0} (p : X → Bool) (xs : List X) (i : ℕ) (x : X)
     → slice_get (filter p xs) i ≡ Some x → p x ≡ true
 passes_filter p [] i x e = cc
@@ -65,4 +58,5 @@ pub in_table : (t : TableId) (place : ℕ) (c : ColumnId) → slice_get (columns
     → table_of c ≡ t
 unfolding columns_of
 in_table t place c at =
-    is_table_same t (table_of c) (passes_filter (λ d. is_table t (table_of d)) COLUMNS place c at)
+    sym (table_same t (table_of c)
+    (passes_filter (λ d. is_table t (table_of d)) COLUMNS place c at))

@@ -8,4 +8,5 @@ pub mod Groups
 pub mod Order
 pub mod Loadable
 pub mod Texts
+pub mod Dictionary
 pub mod Private

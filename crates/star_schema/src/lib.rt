@@ -7,6 +7,7 @@
 
 mod column;
 mod group;
+pub mod law;
 mod limits;
 mod name;
 mod sizes;

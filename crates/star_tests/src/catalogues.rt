@@ -141,6 +141,14 @@ fn check_numbers(rt: &impl Abort, catalogue: &Catalogue) {
         assert_eq!(rt; number(catalogue, ColumnId::LoQuantity, row), expected);
     }
     check_bounds(rt, catalogue, ColumnId::LoExtendedprice, 500, 3000);
+    for (column, bits) in [
+        (ColumnId::LoDiscount, 8),
+        (ColumnId::LoExtendedprice, 16),
+        (ColumnId::DDatekey, 16),
+        (ColumnId::PBrand1, 8),
+    ] {
+        assert_eq!(rt; catalogue.bits(column), bits, "{column}");
+    }
 }
 
 fn check_keys(rt: &impl Abort, catalogue: &Catalogue) {

@@ -1,8 +1,9 @@
 // The dictionary of the brands of three parts, columns of 0, 1 and 100,000 rows, and each public
 // call.
 
-use star_column::{ColumnData, NumberColumn, TextColumn, law};
+use star_column::{ColumnData, NumberColumn, PackedColumn, TextColumn};
 use star_flat::FlatTexts;
+use star_schema::law;
 use std::alloc::{AllocError, Global};
 use std::process::Abort;
 use std::test::Fail;
@@ -74,7 +75,7 @@ fn falling(alloc: Global, rows: i64) -> Result<Vec<i64>, AllocError> {
     Ok(numbers)
 }
 
-// The column of these numbers has them, and these bounds.
+// The column of these numbers has them, and these bounds, plain and packed.
 fn check_numbers(
     rt: &impl Abort,
     alloc: Global,
@@ -85,6 +86,8 @@ fn check_numbers(
     assert!(rt; numbers.len() < 1_000_000);
     let column = NumberColumn::build(numbers.to_vec(alloc)?)?;
     check_column(rt, &column, numbers, low, high);
+    let packed = PackedColumn::build(alloc, &column)?;
+    check_column(rt, &packed, numbers, low, high);
     Ok(())
 }
 
@@ -101,6 +104,40 @@ fn numbers_have_their_bounds(rt: HostRuntime) -> Result<(), Fail> {
         ([3, 4, 2], 2, 4),
     ] {
         check_numbers(&rt, alloc, &numbers, low, high)?;
+    }
+    Ok(())
+}
+
+// These numbers are packed in words of so many bits.
+fn check_width(
+    rt: &impl Abort,
+    alloc: Global,
+    numbers: &[i64],
+    bits: u32,
+) -> Result<(), AllocError> {
+    assert!(rt; numbers.len() < 1_000_000);
+    let column = NumberColumn::build(numbers.to_vec(alloc)?)?;
+    let packed = PackedColumn::build(alloc, &column)?;
+    assert_eq!(rt; packed.bits(), bits, "of {numbers:?}");
+    Ok(())
+}
+
+#[test]
+fn numbers_are_packed_in_the_least_width(rt: HostRuntime) -> Result<(), Fail> {
+    let alloc = rt.alloc();
+    check_width(&rt, alloc, &[], 8)?;
+    for (numbers, bits) in [
+        ([0, 255], 8),
+        ([0, 256], 16),
+        ([-1, 254], 8),
+        ([0, 65_535], 16),
+        ([0, 65_536], 32),
+        ([0, 4_294_967_295], 32),
+        ([0, 4_294_967_296], 64),
+        ([i64::MIN, i64::MAX], 64),
+        ([70_255, 70_000], 8),
+    ] {
+        check_width(&rt, alloc, &numbers, bits)?;
     }
     Ok(())
 }

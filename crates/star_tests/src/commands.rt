@@ -14,13 +14,13 @@ const ROOM: usize = 4096;
 
 // What a run gave.
 #[derive(Drop)]
-struct Ran {
-    status: u8,
-    out: Vec<u8>,
-    err: Vec<u8>,
+pub(crate) struct Ran {
+    pub(crate) status: u8,
+    pub(crate) out: Vec<u8>,
+    pub(crate) err: Vec<u8>,
 }
 
-fn run<R: Files + AllocGlobal>(rt: &R, words: &[&str]) -> Result<Ran, AllocError> {
+pub(crate) fn run<R: Files + AllocGlobal>(rt: &R, words: &[&str]) -> Result<Ran, AllocError> {
     let mut owned = Vec::new(rt.alloc());
     for word in words {
         owned.push(String::from_str(rt.alloc(), word)?)?;
@@ -33,7 +33,7 @@ fn run<R: Files + AllocGlobal>(rt: &R, words: &[&str]) -> Result<Ran, AllocError
     }
 }
 
-fn text(bytes: &[u8]) -> &str {
+pub(crate) fn text(bytes: &[u8]) -> &str {
     str::from_utf8(bytes).unwrap_or("no text")
 }
 
@@ -75,7 +75,7 @@ fn helps(rt: HostRuntime) -> Result<(), Fail> {
 }
 
 // Writes the files of the sample into a folder.
-fn write_sample<R: Files + AllocGlobal>(rt: &R, folder: &str) -> io::Result<()> {
+pub(crate) fn write_sample<R: Files + AllocGlobal>(rt: &R, folder: &str) -> io::Result<()> {
     fs::create_dir_all(rt, folder)?;
     let texts = sample();
     for (name, bytes) in [
@@ -104,7 +104,7 @@ fn checks_folders(rt: HostRuntime) -> Result<(), Fail> {
 }
 
 // A run that prints one line on standard error and nothing else.
-fn assert_fault<R: Files + AllocGlobal + Abort>(
+pub(crate) fn assert_fault<R: Files + AllocGlobal + Abort>(
     rt: &R,
     words: &[&str],
     line: &str,

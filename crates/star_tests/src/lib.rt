@@ -21,11 +21,17 @@ mod programs;
 #[cfg(test)]
 mod programs_at_hand;
 #[cfg(test)]
+mod reading;
+#[cfg(test)]
 mod reports;
 #[cfg(test)]
 mod samples;
 #[cfg(test)]
 mod spelling;
+#[cfg(test)]
+mod streams;
+#[cfg(test)]
+mod surroundings;
 #[cfg(test)]
 mod tables;
 #[cfg(test)]

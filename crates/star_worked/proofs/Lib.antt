@@ -1,4 +1,8 @@
 mod Sample
+mod Checks
+mod Answering
+mod Products
+mod FittingTables
 mod Conditions
 mod Rows
 mod Numbers

@@ -1,6 +1,6 @@
 -- What a column of texts keeps in place of its texts.
 use Rattle.std.specs.Prelude.{◌≡◌, ◌<◌, ◌^◌, ℕ, List, [], All, Contains, length, map, slice_get, slice_index, slice_index_or, Some}
-use Rattle.star_column.specs.Dictionary.{dictionary_of}
+use Rattle.star_schema.specs.Dictionary.{dictionary_of}
 
 -- the texts that stand at these places of a list
 abbrev pub texts_at : List (List ℕ) → List ℕ → List (List ℕ)

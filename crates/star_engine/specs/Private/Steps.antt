@@ -9,7 +9,7 @@ use Rattle.star_catalogue.specs.declared.fault.LoadFault.TheVariants as load
 use Rattle.star_program.specs.declared.program.Parts.{Parts}
 use Rattle.star_program.specs.Text.Places.{text_fault}
 use Rattle.star_program.specs.Run.{End, bounded_run_of}
-use Rattle.star_machine.specs.WorldOf.{world_of}
+use Rattle.star_world.specs.WorldOf.{world_of}
 use Rattle.star_engine.specs.declared.fault.EngineFault.{EngineFault}
 use Rattle.star_engine.specs.declared.fault.EngineFault.TheVariants.{OutOfMemory, Program, Load, Trial, Write}
 use Rattle.star_engine.specs.Trials.{IsProgram, IsStop, IsStopped}

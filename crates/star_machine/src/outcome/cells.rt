@@ -9,7 +9,7 @@ ghost use Rattle.star_program.specs.Outcome as outcome;
 ghost use Rattle.star_program.specs.Outcome.{cell_of, decoded, decoded_row};
 ghost use Rattle.star_program.specs.Shown.{has_column};
 ghost use Rattle.star_machine.specs.Private.Decoded.{AreDecodable, IsDecodable, row_cells};
-ghost use Rattle.star_machine.specs.WorldOf.{column_dictionary, world_of};
+ghost use Rattle.star_world.specs.WorldOf.{column_dictionary, world_of};
 
 use super::order::part_at;
 use star_catalogue::Catalogue;

@@ -1,13 +1,10 @@
 -- What a line says can be said: its numbers are short, its names and texts have the right bytes.
 use Rattle.std.specs.Prelude.{codes, filter, nat_le, not, pos, neg_ℤ, if◌then◌else◌}
-use Rattle.std.proofs.Common.{◌≡◌, ◌==◌, ◌&&◌, ◌<◌, ◌≤◌, ◌^◌, ◌∷◌, [], ℕ, zero, suc, Bool, true, false, List, Option, Some, None, All, drop, length, map, arith, ap, refl, subst, inl, inr}
-use Rattle.std.specs.Char.{is_ascii_digit}
+use Rattle.std.proofs.Common.{◌≡◌, ◌==◌, ◌&&◌, ◌<◌, ◌≤◌, ◌^◌, ◌∷◌, [], ℕ, zero, suc, Bool, true, false, List, Option, Some, None, All, drop, map, arith, ap, refl, subst, inl, inr}
 use Rattle.std.specs.List.{list_all}
 use Rattle.std.specs.Option.{option_and_then, option_map}
-use Rattle.std.specs.Str.Parse.{AllDigits, digits_value, starts_with_minus}
+use Rattle.std.specs.Str.Parse.{starts_with_minus}
 use Rattle.std.proofs.lemmas.Bool.{and_parts, cases_Bool, leb-true}
-use Rattle.std.proofs.lemmas.Int.Digits.{digits_value-lt}
-use Rattle.std.proofs.lemmas.Str.{digit_value_digit}
 use Rattle.std.proofs.lemmas.List.Elements.{All-cons}
 use Rattle.star_schema.specs.Records.{is_filled, with_first}
 use Rattle.star_schema.specs.Tables.{is_printable}
@@ -35,7 +32,7 @@ use Rattle.star_program.specs.declared.spelling.keyword.Mnemonic.{Mnemonic}
 use Rattle.star_program.specs.declared.spelling.keyword.Mnemonic.TheVariants as mnemonic
 use Rattle.star_program.specs.declared.spelling.statement.Statement.{Statement}
 use Rattle.star_program.specs.declared.spelling.statement.Statement.TheVariants as says
-use Rattle.star_common.proofs.NumeralLemmas.{below_power, digit_bounds}
+use Rattle.star_common.proofs.NumeralLemmas.{numeral_below}
 
 -- ---- what an answer came from
 
@@ -112,23 +109,6 @@ abbrev Any : {A : Type 0} → A → Type 0
 Any x = Unit {0}
 
 -- ---- numbers
-
-all_digits : (w : List ℕ) → list_all is_ascii_digit w ≡ true → AllDigits 10 w
-all_digits [] h = tt
-all_digits (d ∷ w) h =
-    let parts = and_parts (is_ascii_digit d) (list_all is_ascii_digit w) h in
-    let bounds = digit_bounds d parts.0 in
-    let value = digit_value_digit d bounds in
-    (omega (arith, bounds.0, bounds.1, value), all_digits w parts.1)
-
-numeral_below : (places : ℕ) (w : List ℕ) (n : ℕ) → numeral_of places w ≡ Some n → n < 10 ^ places
-numeral_below places w n h =
-    let tests = chosen (nat_le 1 (length w) && nat_le (length w) places && list_all is_ascii_digit w) (Some (digits_value 10 w)) n h in
-    let parts = and_parts (nat_le 1 (length w) && nat_le (length w) places) (list_all is_ascii_digit w) tests.0 in
-    let most : length w ≤ places = leb-true (length w) places (and_parts (nat_le 1 (length w)) (nat_le (length w) places) parts.0).1 in
-    let is : digits_value 10 w ≡ n = cc (tests.1) in
-    let small : n < 10 ^ length w = rw is at (digits_value-lt 10 w (all_digits w parts.1)) in
-    below_power (length w) places n small most
 
 count_short : Gives count_of IsShort
 unfolding count_of

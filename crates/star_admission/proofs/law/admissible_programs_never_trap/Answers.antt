@@ -3,6 +3,7 @@ use Rattle.std.proofs.Common.{refl, arith}
 use Rattle.std.specs.Prelude.{nat_lt, true}
 use Rattle.std.proofs.lemmas.Bool.{lt-ltb}
 use Rattle.star_admission.proofs.Runs.{ends}
+use Rattle.star_admission.proofs.SumRanges.{sums_fit}
 use Rattle.star_admission.proofs.Always.{at_every_moment, totals_lie}
 use Rattle.star_admission.proofs.law.admissible_programs_never_trap.Goals as goal
 
@@ -17,6 +18,9 @@ returns-clause-never_limited c = λ w parts most accepted enough. ends w parts
 
 pub returns-clause-moments : goal.returns-clause-moments
 returns-clause-moments c = at_every_moment
+
+pub returns-clause-sums : goal.returns-clause-sums
+returns-clause-sums c = sums_fit
 
 pub returns-clause-totals : goal.returns-clause-totals
 returns-clause-totals c = λ w parts accepted. ends w parts

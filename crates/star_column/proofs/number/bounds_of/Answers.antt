@@ -1,6 +1,6 @@
 use Rattle.std.proofs.Common.{◌≡◌, [], ap, FitsSigned, w64, to_z-of_z, rules}
 use Rattle.star_schema.specs.Bounds.{least, greatest}
-use Rattle.star_column.proofs.Extremes.{least_is, greatest_is}
+use Rattle.star_schema.proofs.Extremes.{least_is, greatest_is}
 use Rattle.star_column.proofs.number.bounds_of.Goals as goal
 use Rattle.star_column.proofs.number.bounds_of.Goals.{in_default-via-in-Some+in_default, in_default-via-in_default}
 

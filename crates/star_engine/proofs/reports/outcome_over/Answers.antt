@@ -1,6 +1,6 @@
 use Rattle.std.proofs.lemmas.Result.{err_from_is_err_and}
 use Rattle.star_program.specs.Run.{bounded_run_of}
-use Rattle.star_machine.specs.WorldOf.{world_of}
+use Rattle.star_world.specs.WorldOf.{world_of}
 use Rattle.star_engine.proofs.Trials.{no_end}
 use Rattle.star_engine.proofs.reports.outcome_over.Goals as goal
 

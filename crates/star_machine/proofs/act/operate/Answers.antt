@@ -2,7 +2,7 @@ use Rattle.std.proofs.Common.{sym, rules, subst}
 use Rattle.star_program.specs.Effects.{assigns}
 use Rattle.star_machine.specs.Private.Acts.{IsMade}
 use Rattle.star_machine.specs.Private.Shown.{held}
-use Rattle.star_machine.specs.WorldOf.{world_of}
+use Rattle.star_world.specs.WorldOf.{world_of}
 use Rattle.star_machine.proofs.Performed.{answer_made}
 use Rattle.star_machine.proofs.act.operate.Goals as goal
 

@@ -2,7 +2,7 @@ use Rattle.std.proofs.Common.{sym, subst}
 use Rattle.star_program.specs.Effects.{does}
 use Rattle.star_machine.specs.Private.Acts.{IsAnswer}
 use Rattle.star_machine.specs.Private.Shown.{held}
-use Rattle.star_machine.specs.WorldOf.{world_of}
+use Rattle.star_world.specs.WorldOf.{world_of}
 use Rattle.star_machine.proofs.act.perform.Goals as goal
 
 pub returns-in-Put-clause-does : goal.returns-in-Put-clause-does

@@ -10,7 +10,7 @@ use Rattle.star_program.specs.World.{World}
 use Rattle.star_machine.specs.declared.fault.TrialFault.{TrialFault}
 use Rattle.star_machine.specs.declared.fault.TrialFault.TheVariants as fault
 use Rattle.star_machine.specs.Trials.{IsTrial}
-use Rattle.star_machine.specs.WorldOf.{world_of}
+use Rattle.star_world.specs.WorldOf.{world_of}
 use Rattle.star_machine.proofs.law.admissible_programs_end.Goals as goal
 
 within : (w : World) (parts : Parts) (most quoted : ℕ) (result : Result Outcome TrialFault) → EndsWithin quoted (bounded_run_of w most parts) → IsTrial w parts most result

@@ -2,11 +2,11 @@ use Rattle.std.proofs.Common.{◌∙◌, sym, [], arith}
 use Rattle.std.proofs.lemmas.Option.{slice_get-get_or}
 use Rattle.star_schema.specs.Database.{rows_in}
 use Rattle.star_schema.specs.Schema.{table_of}
-use Rattle.star_column.specs.Dictionary.{dictionary_of}
-use Rattle.star_column.proofs.Dictionaries.{IsDictionary-dictionary_of}
-use Rattle.star_column.proofs.Places.{low_in-place}
-use Rattle.star_machine.specs.WorldOf.{column_texts}
-use Rattle.star_machine.proofs.Loaded.{texts_len}
+use Rattle.star_schema.specs.Dictionary.{dictionary_of}
+use Rattle.star_schema.proofs.Dictionaries.{IsDictionary-dictionary_of}
+use Rattle.star_schema.proofs.TextPlaces.{low_in-place}
+use Rattle.star_world.specs.WorldOf.{column_texts}
+use Rattle.star_world.proofs.Loaded.{texts_len}
 use Rattle.star_machine.proofs.lookups.code.Goals as goal
 
 pub returns-clause-code : goal.returns-clause-code

@@ -2,8 +2,8 @@ use Rattle.std.proofs.Common.{◌≡◌, ◌↔◌, ℕ, length, Some, [], ◌�
 use Rattle.std.proofs.lemmas.Int.{to_z-of_z}
 use Rattle.star_schema.specs.Database.{rows_in}
 use Rattle.star_schema.specs.Loadable.{keys_of}
-use Rattle.star_machine.proofs.Found.{is_position, found_within}
-use Rattle.star_machine.proofs.Loaded.{keys_len}
+use Rattle.star_world.proofs.Found.{is_position, found_within}
+use Rattle.star_world.proofs.Loaded.{keys_len}
 use Rattle.star_machine.proofs.lookups.find.Goals as goal
 
 pub returns-clause-found : goal.returns-clause-found

@@ -7,7 +7,7 @@ use Rattle.star_program.specs.Values.{no_registers}
 use Rattle.star_machine.specs.Private.Shown.{held}
 use Rattle.star_machine.specs.Trials.{IsFaultOf}
 use Rattle.star_machine.specs.Private.Walks.{Finishes}
-use Rattle.star_machine.specs.WorldOf.{world_of}
+use Rattle.star_world.specs.WorldOf.{world_of}
 use Rattle.star_machine.proofs.Started.{sound_nothing}
 use Rattle.star_machine.proofs.trials.run_through.Goals as goal
 

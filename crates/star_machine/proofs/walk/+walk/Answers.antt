@@ -6,13 +6,14 @@ use Rattle.star_program.specs.Code.{code_size, scan_depth}
 use Rattle.star_program.specs.CodeOfSteps.{code_of_steps}
 use Rattle.star_program.specs.Effects.{act}
 use Rattle.star_program.specs.Run.{visited}
-use Rattle.star_program.specs.Values.{Registers, Row, with_entry}
-use Rattle.star_machine.specs.Private.Shown.{held, value_shown}
+use Rattle.star_program.specs.Values.{Registers, with_entry}
+use Rattle.star_program.specs.declared.value.Value.TheVariants.{Row}
+use Rattle.star_machine.specs.Private.Shown.{held}
 use Rattle.star_machine.specs.Private.Sound.{AreSound}
 use Rattle.star_machine.specs.Trials.{IsFaultOf}
 use Rattle.star_machine.specs.Private.Walks.{HasWorked, IsEnd, means, means_at}
 use Rattle.star_machine.specs.Private.Runs.{HasDone}
-use Rattle.star_machine.specs.WorldOf.{world_of}
+use Rattle.star_world.specs.WorldOf.{world_of}
 use Rattle.star_machine.proofs.Registers.{sound_set}
 use Rattle.star_machine.proofs.Turned.{act_follows, after_fault, begin_turn, body_deep, done_visited, drop_past, gone_on, next_act, next_scan, rest_deep, scan_follows, stop_fault, turn_done, turn_ended, turns_fault, worked_act, worked_more}
 use Rattle.star_machine.proofs.walk.+walk.Goals as goal
@@ -32,8 +33,8 @@ turn-walk-requires t c = (
           (
             record { visits = omega (arith, c.if-run-machine.false); work = omega (arith, c.requires.few.work, c.requires.size) },
             (
-              subst (AreSound c.args.machine.now.catalogue.now) (sym (c.set.ensures.set ∙ ap (λ xs. with_entry (held xs) c.args.scanned.now.target (value_shown c.args.row)) c.copy_from_slice.ensures.after))
-                  (sound_set c.args.machine.now.catalogue.now (held c.args.before.now) c.args.scanned.now.target (value_shown c.args.row) c.requires.sound c.requires.row),
+              subst (AreSound c.args.machine.now.catalogue.now) (sym (c.set.ensures.set ∙ ap (λ xs. with_entry (held xs) c.args.scanned.now.target c.args.row) c.copy_from_slice.ensures.after))
+                  (sound_set c.args.machine.now.catalogue.now (held c.args.before.now) c.args.scanned.now.target c.args.row c.requires.sound c.requires.row),
               (visited c.requires.done.0, done_visited c.args.machine.now.catalogue.now c.args.machine.now.parts.now c.args.run.now _ c.requires.done.0 refl refl refl refl c.requires.done.1),
             ),
           ),
@@ -47,10 +48,10 @@ pub turn-returns-clause-ends : goal.turn-returns-clause-ends
 turn-returns-clause-ends t c = λ s h.
     let m = c.args.machine.now in
     let meant = λ (registers : Registers). means m c.args.scanned.now.body.now (c.args.scanned.now.at + 1) true registers in
-    let at_row = c.set.ensures.set ∙ ap (λ xs. with_entry (held xs) c.args.scanned.now.target (value_shown c.args.row)) c.copy_from_slice.ensures.after in
+    let at_row = c.set.ensures.set ∙ ap (λ xs. with_entry (held xs) c.args.scanned.now.target c.args.row) c.copy_from_slice.ensures.after in
     let may : s.visits < m.most = omega (arith, h.visits, c.if-run-machine.false) in
     subst (λ end. IsEnd m.catalogue.now m.parts.now c.walk.new.run end c.walk.result)
-    (ap (λ registers. meant registers (visited s)) at_row ∙ sym (begin_turn m.most s (means_at m c.args.scanned.now (held c.args.before.now) (value_shown c.args.row)) may))
+    (ap (λ registers. meant registers (visited s)) at_row ∙ sym (begin_turn m.most s (means_at m c.args.scanned.now (held c.args.before.now) c.args.row) may))
     (c.walk.ensures.ends (visited s) (done_visited m.catalogue.now m.parts.now c.args.run.now _ s refl refl refl refl h))
 
 pub turns-returns-in_err-turn-clause-ends : goal.turns-returns-in_err-turn-clause-ends

@@ -5,7 +5,7 @@ use Rattle.star_program.specs.Code.{code_size, scan_depth}
 use Rattle.star_program.specs.CodeOfSteps.{code_of_steps}
 use Rattle.star_program.specs.Effects.{Store}
 use Rattle.star_program.specs.Run.{turns}
-use Rattle.star_program.specs.Values.{Row}
+use Rattle.star_program.specs.declared.value.Value.TheVariants.{Row}
 use Rattle.star_machine.specs.Private.Runs.{HasDone}
 use Rattle.star_machine.specs.Private.Shown.{held}
 use Rattle.star_machine.specs.Private.Sound.{AreSound}

@@ -7,7 +7,14 @@ use Rattle.star_plan.proofs.Kept.{kept_sound, kept_spelled, kept_within}
 use Rattle.star_plan.proofs.planner.plan.Goals as goal
 
 pub invariant_of-result-clause-planned : goal.invariant_of-result-clause-planned
-invariant_of-result-clause-planned c = merely (record { tree = c.tree-query.result.now; named = well_named c.tree-query.result.now c.in_ok-check.ensures; resolved = c.in_ok-tree.ensures })
+invariant_of-result-clause-planned c =
+    merely
+    (record {
+      tree = c.tree-query.result.now;
+      meant = c.tree-query.ensures.meant;
+      named = well_named c.tree-query.result.now c.in_ok-check.ensures;
+      resolved = c.in_ok-tree.ensures;
+    })
 
 pub invariant_of-result-clause-sound : goal.invariant_of-result-clause-sound
 invariant_of-result-clause-sound c = kept_sound c.tree-query.result.now (shown c.in_ok-tree.tree) c.in_ok-check.ensures c.in_ok-tree.ensures

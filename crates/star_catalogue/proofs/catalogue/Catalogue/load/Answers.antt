@@ -2,6 +2,7 @@ use Rattle.std.proofs.Common.{◌∙◌, inl, inr}
 use Rattle.std.proofs.lemmas.Result.{err_from_is_err_and}
 use Rattle.star_catalogue.specs.Load.{text_of}
 use Rattle.star_catalogue.proofs.Loading.{loaded_sound, refused_key, refused_table}
+use Rattle.star_catalogue.proofs.SmallNumbers.{bounds_small}
 use Rattle.star_catalogue.proofs.catalogue.Catalogue.load.Goals as goal
 
 pub returns-in_err-loaded-clause-refused : goal.returns-in_err-loaded-clause-refused
@@ -27,9 +28,12 @@ pub invariant_of-result : goal.invariant_of-result
 invariant_of-result c =
     let loaded = c.in_ok-loaded.ensures in
     let same = c.in_ok-tables.ensures.ok ∙ loaded.1 in
-    rw same (loaded_sound (text_of c.args.texts.now) loaded.2
-    (rw (c.deref.ensures ∙ c.in_ok-tables.ensures.ok ∙ loaded.1) at
-    c.in_ok-check_references.ensures))
+    rw same (
+      loaded_sound (text_of c.args.texts.now) loaded.2
+          (rw (c.deref.ensures ∙ c.in_ok-tables.ensures.ok ∙ loaded.1) at
+          c.in_ok-check_references.ensures),
+      bounds_small c.args.limits.rows (text_of c.args.texts.now) loaded.0,
+    )
 
 pub returns-clause-loadable : goal.returns-clause-loadable
 returns-clause-loadable c =

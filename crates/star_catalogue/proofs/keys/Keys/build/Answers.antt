@@ -1,11 +1,13 @@
-use Rattle.std.proofs.Common.{◌≡◌, ◌∙◌, ap, inl, inr, length, map, sym}
+use Rattle.std.proofs.Common.{◌≡◌, ◌∙◌, ap, inl, inr, length, sym}
 use Rattle.std.proofs.lemmas.Result.{err_from_is_err_and}
 use Rattle.star_schema.specs.declared.table.Key.TheVariants.{One, Two}
 use Rattle.star_schema.specs.Bounds.{numbers_at}
 use Rattle.star_schema.specs.Schema.{key_of, place_of}
 use Rattle.star_schema.proofs.KeyColumns.{key_column, key_pair, number_at_place}
 use Rattle.star_catalogue.proofs.Apart.{numbers_apart}
-use Rattle.star_catalogue.proofs.KeyLists.{apart_of_one, apart_of_two, fault_of_one, fault_of_two, keys_of_one, length-numbers_at, length_of_two, one}
+use Rattle.star_catalogue.proofs.KeyLists.{apart_of_one, apart_of_two, fault_of_one, fault_of_two, keys_of_one, length-numbers_at, length_of_two}
+use Rattle.star_catalogue.specs.Private.Keys.{row_in}
+use Rattle.star_catalogue.proofs.Found.{kept_one}
 use Rattle.star_catalogue.proofs.keys.Keys.build.Goals as goal
 
 pub numbers-numbers-requires : goal.numbers-numbers-requires
@@ -44,9 +46,11 @@ returns-in_ok-index-in-One c =
     ap key_of (sym c.table-table.ensures) ∙ sym c.in-One.ensures in
     let numbers : c.numbers-numbers.result.now ≡ numbers_at (place_of c.in-One.column) rows =
     c.numbers-numbers.ensures.numbers
-    ∙ ap (λ place. numbers_at place rows) c.place_of.ensures.place in
-    let is = c.in_ok-index-in-One.ensures.0 ∙ numbers in (
-      keys_of_one table c.in-One.column rows key ∙ ap (map one) (sym is),
+    ∙ ap (λ place. numbers_at place rows) c.place_of.ensures.place in (
+      kept_one (row_in c.in_ok-index-in-One.index)
+          (numbers_at (place_of c.in-One.column) rows) _
+          (rw numbers at c.in_ok-index-in-One.ensures.0)
+          (keys_of_one table c.in-One.column rows key),
       apart_of_one table c.in-One.column rows key
           (numbers_apart (numbers_at (place_of c.in-One.column) rows)
           (rw numbers at c.in_ok-index-in-One.ensures.1)),

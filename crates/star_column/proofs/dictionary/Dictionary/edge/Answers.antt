@@ -1,5 +1,5 @@
 use Rattle.std.proofs.Common.{◌≡◌, ◌∙◌, ◌<◌, ◌≤◌, ◌+◌, ◌-◌, ◌/◌, [], List, ℕ, ap, sym, arith, true, false}
-use Rattle.star_column.specs.Dictionary.{text_cmp}
+use Rattle.star_schema.specs.Dictionary.{text_cmp}
 use Rattle.star_column.specs.Private.Edge.{is_after}
 use Rattle.star_column.proofs.Edges.{IsPartitionedBy-is_after}
 use Rattle.star_column.proofs.Fronts.{test_at, found_above, found_below, found_end}

@@ -1,13 +1,27 @@
-use Rattle.std.proofs.Common.{◌∙◌, sym, ap, Some, Bor, List, ℕ}
-use Rattle.std.specs.Option.{option_map}
-use Rattle.std.specs.Cmp.Lexicographic.{same_text}
-use Rattle.std.proofs.lemmas.Option.{slice_get-map}
+use Rattle.std.proofs.Common.{◌≡◌, ◌++◌, ◌∷◌, ◌∙◌, [], length, ap, sym, arith}
+use Rattle.star_column.proofs.Trees.{numbered_more, stands_last}
 use Rattle.star_column.proofs.distinct.Distinct.number_of.Goals as goal
+
+pub returns-in-Some-clause-number : goal.returns-in-Some-clause-number
+returns-in-Some-clause-number c =
+    rw (← c.self.view_is)
+    ((c.self.invariant.found c.args.text c.in-Some.number.now).0 (sym c.in-Some.ensures.value))
+
+pub invariant_of-self-2 : goal.invariant_of-self-2
+invariant_of-self-2 c =
+    let texts = c.self.inside.texts in
+    let last : c.len-number.result ≡ length texts.items = omega (arith, texts.ok.0) in
+    let pushed = c.push_reserved.ensures.items
+    ∙ ap (λ ts. ts ++ c.args.text ∷ []) c.reserve.ensures.items in
+    numbered_more texts.items c.push_reserved.new.self.items c.args.text c.len-number.result last
+    pushed c.self.inside.numbers c.insert.new.self c.self.invariant
+    (sym c.in_default.ensures.value) c.in_ok-insert.ensures.updates
 
 pub returns-clause-number : goal.returns-clause-number
 returns-clause-number c =
-    let bytes_of = λ (text : Bor (List ℕ)). text.now in
-    let stored = c.in_ok-number.ensures.stored in
-    slice_get-map bytes_of c.insert_full.new.self.keys c.in_ok-number.number
-    ∙ ap (option_map bytes_of) stored.1
-    ∙ ap Some (sym (same_text c.args.text.now stored.0.now (sym stored.2)))
+    let texts = c.self.inside.texts in
+    let last : c.len-number.result ≡ length texts.items = omega (arith, texts.ok.0) in
+    let pushed = c.push_reserved.ensures.items
+    ∙ ap (λ ts. ts ++ c.args.text ∷ []) c.reserve.ensures.items in
+    stands_last texts.items c.push_reserved.new.self.items c.args.text c.len-number.result last
+    pushed

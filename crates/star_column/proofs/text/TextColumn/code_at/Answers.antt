@@ -1,34 +1,27 @@
-use Rattle.std.proofs.Common.{◌<◌, length, refl, arith}
-use Rattle.std.proofs.lemmas.Option.{slice_get_read}
+use Rattle.std.proofs.Common.{arith}
+use Rattle.star_column.specs.Private.Words.{numbers_in}
 use Rattle.star_column.specs.Private.Codes.{texts_at}
+use Rattle.star_schema.proofs.Dictionaries.{length-dictionary_of-le}
 use Rattle.star_column.proofs.Numbers.{code_stands, code_within, length-texts_at}
 use Rattle.star_column.proofs.text.TextColumn.code_at.Goals as goal
 
-pub index-requires : goal.index-requires
-index-requires c =
-    let codes = c.self.inside.codes in
-    let row : c.args.row < length (texts_at c.self.inside.dictionary codes.items) =
-    rw (← c.self.view_is) at c.requires in
-    omega (arith, row, codes.ok.0, length-texts_at c.self.inside.dictionary codes.items)
+pub overflow_cast-result : goal.overflow_cast-result
+overflow_cast-result c =
+    let dictionary = c.self.inside.dictionary in
+    let codes = numbers_in c.self.inside.codes in
+    let within = code_within dictionary codes c.args.row c.at.result c.self.invariant.0
+    c.at.ensures in
+    let le = length-dictionary_of-le (texts_at dictionary codes) in
+    omega (arith, within, le, length-texts_at dictionary codes, c.self.invariant.0.few)
 
 pub returns-clause-stands : goal.returns-clause-stands
 returns-clause-stands c =
-    let codes = c.self.inside.codes.items in
-    let row : c.args.row < length (texts_at c.self.inside.dictionary codes) =
-    rw (← c.self.view_is) at c.requires in
-    let there = slice_get_read codes (length codes) c.args.row c.index.result.now refl
-    (omega (arith, row, length-texts_at c.self.inside.dictionary codes)) c.index.ensures in
     rw (← c.self.view_is)
-    (code_stands c.self.inside.dictionary codes c.args.row c.index.result.now c.self.invariant
-    there)
+    (code_stands c.self.inside.dictionary (numbers_in c.self.inside.codes) c.args.row c.at.result
+    c.self.invariant.0 c.at.ensures)
 
 pub returns-clause-within : goal.returns-clause-within
 returns-clause-within c =
-    let codes = c.self.inside.codes.items in
-    let row : c.args.row < length (texts_at c.self.inside.dictionary codes) =
-    rw (← c.self.view_is) at c.requires in
-    let there = slice_get_read codes (length codes) c.args.row c.index.result.now refl
-    (omega (arith, row, length-texts_at c.self.inside.dictionary codes)) c.index.ensures in
     rw (← c.self.view_is)
-    (code_within c.self.inside.dictionary codes c.args.row c.index.result.now c.self.invariant
-    there)
+    (code_within c.self.inside.dictionary (numbers_in c.self.inside.codes) c.args.row c.at.result
+    c.self.invariant.0 c.at.ensures)

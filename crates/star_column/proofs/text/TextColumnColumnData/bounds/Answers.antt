@@ -1,5 +1,5 @@
 use Rattle.std.proofs.Common.{FitsSigned, w64, to_z-of_z, rules}
-use Rattle.star_column.specs.Dictionary.{codes_of}
+use Rattle.star_schema.specs.Dictionary.{codes_of}
 use Rattle.star_column.proofs.Coded.{least-codes_of, greatest-codes_of}
 use Rattle.star_column.proofs.Extremes.{all_between}
 use Rattle.star_column.proofs.text.TextColumnColumnData.bounds.Goals as goal

@@ -2,7 +2,7 @@ use Rattle.std.proofs.Common.{ap, sym, ◌∙◌}
 use Rattle.star_group.proofs.Contents.{if_ok}
 use Rattle.star_group.specs.Shown.{row_shown}
 use Rattle.star_program.specs.Outcome.{cell_of, decoded_row, key_cell}
-use Rattle.star_machine.specs.WorldOf.{world_of}
+use Rattle.star_world.specs.WorldOf.{world_of}
 use Rattle.star_machine.proofs.DecodedRows.{decodable_at, decoded_at}
 use Rattle.star_machine.proofs.outcome.cells.cell.Goals as goal
 

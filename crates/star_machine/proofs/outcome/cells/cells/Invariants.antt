@@ -1,7 +1,7 @@
 use Rattle.std.proofs.Common.{◌≡◌, map, take}
 use Rattle.star_group.specs.Shown.{row_shown}
 use Rattle.star_program.specs.Outcome.{cell_of, decoded_row}
-use Rattle.star_machine.specs.WorldOf.{world_of}
+use Rattle.star_world.specs.WorldOf.{world_of}
 use Rattle.star_machine.proofs.outcome.cells.cells.Given as goal
 
 abbrev pub invariant-loop-show : goal.invariant-loop-show

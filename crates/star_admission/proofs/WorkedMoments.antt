@@ -1,0 +1,157 @@
+-- What a moment asks of registers and of what comes next, and what it refuses, by computation.
+use Rattle.std.proofs.Common.{◌≡◌, ℕ, zero, suc, ◌^◌, ◌-◌, ◌<◌, true, false, [], ◌∷◌, Some, None, refl, arith}
+use Rattle.std.specs.Prelude.{pos, neg_ℤ}
+use Rattle.std.proofs.lemmas.Int.{ints}
+use Rattle.star_schema.specs.declared.table.TableId.TheVariants.{Date, Lineorder}
+use Rattle.star_schema.specs.declared.column.ColumnId.TheVariants.{CRegion, CNation, LoQuantity}
+use Rattle.star_schema.specs.declared.group.Aggregate.TheVariants.{Sum, Count}
+use Rattle.star_schema.specs.Schema.{column_of}
+use Rattle.star_interval.specs.Range.{only, is_i64}
+use Rattle.star_program.specs.Code.{Stop, Each}
+use Rattle.star_program.specs.declared.value.Value.TheVariants.{Number, Text, Place, Row, Flag}
+use Rattle.star_program.specs.Values.{Registers}
+use Rattle.star_program.specs.declared.program.Parts.{Parts}
+use Rattle.star_program.specs.Effects.{empty_store}
+use Rattle.star_program.specs.World.{World}
+use Rattle.star_program.proofs.Sample.{sample, plain}
+use Rattle.star_admission.specs.Bounds.{FitsI128, NamesI64}
+use Rattle.star_admission.specs.Fitting.{FitsValue, FitsAt}
+use Rattle.star_admission.specs.Laws.{SumsFit}
+use Rattle.star_admission.specs.Moments.{IsMoment, AtEveryMoment}
+use Rattle.star_admission.specs.Ranges.{Table, Known, KnownText, KnownPlace, KnownRow, KnownFlag, given, loaded_known}
+use Rattle.star_admission.specs.Tallies.{no_shares}
+use Rattle.star_admission.proofs.Words.{const, add, keep, put, read, acts, over}
+
+-- ---- a register
+
+-- from 1 to 5
+abbrev few : Known
+few = given (record { low = pos 1; high = pos 5 })
+
+least_fits : FitsValue sample few (Number (pos 1))
+least_fits = (record { from = omega (arith, ints); to = omega (arith, ints) }, tt)
+
+greatest_fits : FitsValue sample few (Number (pos 5))
+greatest_fits = (record { from = omega (arith, ints); to = omega (arith, ints) }, tt)
+
+none_below : FitsValue sample few (Number (pos 0)) → ⊥
+none_below h = let p = h.0.from in omega (arith, ints, p)
+
+none_above : FitsValue sample few (Number (pos 6)) → ⊥
+none_above h = let p = h.0.to in omega (arith, ints, p)
+
+-- a loaded number stands in its column: 2 is between 1 and 50, and no quantity is 2
+quantity_fits : FitsValue sample (loaded_known sample LoQuantity false) (Number (pos 24))
+unfolding column_of
+quantity_fits = (
+  record { from = omega (arith, ints); to = omega (arith, ints) },
+  (2, omega arith, refl),
+)
+
+no_such_quantity : FitsValue sample (loaded_known sample LoQuantity false) (Number (pos 2)) → ⊥
+unfolding column_of
+no_such_quantity h = in_no_row h.1.0 h.1.1 h.1.2
+  where
+    in_no_row : (row : ℕ) → row < 5 → pos 2 ≡ sample.number LoQuantity row → ⊥
+    in_no_row zero p e = absurd (cc)
+    in_no_row (suc zero) p e = absurd (cc)
+    in_no_row (suc (suc zero)) p e = absurd (cc)
+    in_no_row (suc (suc (suc zero))) p e = absurd (cc)
+    in_no_row (suc (suc (suc (suc zero)))) p e = absurd (cc)
+    in_no_row (suc (suc (suc (suc (suc row))))) p e = absurd (omega (arith, p))
+
+-- the last row, and none past it; of the table itself
+last_row_fits : FitsValue sample (KnownRow Lineorder) (Row Lineorder 4)
+last_row_fits = (refl, omega arith)
+
+no_row_past : FitsValue sample (KnownRow Lineorder) (Row Lineorder 5) → ⊥
+no_row_past h = let p = h.1 in omega (arith, p)
+
+no_other_table : FitsValue sample (KnownRow Date) (Row Lineorder 0) → ⊥
+no_other_table h = let e = h.0 in absurd (cc)
+
+-- each column has one text: 0 is its code, and 0 and 1 are places
+code_fits : FitsValue sample (KnownText CRegion) (Text CRegion 0)
+code_fits = (refl, omega arith)
+
+no_such_code : FitsValue sample (KnownText CRegion) (Text CRegion 1) → ⊥
+no_such_code h = let p = h.1 in omega (arith, p)
+
+no_other_column : FitsValue sample (KnownText CRegion) (Text CNation 0) → ⊥
+no_other_column h = let e = h.0 in absurd (cc)
+
+last_place_fits : FitsValue sample (KnownPlace CRegion) (Place CRegion 1)
+last_place_fits = (refl, omega arith)
+
+no_such_place : FitsValue sample (KnownPlace CRegion) (Place CRegion 2) → ⊥
+no_such_place h = let p = h.1 in omega (arith, p)
+
+-- a place is no text, and a flag no number
+no_other_kind : FitsValue sample (KnownText CRegion) (Place CRegion 0) → ⊥
+no_other_kind h = h
+
+no_flag : FitsValue sample few (Flag true) → ⊥
+no_flag h = h
+
+-- something stands exactly where something is known
+nothing_unknown : FitsAt sample None (Some (Flag true)) → ⊥
+nothing_unknown h = h
+
+nothing_missing : FitsAt sample (Some KnownFlag) None → ⊥
+nothing_missing h = h
+
+-- ---- what comes next
+
+-- a trap comes at no moment
+sum_leaves : AtEveryMoment sample
+    (over [] (acts (const 0 (pos 9223372036854775807) ∷ add 1 0 0 ∷ []) Stop)) → ⊥
+unfolding is_i64
+sum_leaves h = h.1.1
+
+flag_missing : AtEveryMoment sample (over [] (acts (keep 0 ∷ []) Stop)) → ⊥
+flag_missing h = h.1
+
+-- nor does a scan into a register that isn't declared
+row_undeclared : AtEveryMoment sample (over [] (Each Date 10 Stop Stop)) → ⊥
+row_undeclared h = let p = h.1 in omega (arith, p)
+
+-- ---- bounds
+
+-- the ends of 128 bits
+widest_fits : FitsI128 (record { low = neg_ℤ (pos (2 ^ 127)); high = pos (2 ^ 127 - 1) })
+widest_fits = (record { sfits = omega arith }, record { sfits = omega arith })
+
+no_wider : FitsI128 (only (pos (2 ^ 127))) → ⊥
+no_wider h = let p = h.0.sfits in omega (arith, p)
+
+constant_of_64_bits : NamesI64 (const 0 (pos (2 ^ 63 - 1)))
+constant_of_64_bits = record { sfits = omega arith }
+
+no_greater_constant : NamesI64 (const 0 (pos (2 ^ 63))) → ⊥
+no_greater_constant h = let p = h.sfits in omega (arith, p)
+
+no_greater_default : NamesI64 (read 0 0 0 (pos (2 ^ 63))) → ⊥
+no_greater_default h = let p = h.sfits in omega (arith, p)
+
+-- ---- what adds up
+
+-- twice the greatest number leaves 64 bits
+abbrev two_puts : Parts
+two_puts = over (plain (Sum ∷ []) ∷ [])
+    (acts (const 0 (pos 9223372036854775807) ∷ put 0 [] (0 ∷ []) ∷ put 0 [] (0 ∷ []) ∷ []) Stop)
+
+no_greater_sum : SumsFit sample two_puts → ⊥
+no_greater_sum h = let p = (h.sums 0 0 (omega arith) refl).1.sfits in omega (arith, p)
+
+-- and so does a count of so many rows
+abbrev vast : World
+vast = record sample { size = λ t. 9223372036854775808 }
+
+no_greater_count : SumsFit vast
+    (over (plain (Count ∷ []) ∷ []) (Each Lineorder 0 (acts (put 0 [] [] ∷ []) Stop) Stop)) → ⊥
+no_greater_count h = let p = h.counts 0 0 in omega (arith, p)
+
+-- no turn begins where none is quoted
+no_more_turns : (known : Table) (regs : Registers) → IsMoment sample two_puts no_shares known regs
+    (record empty_store { visits = 1 }) → ⊥
+no_more_turns known regs h = let p = h.visits in omega (arith, p)

@@ -1,0 +1,31 @@
+-- Bounds of 64 bits, of which those that a refusal tells are made, and bounds of 128 bits.
+use Rattle.std.specs.Prelude.{◌≡◌, FitsSigned, false}
+use Rattle.std.specs.Int.{w64, w128}
+use Rattle.star_schema.specs.declared.column.ColumnId.{ColumnId}
+use Rattle.star_interval.specs.Range.{Range, FitsI64}
+use Rattle.star_program.specs.declared.op.Op.{Op}
+use Rattle.star_program.specs.declared.op.Op.TheVariants.{Assign}
+use Rattle.star_program.specs.declared.op.Operation.TheVariants.{Const, Read}
+use Rattle.star_program.specs.declared.program.Parts.{Parts}
+use Rattle.star_program.specs.Code.{Code, Stop, Then, Each}
+use Rattle.star_program.specs.World.{World, is_text}
+
+-- both ends are numbers of 128 bits
+abbrev pub FitsI128 : Range → Type 0
+FitsI128 r = FitsSigned w128 r.low × FitsSigned w128 r.high
+
+-- a constant and the default of a read are numbers of 64 bits
+abbrev pub NamesI64 : Op → Type 0
+NamesI64 (Assign t (Const n)) = FitsSigned w64 n
+NamesI64 (Assign t (Read g a n)) = FitsSigned w64 n
+NamesI64 op = Unit {0}
+
+abbrev pub AllNameI64 : Code → Type 0
+AllNameI64 Stop = Unit {0}
+AllNameI64 (Then op rest) = NamesI64 op × AllNameI64 rest
+AllNameI64 (Each table r body rest) = AllNameI64 body × AllNameI64 rest
+
+-- the numbers of a program, and the bounds of the columns of numbers, are of 64 bits
+pub record AreI64 (w : World) (parts : Parts) : Type 0 where
+  pub named : AllNameI64 parts.body
+  pub bounds : (c : ColumnId) → is_text c ≡ false → FitsI64 (w.bounds c)

@@ -1,0 +1,93 @@
+-- Which rows a query selects, by its own words: those of the product of FROM's tables for which
+-- WHERE is true (Star Schema Benchmark, revision 3, section 3).
+use Rattle.std.specs.Prelude.{ℤ, pos, ◌+ℤ◌, ◌-ℤ◌, ◌*ℤ◌, Bool, true, ◌&&◌, ◌||◌, not, List, [], ◌∷◌, filter, map, Option, Some, None}
+use Rattle.std.specs.List.{flat_map}
+use Rattle.std.specs.Option.{option_to_list}
+use Rattle.std.specs.Ordering.{is_eq, is_le}
+use Rattle.star_schema.specs.declared.table.TableId.{TableId}
+use Rattle.star_schema.specs.declared.column.ColumnId.{ColumnId}
+use Rattle.star_schema.specs.Groups.{Entry}
+use Rattle.star_schema.specs.Order.{value_cmp}
+use Rattle.star_schema.specs.Tables.{Value, Number, Text}
+use Rattle.star_query.specs.Tree.{Name, Literal, number, text, Expression, column, constant, add, sub, mul, Condition, either, both, negation, pair, compare, between, Measure, count, fold, Item, plain, aggregate, Tree}
+use Rattle.star_plan.specs.Meaning.{Joined, Tables, number_of, tests, value_of, with_row}
+use Rattle.star_plan.specs.Names.{column_called, table_called}
+
+-- ---- the product
+
+-- a row with a row of each table beside it, in every choice
+abbrev pub with_choices : Tables → List TableId → Joined → List Joined
+with_choices ts [] row = row ∷ []
+with_choices ts (t ∷ more) row =
+    flat_map (λ chosen. with_choices ts more (with_row row t chosen)) (ts t)
+
+-- every choice of a row of each table: the last table's rows change first
+abbrev pub product : Tables → List TableId → List Joined
+product ts tables = with_choices ts tables (λ t. [])
+
+-- the tables that FROM names, in its order
+abbrev pub tables_of : List Name → List TableId
+tables_of names = flat_map (λ n. option_to_list (table_called n.text)) names
+
+-- ---- what WHERE says of a row
+
+-- a name that is no column's has no value, and stands in no well named query
+abbrev pub value_if : Option ColumnId → Joined → Value
+value_if None row = Number (pos 0)
+value_if (Some c) row = value_of c row
+
+-- the value of the column with this name
+abbrev pub value_named : Name → Joined → Value
+value_named n row = value_if (column_called n.text) row
+
+abbrev pub literal_value : Literal → Value
+literal_value (number z) = Number z
+literal_value (text bytes) = Text bytes
+
+-- numbers compare by value, texts by their bytes; BETWEEN has both its ends
+abbrev pub is_true : Condition → Joined → Bool
+is_true (either a b) row = is_true a row || is_true b row
+is_true (both a b) row = is_true a row && is_true b row
+is_true (negation a) row = not (is_true a row)
+is_true (pair m n) row = is_eq (value_cmp (value_named m row) (value_named n row))
+is_true (compare n sign l) row = tests sign (value_cmp (value_named n row) (literal_value l))
+is_true (between n from upto) row =
+    is_le (value_cmp (literal_value from) (value_named n row))
+    && is_le (value_cmp (value_named n row) (literal_value upto))
+
+-- with no WHERE each row is selected
+abbrev pub where_is_true : Option Condition → Joined → Bool
+where_is_true None row = true
+where_is_true (Some c) row = is_true c row
+
+-- the rows that a query selects
+abbrev pub selected : Tables → Tree → List Joined
+selected ts q = filter (where_is_true q.condition) (product ts (tables_of q.tables))
+
+-- ---- what a selected row adds to its groups
+
+abbrev pub number_at : Expression → Joined → ℤ
+number_at (column n) row = number_of (value_named n row)
+number_at (constant z) row = z
+number_at (add a b) row = number_at a row +ℤ number_at b row
+number_at (sub a b) row = number_at a row -ℤ number_at b row
+number_at (mul a b) row = number_at a row *ℤ number_at b row
+
+-- 1 to a count
+abbrev pub measured : Measure → Joined → ℤ
+measured count row = pos 1
+measured (fold function e) row = number_at e row
+
+-- what SELECT computes of each group, from the left
+abbrev pub measures_of : List Item → List Measure
+measures_of [] = []
+measures_of (plain n ∷ items) = measures_of items
+measures_of (aggregate a ∷ items) = a.measure ∷ measures_of items
+
+-- the values of the group columns, and a number for each aggregate
+abbrev pub entry_of : Tree → Joined → Entry Value
+entry_of q row =
+    record {
+      keys = map (λ n. value_named n row) q.grouping.columns;
+      values = map (λ m. measured m row) (measures_of q.items);
+    }

@@ -1,0 +1,76 @@
+-- Numbers as how far they lie above the least.
+use Rattle.std.proofs.Common.{◌≡◌, ℕ, ◌^◌, ◌<◌, ◌≤◌, ℤ, pos, ◌+ℤ◌, ◌-ℤ◌, List, Some, length, ap, ◌∙◌, arith}
+use Rattle.std.specs.Int.RustNames.{unsigned_abs}
+use Rattle.std.specs.List.{All, slice_get}
+use Rattle.std.specs.Option.{option_map}
+use Rattle.std.proofs.lemmas.Bool.Decides.{nat_tests}
+use Rattle.std.proofs.lemmas.List.{length-map}
+use Rattle.std.proofs.lemmas.List.Elements.{All-get_or}
+use Rattle.std.proofs.lemmas.Option.{get_or_from_slice_get, slice_get-map, slice_get_within}
+use Rattle.star_interval.specs.declared.Interval.{Interval}
+use Rattle.star_interval.specs.Interval.{range_of}
+use Rattle.star_interval.specs.Range.{Holds}
+use Rattle.star_column.specs.Width.{bits_of, least_width}
+use Rattle.star_column.specs.Private.Bounds.{AreBounds}
+use Rattle.star_column.specs.Private.Words.{above, numbers_in, width_of, IsPacked}
+use Rattle.star_column.specs.declared.words.Words.{Words}
+use Rattle.star_column.proofs.Extremes.{all_between}
+
+-- ---- widths
+pub width_8 : (n : ℕ) → n < 2 ^ 8 → 8 ≡ least_width n
+unfolding least_width
+width_8 n h = grind (arith, nat_tests)
+
+pub width_16 : (n : ℕ) → 2 ^ 8 ≤ n → n < 2 ^ 16 → 16 ≡ least_width n
+unfolding least_width
+width_16 n from below = grind (arith, nat_tests)
+
+pub width_32 : (n : ℕ) → 2 ^ 16 ≤ n → n < 2 ^ 32 → 32 ≡ least_width n
+unfolding least_width
+width_32 n from below = grind (arith, nat_tests)
+
+pub width_64 : (n : ℕ) → 2 ^ 32 ≤ n → 64 ≡ least_width n
+unfolding least_width
+width_64 n from = grind (arith, nat_tests)
+
+-- ---- a packed column
+pub length-above : (low : ℤ) (ns : List ℕ) → length (above low ns) ≡ length ns
+length-above low ns = length-map ns (λ d. low +ℤ pos d)
+
+pub packed_at : (low : ℤ) (ns : List ℕ) (row d : ℕ) → slice_get ns row ≡ Some d
+    → slice_get (above low ns) row ≡ Some (low +ℤ pos d)
+packed_at low ns row d there =
+    slice_get-map (λ n. low +ℤ pos n) ns row ∙ ap (option_map (λ n. low +ℤ pos n)) there
+
+pub packed_held : (bounds : Interval) (words : Words) → IsPacked bounds words
+    → All (Holds (range_of bounds)) (above bounds.low (numbers_in words))
+packed_held bounds words packed =
+    all_between (range_of bounds) (above bounds.low (numbers_in words)) packed.bounds_are.low
+    packed.bounds_are.high
+
+pub packed_holds : (bounds : Interval) (words : Words) (row d : ℕ) → IsPacked bounds words
+    → slice_get (numbers_in words) row ≡ Some d
+    → Holds (range_of bounds) (bounds.low +ℤ pos d)
+packed_holds bounds words row d packed there =
+    let values = above bounds.low (numbers_in words) in
+    let at_row = packed_at bounds.low (numbers_in words) row d there in
+    let within : row < length values =
+    slice_get_within values row (bounds.low +ℤ pos d) at_row in
+    rw (get_or_from_slice_get values row (bounds.low +ℤ pos d) (pos 0) at_row)
+    at (All-get_or (Holds (range_of bounds)) values row (pos 0) within
+    (packed_held bounds words packed))
+
+-- what a column keeps, as its parts were built
+pub are_packed : (bounds : Interval) (words : Words) (ns : List ℤ) → length ns < 2 ^ 32
+    → AreBounds bounds ns → above bounds.low (numbers_in words) ≡ ns
+    → width_of words ≡ least_width (unsigned_abs (bounds.high -ℤ bounds.low))
+    → IsPacked bounds words
+unfolding bits_of
+are_packed bounds words ns few are is width =
+    record {
+      few = omega (arith, few, ap length is, length-above bounds.low (numbers_in words));
+      bounds_are = rw is are;
+      width = rw is
+          (width
+          ∙ (λ i. least_width (unsigned_abs (are.high i -ℤ are.low i))));
+    }

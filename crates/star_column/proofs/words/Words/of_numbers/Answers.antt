@@ -1,0 +1,18 @@
+use Rattle.std.proofs.Common.{arith}
+use Rattle.std.proofs.lemmas.Int.{ints}
+use Rattle.star_column.proofs.Differences.{width_8, width_16, width_32, width_64}
+use Rattle.star_column.proofs.words.Words.of_numbers.Goals as goal
+
+pub returns-in_ok-differences-clause-width : goal.returns-in_ok-differences-clause-width
+returns-in_ok-differences-clause-width c = width_8 _ (omega (arith, ints))
+
+pub returns-in_ok-differences-2-clause-width : goal.returns-in_ok-differences-2-clause-width
+returns-in_ok-differences-2-clause-width c =
+    width_16 _ (omega (arith, ints)) (omega (arith, ints))
+
+pub returns-in_ok-differences-3-clause-width : goal.returns-in_ok-differences-3-clause-width
+returns-in_ok-differences-3-clause-width c =
+    width_32 _ (omega (arith, ints)) (omega (arith, ints))
+
+pub returns-in_ok-differences-4-clause-width : goal.returns-in_ok-differences-4-clause-width
+returns-in_ok-differences-4-clause-width c = width_64 _ (omega (arith, ints))

@@ -1,0 +1,29 @@
+-- Unsigned numbers in words of one width, and what a packed column keeps in them.
+use Rattle.std.specs.Prelude.{◌≡◌, ◌<◌, ◌^◌, ℕ, ℤ, List, length, map, pos, ◌+ℤ◌}
+use Rattle.star_interval.specs.declared.Interval.{Interval}
+use Rattle.star_column.specs.Width.{bits_of}
+use Rattle.star_column.specs.Private.Bounds.{AreBounds}
+use Rattle.star_column.specs.declared.words.Words.{Words}
+use Rattle.star_column.specs.declared.words.Words.TheVariants.{Bits8, Bits16, Bits32, Bits64}
+
+abbrev pub numbers_in : Words → List ℕ
+numbers_in (Bits8 words) = words.items
+numbers_in (Bits16 words) = words.items
+numbers_in (Bits32 words) = words.items
+numbers_in (Bits64 words) = words.items
+
+abbrev pub width_of : Words → ℕ
+width_of (Bits8 words) = 8
+width_of (Bits16 words) = 16
+width_of (Bits32 words) = 32
+width_of (Bits64 words) = 64
+
+-- the numbers that lie so far above another
+abbrev pub above : ℤ → List ℕ → List ℤ
+above low differences = map (λ difference. low +ℤ pos difference) differences
+
+-- the bounds of a column, and words of the least width with how far its numbers lie above the least
+pub record IsPacked (bounds : Interval) (words : Words) : Type 0 where
+  pub few : length (numbers_in words) < 2 ^ 32
+  pub bounds_are : AreBounds bounds (above bounds.low (numbers_in words))
+  pub width : width_of words ≡ bits_of (above bounds.low (numbers_in words))

@@ -1,0 +1,77 @@
+// Columns of numbers in words no wider than they need.
+
+ghost use Rattle.std.specs.Prelude.{◌≡◌, IfOk, pos, ◌+ℤ◌};
+ghost use Rattle.star_interval.specs.Range.{Holds};
+ghost use Rattle.star_interval.specs.Interval.{range_of};
+ghost use Rattle.star_column.specs.Width.{bits_of};
+
+use crate::column::ColumnData;
+use crate::number::NumberColumn;
+use crate::words::Words;
+use star_interval::Interval;
+use std::alloc::{AllocError, Global};
+use std::marker::Model;
+
+/// A column of numbers, which a contract sees as the list of them in the order of the rows.
+///
+/// Each is kept as its difference from the least, in words of the least of 8, 16, 32 and 64 bits in
+/// which the greatest difference fits.
+#[derive(Drop)]
+pub struct PackedColumn {
+    bounds: Interval,
+    words: Words,
+}
+
+impl Model for PackedColumn {
+    ghost use Rattle.std.specs.Prelude.{ℤ, List};
+    ghost use Rattle.star_column.specs.Private.Words.{above, numbers_in, IsPacked};
+
+    ghost Value = { List ℤ };
+
+    ghost view = { λ column. above column.bounds.low (numbers_in column.words) };
+
+    ghost invariant = { λ column. IsPacked column.bounds column.words };
+}
+
+impl PackedColumn {
+    /// The numbers of this column, packed.
+    pub fn build(alloc: Global, column: &NumberColumn) -> Result<PackedColumn, AllocError>
+        ensures { IfOk result (λ packed. packed ≡ column.now) }
+    {
+        let bounds = column.bounds();
+        let words = Words::of_numbers(alloc, column.numbers(), bounds)?;
+        Ok(PackedColumn { bounds, words })
+    }
+
+    /// How many bits the word of a number has: the least of 8, 16, 32 and 64 in which the difference
+    /// of the bounds fits, 8 where there is no row.
+    pub fn bits(&self) -> u32
+        ensures { result ≡ bits_of self.now }
+    {
+        self.words.bits()
+    }
+}
+
+impl ColumnData for PackedColumn {
+    ghost values = { λ column. column };
+
+    fn len(&self) -> u32 {
+        self.words.len() as u32
+    }
+
+    fn at(&self, row: u32) -> i64 {
+        number_above(self.bounds, self.words.at(row as usize))
+    }
+
+    fn bounds(&self) -> Interval {
+        self.bounds
+    }
+}
+
+/// The number between these bounds that lies so far above the lower one.
+fn number_above(bounds: Interval, difference: u64) -> i64
+    requires { Holds (range_of bounds) (bounds.low +ℤ pos difference) }
+    ensures { result ≡ bounds.low +ℤ pos difference }
+{
+    bounds.low.wrapping_add_unsigned(difference)
+}

@@ -1,0 +1,189 @@
+// Unsigned numbers in words of 8, 16, 32 or 64 bits.
+
+ghost use Rattle.std.specs.Prelude.{◌≡◌, ◌-◌, ◌<◌, ◌^◌, ℕ, ◌-ℤ◌, ◌≤ℤ◌, All, IfOk, Some, length, map, slice_get, slice_index};
+ghost use Rattle.std.specs.Int.RustNames.{unsigned_abs};
+ghost use Rattle.star_interval.specs.Range.{Holds};
+ghost use Rattle.star_interval.specs.Interval.{range_of};
+ghost use Rattle.star_column.specs.Width.{least_width};
+ghost use Rattle.star_column.specs.Private.Words.{above, numbers_in, width_of};
+
+use star_interval::Interval;
+use std::alloc::{AllocError, Global};
+
+/// An unsigned integer of some width.
+trait Word: Copy + Drop {
+    // Every number below it fits.
+    ghost limit: { ℕ };
+
+    ghost number: { Self → ℕ };
+
+    /// The word of a number that fits.
+    fn of(value: u64) -> Self
+        requires { value < limit }
+        ensures { number result ≡ value };
+}
+
+impl Word for u8 {
+    ghost limit = { 2 ^ 8 };
+
+    ghost number = { λ word. word };
+
+    fn of(value: u64) -> u8 {
+        value as u8
+    }
+}
+
+impl Word for u16 {
+    ghost limit = { 2 ^ 16 };
+
+    ghost number = { λ word. word };
+
+    fn of(value: u64) -> u16 {
+        value as u16
+    }
+}
+
+impl Word for u32 {
+    ghost limit = { 2 ^ 32 };
+
+    ghost number = { λ word. word };
+
+    fn of(value: u64) -> u32 {
+        value as u32
+    }
+}
+
+impl Word for u64 {
+    ghost limit = { 2 ^ 64 };
+
+    ghost number = { λ word. word };
+
+    fn of(value: u64) -> u64 {
+        value
+    }
+}
+
+/// Numbers in words of one width.
+#[derive(Drop)]
+pub enum Words {
+    Bits8(Vec<u8>),
+    Bits16(Vec<u16>),
+    Bits32(Vec<u32>),
+    Bits64(Vec<u64>),
+}
+
+impl Words {
+    /// How many numbers there are.
+    pub(crate) fn len(&self) -> usize
+        ensures { result ≡ length (numbers_in self.now) }
+    {
+        match self {
+            Words::Bits8(words) => words.len(),
+            Words::Bits16(words) => words.len(),
+            Words::Bits32(words) => words.len(),
+            Words::Bits64(words) => words.len(),
+        }
+    }
+
+    /// How many bits each number takes.
+    pub(crate) fn bits(&self) -> u32
+        ensures { result ≡ width_of self.now }
+    {
+        match self {
+            Words::Bits8(_) => u8::BITS,
+            Words::Bits16(_) => u16::BITS,
+            Words::Bits32(_) => u32::BITS,
+            Words::Bits64(_) => u64::BITS,
+        }
+    }
+
+    /// The number at a place, from 0.
+    pub(crate) fn at(&self, place: usize) -> u64
+        requires { place < length (numbers_in self.now) }
+        ensures { slice_get (numbers_in self.now) place ≡ Some result }
+    {
+        match self {
+            Words::Bits8(words) => u64::from(words[place]),
+            Words::Bits16(words) => u64::from(words[place]),
+            Words::Bits32(words) => u64::from(words[place]),
+            Words::Bits64(words) => words[place],
+        }
+    }
+
+    /// How far each number lies above the lower bound, in the least width in which the difference of
+    /// the bounds fits.
+    pub(crate) fn of_numbers(
+        alloc: Global,
+        numbers: &[i64],
+        bounds: Interval,
+    ) -> Result<Words, AllocError>
+        requires { All (Holds (range_of bounds)) numbers.now }
+        ensures numbers { IfOk result (λ words. above bounds.low (numbers_in words) ≡ numbers.now) }
+        ensures width { IfOk result
+            (λ words. width_of words ≡ least_width (unsigned_abs (bounds.high -ℤ bounds.low))) }
+    {
+        let low = bounds.low;
+        let span = bounds.high.abs_diff(low);
+        if span <= u64::from(u8::MAX) {
+            Ok(Words::Bits8(differences(alloc, numbers, low)?))
+        } else if span <= u64::from(u16::MAX) {
+            Ok(Words::Bits16(differences(alloc, numbers, low)?))
+        } else if span <= u64::from(u32::MAX) {
+            Ok(Words::Bits32(differences(alloc, numbers, low)?))
+        } else {
+            Ok(Words::Bits64(differences(alloc, numbers, low)?))
+        }
+    }
+
+    /// What stands at each of these places, in the least width in which every place fits.
+    pub(crate) fn of_places(
+        alloc: Global,
+        places: &[u32],
+        values: &[u32],
+    ) -> Result<Words, AllocError>
+        requires places { All (λ place. place < length values.now) places.now }
+        requires values { All (λ place. slice_index values.now place < length values.now) places.now }
+        requires few { length values.now < 2 ^ 32 }
+        ensures numbers { IfOk result
+            (λ words. numbers_in words ≡ map (λ place. slice_index values.now place) places.now) }
+        ensures width { IfOk result
+            (λ words. width_of words ≡ least_width (length values.now - 1)) }
+    {
+        let span = values.len().saturating_sub(1);
+        if span <= usize::from(u8::MAX) {
+            Ok(Words::Bits8(values_at(alloc, places, values)?))
+        } else if span <= usize::from(u16::MAX) {
+            Ok(Words::Bits16(values_at(alloc, places, values)?))
+        } else {
+            Ok(Words::Bits32(values_at(alloc, places, values)?))
+        }
+    }
+}
+
+/// How far each number lies above another.
+fn differences<W: Word>(alloc: Global, numbers: &[i64], low: i64) -> Result<Vec<W>, AllocError>
+    requires above { All (λ number. low ≤ℤ number) numbers.now }
+    requires fit { All (λ number. unsigned_abs (number -ℤ low) < W.limit) numbers.now }
+    ensures { IfOk result (λ words. above low (map W.number words.items) ≡ numbers.now) }
+{
+    let mut words = Vec::with_capacity(alloc, numbers.len())?;
+    for number in numbers {
+        words.push_reserved(W::of(number.abs_diff(low)));
+    }
+    Ok(words)
+}
+
+/// What stands at each of these places.
+fn values_at<W: Word>(alloc: Global, places: &[u32], values: &[u32]) -> Result<Vec<W>, AllocError>
+    requires places { All (λ place. place < length values.now) places.now }
+    requires fit { All (λ place. slice_index values.now place < W.limit) places.now }
+    ensures { IfOk result
+        (λ words. map W.number words.items
+        ≡ map (λ place. slice_index values.now place) places.now) }
+{
+    let mut words = Vec::with_capacity(alloc, places.len())?;
+    for place in places {
+        words.push_reserved(W::of(u64::from(values[*place as usize])));
+    }
+    Ok(words)
+}

@@ -1,0 +1,733 @@
+-- Nothing but a range that leaves 64 bits refuses the pieces of a compiled program.
+use Rattle.std.proofs.Common.{◌≡◌, ◌⊎◌, inl, inr, ℕ, ◌+◌, ◌≤◌, ◌<◌, Bool, true, false, List, Option, Some, None, refl, sym, ap, subst, ◌∙◌, arith}
+use Rattle.std.specs.Prelude.{ℤ, pos, ◌+ℤ◌, ◌-ℤ◌, ◌*ℤ◌, ◌&&◌, ◌||◌, not}
+use Rattle.std.specs.Option.{option_map}
+use Rattle.std.proofs.lemmas.Bool.{and_parts, lt-ltb}
+use Rattle.star_schema.specs.declared.table.TableId.{TableId}
+use Rattle.star_schema.specs.declared.table.TableId.TheVariants.{Lineorder}
+use Rattle.star_schema.specs.declared.column.ColumnId.{ColumnId}
+use Rattle.star_schema.specs.declared.column.Kind.TheVariants as kind
+use Rattle.star_schema.specs.Schema.{is_table, kind_of, table_of}
+use Rattle.star_schema.specs.Tables.{Value, Number, Text, kind_of_value}
+use Rattle.star_schema.proofs.Same.{table_same, table_itself, column_same, column_itself}
+use Rattle.star_interval.specs.Range.{Range, only, corner_range, fits_i64}
+use Rattle.star_query.specs.declared.token.Relation.{Relation}
+use Rattle.star_query.specs.declared.token.Relation.TheVariants as sign
+use Rattle.star_plan.specs.declared.tree.Join.{Join}
+use Rattle.star_plan.specs.Meaning.{Condition, either, both, negation, compare, between, Expression, column, constant, add, sub, mul}
+use Rattle.star_plan.specs.Names.{same_kind}
+use Rattle.star_plan.specs.Sound.{joins_table, in_scope, condition_is_sound, expression_is_sound}
+use Rattle.star_plan.specs.Spelled.{value_is_spelled, condition_is_spelled}
+use Rattle.star_plan.specs.Fits.{range_of, nodes_fit}
+use Rattle.star_program.specs.declared.op.Edge.{Edge}
+use Rattle.star_program.specs.declared.op.Edge.TheVariants.{Low, High}
+use Rattle.star_program.specs.declared.op.Operation.{Operation}
+use Rattle.star_program.specs.declared.op.Operation.TheVariants as operation
+use Rattle.star_program.specs.declared.op.Operator.{Operator}
+use Rattle.star_program.specs.declared.op.Operator.TheVariants as operator
+use Rattle.star_program.specs.declared.value.Kind.{Kind}
+use Rattle.star_program.specs.declared.value.Kind.TheVariants as kinds
+use Rattle.star_program.specs.declared.fault.Fault.TheVariants.{BadRegister, WrongKind, BadColumn}
+use Rattle.star_program.specs.Code.{Code}
+use Rattle.star_program.specs.Faults.{Kinds, unless, kind_fault, operand_fault, is_number, is_flag, is_row, is_ordered, is_row_of, compares_with, compare_fault, both_fault, binary_fault}
+use Rattle.star_program.specs.World.{World, is_column, is_text}
+use Rattle.star_admission.specs.Ranges.{Reach, no_reach, joined_reach, Known, KnownNumber, KnownText, KnownPlace, KnownRow, KnownFlag, known_kind, kinds_known, origin_at, given, loaded_known, answer_known, computed}
+use Rattle.star_admission.specs.Refusals.{Reason, NotAForeignKey, refuses, is_some_table, refers_to}
+use Rattle.star_compiled.specs.Compiled.{Env, Rest, loaded_in, found_in, one_more, with_loaded, with_found, write, binary_code, load_code, find_code, foreign_of, fact_code, row_code, place_code, column_from, column_code, start_of, end_of, beside, equal_code, test_code, between_code, condition_code, expression_code}
+use Rattle.star_compiled.proofs.Constants.{constant_fits, next_fits}
+use Rattle.star_compiled.proofs.ForeignKeys.{AreForeign}
+use Rattle.star_compiled.proofs.Joins.{holds_numbers, holds_texts}
+use Rattle.star_compiled.proofs.Entries.{loaded_split, found_split}
+use Rattle.star_compiled.proofs.Points.{Turn, both_none, known_fits, entry_same, entry_other}
+use Rattle.star_compiled.proofs.Points as points
+
+number_known : (w : World) (c : ColumnId) (b : Bool) → b ≡ false
+    → loaded_known w c b ≡ KnownNumber (w.bounds c) (is_column c) (Some c)
+number_known w c true e = absurd (cc)
+number_known w c false e = refl
+
+text_known : (w : World) (c : ColumnId) (b : Bool) → b ≡ true → loaded_known w c b ≡ KnownText c
+text_known w c true e = refl
+text_known w c false e = absurd (cc)
+
+module _ (turn : Turn) where
+  abbrev Point : Type 0
+  Point = points.Point turn
+
+  abbrev pub Passed : {A : Type 0} → (Point → A → Type 0) → (Env → A → Code) → Point
+      → Option (ℕ × Reason) → Type 0
+  Passed = points.Passed turn
+
+  abbrev pub At : Known → Point → ℕ → Type 0
+  At = points.At turn
+
+  abbrev pub Room : Point → Code → Type 0
+  Room = points.Room turn
+
+  abbrev Suits : Operation → Known → Point → Type 0
+  Suits = points.Suits turn
+
+  abbrev pub column_known : ColumnId → Known
+  column_known = points.column_known turn
+
+  -- there is room for the registers that are written
+  abbrev Declared : Point → Type 0
+  Declared p = p.env.next ≤ turn.parts.registers
+
+  -- how a piece is judged at a point, where there are registers for it and for what comes after it
+  abbrev pub Judges : {A : Type 0} → Bool → (Point → A → Type 0) → (Env → A → Code) → Point → Code
+      → Type 0
+  Judges b Says k p code =
+      Room p code → points.Judged turn b Says k p (points.answer turn p code)
+
+  -- ---- operands
+
+  pub operand : (p : Point) (takes : Kind → Bool) (r : ℕ) (v : Known) → Declared p
+      → At v p r → takes (known_kind v) ≡ true
+      → operand_fault turn.parts.registers (kinds_known p.known) takes r ≡ None
+  operand p takes r v room at ok =
+      let below = at.0 in
+      both_none _ _
+      (ap (λ b. unless b BadRegister) (lt-ltb r turn.parts.registers (omega arith)))
+      (ap (λ o. kind_fault takes (option_map known_kind o)) at.1 ∙ ap (λ b. unless b WrongKind) ok)
+
+  two_of : (p : Point) (takes : Kind → Bool) (l r : ℕ) (a b : Known) → Declared p
+      → At a p l → At b p r → takes (known_kind a) ≡ true → takes (known_kind b) ≡ true
+      → both_fault turn.parts.registers (kinds_known p.known) takes l r ≡ None
+  two_of p takes l r a b room at_l at_r ok_l ok_r =
+      both_none _ _ (operand p takes l a room at_l ok_l) (operand p takes r b room at_r ok_r)
+
+  compares : (p : Point) (x r : ℕ) (a b : Known) → Declared p → At a p x → At b p r
+      → compares_with (Some (known_kind a)) (known_kind b) ≡ true
+      → operand_fault turn.parts.registers (kinds_known p.known)
+      (compares_with (kinds_known p.known x)) r
+      ≡ None
+  compares p x r a b room at_x at_r ok =
+      operand p (compares_with (kinds_known p.known x)) r b room at_r
+      (ap (λ o. compares_with (option_map known_kind o) (known_kind b)) at_x.1 ∙ ok)
+
+  comparable : (p : Point) (l r : ℕ) (a b : Known) → Declared p → At a p l → At b p r
+      → is_ordered (known_kind a) ≡ true → compares_with (Some (known_kind a)) (known_kind b) ≡ true
+      → compare_fault turn.parts.registers (kinds_known p.known) l r ≡ None
+  comparable p l r a b room at_l at_r ordered ok =
+      both_none _ _ (operand p is_ordered l a room at_l ordered)
+      (compares p l r a b room at_l at_r ok)
+
+  -- a register keeps what is known of it
+  still : {A : Type 0} (P : Point → A → Type 0) (k : Env → A → Code) (p : Point)
+      (o : Option (ℕ × Reason)) (a : Passed P k p o) (v : Known) (r : ℕ) → At v p r → At v a.after r
+  still P k p o a v r at =
+      let below = at.0 in let onward = a.onward in (omega arith, a.kept r at.0 ∙ at.1)
+
+  -- ---- an operation
+
+  written : (o : Operation) (v : Known) (p : Point) (k : Rest)
+      → (Declared p → Suits o v p)
+      → Judges (known_fits v) (At v) k p (write o p.env k)
+  written o v p k suits room =
+      points.assigned turn o v p (one_more p.env) k refl (suits (omega (arith, room)))
+      (λ e. points.knows_more turn p v (one_more p.env) refl refl refl) room
+
+  -- ---- columns and rows
+
+  loaded_knows : (c : ColumnId) (p : Point) → known_fits (column_known c) ≡ true
+      → points.Knows turn (with_loaded p.env c)
+      (points.known_after turn p (column_known c))
+      (points.written_after turn p)
+  loaded_knows c p fits =
+      let more = points.knows_more turn p (column_known c) (one_more p.env) refl refl
+      refl in
+      record {
+        fact = more.fact;
+        some = more.some;
+        columns = λ d r e. by d r (loaded_split p.env.loaded c p.env.next d r e);
+        rows = more.rows;
+        fresh = more.fresh;
+      }
+    where
+      by : (d : ColumnId) (r : ℕ)
+          → (loaded_in p.env.loaded d ≡ Some r) ⊎ ((is_column d c ≡ true) × (p.env.next ≡ r))
+          → (r < p.env.next + 1)
+          × (points.known_after turn p (column_known c) r ≡ Some (column_known d))
+          × (known_fits (column_known d) ≡ true)
+      by d r (inl e) =
+          let h = p.knows.columns d r e in (
+            omega (arith, h.0),
+            entry_other p.known p.env.next r (column_known c) h.0 ∙ h.1,
+            h.2,
+          )
+      by d r (inr e) =
+          let here : p.env.next ≡ r = e.1 in
+          let same : c ≡ d = sym (column_same d c e.0) in (
+            omega arith,
+            subst (λ q. points.known_after turn p (column_known c) q
+                ≡ Some (column_known d)) here
+                (entry_same p.known p.env.next (column_known c)
+                ∙ ap (λ x. Some (column_known x)) same),
+            ap (λ x. known_fits (column_known x)) (sym same) ∙ fits,
+          )
+
+  found_knows : (t : TableId) (p : Point)
+      → points.Knows turn (with_found p.env t)
+      (points.known_after turn p (KnownRow t)) (points.written_after turn p)
+  found_knows t p =
+      let more = points.knows_more turn p (KnownRow t) (one_more p.env) refl refl refl in
+      record {
+        fact = more.fact;
+        some = more.some;
+        columns = more.columns;
+        rows = λ q r e. by q r (found_split p.env.found t p.env.next q r e);
+        fresh = more.fresh;
+      }
+    where
+      by : (q : TableId) (r : ℕ)
+          → (found_in p.env.found q ≡ Some r) ⊎ ((is_table q t ≡ true) × (p.env.next ≡ r))
+          → (r < p.env.next + 1)
+          × (points.known_after turn p (KnownRow t) r ≡ Some (KnownRow q))
+      by q r (inl e) =
+          let h = p.knows.rows q r e in
+          (omega (arith, h.0), entry_other p.known p.env.next r (KnownRow t) h.0 ∙ h.1)
+      by q r (inr e) =
+          let here : p.env.next ≡ r = e.1 in (
+            omega arith,
+            subst
+                (λ x. points.known_after turn p (KnownRow t) x ≡ Some (KnownRow q)) here
+                (entry_same p.known p.env.next (KnownRow t)
+                ∙ ap (λ x. Some (KnownRow x)) (sym (table_same q t e.0))),
+          )
+
+  load_judged : (c : ColumnId) (row : ℕ) (p : Point) (k : Rest) → At (KnownRow (table_of c)) p row
+      → Judges (known_fits (column_known c)) (At (column_known c)) k p (load_code c row p.env k)
+  load_judged c row p k at room =
+      let below : Declared p = omega (arith, room) in
+      points.assigned turn (operation.Load c row) (column_known c) p
+      (with_loaded p.env c) k refl
+      (record {
+        place = λ t. refl;
+        operands = both_none _ _ (operand p is_row row (KnownRow (table_of c)) below at refl)
+            (ap (λ o. unless (is_row_of (table_of c) (option_map known_kind o)) BadColumn) at.1
+            ∙ ap (λ b. unless b BadColumn) (table_itself (table_of c)));
+        source = λ g t. refl;
+        makes = refl;
+      })
+      (loaded_knows c p) room
+
+  -- the register that has it already
+  known_here : (c : ColumnId) (p : Point) (k : Rest) (r : ℕ) → loaded_in p.env.loaded c ≡ Some r
+      → Judges (known_fits (column_known c)) (At (column_known c)) k p (k p.env r)
+  known_here c p k r e room =
+      let h = p.knows.columns c r e in
+      inl (points.here turn (At (column_known c)) k p r (h.0, h.1) room, h.2)
+
+  fact_judged : (c : ColumnId) → table_of c ≡ Lineorder → (p : Point) (k : Rest) (o : Option ℕ)
+      → loaded_in p.env.loaded c ≡ o
+      → Judges (known_fits (column_known c)) (At (column_known c)) k p (fact_code c p.env k o)
+  fact_judged c t p k (Some r) e room = known_here c p k r e room
+  fact_judged c t p k None e room =
+      load_judged c 0 p k (p.knows.some, p.knows.fact ∙ ap (λ x. Some (KnownRow x)) (sym t)) room
+
+  -- where the bounds of columns are of 64 bits
+  module _ (js : List Join) (foreign : AreForeign js)
+      (within : turn.Asked → (c : ColumnId) → is_text c ≡ false
+      → fits_i64 (turn.world.bounds c) ≡ true) where
+    bounds_fit : turn.Asked → (c : ColumnId) (b : Bool) → is_text c ≡ b
+        → known_fits (loaded_known turn.world c b) ≡ true
+    bounds_fit s c true e = refl
+    bounds_fit s c false e = within s c e
+
+    fits : turn.Asked → (c : ColumnId) → known_fits (column_known c) ≡ true
+    fits s c = bounds_fit s c (is_text c) refl
+
+    foreign_known : (t : TableId) → joins_table js t ≡ true
+        → column_known (foreign_of js t)
+        ≡ KnownNumber (turn.world.bounds (foreign_of js t)) (is_column (foreign_of js t))
+        (Some (foreign_of js t))
+    foreign_known t j =
+        number_known turn.world (foreign_of js t) (is_text (foreign_of js t)) (foreign.number t j)
+
+    find_judged : (t : TableId) → joins_table js t ≡ true → (r : ℕ) (p : Point) (k : Rest)
+        → At (column_known (foreign_of js t)) p r
+        → Judges true (At (KnownRow t)) k p (find_code t r p.env k)
+    find_judged t j r p k at room =
+        let c = foreign_of js t in
+        let v = KnownNumber (turn.world.bounds c) (is_column c) (Some c) in
+        let key : At v p r = (at.0, at.1 ∙ ap Some (foreign_known t j)) in
+        points.assigned turn (operation.Find t r) (KnownRow t) p (with_found p.env t) k
+        refl
+        (record {
+          place = λ q. refl;
+          operands = operand p is_number r v (omega (arith, room)) key refl;
+          source = λ g q. ap (λ o. refuses (not (refers_to t (origin_at o))) NotAForeignKey) key.1
+              ∙ ap (λ o. refuses (not (is_some_table t o)) NotAForeignKey) (foreign.references t j)
+              ∙ ap (λ b. refuses (not b) NotAForeignKey) (table_itself t);
+          makes = refl;
+        })
+        (λ e. found_knows t p) room
+
+    row_judged : (t : TableId) → joins_table js t ≡ true → (p : Point) (k : Rest) (o : Option ℕ)
+        → found_in p.env.found t ≡ o
+        → Judges true (At (KnownRow t)) k p (row_code js t p.env k o)
+    row_judged t j p k (Some r) e room =
+        inl (points.here turn (At (KnownRow t)) k p r (p.knows.rows t r e) room, refl)
+    row_judged t j p k None e room =
+        let c = foreign_of js t in
+        let v = column_known c in
+        let l : Rest = λ e r. find_code t r e k in
+        points.judged_then turn (At v) (At (KnownRow t)) l k true true p _
+        (points.surely turn (At v) l (known_fits v) p _ (λ s. fits s c)
+        (fact_judged c (foreign.fact t j) p l (loaded_in p.env.loaded c) refl room))
+        (λ a. find_judged t j a.out a.after k a.says a.room)
+
+    place_judged : (c : ColumnId) (p : Point) (k : Rest) (b : Bool)
+        → is_table (table_of c) Lineorder ≡ b → (b || joins_table js (table_of c)) ≡ true
+        → Judges (known_fits (column_known c)) (At (column_known c)) k p (place_code js c p.env k b)
+    place_judged c p k true e j room =
+        load_judged c 0 p k (
+          p.knows.some,
+          p.knows.fact ∙ ap (λ x. Some (KnownRow x)) (sym (table_same (table_of c) Lineorder e)),
+        )
+        room
+    place_judged c p k false e j room =
+        let l : Rest = λ e r. load_code c r e k in
+        points.judged_then turn (At (KnownRow (table_of c))) (At (column_known c)) l k
+        true (known_fits (column_known c)) p _
+        (row_judged (table_of c) j p l (found_in p.env.found (table_of c)) refl room)
+        (λ a. load_judged c a.out a.after k a.says a.room)
+
+    column_from_judged : (c : ColumnId) (p : Point) (k : Rest) (o : Option ℕ)
+        → loaded_in p.env.loaded c ≡ o → in_scope js (table_of c) ≡ true
+        → Judges (known_fits (column_known c)) (At (column_known c)) k p
+        (column_from js c p.env k o)
+    column_from_judged c p k (Some r) e j room = known_here c p k r e room
+    column_from_judged c p k None e j room =
+        place_judged c p k (is_table (table_of c) Lineorder) refl j room
+
+    pub column_judged : (c : ColumnId) (p : Point) (k : Rest) → in_scope js (table_of c) ≡ true
+        → Judges (known_fits (column_known c)) (At (column_known c)) k p (column_code js c p.env k)
+    column_judged c p k j room = column_from_judged c p k (loaded_in p.env.loaded c) refl j room
+
+    -- of a condition or a key
+    pub column_passes : (c : ColumnId) (p : Point) (k : Rest) → in_scope js (table_of c) ≡ true
+        → Judges true (At (column_known c)) k p (column_code js c p.env k)
+    column_passes c p k j room =
+        points.surely turn (At (column_known c)) k (known_fits (column_known c)) p _
+        (λ s. fits s c) (column_judged c p k j room)
+
+    -- ---- conditions
+
+    -- a bound beside which a column's values are compared
+    record Bounds (c : ColumnId) (o : Operation) : Type 0 where
+      known : Known
+      suits : (p : Point) → Suits o known p
+      lies : turn.Asked → known_fits known ≡ true
+      ordered : is_ordered (known_kind known) ≡ true
+      column_ordered : is_ordered (known_kind (column_known c)) ≡ true
+      after : compares_with (Some (known_kind (column_known c))) (known_kind known) ≡ true
+      before : compares_with (Some (known_kind known)) (known_kind (column_known c)) ≡ true
+
+    const_bounds : (c : ColumnId) → is_text c ≡ false → (z : ℤ)
+        → (turn.Asked → fits_i64 (only z) ≡ true) → Bounds c (operation.Const z)
+    const_bounds c number z lies =
+        let e = sym (number_known turn.world c (is_text c) number) in record {
+          known = given (only z);
+          suits = λ p. record {
+            place = λ t. refl;
+            operands = refl;
+            source = λ g t. refl;
+            makes = refl;
+          };
+          lies = lies;
+          ordered = refl;
+          column_ordered = subst (λ v. is_ordered (known_kind v) ≡ true) e refl;
+          after = subst (λ v. compares_with (Some (known_kind v)) kinds.Number ≡ true) e refl;
+          before = subst (λ v. compares_with (Some kinds.Number) (known_kind v) ≡ true) e refl;
+        }
+
+    edge_bounds : (e : Edge) (c : ColumnId) → is_text c ≡ true → (text : List ℕ)
+        → Bounds c (operation.Edge e c text)
+    edge_bounds edge c is text =
+        let e = sym (text_known turn.world c (is_text c) is) in record {
+          known = KnownPlace c;
+          suits = λ p. record {
+            place = λ t. refl;
+            operands = ap (λ b. unless b BadColumn) is;
+            source = λ g t. refl;
+            makes = refl;
+          };
+          lies = λ s. refl;
+          ordered = refl;
+          column_ordered = subst (λ v. is_ordered (known_kind v) ≡ true) e refl;
+          after = subst (λ v. compares_with (Some (known_kind v)) (kinds.Place c) ≡ true) e
+              (column_itself c);
+          before = subst (λ v. compares_with (Some (kinds.Place c)) (known_kind v) ≡ true) e
+              (column_itself c);
+        }
+
+    start_bounds : (c : ColumnId) (v : Value) → same_kind (kind_of c) (kind_of_value v) ≡ true
+        → (turn.Asked → value_is_spelled v ≡ true) → Bounds c (start_of c v)
+    start_bounds c (Number a) same spelled =
+        const_bounds c (holds_numbers c same) a (λ s. constant_fits a (spelled s))
+    start_bounds c (Text t) same spelled = edge_bounds Low c (holds_texts c same) t
+
+    end_bounds : (c : ColumnId) (v : Value) → same_kind (kind_of c) (kind_of_value v) ≡ true
+        → (turn.Asked → value_is_spelled v ≡ true) → Bounds c (end_of c v)
+    end_bounds c (Number a) same spelled =
+        const_bounds c (holds_numbers c same) (a +ℤ pos 1) (λ s. next_fits a (spelled s))
+    end_bounds c (Text t) same spelled = edge_bounds High c (holds_texts c same) t
+
+    bound_judged : (c : ColumnId) (o : Operation) (b : Bounds c o) (p : Point) (k : Rest)
+        → Judges true (At b.known) k p (write o p.env k)
+    bound_judged c o b p k room =
+        points.surely turn (At b.known) k (known_fits b.known) p _ b.lies
+        (written o b.known p k (λ h. b.suits p) room)
+
+    -- an operation on a column and a bound
+    abbrev Uses : (c : ColumnId) (o : Operation) → Bounds c o → ℕ → (ℕ → Operation) → Type 0
+    Uses c o b x used =
+        (q : Point) (m : ℕ) → Declared q → At (column_known c) q x → At b.known q m
+        → Suits (used m) KnownFlag q
+
+    beside_judged : (c : ColumnId) (o : Operation) (b : Bounds c o) (x : ℕ) (used : ℕ → Operation)
+        → Uses c o b x used → (p : Point) (k : Rest) → At (column_known c) p x
+        → Judges true (At KnownFlag) k p (beside o used p.env k)
+    beside_judged c o b x used uses p k at room =
+        let l : Rest = λ e m. write (used m) e k in
+        points.judged_then turn (At b.known) (At KnownFlag) l k true true p _
+        (bound_judged c o b p l room)
+        (λ a. written (used a.out) KnownFlag a.after k
+        (λ h. uses a.after a.out h (still (At b.known) l p _ a (column_known c) x at) a.says)
+        a.room)
+
+    -- an operator that compares
+    abbrev Compares : Operator → Type 0
+    Compares o =
+        ((registers : ℕ) (kinds : Kinds) (l r : ℕ)
+        → binary_fault registers kinds o l r ≡ compare_fault registers kinds l r)
+        × ((l r : Option Known) → answer_known o l r ≡ KnownFlag)
+
+    before_bound : (o : Operator) → Compares o → (c : ColumnId) (edge : Operation)
+        (b : Bounds c edge) (x : ℕ) → Uses c edge b x (λ m. operation.Binary o x m)
+    before_bound o is c edge b x = λ q m room at_x at_m. record {
+      place = λ t. refl;
+      operands = is.0 turn.parts.registers (kinds_known q.known) x m
+          ∙ comparable q x m (column_known c) b.known room at_x at_m b.column_ordered b.after;
+      source = λ g t. refl;
+      makes = is.1 (q.known x) (q.known m);
+    }
+
+    after_bound : (o : Operator) → Compares o → (c : ColumnId) (edge : Operation)
+        (b : Bounds c edge) (x : ℕ) → Uses c edge b x (λ m. operation.Binary o m x)
+    after_bound o is c edge b x = λ q m room at_x at_m. record {
+      place = λ t. refl;
+      operands = is.0 turn.parts.registers (kinds_known q.known) m x
+          ∙ comparable q m x b.known (column_known c) room at_m at_x b.ordered b.before;
+      source = λ g t. refl;
+      makes = is.1 (q.known m) (q.known x);
+    }
+
+    less : Compares operator.Less
+    less = (λ registers kinds l r. refl, λ l r. refl)
+
+    at_most : Compares operator.LessOrEqual
+    at_most = (λ registers kinds l r. refl, λ l r. refl)
+
+    equal : Compares operator.Equal
+    equal = (λ registers kinds l r. refl, λ l r. refl)
+
+    within_judged : (c : ColumnId) (from upto : Operation) (b : Bounds c from) (d : Bounds c upto)
+        (x : ℕ) (p : Point) (k : Rest) → At (column_known c) p x
+        → Judges true (At KnownFlag) k p
+        (write from p.env (λ e m. beside upto (λ q. operation.Within x m q) e k))
+    within_judged c from upto b d x p k at room =
+        let l : Rest = λ e m. beside upto (λ q. operation.Within x m q) e k in
+        points.judged_then turn (At b.known) (At KnownFlag) l k true true p _
+        (bound_judged c from b p l room)
+        (λ a. let m = a.out in
+        let l2 : Rest = λ e q. write (operation.Within x m q) e k in
+        let at_x = still (At b.known) l p _ a (column_known c) x at in
+        points.judged_then turn (At d.known) (At KnownFlag) l2 k true true a.after _
+        (bound_judged c upto d a.after l2 a.room)
+        (λ z. written (operation.Within x m z.out) KnownFlag z.after k
+        (λ h. let there = still (At d.known) l2 a.after _ z (column_known c) x at_x in
+        let first = still (At d.known) l2 a.after _ z b.known m a.says in
+        record {
+          place = λ t. refl;
+          operands = both_none _ _
+              (comparable z.after x m (column_known c) b.known h there first b.column_ordered
+              b.after)
+              (compares z.after x z.out (column_known c) d.known h there z.says d.after);
+          source = λ g t. refl;
+          makes = refl;
+        }) z.room))
+
+    between_judged : (c : ColumnId) (x : ℕ) (from upto : Value)
+        → same_kind (kind_of c) (kind_of_value from) ≡ true
+        → same_kind (kind_of c) (kind_of_value upto) ≡ true
+        → (turn.Asked → value_is_spelled from ≡ true) → (turn.Asked → value_is_spelled upto ≡ true)
+        → (p : Point) (k : Rest) → At (column_known c) p x
+        → Judges true (At KnownFlag) k p (between_code c x from upto p.env k)
+    between_judged c x from upto kind_from kind_upto said_from said_upto p k at room =
+        within_judged c (start_of c from) (end_of c upto) (start_bounds c from kind_from said_from)
+        (end_bounds c upto kind_upto said_upto) x p k at room
+
+    not_judged : (y : ℕ) (p : Point) (k : Rest) → At KnownFlag p y
+        → Judges true (At KnownFlag) k p (write (operation.Not y) p.env k)
+    not_judged y p k at room =
+        written (operation.Not y) KnownFlag p k
+        (λ h. record {
+          place = λ t. refl;
+          operands = operand p is_flag y KnownFlag h at refl;
+          source = λ g t. refl;
+          makes = refl;
+        })
+        room
+
+    equal_judged : (c : ColumnId) (x : ℕ) (v : Value)
+        → same_kind (kind_of c) (kind_of_value v) ≡ true → (turn.Asked → value_is_spelled v ≡ true)
+        → (p : Point) (k : Rest) → At (column_known c) p x
+        → Judges true (At KnownFlag) k p (equal_code c x v p.env k)
+    equal_judged c x (Number a) same said p k at room =
+        let b = start_bounds c (Number a) same said in
+        beside_judged c (operation.Const a) b x (λ m. operation.Binary operator.Equal x m)
+        (before_bound operator.Equal equal c (operation.Const a) b x) p k at room
+    equal_judged c x (Text t) same said p k at room =
+        between_judged c x (Text t) (Text t) same same said said p k at room
+
+    test_judged : (s : Relation) (c : ColumnId) (x : ℕ) (v : Value)
+        → same_kind (kind_of c) (kind_of_value v) ≡ true → (turn.Asked → value_is_spelled v ≡ true)
+        → (p : Point) (k : Rest) → At (column_known c) p x
+        → Judges true (At KnownFlag) k p (test_code s c x v p.env k)
+    test_judged sign.Equal c x v same said p k at room = equal_judged c x v same said p k at room
+    test_judged sign.Unequal c x v same said p k at room =
+        let l : Rest = λ e y. write (operation.Not y) e k in
+        points.judged_then turn (At KnownFlag) (At KnownFlag) l k true true p _
+        (equal_judged c x v same said p l at room)
+        (λ a. not_judged a.out a.after k a.says a.room)
+    test_judged sign.Less c x v same said p k at room =
+        let b = start_bounds c v same said in
+        beside_judged c (start_of c v) b x (λ m. operation.Binary operator.Less x m)
+        (before_bound operator.Less less c (start_of c v) b x) p k at room
+    test_judged sign.AtMost c x (Number a) same said p k at room =
+        let b = start_bounds c (Number a) same said in
+        beside_judged c (operation.Const a) b x (λ m. operation.Binary operator.LessOrEqual x m)
+        (before_bound operator.LessOrEqual at_most c (operation.Const a) b x) p k at room
+    test_judged sign.AtMost c x (Text t) same said p k at room =
+        let b = end_bounds c (Text t) same said in
+        beside_judged c (operation.Edge High c t) b x (λ m. operation.Binary operator.Less x m)
+        (before_bound operator.Less less c (operation.Edge High c t) b x) p k at room
+    test_judged sign.Greater c x (Number a) same said p k at room =
+        let b = start_bounds c (Number a) same said in
+        beside_judged c (operation.Const a) b x (λ m. operation.Binary operator.Less m x)
+        (after_bound operator.Less less c (operation.Const a) b x) p k at room
+    test_judged sign.Greater c x (Text t) same said p k at room =
+        let b = end_bounds c (Text t) same said in
+        beside_judged c (operation.Edge High c t) b x
+        (λ m. operation.Binary operator.LessOrEqual m x)
+        (after_bound operator.LessOrEqual at_most c (operation.Edge High c t) b x) p k at room
+    test_judged sign.AtLeast c x v same said p k at room =
+        let b = start_bounds c v same said in
+        beside_judged c (start_of c v) b x (λ m. operation.Binary operator.LessOrEqual m x)
+        (after_bound operator.LessOrEqual at_most c (start_of c v) b x) p k at room
+
+    -- an operator on two flags
+    record TakesFlags (o : Operator) : Type 0 where
+      takes : (registers : ℕ) (kinds : Kinds) (l r : ℕ)
+          → binary_fault registers kinds o l r ≡ both_fault registers kinds is_flag l r
+      makes : (l r : Option Known) → answer_known o l r ≡ KnownFlag
+
+    conjunction : TakesFlags operator.And
+    conjunction = record { takes = λ registers kinds l r. refl; makes = λ l r. refl }
+
+    disjunction : TakesFlags operator.Or
+    disjunction = record { takes = λ registers kinds l r. refl; makes = λ l r. refl }
+
+    flags_judged : (o : Operator) → TakesFlags o → (x y : ℕ) (p : Point) (k : Rest)
+        → At KnownFlag p x → At KnownFlag p y
+        → Judges true (At KnownFlag) k p (write (operation.Binary o x y) p.env k)
+    flags_judged o is x y p k at_x at_y room =
+        written (operation.Binary o x y) KnownFlag p k
+        (λ h. record {
+          place = λ t. refl;
+          operands = is.takes turn.parts.registers (kinds_known p.known) x y
+              ∙ two_of p is_flag x y KnownFlag KnownFlag h at_x at_y refl refl;
+          source = λ g t. refl;
+          makes = is.makes (p.known x) (p.known y);
+        })
+        room
+
+    abbrev JudgesFlag : Condition → Type 0
+    JudgesFlag c =
+        (p : Point) (k : Rest)
+        → Judges true (At KnownFlag) k p (condition_code js c p.env k)
+
+    -- and after its two parts
+    conditions_judged : (a b : Condition) (o : Operator) → TakesFlags o → JudgesFlag a
+        → JudgesFlag b → (p : Point) (k : Rest)
+        → Judges true (At KnownFlag) k p
+        (binary_code (condition_code js a) (condition_code js b) o p.env k)
+    conditions_judged a b o is first second p k room =
+        let l : Rest = λ e x. condition_code js b e (λ e y. write (operation.Binary o x y) e k) in
+        points.judged_then turn (At KnownFlag) (At KnownFlag) l k true true p _
+        (first p l room)
+        (λ x. let m : Rest = λ e y. write (operation.Binary o x.out y) e k in
+        points.judged_then turn (At KnownFlag) (At KnownFlag) m k true true x.after _
+        (second x.after m x.room)
+        (λ y. flags_judged o is x.out y.out y.after k
+        (still (At KnownFlag) m x.after _ y KnownFlag x.out x.says) y.says y.room))
+
+    pub condition_judged : (c : Condition) → condition_is_sound js c ≡ true
+        → (turn.Asked → condition_is_spelled c ≡ true) → JudgesFlag c
+    condition_judged (either a b) sound said p k room =
+        let parts = and_parts (condition_is_sound js a) (condition_is_sound js b) sound in
+        let says = λ (s : turn.Asked). and_parts (condition_is_spelled a) (condition_is_spelled b)
+        (said s) in
+        conditions_judged a b operator.Or disjunction
+        (condition_judged a parts.0 (λ s. (says s).0))
+        (condition_judged b parts.1 (λ s. (says s).1)) p k room
+    condition_judged (both a b) sound said p k room =
+        let parts = and_parts (condition_is_sound js a) (condition_is_sound js b) sound in
+        let says = λ (s : turn.Asked). and_parts (condition_is_spelled a) (condition_is_spelled b)
+        (said s) in
+        conditions_judged a b operator.And conjunction
+        (condition_judged a parts.0 (λ s. (says s).0))
+        (condition_judged b parts.1 (λ s. (says s).1)) p k room
+    condition_judged (negation a) sound said p k room =
+        let l : Rest = λ e x. write (operation.Not x) e k in
+        points.judged_then turn (At KnownFlag) (At KnownFlag) l k true true p _
+        (condition_judged a sound said p l room)
+        (λ x. not_judged x.out x.after k x.says x.room)
+    condition_judged (compare c s v) sound said p k room =
+        let parts = and_parts (in_scope js (table_of c))
+        (same_kind (kind_of c) (kind_of_value v)) sound in
+        let l : Rest = λ e x. test_code s c x v e k in
+        points.judged_then turn (At (column_known c)) (At KnownFlag) l k true true p _
+        (column_passes c p l parts.0 room)
+        (λ x. test_judged s c x.out v parts.1 said x.after k x.says x.room)
+    condition_judged (between c from upto) sound said p k room =
+        let parts = and_parts (in_scope js (table_of c))
+        (same_kind (kind_of c) (kind_of_value from) && same_kind (kind_of c) (kind_of_value upto))
+        sound in
+        let kinds = and_parts (same_kind (kind_of c) (kind_of_value from))
+        (same_kind (kind_of c) (kind_of_value upto)) parts.1 in
+        let says = λ (s : turn.Asked). and_parts (value_is_spelled from) (value_is_spelled upto)
+        (said s) in
+        let l : Rest = λ e x. between_code c x from upto e k in
+        points.judged_then turn (At (column_known c)) (At KnownFlag) l k true true p _
+        (column_passes c p l parts.0 room)
+        (λ x. between_judged c x.out from upto kinds.0 kinds.1 (λ s. (says s).0) (λ s. (says s).1)
+        x.after k x.says x.room)
+
+    -- ---- expressions
+
+    -- a register holds a number of this range
+    abbrev pub Ranged : Range → Point → ℕ → Type 0
+    Ranged r p q =
+        (q < p.env.next)
+        × ((reach : Reach) × (o : Option ColumnId) × (p.known q ≡ Some (KnownNumber r reach o)))
+
+    number_at : (p : Point) (q : ℕ) (r : Range) (h : Ranged r p q)
+        → At (KnownNumber r h.1.0 h.1.1) p q
+    number_at p q r h = (h.0, h.1.2)
+
+    ranged : (r : Range) (reach : Reach) (o : Option ColumnId) (p : Point) (q : ℕ)
+        → At (KnownNumber r reach o) p q → Ranged r p q
+    ranged r reach o p q h = (h.0, (reach, o, h.1))
+
+    -- arithmetic on two numbers, by a range and what makes it
+    record Computes (o : Operator) (z : ℤ → ℤ → ℤ) : Type 0 where
+      takes : (registers : ℕ) (kinds : Kinds) (l r : ℕ)
+          → binary_fault registers kinds o l r ≡ both_fault registers kinds is_number l r
+      makes : (l r : Option Known) → answer_known o l r ≡ computed z l r
+
+    adds : Computes operator.Add ◌+ℤ◌
+    adds = record { takes = λ registers kinds l r. refl; makes = λ l r. refl }
+
+    subtracts : Computes operator.Sub ◌-ℤ◌
+    subtracts = record { takes = λ registers kinds l r. refl; makes = λ l r. refl }
+
+    multiplies : Computes operator.Mul ◌*ℤ◌
+    multiplies = record { takes = λ registers kinds l r. refl; makes = λ l r. refl }
+
+    operator_judged : (o : Operator) (z : ℤ → ℤ → ℤ) → Computes o z → (x y : ℕ) (a b : Range)
+        (p : Point) (k : Rest) → Ranged a p x → Ranged b p y
+        → Judges (fits_i64 (corner_range z a b)) (Ranged (corner_range z a b)) k p
+        (write (operation.Binary o x y) p.env k)
+    operator_judged o z is x y a b p k at_x at_y room =
+        let u = KnownNumber a at_x.1.0 at_x.1.1 in
+        let v = KnownNumber b at_y.1.0 at_y.1.1 in
+        let r = corner_range z a b in
+        let reach = joined_reach at_x.1.0 at_y.1.0 in
+        points.weaker turn (At (KnownNumber r reach None)) (Ranged r) k (fits_i64 r) p _
+        (λ q t h. ranged r reach None q t h)
+        (written (operation.Binary o x y) (KnownNumber r reach None) p k
+        (λ h. record {
+          place = λ t. refl;
+          operands = is.takes turn.parts.registers (kinds_known p.known) x y
+              ∙ two_of p is_number x y u v h (number_at p x a at_x) (number_at p y b at_y) refl
+              refl;
+          source = λ g t. refl;
+          makes = is.makes (p.known x) (p.known y) ∙ λ i. computed z (at_x.1.2 i) (at_y.1.2 i);
+        })
+        room)
+
+    abbrev JudgesRange : Expression → Type 0
+    JudgesRange a =
+        (p : Point) (k : Rest)
+        → Judges (nodes_fit turn.world.bounds a) (Ranged (range_of turn.world.bounds a)) k p
+        (expression_code js a p.env k)
+
+    -- an operator after its two parts
+    two_judged : (a b : Expression) (o : Operator) (z : ℤ → ℤ → ℤ) → Computes o z → JudgesRange a
+        → JudgesRange b → (p : Point) (k : Rest)
+        → Judges
+        (nodes_fit turn.world.bounds a && (nodes_fit turn.world.bounds b
+        && fits_i64 (corner_range z (range_of turn.world.bounds a) (range_of turn.world.bounds b))))
+        (Ranged (corner_range z (range_of turn.world.bounds a) (range_of turn.world.bounds b))) k p
+        (binary_code (expression_code js a) (expression_code js b) o p.env k)
+    two_judged a b o z is first second p k room =
+        let q = range_of turn.world.bounds a in
+        let r = range_of turn.world.bounds b in
+        let c = corner_range z q r in
+        let l : Rest = λ e x. expression_code js b e (λ e y. write (operation.Binary o x y) e k) in
+        points.judged_then turn (Ranged q) (Ranged c) l k (nodes_fit turn.world.bounds a)
+        (nodes_fit turn.world.bounds b && fits_i64 c) p _
+        (first p l room)
+        (λ x. let m : Rest = λ e y. write (operation.Binary o x.out y) e k in
+        points.judged_then turn (Ranged r) (Ranged c) m k (nodes_fit turn.world.bounds b)
+        (fits_i64 c) x.after _
+        (second x.after m x.room)
+        (λ y. let v = KnownNumber q x.says.1.0 x.says.1.1 in
+        let at_x = still (Ranged r) m x.after _ y v x.out (number_at x.after x.out q x.says) in
+        operator_judged o z is x.out y.out q r y.after k
+        (ranged q x.says.1.0 x.says.1.1 y.after x.out at_x) y.says y.room))
+
+    pub expression_judged : (a : Expression) → expression_is_sound js a ≡ true → JudgesRange a
+    expression_judged (column c) sound p k room =
+        let parts = and_parts (in_scope js (table_of c)) (same_kind (kind_of c) kind.Number)
+        sound in
+        let is = number_known turn.world c (is_text c) (holds_numbers c parts.1) in
+        let r = turn.world.bounds c in
+        points.weaker turn (At (KnownNumber r (is_column c) (Some c))) (Ranged r) k
+        (fits_i64 r) p _ (λ q t h. ranged r (is_column c) (Some c) q t h)
+        (subst (λ v. points.Judged turn (known_fits v) (At v) k p
+        (points.answer turn p (column_code js c p.env k))) is
+        (column_judged c p k parts.0 room))
+    expression_judged (constant z) sound p k room =
+        points.weaker turn (At (given (only z))) (Ranged (only z)) k (fits_i64 (only z))
+        p _
+        (λ q t h. ranged (only z) no_reach None q t h)
+        (written (operation.Const z) (given (only z)) p k
+        (λ h. record { place = λ t. refl; operands = refl; source = λ g t. refl; makes = refl })
+        room)
+    expression_judged (add a b) sound p k room =
+        let parts = and_parts (expression_is_sound js a) (expression_is_sound js b) sound in
+        two_judged a b operator.Add ◌+ℤ◌ adds (expression_judged a parts.0)
+        (expression_judged b parts.1) p k room
+    expression_judged (sub a b) sound p k room =
+        let parts = and_parts (expression_is_sound js a) (expression_is_sound js b) sound in
+        two_judged a b operator.Sub ◌-ℤ◌ subtracts (expression_judged a parts.0)
+        (expression_judged b parts.1) p k room
+    expression_judged (mul a b) sound p k room =
+        let parts = and_parts (expression_is_sound js a) (expression_is_sound js b) sound in
+        two_judged a b operator.Mul ◌*ℤ◌ multiplies (expression_judged a parts.0)
+        (expression_judged b parts.1) p k room

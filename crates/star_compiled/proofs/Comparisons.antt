@@ -1,0 +1,122 @@
+-- Comparisons of numbers and of places say what comparisons of values do.
+use Rattle.std.proofs.Common.{◌≡◌, ℕ, Bool, true, false, List, refl, sym, ap, ◌∙◌, arith, cond}
+use Rattle.std.specs.Prelude.{ℤ, pos, ◌+ℤ◌, ◌&&◌, not, nat_lt, nat_eq, int_lt}
+use Rattle.std.specs.declared.cmp.Ordering.{Ordering}
+use Rattle.std.specs.declared.cmp.Ordering.TheVariants.{Less, Equal, Greater}
+use Rattle.std.specs.Ordering.{int_cmp, nat_cmp, is_eq, is_ne, is_lt, is_le, is_gt, is_ge, ordering_reverse}
+use Rattle.std.specs.Cmp.Lexicographic.{slice_cmp, nat_list_cmp_total}
+use Rattle.std.specs.Cmp.{int_cmp_total, nat_cmp_total}
+use Rattle.std.proofs.lemmas.Int.{ints}
+
+pub lt_by : (a b : Bool) → is_lt (cond a Less (cond b Greater Equal)) ≡ a
+lt_by true b = refl
+lt_by false true = refl
+lt_by false false = refl
+
+-- the other way round
+pub lt_turned : (o : Ordering) → is_lt (ordering_reverse o) ≡ is_gt o
+lt_turned Less = refl
+lt_turned Equal = refl
+lt_turned Greater = refl
+
+pub le_turned : (o : Ordering) → is_le (ordering_reverse o) ≡ is_ge o
+le_turned Less = refl
+le_turned Equal = refl
+le_turned Greater = refl
+
+pub le_not_lt : (o : Ordering) → is_le (ordering_reverse o) ≡ not (is_lt o)
+le_not_lt Less = refl
+le_not_lt Equal = refl
+le_not_lt Greater = refl
+
+pub gt_not_le : (o : Ordering) → not (is_le o) ≡ is_gt o
+gt_not_le Less = refl
+gt_not_le Equal = refl
+gt_not_le Greater = refl
+
+pub ge_not_lt : (o : Ordering) → not (is_lt o) ≡ is_ge o
+ge_not_lt Less = refl
+ge_not_lt Equal = refl
+ge_not_lt Greater = refl
+
+pub eq_both : (o : Ordering) → not (is_lt o) && is_le o ≡ is_eq o
+eq_both Less = refl
+eq_both Equal = refl
+eq_both Greater = refl
+
+pub ne_is : (o : Ordering) → not (is_eq o) ≡ is_ne o
+ne_is Less = refl
+ne_is Equal = refl
+ne_is Greater = refl
+
+pub number_gt : (x a : ℤ) → is_lt (int_cmp a x) ≡ is_gt (int_cmp x a)
+number_gt x a = ap is_lt (int_cmp_total.antisymm a x) ∙ lt_turned (int_cmp x a)
+
+pub number_ge : (x a : ℤ) → is_le (int_cmp a x) ≡ is_ge (int_cmp x a)
+number_ge x a = ap is_le (int_cmp_total.antisymm a x) ∙ le_turned (int_cmp x a)
+
+-- below one more is at most
+pub number_upto : (x b : ℤ) → is_lt (int_cmp x (b +ℤ pos 1)) ≡ is_le (int_cmp x b)
+number_upto x b =
+    let below : int_lt x (b +ℤ pos 1) ≡ not (int_lt b x) = grind (arith, ints) in
+    lt_by _ _ ∙ below ∙ ap not (sym (lt_by (int_lt b x) (int_lt x b)))
+    ∙ sym (le_not_lt (int_cmp b x)) ∙ ap is_le (sym (int_cmp_total.antisymm x b))
+
+-- ---- places
+pub place_lt : (m n : ℕ) → is_lt (int_cmp (pos m) (pos n)) ≡ nat_lt m n
+place_lt m n = lt_by (nat_lt m n) (nat_lt n m)
+
+pub place_le : (m n : ℕ) → is_le (int_cmp (pos n) (pos m)) ≡ not (nat_lt m n)
+place_le m n =
+    ap is_le (int_cmp_total.antisymm (pos n) (pos m)) ∙ le_not_lt (int_cmp (pos m) (pos n))
+    ∙ ap not (place_lt m n)
+
+-- ---- codes
+
+nat_lt_by : (a b : Bool) → is_lt (cond a Less (cond b Equal Greater)) ≡ a
+nat_lt_by true b = refl
+nat_lt_by false true = refl
+nat_lt_by false false = refl
+
+eq_neither : (o : Ordering) → is_eq o ≡ not (is_lt o) && not (is_lt (ordering_reverse o))
+eq_neither Less = refl
+eq_neither Equal = refl
+eq_neither Greater = refl
+
+pub nat_eq_by : (m n : ℕ) → is_eq (nat_cmp m n) ≡ not (nat_lt m n) && not (nat_lt n m)
+nat_eq_by m n =
+    eq_neither (nat_cmp m n) ∙ λ i. not (nat_lt_by (nat_lt m n) (nat_eq m n) i) && not
+    ((ap is_lt (sym (nat_cmp_total.antisymm n m)) ∙ nat_lt_by (nat_lt n m) (nat_eq n m)) i)
+
+pub text_eq_by : (v u : List ℕ) → is_eq (slice_cmp nat_cmp v u) ≡ not
+    (is_lt (slice_cmp nat_cmp v u)) && not (is_lt (slice_cmp nat_cmp u v))
+text_eq_by v u =
+    eq_neither (slice_cmp nat_cmp v u) ∙ ap (λ o. not (is_lt (slice_cmp nat_cmp v u)) && not
+    (is_lt o)) (sym (nat_list_cmp_total.antisymm u v))
+
+-- codes are equal where their texts are
+pub code_eq : (m n : ℕ) (v u : List ℕ) → nat_lt m n ≡ is_lt (slice_cmp nat_cmp v u)
+    → nat_lt n m ≡ is_lt (slice_cmp nat_cmp u v)
+    → is_eq (slice_cmp nat_cmp v u) ≡ is_eq (nat_cmp m n)
+code_eq m n v u p q = text_eq_by v u ∙ sym (nat_eq_by m n ∙ λ i. not (p i) && not (q i))
+
+-- an order is known by 'less' both ways round
+by_less : (o p : Ordering) → is_lt o ≡ is_lt p
+    → is_lt (ordering_reverse o) ≡ is_lt (ordering_reverse p) → o ≡ p
+by_less Less Less e f = refl
+by_less Equal Equal e f = refl
+by_less Greater Greater e f = refl
+by_less Less Equal e f = absurd (cc)
+by_less Less Greater e f = absurd (cc)
+by_less Equal Less e f = absurd (cc)
+by_less Equal Greater e f = absurd (cc)
+by_less Greater Less e f = absurd (cc)
+by_less Greater Equal e f = absurd (cc)
+
+-- codes compare as their texts do
+pub code_cmp : (m n : ℕ) (v u : List ℕ) → nat_lt m n ≡ is_lt (slice_cmp nat_cmp v u)
+    → nat_lt n m ≡ is_lt (slice_cmp nat_cmp u v) → nat_cmp m n ≡ slice_cmp nat_cmp v u
+code_cmp m n v u p q =
+    by_less (nat_cmp m n) (slice_cmp nat_cmp v u) (nat_lt_by (nat_lt m n) (nat_eq m n) ∙ p)
+    (ap is_lt (sym (nat_cmp_total.antisymm n m)) ∙ nat_lt_by (nat_lt n m) (nat_eq n m) ∙ q
+    ∙ ap is_lt (nat_list_cmp_total.antisymm u v))

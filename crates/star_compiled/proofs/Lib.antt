@@ -1,0 +1,31 @@
+pub mod Entries
+pub mod Flat
+pub mod Sizes
+pub mod Sayable
+pub mod Programs
+pub mod Looks
+pub mod Joins
+pub mod TurnRows
+pub mod SeenRows
+pub mod Comparisons
+pub mod Pieces
+pub mod Turns
+pub mod Rows
+pub mod Elements
+pub mod KeyCodes
+pub mod Answered
+pub mod HeldRows
+pub mod QueryAnswers
+mod Plans
+mod Texts
+mod Vectors
+mod ForeignKeys
+mod Constants
+mod Points
+mod Accepts
+mod OneShare
+mod AcceptsPlan
+mod Verdicts
+mod OutsideBounds
+mod WorkedVerdicts
+mod WorkedAnswers

@@ -1,0 +1,696 @@
+-- What each piece of a compiled program does, from its end.
+use Rattle.std.proofs.Common.{◌≡◌, ℕ, ◌+◌, ◌≤◌, ◌<◌, Bool, true, false, List, Option, Some, None, refl, sym, ap, subst, ◌∙◌, arith}
+use Rattle.std.proofs.lemmas.Bool.{eqb-true, eq-eqb, and_parts}
+use Rattle.std.proofs.lemmas.Option.{same_Some}
+use mathlib.Core.Logic.{inl, inr, ◌⊎◌}
+use Rattle.std.specs.Prelude.{ℤ, pos, ◌+ℤ◌, ◌-ℤ◌, ◌*ℤ◌, ◌&&◌, ◌||◌, not, nat_eq, nat_lt, if◌then◌else◌}
+use Rattle.std.specs.Ordering.{int_cmp, nat_cmp, is_eq, is_lt, is_le}
+use Rattle.std.specs.Cmp.Lexicographic.{slice_cmp, nat_list_cmp_total}
+use Rattle.star_schema.specs.declared.table.TableId.{TableId}
+use Rattle.star_schema.specs.declared.table.TableId.TheVariants.{Lineorder}
+use Rattle.star_schema.specs.declared.column.ColumnId.{ColumnId}
+use Rattle.star_schema.specs.declared.column.Kind.TheVariants as kind
+use Rattle.star_schema.specs.Order.{value_cmp}
+use Rattle.star_schema.specs.Schema.{is_table, kind_of, table_of}
+use Rattle.star_schema.specs.Tables as held
+use Rattle.star_schema.specs.Tables.{kind_of_value}
+use Rattle.star_schema.proofs.Same.{table_same, column_same}
+use Rattle.star_interval.specs.Range.{is_i64}
+use Rattle.star_query.specs.declared.token.Relation.{Relation}
+use Rattle.star_query.specs.declared.token.Relation.TheVariants as sign
+use Rattle.star_plan.specs.declared.tree.Join.{Join}
+use Rattle.star_plan.specs.Meaning.{Joined, value_of, tests, Condition, either, both, negation, compare, between, holds, Expression, column, constant, add, sub, mul, number_at, number_of}
+use Rattle.star_plan.specs.Names.{same_kind}
+use Rattle.star_plan.specs.Sound.{joins_table, in_scope, condition_is_sound, expression_is_sound}
+use Rattle.star_program.specs.declared.fault.Fault.{Fault}
+use Rattle.star_program.specs.declared.op.Edge.TheVariants.{Low, High}
+use Rattle.star_program.specs.declared.op.Op.TheVariants.{Assign}
+use Rattle.star_program.specs.declared.op.Operation.{Operation}
+use Rattle.star_program.specs.declared.op.Operation.TheVariants.{Const, Edge, Load, Find, Binary, Within, Not}
+use Rattle.star_program.specs.declared.op.Operator.{Operator}
+use Rattle.star_program.specs.declared.op.Operator.TheVariants as operator
+use Rattle.star_program.specs.declared.program.Parts.{Parts}
+use Rattle.star_program.specs.declared.value.Value.{Value}
+use Rattle.star_program.specs.declared.value.Value.TheVariants.{Number, Place, Row, Flag}
+use Rattle.star_program.specs.Code.{Code}
+use Rattle.star_program.specs.World.{World, is_column, is_text}
+use Rattle.star_program.specs.Values.{Registers, with_entry, number_in, flag_in, row_in}
+use Rattle.star_program.specs.Faults.{fault_of}
+use Rattle.star_program.specs.Effects.{Store, Effect, sets, sets_answer, sets_found, answer_of, loaded, assigns, unless_fault, kinds_in}
+use Rattle.star_program.specs.Run.{End, Ended, follow, meaning}
+use Rattle.star_compiled.specs.Compiled.{Env, Rest, binary_code, loaded_in, found_in, one_more, with_loaded, with_found, write, load_code, find_code, foreign_of, fact_code, row_code, place_code, column_from, column_code, test_code, between_code, condition_code, expression_code}
+use Rattle.star_compiled.proofs.TurnRows.{Shows, IsTurn}
+use Rattle.star_compiled.proofs.Entries.{loaded_split, found_split}
+use Rattle.star_compiled.proofs.Joins.{holds_numbers, holds_texts}
+use Rattle.star_compiled.proofs.Comparisons.{number_gt, number_ge, number_upto, place_lt, place_le, gt_not_le, ge_not_lt, le_not_lt, eq_both, ne_is}
+
+-- ---- the end of a run, from its first instruction
+
+-- an instruction that ends the run without a trap has no fault
+pub no_fault : (o : Option Fault) (x : Effect) (n : ℕ) (next : Registers → Store → End) (e : Store)
+    → follow n (unless_fault o x) next ≡ Ended e → follow n x next ≡ Ended e
+no_fault None x n next e h = h
+no_fault (Some f) x n next e h = absurd (cc)
+
+entry_same : (regs : Registers) (t : ℕ) (v : Value) → with_entry regs t v t ≡ Some v
+entry_same regs t v = ap (λ b. if b then Some v else regs t) (eq-eqb t t refl)
+
+if_other : {A : Type 0} (b : Bool) (x y : A) → b ≡ false → (if b then x else y) ≡ y
+if_other true x y e = absurd (cc)
+if_other false x y e = refl
+
+not_true : (b : Bool) → (b ≡ true → ⊥) → b ≡ false
+not_true true f = absurd (f refl)
+not_true false f = refl
+
+entry_other : (regs : Registers) (t q : ℕ) (v : Value) → q < t → with_entry regs t v q ≡ regs q
+entry_other regs t q v h =
+    if_other (nat_eq q t) (Some v) (regs q)
+    (not_true (nat_eq q t) (λ e. let p = eqb-true q t e in absurd (omega arith)))
+
+module _ (w : World) (f : Parts) (may : ℕ → Bool) (at : TableId → ℕ) where
+  -- the registers hold what is known of the turn's rows
+  pub record Knows (env : Env) (regs : Registers) : Type 0 where
+    pub fact : regs 0 ≡ Some (Row Lineorder (at Lineorder))
+    pub some : 0 < env.next
+    pub columns : (c : ColumnId) (r : ℕ) → loaded_in env.loaded c ≡ Some r → (r < env.next)
+        × (regs r ≡ Some (loaded w c (at (table_of c)) (is_text c)))
+    pub rows : (t : TableId) (r : ℕ) → found_in env.found t ≡ Some r → (r < env.next)
+        × (regs r ≡ Some (Row t (at t)))
+
+  -- a piece came to its end: what follows runs to the same end, from registers that keep those from
+  -- before and have what the piece says
+  pub record Reached {A : Type 0} (Says : ℕ → Registers → A → Type 0) (k : Env → A → Code)
+      (env : Env) (regs : Registers) (s e : Store) : Type 0 where
+    pub env' : Env
+    pub out : A
+    pub n : ℕ
+    pub regs' : Registers
+    pub s' : Store
+    pub knows : Knows env' regs'
+    pub onward : env.next ≤ env'.next
+    pub kept : (q : ℕ) → q < env.next → regs' q ≡ regs q
+    pub says : Says env'.next regs' out
+    pub same : s'.updates_of ≡ s.updates_of
+    pub goes : meaning w f may (k env' out) n true regs' s' ≡ Ended e
+
+  abbrev pub At : Value → ℕ → Registers → ℕ → Type 0
+  At v next regs r = (r < next) × (regs r ≡ Some v)
+
+  pub chained : {A B : Type 0} {P : ℕ → Registers → A → Type 0} {Q : ℕ → Registers → B → Type 0}
+      {k : Env → A → Code} {l : Env → B → Code} {env : Env} {regs : Registers} {s e : Store}
+      (p : Reached P k env regs s e) → Reached Q l p.env' p.regs' p.s' e → Reached Q l env regs s e
+  chained p q = record {
+    env' = q.env';
+    out = q.out;
+    n = q.n;
+    regs' = q.regs';
+    s' = q.s';
+    knows = q.knows;
+    onward = (let a = p.onward in let b = q.onward in omega arith);
+    kept = λ r h. q.kept r (let a = p.onward in omega arith) ∙ p.kept r h;
+    says = q.says;
+    same = q.same ∙ p.same;
+    goes = q.goes;
+  }
+
+  -- nothing was done
+  pub reached : {A : Type 0} (P : ℕ → Registers → A → Type 0) (k : Env → A → Code) (env : Env)
+      (out : A) (n : ℕ) (regs : Registers) (s e : Store) → Knows env regs → P env.next regs out
+      → meaning w f may (k env out) n true regs s ≡ Ended e → Reached P k env regs s e
+  reached P k env out n regs s e knows says h =
+      record {
+        env' = env;
+        out = out;
+        n = n;
+        regs' = regs;
+        s' = s;
+        knows = knows;
+        onward = omega arith;
+        kept = λ q h. refl;
+        says = says;
+        same = refl;
+        goes = h;
+      }
+
+  knows_more : (env : Env) (regs : Registers) (v : Value) → Knows env regs
+      → Knows (one_more env) (with_entry regs env.next v)
+  knows_more env regs v k = record {
+    fact = entry_other regs env.next 0 v k.some ∙ k.fact;
+    some = omega arith;
+    columns =
+        λ c r e. let p = k.columns c r e in
+        (omega (arith, p.0), entry_other regs env.next r v p.0 ∙ p.1);
+    rows =
+        λ t r e. let p = k.rows t r e in
+        (omega (arith, p.0), entry_other regs env.next r v p.0 ∙ p.1);
+  }
+
+  -- the value stands in the next register
+  new_at : (env : Env) (regs : Registers) (v : Value)
+      → At v (env.next + 1) (with_entry regs env.next v) env.next
+  new_at env regs v = (omega arith, entry_same regs env.next v)
+
+  -- a piece, wherever it stands: where what it and the code behind it do comes to an end, the piece
+  -- came to its own
+  abbrev pub Runs : {A : Type 0} → (ℕ → Registers → A → Type 0) → (Env → (Env → A → Code) → Code)
+      → Type 0
+  Runs {A} Says piece =
+      (k : Env → A → Code) (env : Env) (n : ℕ) (regs : Registers) (s e : Store) → Knows env regs
+      → meaning w f may (piece env k) n true regs s ≡ Ended e → Reached Says k env regs s e
+
+  -- the next register is set
+  is_set : (v : Value) (k : Rest) (env : Env) (n : ℕ) (regs : Registers) (s e : Store)
+      → Knows env regs
+      → meaning w f may (k (one_more env) env.next) (n + 1) true (with_entry regs env.next v) s
+      ≡ Ended e → Reached (At v) k env regs s e
+  is_set v k env n regs s e knows h = record {
+    env' = one_more env;
+    out = env.next;
+    n = n + 1;
+    regs' = with_entry regs env.next v;
+    s' = s;
+    knows = knows_more env regs v knows;
+    onward = omega arith;
+    kept = λ q h. entry_other regs env.next q v h;
+    says = new_at env regs v;
+    same = refl;
+    goes = h;
+  }
+
+  -- an operation that sets the next register
+  pub wrote : (o : Operation) (v : Value) (k : Rest) (env : Env) (n : ℕ) (regs : Registers)
+      (s e : Store) → Knows env regs
+      → assigns w f regs s env.next o ≡ sets regs s env.next v
+      → meaning w f may (write o env k) n true regs s ≡ Ended e → Reached (At v) k env regs s e
+  wrote o v k env n regs s e knows d h =
+      let next = meaning w f may (k (one_more env) env.next) (n + 1) true in
+      let g = no_fault (fault_of f true None (kinds_in regs) (Assign env.next o)) _ n next e h in
+      is_set v k env n regs s e knows (subst (λ x. follow n x next ≡ Ended e) d g)
+
+  -- ---- operators
+
+  -- where there is an answer, it is this
+  abbrev Gives : Operator → (l r : Option Value) → Value → Type 0
+  Gives o l r v = (x : Value) → answer_of o l r ≡ Some x → x ≡ v
+
+  answer_goes : (regs : Registers) (s : Store) (t : ℕ) (o : Option Value) (v : Value) (n : ℕ)
+      (next : Registers → Store → End) (e : Store)
+      → ((x : Value) → o ≡ Some x → x ≡ v) → follow n (sets_answer regs s t o) next ≡ Ended e
+      → follow n (sets regs s t v) next ≡ Ended e
+  answer_goes regs s t None v n next e gives h = absurd (cc)
+  answer_goes regs s t (Some x) v n next e gives h =
+      subst (λ x. follow n (sets regs s t x) next ≡ Ended e) (gives x refl) h
+
+  answered : (o : Operator) (l r : ℕ) (v : Value) (k : Rest) (env : Env) (n : ℕ) (regs : Registers)
+      (s e : Store) → Knows env regs
+      → Gives o (regs l) (regs r) v → meaning w f may (write (Binary o l r) env k) n true regs s
+      ≡ Ended e → Reached (At v) k env regs s e
+  answered o l r v k env n regs s e knows gives h =
+      let next = meaning w f may (k (one_more env) env.next) (n + 1) true in
+      let g =
+      no_fault (fault_of f true None (kinds_in regs) (Assign env.next (Binary o l r))) _ n next e
+      h in
+      is_set v k env n regs s e knows
+      (answer_goes regs s env.next (answer_of o (regs l) (regs r)) v n next e gives g)
+
+  binary_runs : (left right : Env → Rest → Code) (o : Operator) (v u result : Value)
+      → Gives o (Some v) (Some u) result
+      → Runs (At v) left → Runs (At u) right → Runs (At result) (binary_code left right o)
+  binary_runs left right o v u result gives first second k env n regs s e knows h =
+      let p = first (λ e x. right e (λ e y. write (Binary o x y) e k)) env n regs s e knows h in
+      let q =
+      second (λ e y. write (Binary o p.out y) e k) p.env' p.n p.regs' p.s' e p.knows p.goes in
+      let at_left = q.kept p.out p.says.0 ∙ p.says.1 in
+      let same : answer_of o (Some v) (Some u) ≡ answer_of o (q.regs' p.out) (q.regs' q.out) =
+      λ i. answer_of o (sym at_left i) (sym q.says.1 i) in
+      chained p (chained q (answered o p.out q.out result k q.env' q.n q.regs' q.s' e q.knows
+      (λ x is. gives x (same ∙ is)) q.goes))
+
+  flagged : (b : Bool) (x : Value) → Some (Flag b) ≡ Some x → x ≡ Flag b
+  flagged b x is = sym (same_Some (Flag b) x is)
+
+  -- a number that has 64 bits is the answer
+  fitted : (z : ℤ) (b : Bool) (x : Value) → (if b then Some (Number z) else None) ≡ Some x
+      → x ≡ Number z
+  fitted z true x is = sym (same_Some (Number z) x is)
+  fitted z false x is = absurd (cc)
+
+  -- ---- columns and rows
+
+  loaded_entry : (env : Env) (regs : Registers) (c d : ColumnId) (v : Value) (r : ℕ)
+      → v ≡ loaded w c (at (table_of c)) (is_text c)
+      → ((r : ℕ) → loaded_in env.loaded d ≡ Some r → (r < env.next)
+      × (regs r ≡ Some (loaded w d (at (table_of d)) (is_text d))))
+      → (loaded_in env.loaded d ≡ Some r) ⊎ ((is_column d c ≡ true) × (env.next ≡ r))
+      → (r < env.next + 1)
+      × (with_entry regs env.next v r ≡ Some (loaded w d (at (table_of d)) (is_text d)))
+  loaded_entry env regs c d v r q old (inr e) =
+      let here : env.next ≡ r = e.1 in
+      let p = e.0 in (
+        omega arith,
+        subst (λ x. with_entry regs env.next v x ≡ Some (loaded w d (at (table_of d)) (is_text d)))
+            here
+            (entry_same regs env.next v ∙ ap Some q
+            ∙ ap (λ x. Some (loaded w x (at (table_of x)) (is_text x))) (sym (column_same d c p))),
+      )
+  loaded_entry env regs c d v r q old (inl e) =
+      let o = old r e in (omega (arith, o.0), entry_other regs env.next r v o.0 ∙ o.1)
+
+  found_entry : (env : Env) (regs : Registers) (t q : TableId) (r : ℕ)
+      → ((r : ℕ) → found_in env.found q ≡ Some r → (r < env.next) × (regs r ≡ Some (Row q (at q))))
+      → (found_in env.found q ≡ Some r) ⊎ ((is_table q t ≡ true) × (env.next ≡ r))
+      → (r < env.next + 1) × (with_entry regs env.next (Row t (at t)) r ≡ Some (Row q (at q)))
+  found_entry env regs t q r old (inr e) =
+      let here : env.next ≡ r = e.1 in
+      let p = e.0 in (
+        omega arith,
+        subst (λ x. with_entry regs env.next (Row t (at t)) x ≡ Some (Row q (at q))) here
+            (entry_same regs env.next (Row t (at t))
+            ∙ ap (λ x. Some (Row x (at x))) (sym (table_same q t p))),
+      )
+  found_entry env regs t q r old (inl e) =
+      let o = old r e in (omega (arith, o.0), entry_other regs env.next r (Row t (at t)) o.0 ∙ o.1)
+
+  knows_loaded : (env : Env) (regs : Registers) (c : ColumnId) (v : Value)
+      → v ≡ loaded w c (at (table_of c)) (is_text c) → Knows env regs
+      → Knows (with_loaded env c) (with_entry regs env.next v)
+  knows_loaded env regs c v q k = let m = knows_more env regs v k in record {
+    fact = m.fact;
+    some = m.some;
+    columns =
+        λ d r e. loaded_entry env regs c d v r q (k.columns d)
+        (loaded_split env.loaded c env.next d r e);
+    rows = m.rows;
+  }
+
+  knows_found : (env : Env) (regs : Registers) (t : TableId) → Knows env regs
+      → Knows (with_found env t) (with_entry regs env.next (Row t (at t)))
+  knows_found env regs t k = let m = knows_more env regs (Row t (at t)) k in record {
+    fact = m.fact;
+    some = m.some;
+    columns = m.columns;
+    rows = λ q r e. found_entry env regs t q r (k.rows q) (found_split env.found t env.next q r e);
+  }
+
+  -- the number or code of a column
+  abbrev pub here : ColumnId → Value
+  here c = loaded w c (at (table_of c)) (is_text c)
+
+  load_runs : (c : ColumnId) (row : ℕ) (k : Rest) (env : Env) (n : ℕ) (regs : Registers)
+      (s e : Store) → Knows env regs → row_in (regs row) ≡ at (table_of c)
+      → meaning w f may (load_code c row env k) n true regs s ≡ Ended e
+      → Reached (At (here c)) k env regs s e
+  load_runs c row k env n regs s e knows at_row h =
+      let v = loaded w c (row_in (regs row)) (is_text c) in
+      let same : v ≡ here c = ap (λ i. loaded w c i (is_text c)) at_row in
+      record {
+        env' = with_loaded env c;
+        out = env.next;
+        n = n + 1;
+        regs' = with_entry regs env.next v;
+        s' = s;
+        knows = knows_loaded env regs c v same knows;
+        onward = omega arith;
+        kept = λ q h. entry_other regs env.next q v h;
+        says = (omega arith, entry_same regs env.next v ∙ ap Some same);
+        same = refl;
+        goes =
+            no_fault (fault_of f true None (kinds_in regs) (Assign env.next (Load c row))) _ n
+            (meaning w f may (k (with_loaded env c) env.next) (n + 1) true) e h;
+      }
+
+  fact_runs : (c : ColumnId) (k : Rest) (env : Env) (o : Option ℕ) → loaded_in env.loaded c ≡ o
+      → (n : ℕ) (regs : Registers) (s e : Store) → Knows env regs → (table_of c) ≡ Lineorder
+      → meaning w f may (fact_code c env k o) n true regs s ≡ Ended e
+      → Reached (At (here c)) k env regs s e
+  fact_runs c k env (Some r) p n regs s e knows t h =
+      reached (At (here c)) k env r n regs s e knows (knows.columns c r p) h
+  fact_runs c k env None p n regs s e knows t h =
+      load_runs c 0 k env n regs s e knows (ap row_in knows.fact ∙ ap at (sym t)) h
+
+  found_goes : (regs : Registers) (s : Store) (t : ℕ) (table : TableId) (o : Option ℕ) (i : ℕ)
+      (n : ℕ) (next : Registers → Store → End) (e : Store) → o ≡ Some i
+      → follow n (sets_found regs s t table o) next ≡ Ended e
+      → next (with_entry regs t (Row table i)) (record s { lookups = s.lookups + 1 }) ≡ Ended e
+  found_goes regs s t table None i n next e p h = absurd (cc)
+  found_goes regs s t table (Some j) i n next e p h =
+      subst (λ x. next (with_entry regs t (Row table x)) (record s { lookups = s.lookups + 1 })
+      ≡ Ended e) (same_Some j i p) h
+
+  number_rank : (c : ColumnId) (n : ℕ) (b : Bool) → b ≡ false
+      → number_in (Some (loaded w c n b)) ≡ w.number c n
+  number_rank c n true p = absurd (cc)
+  number_rank c n false p = refl
+
+  module _ (js : List Join) (row : Joined) (turn : IsTurn w js at row) where
+    row_runs : (t : TableId) → joins_table js t ≡ true → (k : Rest) (env : Env) (o : Option ℕ)
+        → found_in env.found t ≡ o → (n : ℕ) (regs : Registers) (s e : Store) → Knows env regs
+        → meaning w f may (row_code js t env k o) n true regs s ≡ Ended e
+        → Reached (At (Row t (at t))) k env regs s e
+    row_runs t j k env (Some r) p n regs s e knows h =
+        reached (At (Row t (at t))) k env r n regs s e knows (knows.rows t r p) h
+    row_runs t j k env None p n regs s e knows h =
+        let c = foreign_of js t in
+        let fk = turn.keys t j in
+        let p =
+        fact_runs c (λ e r. find_code t r e k) env (loaded_in env.loaded c) refl n regs s e knows
+        fk.0 h in
+        let is_key : w.find t (number_in (p.regs' p.out)) ≡ Some (at t) =
+        ap (λ x. w.find t (number_in x)) p.says.1
+        ∙ ap (w.find t) (number_rank c (at (table_of c)) (is_text c) fk.1 ∙ ap
+        (λ q. w.number c (at q)) fk.0) ∙ turn.found t j in
+        let next = meaning w f may (k (with_found p.env' t) p.env'.next) (p.n + 1) true in
+        chained p (record {
+          env' = with_found p.env' t;
+          out = p.env'.next;
+          n = p.n + 1;
+          regs' = with_entry p.regs' p.env'.next (Row t (at t));
+          s' = record p.s' { lookups = p.s'.lookups + 1 };
+          knows = knows_found p.env' p.regs' t p.knows;
+          onward = omega arith;
+          kept = λ q h. entry_other p.regs' p.env'.next q (Row t (at t)) h;
+          says = (omega arith, entry_same p.regs' p.env'.next (Row t (at t)));
+          same = refl;
+          goes =
+              found_goes p.regs' p.s' p.env'.next t (w.find t (number_in (p.regs' p.out))) (at t)
+              p.n next e is_key
+              (no_fault (fault_of f true None (kinds_in p.regs')
+              (Assign p.env'.next (Find t p.out))) _ p.n next e p.goes);
+        })
+
+    place_runs : (c : ColumnId) (k : Rest) (env : Env) (b : Bool)
+        → is_table (table_of c) Lineorder ≡ b → (b || joins_table js (table_of c)) ≡ true
+        → (n : ℕ) (regs : Registers) (s e : Store) → Knows env regs
+        → meaning w f may (place_code js c env k b) n true regs s ≡ Ended e
+        → Reached (At (here c)) k env regs s e
+    place_runs c k env true p j n regs s e knows h =
+        load_runs c 0 k env n regs s e knows
+        (ap row_in knows.fact ∙ ap at (sym (table_same (table_of c) Lineorder p))) h
+    place_runs c k env false p j n regs s e knows h =
+        let q =
+        row_runs (table_of c) j (λ e r. load_code c r e k) env (found_in env.found (table_of c))
+        refl n regs s e knows h in
+        chained q
+        (load_runs c q.out k q.env' q.n q.regs' q.s' e q.knows (ap row_in q.says.1) q.goes)
+
+    column_from_runs : (c : ColumnId) (k : Rest) (env : Env) (o : Option ℕ)
+        → loaded_in env.loaded c ≡ o → in_scope js (table_of c) ≡ true
+        → (n : ℕ) (regs : Registers) (s e : Store) → Knows env regs
+        → meaning w f may (column_from js c env k o) n true regs s ≡ Ended e
+        → Reached (At (here c)) k env regs s e
+    column_from_runs c k env (Some r) p j n regs s e knows h =
+        reached (At (here c)) k env r n regs s e knows (knows.columns c r p) h
+    column_from_runs c k env None p j n regs s e knows h =
+        place_runs c k env (is_table (table_of c) Lineorder) refl j n regs s e knows h
+
+    pub column_runs : (c : ColumnId) → in_scope js (table_of c) ≡ true
+        → Runs (At (here c)) (column_code js c)
+    column_runs c j k env n regs s e knows h =
+        column_from_runs c k env (loaded_in env.loaded c) refl j n regs s e knows h
+
+  -- ---- tests
+
+  pub as_flag : (a b : Bool) (k : Rest) (env : Env) (regs : Registers) (s e : Store) → a ≡ b
+      → Reached (At (Flag a)) k env regs s e → Reached (At (Flag b)) k env regs s e
+  as_flag a b k env regs s e p r = subst (λ b. Reached (At (Flag b)) k env regs s e) p r
+
+  pub with_not : (b : Bool) (k : Rest) (env : Env) (regs : Registers) (s e : Store)
+      → Reached (At (Flag b)) (λ e y. write (Not y) e k) env regs s e
+      → Reached (At (Flag (not b))) k env regs s e
+  with_not b k env regs s e p =
+      chained p (wrote (Not p.out) (Flag (not b)) k p.env' p.n p.regs' p.s' e p.knows
+      (ap (λ o. sets p.regs' p.s' p.env'.next (Flag (not (flag_in o)))) p.says.1) p.goes)
+
+  -- one bound, and a test with it
+  bound_test : (x : ℕ) (o : Operation) (v : Value) (test : ℕ → Operation) (b : Bool) (k : Rest)
+      (env : Env) (n : ℕ) (regs : Registers) (s e : Store) → Knows env regs → x < env.next
+      → assigns w f regs s env.next o ≡ sets regs s env.next v
+      → ((m t : ℕ) (regs' : Registers) (s' : Store) → regs' x ≡ regs x → regs' m ≡ Some v
+      → assigns w f regs' s' t (test m) ≡ sets regs' s' t (Flag b))
+      → meaning w f may (write o env (λ e m. write (test m) e k)) n true regs s ≡ Ended e
+      → Reached (At (Flag b)) k env regs s e
+  bound_test x o v test b k env n regs s e knows below d last h =
+      let p = wrote o v (λ e m. write (test m) e k) env n regs s e knows d h in
+      chained p (wrote (test p.out) (Flag b) k p.env' p.n p.regs' p.s' e p.knows
+      (last p.out p.env'.next p.regs' p.s' (p.kept x below) p.says.1) p.goes)
+
+  -- two bounds, and a test with them
+  bounds_test : (x : ℕ) (o1 o2 : Operation) (v1 v2 : Value) (test : ℕ → ℕ → Operation) (b : Bool)
+      (k : Rest) (env : Env) (n : ℕ) (regs : Registers) (s e : Store) → Knows env regs
+      → x < env.next
+      → assigns w f regs s env.next o1 ≡ sets regs s env.next v1
+      → ((regs' : Registers) (s' : Store) (t : ℕ) → assigns w f regs' s' t o2 ≡ sets regs' s' t v2)
+      → ((m1 m2 t : ℕ) (regs' : Registers) (s' : Store) → regs' x ≡ regs x → regs' m1 ≡ Some v1
+      → regs' m2 ≡ Some v2 → assigns w f regs' s' t (test m1 m2) ≡ sets regs' s' t (Flag b))
+      → meaning w f may (write o1 env (λ e m1. write o2 e (λ e m2. write (test m1 m2) e k))) n true
+      regs s ≡ Ended e → Reached (At (Flag b)) k env regs s e
+  bounds_test x o1 o2 v1 v2 test b k env n regs s e knows below d d2 last h =
+      let p =
+      wrote o1 v1 (λ e m1. write o2 e (λ e m2. write (test m1 m2) e k)) env n regs s e knows d h in
+      let q =
+      wrote o2 v2 (λ e m2. write (test p.out m2) e k) p.env' p.n p.regs' p.s' e p.knows
+      (d2 p.regs' p.s' p.env'.next) p.goes in
+      let below' : x < p.env'.next = (let o = p.onward in omega arith) in
+      chained p (chained q (wrote (test p.out q.out) (Flag b) k q.env' q.n q.regs' q.s' e q.knows
+      (last p.out q.out q.env'.next q.regs' q.s' (q.kept x below' ∙ p.kept x below)
+      (q.kept p.out p.says.0 ∙ p.says.1) q.says.1) q.goes))
+
+  -- what is value_cmp is the order of the ranks
+  ranked : (o p : Option Value) (y z : ℤ) (g : ℤ → ℤ → Bool) (regs : Registers) (s : Store) (t : ℕ)
+      (b : Bool) → number_in o ≡ y → number_in p ≡ z → g y z ≡ b
+      → sets regs s t (Flag (g (number_in o) (number_in p))) ≡ sets regs s t (Flag b)
+  ranked o p y z g regs s t b e1 e2 e3 =
+      (λ i. sets regs s t (Flag (g (e1 i) (e2 i)))) ∙ ap (λ q. sets regs s t (Flag q)) e3
+
+  ranked3 : (o p q : Option Value) (y z u : ℤ) (g : ℤ → ℤ → ℤ → Bool) (regs : Registers) (s : Store)
+      (t : ℕ) (b : Bool) → number_in o ≡ y → number_in p ≡ z → number_in q ≡ u → g y z u ≡ b
+      → sets regs s t (Flag (g (number_in o) (number_in p) (number_in q))) ≡ sets regs s t (Flag b)
+  ranked3 o p q y z u g regs s t b e1 e2 e3 e4 =
+      (λ i. sets regs s t (Flag (g (e1 i) (e2 i) (e3 i)))) ∙ ap (λ c. sets regs s t (Flag c)) e4
+
+  module _ (c : ColumnId) (x : ℕ) (k : Rest) (env : Env) (n : ℕ) (regs : Registers) (s e : Store)
+      (knows : Knows env regs) (below : x < env.next) where
+    number_test : (q : Relation) (z a : ℤ) → number_in (regs x) ≡ z
+        → meaning w f may (test_code q c x (held.Number a) env k) n true regs s ≡ Ended e
+        → Reached (At (Flag (tests q (int_cmp z a)))) k env regs s e
+    number_test sign.Equal z a at_x h =
+        bound_test x (Const a) (Number a) (λ m. Binary operator.Equal x m) _ k env n regs s e knows
+        below refl
+        (λ m t regs' s' p q. ranked (regs' x) (regs' m) z a (λ y u. is_eq (int_cmp y u)) regs' s' t
+        _ (ap number_in p ∙ at_x) (ap number_in q) refl) h
+    number_test sign.Less z a at_x h =
+        bound_test x (Const a) (Number a) (λ m. Binary operator.Less x m) _ k env n regs s e knows
+        below refl
+        (λ m t regs' s' p q. ranked (regs' x) (regs' m) z a (λ y u. is_lt (int_cmp y u)) regs' s' t
+        _ (ap number_in p ∙ at_x) (ap number_in q) refl) h
+    number_test sign.AtMost z a at_x h =
+        bound_test x (Const a) (Number a) (λ m. Binary operator.LessOrEqual x m) _ k env n regs s e
+        knows below refl
+        (λ m t regs' s' p q. ranked (regs' x) (regs' m) z a (λ y u. is_le (int_cmp y u)) regs' s' t
+        _ (ap number_in p ∙ at_x) (ap number_in q) refl) h
+    number_test sign.Greater z a at_x h =
+        bound_test x (Const a) (Number a) (λ m. Binary operator.Less m x) _ k env n regs s e knows
+        below refl
+        (λ m t regs' s' p q. ranked (regs' m) (regs' x) a z (λ y u. is_lt (int_cmp y u)) regs' s' t
+        _ (ap number_in q) (ap number_in p ∙ at_x) (number_gt z a)) h
+    number_test sign.AtLeast z a at_x h =
+        bound_test x (Const a) (Number a) (λ m. Binary operator.LessOrEqual m x) _ k env n regs s e
+        knows below refl
+        (λ m t regs' s' p q. ranked (regs' m) (regs' x) a z (λ y u. is_le (int_cmp y u)) regs' s' t
+        _ (ap number_in q) (ap number_in p ∙ at_x) (number_ge z a)) h
+    number_test sign.Unequal z a at_x h =
+        as_flag _ _ k env regs s e (ne_is (int_cmp z a)) (with_not _ k env regs s e
+        (bound_test x (Const a) (Number a) (λ m. Binary operator.Equal x m) (is_eq (int_cmp z a))
+        (λ e y. write (Not y) e k) env n regs s e knows below refl
+        (λ m t regs' s' p q. ranked (regs' x) (regs' m) z a (λ y u. is_eq (int_cmp y u)) regs' s' t
+        _ (ap number_in p ∙ at_x) (ap number_in q) refl) h))
+
+    -- the number lies between
+    number_between : (z a b : ℤ) → number_in (regs x) ≡ z
+        → meaning w f may (between_code c x (held.Number a) (held.Number b) env k) n true regs s
+        ≡ Ended e → Reached (At (Flag (is_le (int_cmp a z) && is_le (int_cmp z b)))) k env regs s e
+    number_between z a b at_x h =
+        bounds_test x (Const a) (Const (b +ℤ pos 1)) (Number a) (Number (b +ℤ pos 1))
+        (λ m1 m2. Within x m1 m2) _ k env n regs s e knows below refl (λ regs' s' t. refl)
+        (λ m1 m2 t regs' s' p q1 q2. ranked3 (regs' x) (regs' m1) (regs' m2) z a (b +ℤ pos 1)
+        (λ y u v. is_le (int_cmp u y) && is_lt (int_cmp y v)) regs' s' t _ (ap number_in p ∙ at_x)
+        (ap number_in q1) (ap number_in q2) (ap (λ o. is_le (int_cmp a z) && o) (number_upto z b)))
+        h
+
+    module _ (i : ℕ) (v : List ℕ) (at_x : number_in (regs x) ≡ pos (w.code c i))
+        (low : (t : List ℕ) → nat_lt (w.code c i) (w.low c t) ≡ is_lt (slice_cmp nat_cmp v t))
+        (high : (t : List ℕ) → nat_lt (w.code c i) (w.high c t) ≡ is_le
+        (slice_cmp nat_cmp v t)) where
+      -- the place lies between
+      text_within : (a b : List ℕ) (l : Rest) → meaning w f may
+          (write (Edge Low c a) env (λ e m1. write (Edge High c b) e
+          (λ e m2. write (Within x m1 m2) e l))) n true regs s ≡ Ended e
+          → Reached (At (Flag
+          (not (is_lt (slice_cmp nat_cmp v a)) && is_le (slice_cmp nat_cmp v b)))) l env regs s e
+      text_within a b l h =
+          bounds_test x (Edge Low c a) (Edge High c b) (Place c (w.low c a)) (Place c (w.high c b))
+          (λ m1 m2. Within x m1 m2) _ l env n regs s e knows below refl (λ regs' s' t. refl)
+          (λ m1 m2 t regs' s' p q1 q2. ranked3 (regs' x) (regs' m1) (regs' m2) (pos (w.code c i))
+          (pos (w.low c a)) (pos (w.high c b)) (λ y u v. is_le (int_cmp u y) && is_lt (int_cmp y v))
+          regs' s' t _ (ap number_in p ∙ at_x) (ap number_in q1) (ap number_in q2)
+          (λ j. (place_le (w.code c i) (w.low c a) ∙ ap not (low a)) j
+          && (place_lt (w.code c i) (w.high c b) ∙ high b) j)) h
+
+      text_test : (q : Relation) (t : List ℕ) → meaning w f may
+          (test_code q c x (held.Text t) env k) n true regs s ≡ Ended e
+          → Reached (At (Flag (tests q (slice_cmp nat_cmp v t)))) k env regs s e
+      text_test sign.Equal t h =
+          as_flag _ _ k env regs s e (eq_both (slice_cmp nat_cmp v t)) (text_within t t k h)
+      text_test sign.Unequal t h =
+          as_flag _ _ k env regs s e (ap not (eq_both (slice_cmp nat_cmp v t)) ∙ ne_is
+          (slice_cmp nat_cmp v t))
+          (with_not _ k env regs s e (text_within t t (λ e y. write (Not y) e k) h))
+      text_test sign.Less t h =
+          bound_test x (Edge Low c t) (Place c (w.low c t)) (λ m. Binary operator.Less x m) _ k env
+          n regs s e knows below refl
+          (λ m o regs' s' p q. ranked (regs' x) (regs' m) (pos (w.code c i)) (pos (w.low c t))
+          (λ y u. is_lt (int_cmp y u)) regs' s' o _ (ap number_in p ∙ at_x) (ap number_in q)
+          (place_lt (w.code c i) (w.low c t) ∙ low t)) h
+      text_test sign.AtMost t h =
+          bound_test x (Edge High c t) (Place c (w.high c t)) (λ m. Binary operator.Less x m) _ k
+          env n regs s e knows below refl
+          (λ m o regs' s' p q. ranked (regs' x) (regs' m) (pos (w.code c i)) (pos (w.high c t))
+          (λ y u. is_lt (int_cmp y u)) regs' s' o _ (ap number_in p ∙ at_x) (ap number_in q)
+          (place_lt (w.code c i) (w.high c t) ∙ high t)) h
+      text_test sign.Greater t h =
+          bound_test x (Edge High c t) (Place c (w.high c t)) (λ m. Binary operator.LessOrEqual m x)
+          _ k env n regs s e knows below refl
+          (λ m o regs' s' p q. ranked (regs' m) (regs' x) (pos (w.high c t)) (pos (w.code c i))
+          (λ y u. is_le (int_cmp y u)) regs' s' o _ (ap number_in q) (ap number_in p ∙ at_x)
+          (place_le (w.code c i) (w.high c t) ∙ ap not (high t)
+          ∙ gt_not_le (slice_cmp nat_cmp v t))) h
+      text_test sign.AtLeast t h =
+          bound_test x (Edge Low c t) (Place c (w.low c t)) (λ m. Binary operator.LessOrEqual m x) _
+          k env n regs s e knows below refl
+          (λ m o regs' s' p q. ranked (regs' m) (regs' x) (pos (w.low c t)) (pos (w.code c i))
+          (λ y u. is_le (int_cmp y u)) regs' s' o _ (ap number_in q) (ap number_in p ∙ at_x)
+          (place_le (w.code c i) (w.low c t) ∙ ap not (low t) ∙ ge_not_lt (slice_cmp nat_cmp v t)))
+          h
+
+      text_between : (a b : List ℕ) → meaning w f may
+          (between_code c x (held.Text a) (held.Text b) env k) n true regs s ≡ Ended e
+          → Reached (At (Flag (is_le (slice_cmp nat_cmp a v) && is_le (slice_cmp nat_cmp v b)))) k
+          env regs s e
+      text_between a b h =
+          as_flag _ _ k env regs s e (ap (λ o. o && is_le (slice_cmp nat_cmp v b))
+          (sym (le_not_lt (slice_cmp nat_cmp v a))
+          ∙ ap is_le (sym (nat_list_cmp_total.antisymm a v)))) (text_within a b k h)
+
+    text_rank : (i : ℕ) (b : Bool) → b ≡ true → number_in (Some (loaded w c i b)) ≡ pos (w.code c i)
+    text_rank i true p = refl
+    text_rank i false p = absurd (cc)
+
+    -- by the kind of the value and of the literal
+    pub test_runs : (q : Relation) (i : ℕ) (v lit : held.Value) → Shows w c i v
+        → same_kind (kind_of c) (kind_of_value lit) ≡ true
+        → regs x ≡ Some (loaded w c i (is_text c))
+        → meaning w f may (test_code q c x lit env k) n true regs s ≡ Ended e
+        → Reached (At (Flag (tests q (value_cmp v lit)))) k env regs s e
+    test_runs q i (held.Number z) (held.Number a) shows kind at_x h =
+        number_test q z a (ap number_in at_x ∙ number_rank c i (is_text c) shows.0 ∙ shows.1) h
+    test_runs q i (held.Text v) (held.Text t) shows kind at_x h =
+        text_test i v (ap number_in at_x ∙ text_rank i (is_text c) shows.0) shows.1.low shows.1.high
+        q t h
+    test_runs q i (held.Number z) (held.Text t) shows kind at_x h =
+        let a : true ≡ false = sym (holds_texts c kind) ∙ shows.0 in absurd (cc)
+    test_runs q i (held.Text v) (held.Number z) shows kind at_x h =
+        let a : true ≡ false = sym shows.0 ∙ holds_numbers c kind in absurd (cc)
+
+    pub between_runs : (i : ℕ) (v from upto : held.Value) → Shows w c i v
+        → same_kind (kind_of c) (kind_of_value from) ≡ true
+        → same_kind (kind_of c) (kind_of_value upto) ≡ true
+        → regs x ≡ Some (loaded w c i (is_text c))
+        → meaning w f may (between_code c x from upto env k) n true regs s ≡ Ended e
+        → Reached (At (Flag (is_le (value_cmp from v) && is_le (value_cmp v upto)))) k env regs s e
+    between_runs i (held.Number z) (held.Number a) (held.Number b) shows k1 k2 at_x h =
+        number_between z a b (ap number_in at_x ∙ number_rank c i (is_text c) shows.0 ∙ shows.1) h
+    between_runs i (held.Text v) (held.Text a) (held.Text b) shows k1 k2 at_x h =
+        text_between i v (ap number_in at_x ∙ text_rank i (is_text c) shows.0) shows.1.low
+        shows.1.high a b h
+    between_runs i (held.Number z) (held.Text t) u shows k1 k2 at_x h =
+        let a : true ≡ false = sym (holds_texts c k1) ∙ shows.0 in absurd (cc)
+    between_runs i (held.Number z) (held.Number a) (held.Text t) shows k1 k2 at_x h =
+        let a : true ≡ false = sym (holds_texts c k2) ∙ shows.0 in absurd (cc)
+    between_runs i (held.Text v) (held.Number z) u shows k1 k2 at_x h =
+        let a : true ≡ false = sym shows.0 ∙ holds_numbers c k1 in absurd (cc)
+    between_runs i (held.Text v) (held.Text a) (held.Number z) shows k1 k2 at_x h =
+        let a : true ≡ false = sym shows.0 ∙ holds_numbers c k2 in absurd (cc)
+
+  -- ---- conditions and expressions
+
+  module _ (js : List Join) (row : Joined) (turn : IsTurn w js at row) where
+    pub condition_runs : (c : Condition) → condition_is_sound js c ≡ true
+        → Runs (At (Flag (holds c row))) (condition_code js c)
+    condition_runs (either a b) ok =
+        let oks = and_parts (condition_is_sound js a) (condition_is_sound js b) ok in
+        binary_runs (condition_code js a) (condition_code js b) operator.Or (Flag (holds a row))
+        (Flag (holds b row)) (Flag (holds a row || holds b row))
+        (flagged (holds a row || holds b row)) (condition_runs a oks.0) (condition_runs b oks.1)
+    condition_runs (both a b) ok =
+        let oks = and_parts (condition_is_sound js a) (condition_is_sound js b) ok in
+        binary_runs (condition_code js a) (condition_code js b) operator.And (Flag (holds a row))
+        (Flag (holds b row)) (Flag (holds a row && holds b row))
+        (flagged (holds a row && holds b row)) (condition_runs a oks.0) (condition_runs b oks.1)
+    condition_runs (negation a) ok = λ k env n regs s e knows h.
+        with_not (holds a row) k env regs s e
+        (condition_runs a ok (λ e x. write (Not x) e k) env n regs s e knows h)
+    condition_runs (compare c q v) ok = λ k env n regs s e knows h.
+        let oks =
+        and_parts (in_scope js (table_of c)) (same_kind (kind_of c) (kind_of_value v)) ok in
+        let p =
+        column_runs js row turn c oks.0 (λ e x. test_code q c x v e k) env n regs s e knows h in
+        chained p (test_runs c p.out k p.env' p.n p.regs' p.s' e p.knows p.says.0 q
+        (at (table_of c)) (value_of c row) v (turn.shows c oks.0) oks.1 p.says.1 p.goes)
+    condition_runs (between c a b) ok = λ k env n regs s e knows h.
+        let oks =
+        and_parts (in_scope js (table_of c))
+        (same_kind (kind_of c) (kind_of_value a) && same_kind (kind_of c) (kind_of_value b)) ok in
+        let kinds =
+        and_parts (same_kind (kind_of c) (kind_of_value a))
+        (same_kind (kind_of c) (kind_of_value b)) oks.1 in
+        let p =
+        column_runs js row turn c oks.0 (λ e x. between_code c x a b e k) env n regs s e knows h in
+        chained p (between_runs c p.out k p.env' p.n p.regs' p.s' e p.knows p.says.0
+        (at (table_of c)) (value_of c row) a b (turn.shows c oks.0) kinds.0 kinds.1 p.says.1 p.goes)
+
+    shown_number : (c : ColumnId) (i : ℕ) (v : held.Value) (b : Bool) → is_text c ≡ b → b ≡ false
+        → Shows w c i v → loaded w c i b ≡ Number (number_of v)
+    shown_number c i (held.Number z) false p q shows = ap Number shows.1
+    shown_number c i (held.Text v) false p q shows =
+        let a : true ≡ false = sym shows.0 ∙ p in absurd (cc)
+    shown_number c i v true p q shows = absurd (cc)
+
+    pub expression_runs : (a : Expression) → expression_is_sound js a ≡ true
+        → Runs (At (Number (number_at a row))) (expression_code js a)
+    expression_runs (column c) ok =
+        let oks = and_parts (in_scope js (table_of c)) (same_kind (kind_of c) kind.Number) ok in
+        subst (λ v. Runs (At v) (column_code js c))
+        (shown_number c (at (table_of c)) (value_of c row) (is_text c) refl (holds_numbers c oks.1)
+        (turn.shows c oks.0))
+        (column_runs js row turn c oks.0)
+    expression_runs (constant z) ok =
+        λ k env n regs s e knows h. wrote (Const z) (Number z) k env n regs s e knows refl h
+    expression_runs (add a b) ok =
+        let oks = and_parts (expression_is_sound js a) (expression_is_sound js b) ok in
+        let z = number_at a row +ℤ number_at b row in
+        binary_runs (expression_code js a) (expression_code js b) operator.Add
+        (Number (number_at a row)) (Number (number_at b row)) (Number z)
+        (fitted z (is_i64 z)) (expression_runs a oks.0) (expression_runs b oks.1)
+    expression_runs (sub a b) ok =
+        let oks = and_parts (expression_is_sound js a) (expression_is_sound js b) ok in
+        let z = number_at a row -ℤ number_at b row in
+        binary_runs (expression_code js a) (expression_code js b) operator.Sub
+        (Number (number_at a row)) (Number (number_at b row)) (Number z)
+        (fitted z (is_i64 z)) (expression_runs a oks.0) (expression_runs b oks.1)
+    expression_runs (mul a b) ok =
+        let oks = and_parts (expression_is_sound js a) (expression_is_sound js b) ok in
+        let z = number_at a row *ℤ number_at b row in
+        binary_runs (expression_code js a) (expression_code js b) operator.Mul
+        (Number (number_at a row)) (Number (number_at b row)) (Number z)
+        (fitted z (is_i64 z)) (expression_runs a oks.0) (expression_runs b oks.1)

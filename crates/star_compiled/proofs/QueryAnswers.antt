@@ -1,0 +1,54 @@
+-- The answers of plans are those of their queries.
+use Rattle.std.proofs.Common.{ℕ, List, refl}
+use Rattle.std.specs.Prelude.{All}
+use Rattle.star_schema.specs.declared.table.TableId.{TableId}
+use Rattle.star_schema.specs.Database.{Database, rows_in}
+use Rattle.star_schema.specs.Loadable.{IsLoadable, IsSound, database_of}
+use Rattle.star_schema.specs.Tables.{IsRowOf}
+use Rattle.star_query.specs.declared.tree.Tree.{Tree}
+use Rattle.star_query.specs.Derives.{Means}
+use Rattle.star_query.specs.Views.{tree_view}
+use Rattle.star_plan.specs.Meaning.{Plan}
+use Rattle.star_plan.specs.Resolved.{IsResolved}
+use Rattle.star_plan.specs.WellNamed.{IsWellNamed}
+use Rattle.star_plan.proofs.Conditions.{no_fault}
+use Rattle.star_plan.proofs.Kept.{kept_sound}
+use Rattle.star_program.specs.World.{World}
+use Rattle.star_answers.proofs.OwnWords.{own_answer}
+use Rattle.star_world.specs.Shown.{IsWorldOf}
+use Rattle.star_world.specs.WorldOf.{world_of}
+use Rattle.star_compiled.specs.Answers.{AnswersTheQuery, ReportsTheQuery}
+use Rattle.star_compiled.proofs.Answered.{answers_the_plan}
+use Rattle.star_compiled.proofs.HeldRows.{rows_held}
+use Rattle.star_compiled.proofs.SeenRows.{sees}
+
+pub answers_the_query : (database : Database) (w : World) (query : Tree) (p : Plan)
+    → ((t : TableId) → All (IsRowOf t) (rows_in database t))
+    → IsWorldOf database w → IsWellNamed query → IsResolved query p
+    → AnswersTheQuery (rows_in database) w query p
+answers_the_query database w query p rows world named resolved may s outcome run told =
+    let sound = kept_sound query p (no_fault query named) resolved in
+    own_answer (rows_in database) query p named resolved outcome.names outcome.rows
+    (answers_the_plan (rows_in database) w (sees database w rows world) p sound may s outcome run
+    told)
+
+pub reports_the_query : ((database : Database) → IsSound database → IsWorldOf database
+    (world_of database)) → (most : ℕ) (texts : TableId → List ℕ) (text : List ℕ) (query : Tree)
+    (p : Plan)
+    → IsLoadable most texts → Means text (tree_view query) → IsWellNamed query → IsResolved query p
+    → ReportsTheQuery texts text p
+reports_the_query shown most texts text query p loadable means named resolved may s outcome run
+    told =
+    let database = database_of texts in
+    record {
+      tree = query;
+      means = means;
+      named = named;
+      names = outcome.names;
+      rows = outcome.rows;
+      answer =
+          answers_the_query database (world_of database) query p
+          (rows_held most texts loadable.tables) (shown database loadable.sound) named resolved may
+          s outcome run told;
+      printed = refl;
+    }

@@ -1,0 +1,93 @@
+-- What refuses the programs of small queries, by computation.
+use Rattle.std.proofs.Common.{◌≡◌, ℕ, false, [], ◌∷◌, Some, None, refl, arith}
+use Rattle.std.specs.Prelude.{pos, codes}
+use Rattle.std.specs.List.{list_all}
+use Rattle.star_common.specs.First.{first_answer}
+use Rattle.star_schema.specs.declared.table.TableId.{TableId}
+use Rattle.star_schema.specs.declared.table.TableId.TheVariants.{Lineorder}
+use Rattle.star_schema.specs.declared.column.ColumnId.{ColumnId}
+use Rattle.star_schema.specs.declared.column.ColumnId.TheVariants.{LoLinenumber, LoExtendedprice, LoDiscount}
+use Rattle.star_schema.specs.declared.group.Shape.TheVariants.{Plain}
+use Rattle.star_schema.specs.declared.group.GroupColumn.TheVariants.{Aggregate}
+use Rattle.star_schema.specs.Schema.{column_of}
+use Rattle.star_schema.specs.Tables.{Number}
+use Rattle.star_interval.specs.Range.{Range, only, is_i64}
+use Rattle.star_query.specs.declared.token.Relation.TheVariants.{Equal}
+use Rattle.star_plan.specs.Meaning.{Plan, compare, column, summed}
+use Rattle.star_plan.specs.Fits.{Fits, sum_fits}
+use Rattle.star_program.specs.World.{World}
+use Rattle.star_program.proofs.Sample.{sample, great_prices}
+use Rattle.star_admission.specs.Admissible.{TooCostly, Refused, first_refusal}
+use Rattle.star_admission.specs.Refusals.{Overflow, reached}
+use Rattle.star_compiled.specs.Compiled.{compiled}
+use Rattle.star_compiled.proofs.Plans.{q11}
+
+-- ---- the limit on visits
+
+five_lines : first_refusal sample 5 (compiled q11) ≡ None
+unfolding column_of first_answer is_i64 reached
+five_lines = refl
+
+one_too_many : first_refusal sample 4 (compiled q11) ≡ Some (TooCostly 5)
+unfolding column_of first_answer is_i64
+one_too_many = refl
+
+-- ---- a product: at most 3 times the greatest price would fit, but conditions narrow no range
+
+abbrev discounted : ColumnId → Range
+discounted LoExtendedprice = record { low = pos 1; high = pos 1000000000000000000 }
+discounted LoDiscount = record { low = pos 0; high = pos 10 }
+discounted _ = only (pos 0)
+
+wide_product : first_refusal (record sample { bounds = discounted }) 5 (compiled q11)
+    ≡ Some (Refused (
+      18,
+      Overflow (record { low = pos 0; high = pos 10000000000000000000 })
+          ((LoExtendedprice, discounted LoExtendedprice)
+          ∷ (LoDiscount, discounted LoDiscount) ∷ []),
+    ))
+unfolding column_of first_answer is_i64 reached
+wide_product = refl
+
+-- ---- a sum: all lines count, though a condition selects one
+
+abbrev line_count : TableId → ℕ
+line_count Lineorder = 11
+line_count t = 0
+
+abbrev one_line_more : World
+one_line_more = record great_prices { size = line_count }
+
+-- the price of line 1
+abbrev first_line : Plan
+first_line = record {
+  joins = [];
+  conjuncts = compare LoLinenumber Equal (Number (pos 1)) ∷ [];
+  shape = Plain;
+  keys = [];
+  measures = summed (column LoExtendedprice) ∷ [];
+  names = codes "price" ∷ [];
+  items = Aggregate 0 ∷ [];
+  sorts = [];
+}
+
+ten_lines_fit : Fits 10 10 great_prices.bounds first_line
+unfolding is_i64
+ten_lines_fit = record { visits = omega arith; nodes = refl; sums = refl }
+
+ten_lines : first_refusal great_prices 10 (compiled first_line) ≡ None
+unfolding column_of first_answer is_i64 reached
+ten_lines = refl
+
+eleven_lines_wide : list_all (sum_fits 11 one_line_more.bounds) first_line.measures ≡ false
+unfolding is_i64
+eleven_lines_wide = refl
+
+eleven_lines : first_refusal one_line_more 11 (compiled first_line)
+    ≡ Some (Refused (
+      7,
+      Overflow (record { low = pos 0; high = pos 9900000000000000000 })
+          ((LoExtendedprice, only (pos 900000000000000000)) ∷ []),
+    ))
+unfolding column_of first_answer is_i64 reached
+eleven_lines = refl

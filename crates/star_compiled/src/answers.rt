@@ -1,0 +1,53 @@
+//! Laws of what compiled programs answer: functions with no body, whose clauses are the laws.
+
+ghost use Rattle.std.specs.Prelude.{All, List, ℕ};
+ghost use Rattle.star_schema.specs.declared.table.TableId.{TableId};
+ghost use Rattle.star_schema.specs.Database.{Database, rows_in};
+ghost use Rattle.star_schema.specs.Loadable.{IsLoadable};
+ghost use Rattle.star_schema.specs.Tables.{IsRowOf};
+ghost use Rattle.star_query.specs.declared.tree.Tree.{Tree};
+ghost use Rattle.star_query.specs.Derives.{Means};
+ghost use Rattle.star_query.specs.Views.{tree_view};
+ghost use Rattle.star_plan.specs.Meaning.{Plan};
+ghost use Rattle.star_plan.specs.Resolved.{IsResolved};
+ghost use Rattle.star_plan.specs.Sound.{IsSound};
+ghost use Rattle.star_plan.specs.WellNamed.{IsWellNamed};
+ghost use Rattle.star_program.specs.World.{World};
+ghost use Rattle.star_world.specs.Shown.{IsWorldOf};
+ghost use Rattle.star_compiled.specs.Answers.{AnswersThePlan, AnswersTheQuery, PutsTheRows, ReportsTheQuery};
+
+use star_world::law::sound_rows_have_a_world;
+
+/// Where a run of a compiled program comes to its end, it has put the selected rows and no other,
+/// in their order.
+pub fn compiled_programs_put_the_selected_rows()
+    ensures { (database : Database) (w : World) (p : Plan)
+        → ((table : TableId) → All (IsRowOf table) (rows_in database table))
+        → IsWorldOf database w → IsSound p → PutsTheRows (rows_in database) w p }
+{}
+
+/// And its outcome is the plan's answer: the groups of the selected rows with their aggregates, in
+/// the plan's order, cut to its items, under their names.
+pub fn compiled_programs_answer_their_plans()
+    ensures { (database : Database) (w : World) (p : Plan)
+        → ((table : TableId) → All (IsRowOf table) (rows_in database table))
+        → IsWorldOf database w → IsSound p → AnswersThePlan (rows_in database) w p }
+{}
+
+/// So the outcome of the program of a well named query is the query's own answer.
+pub fn compiled_programs_answer_their_queries()
+    ensures { (database : Database) (w : World) (query : Tree) (p : Plan)
+        → ((table : TableId) → All (IsRowOf table) (rows_in database table))
+        → IsWorldOf database w → IsWellNamed query → IsResolved query p
+        → AnswersTheQuery (rows_in database) w query p }
+{}
+
+/// And what is printed of it, where five loadable texts hold the rows, is the report of the query's
+/// text.
+pub fn compiled_programs_report_their_queries()
+    ensures { (most : ℕ) (texts : TableId → List ℕ) (text : List ℕ) (query : Tree) (p : Plan)
+        → IsLoadable most texts → Means text (tree_view query)
+        → IsWellNamed query → IsResolved query p → ReportsTheQuery texts text p }
+{
+    sound_rows_have_a_world();
+}

@@ -1,0 +1,11 @@
+//! The program of a query.
+//!
+//! What it is stands in `specs/Compiled.antt`, what its runs put and answer in
+//! `specs/Answers.antt`, and what refuses it in `specs/Judged.antt`. There is no code here: the
+//! functions of `law`, `answers` and `acceptance` are laws of it. Nothing here names what checks
+//! programs or runs them.
+#![tactic(auto)]
+
+pub mod acceptance;
+pub mod answers;
+pub mod law;

@@ -1,5 +1,0 @@
-use Rattle.star_machine.proofs.Loaded.{loaded}
-use Rattle.star_machine.proofs.law.sound_rows_are_loaded.Goals as goal
-
-pub returns : goal.returns
-returns c = loaded

@@ -1,0 +1,24 @@
+-- The elements that a test picks, one after another.
+use Rattle.std.proofs.Common.{◌≡◌, ◌<◌, ◌+◌, ℕ, Bool, true, false, List, [], ◌∷◌, ◌++◌, length, map, drop, get_or, cond, ap, sym, ◌∙◌, refl, add-one}
+use Rattle.std.proofs.Math.Seq.{drop-cons}
+use Rattle.std.specs.List.{filter}
+
+module _ {X Y : Type 0} (p : X → Bool) (f : X → Y) (xs : List X) (i : ℕ) (d : X) where
+  next : i < length xs → map f (filter p (drop i xs))
+      ≡ map f (cond (p (get_or xs i d)) (get_or xs i d ∷ filter p (drop (i + 1) xs)) (filter p (drop (i + 1) xs)))
+  next lt =
+      ap (λ ys. map f (filter p ys)) (drop-cons xs i d lt)
+      ∙ ap (λ n. map f (filter p (get_or xs i d ∷ drop n xs))) (sym (add-one i))
+
+  pub picked : i < length xs → p (get_or xs i d) ≡ true
+      → map f (filter p (drop i xs)) ≡ f (get_or xs i d) ∷ map f (filter p (drop (i + 1) xs))
+  picked lt e = next lt ∙ ap (λ b. map f (cond b (get_or xs i d ∷ filter p (drop (i + 1) xs)) (filter p (drop (i + 1) xs)))) e
+
+  pub left_out : i < length xs → p (get_or xs i d) ≡ false
+      → map f (filter p (drop i xs)) ≡ map f (filter p (drop (i + 1) xs))
+  left_out lt e = next lt ∙ ap (λ b. map f (cond b (get_or xs i d ∷ filter p (drop (i + 1) xs)) (filter p (drop (i + 1) xs)))) e
+
+pub one_more : {X Y : Type 0} (f : X → Y) (xs : List X) (x : X) (ys : List Y)
+    → map f (xs ++ x ∷ []) ++ ys ≡ map f xs ++ f x ∷ ys
+one_more f [] x ys = refl
+one_more f (z ∷ xs) x ys = ap (λ zs. f z ∷ zs) (one_more f xs x ys)

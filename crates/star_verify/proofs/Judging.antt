@@ -1,0 +1,94 @@
+-- What an instruction is answered, and what a put leaves.
+use Rattle.std.proofs.Common.{◌≡◌, ◌+◌, ◌*◌, ◌<◌, ◌≤◌, ◌⊎◌, ℕ, Bool, true, false, List, [], ◌∷◌, ◌++◌, length, Option, Some, None, inl, inr, ⊎_elim, arith, refl, ap, sym, subst, ◌∙◌}
+use Rattle.std.proofs.lemmas.Bool.{ltb-false, ltb-true}
+use Rattle.std.proofs.lemmas.Bool.Decides.{eqb_tells}
+use Rattle.std.proofs.lemmas.List.Elements.{All-get_or}
+use Rattle.std.specs.Option.{option_or}
+use Rattle.std.specs.Prelude.{All, nat_eq, nat_lt, slice_index_or, if◌then◌else◌}
+use Rattle.star_schema.specs.declared.group.Aggregate.{Aggregate}
+use Rattle.star_schema.specs.declared.group.Shape.TheVariants.{Plain}
+use Rattle.star_program.specs.declared.op.Op.TheVariants.{Put}
+use Rattle.star_program.specs.declared.program.Parts.{Parts}
+use Rattle.star_program.specs.Faults.{group_at}
+use Rattle.star_program.specs.Limits.{IsSmall}
+use Rattle.star_program.specs.World.{World}
+use Rattle.star_admission.specs.Contexts.{Context, after_op, known_share, put_share}
+use Rattle.star_admission.specs.Ranges as ranges
+use Rattle.star_admission.specs.Refusals.{Reason}
+use Rattle.star_admission.specs.Standing.{at_place}
+use Rattle.star_admission.specs.Tallies.{Share}
+use Rattle.star_verify.specs.declared.tally.Tally.{Tally}
+use Rattle.star_verify.specs.Private.Kept.{HasShares, numbers_known}
+use Rattle.star_verify.specs.Private.Made.{AreTallies, IsTallyAt}
+use Rattle.star_verify.specs.Private.Shown.{IsTally}
+
+-- ---- the first of two reasons
+
+pub first_found : (at : ℕ) (found rest : Option Reason) (r : Reason) → found ≡ Some r
+    → at_place at (option_or found rest) ≡ Some (at, r)
+first_found at found rest r e = ap (λ o. at_place at (option_or o rest)) e
+
+pub second_found : (at : ℕ) (found rest : Option Reason) (r : Reason) → found ≡ None
+    → rest ≡ Some r → at_place at (option_or found rest) ≡ Some (at, r)
+second_found at found rest r e f = λ i. at_place at (option_or (e i) (f i))
+
+pub neither : (found rest : Option Reason) → found ≡ None → rest ≡ None
+    → option_or found rest ≡ None
+neither found rest e f = λ i. option_or (e i) (f i)
+
+-- ---- the tallies after a put
+
+apart : (h g a n : ℕ) → ((h ≡ g) → ⊥) → a < 8 → n ≤ 8
+    → (8 * h + a < 8 * g) ⊎ (8 * g + n ≤ 8 * h + a)
+apart h g a n other small few = below (nat_lt h g) refl
+  where
+    above : (b : Bool) → nat_lt g h ≡ b → g ≤ h → (8 * h + a < 8 * g) ⊎ (8 * g + n ≤ 8 * h + a)
+    above true e le = inr (omega (arith, ltb-true g h e, few))
+    above false e le = absurd (other (omega (arith, ltb-false g h e, le)))
+
+    below : (b : Bool) → nat_lt h g ≡ b → (8 * h + a < 8 * g) ⊎ (8 * g + n ≤ 8 * h + a)
+    below true e = inl (omega (arith, ltb-true h g e, small))
+    below false e = above (nat_lt g h) refl (ltb-false h g e)
+
+module _ (w : World) (parts : Parts) (x : Context) (old new : List Tally) (g met : ℕ)
+    (ks vs values : List ℕ) (gs : List Aggregate) (table : ranges.Table) where
+  pub put_shares : All IsSmall parts.groups → gs ≡ (group_at parts g).aggregates → values ≡ vs
+      → table ≡ x.known → x.met ≡ met → g < length parts.groups → HasShares parts old x
+      → ((a : ℕ) (ss : List Share) → a < length gs → IsTallyAt old (8 * g + a) ss
+      → IsTallyAt new (8 * g + a)
+      (known_share met (slice_index_or (numbers_known gs table values) a None) ∷ ss))
+      → ((p : ℕ) (t : Tally) → (p < 8 * g) ⊎ (8 * g + length gs ≤ p)
+      → slice_index_or new p t ≡ slice_index_or old p t)
+      → HasShares parts new (after_op w parts x (Put g ks vs))
+  put_shares small is same known often there had give leave h lt a below t = ⊎_elim
+      (λ p. let share = put_share parts x g vs a in
+      let in_g : a < length (group_at parts g).aggregates =
+      subst (λ n. a < length (group_at parts n).aggregates) p.1 below in
+      let one : known_share met (slice_index_or (numbers_known gs table values) a None) ≡ share =
+      λ i. known_share (sym often i)
+      (slice_index_or (numbers_known (is i) (known i) (same i)) a None) in
+      let now : IsTallyAt new (8 * g + a) (share ∷ x.so_far g a) =
+      subst (λ s. IsTallyAt new (8 * g + a) (s ∷ x.so_far g a)) one
+      (give a (x.so_far g a) (subst (λ l. a < length l) (sym is) in_g) (had g there a in_g)) in
+      subst (λ (b : Bool). IsTally (slice_index_or new (8 * h + a) t)
+      ((if b then share ∷ [] else []) ++ x.so_far h a)) (sym p.0)
+      (subst (λ n. IsTally (slice_index_or new (8 * n + a) t) (share ∷ x.so_far n a)) (sym p.1)
+      (now t)))
+      (λ p. let share = put_share parts x g vs a in
+      let few = (All-get_or IsSmall parts.groups h (record { shape = Plain; keys = []; aggregates = [] }) lt small).aggregates in
+      let many = (All-get_or IsSmall parts.groups g (record { shape = Plain; keys = []; aggregates = [] }) there small).aggregates in
+      let kept = leave (8 * h + a) t
+      (apart h g a (length gs) p.1 (omega (arith, below, few)) (omega (arith, many, ap length is))) in
+      subst (λ (b : Bool). IsTally (slice_index_or new (8 * h + a) t)
+      ((if b then share ∷ [] else []) ++ x.so_far h a)) (sym p.0)
+      (subst (λ tally. IsTally tally (x.so_far h a)) (sym kept) (had h lt a below t)))
+      (eqb_tells h g)
+
+-- the tallies of a group, from its first aggregate on
+pub from_first : (tallies : List Tally) (first : ℕ) (gs hs : List Aggregate)
+    (shares : ℕ → List Share) → gs ≡ hs → AreTallies tallies first hs shares
+    → AreTallies tallies first gs (λ a. shares (0 + a))
+from_first tallies first gs hs shares is h a lt =
+    let same : a ≡ 0 + a = omega arith in
+    subst (λ n. IsTallyAt tallies (first + a) (shares n)) same
+    (h a (subst (λ l. a < length l) is lt))

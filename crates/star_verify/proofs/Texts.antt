@@ -1,0 +1,16 @@
+-- Columns of numbers.
+use Rattle.std.proofs.Common.{◌≡◌, Bool, true, false, refl}
+use Rattle.std.specs.Prelude.{◌↔◌, IsTrue}
+use Rattle.star_schema.specs.declared.column.ColumnId.{ColumnId}
+use Rattle.star_schema.specs.declared.column.Kind.{Kind}
+use Rattle.star_schema.specs.declared.column.Kind.TheVariants as kind
+use Rattle.star_schema.specs.Schema.{kind_of}
+use Rattle.star_program.specs.World.{is_text}
+
+pub not_text : (c : ColumnId) (b : Bool) → (IsTrue b ↔ (kind_of c ≡ kind.Text)) → b ≡ false
+    → is_text c ≡ false
+not_text c b tells e = go (kind_of c) refl
+  where
+    go : (k : Kind) → kind_of c ≡ k → is_text c ≡ false
+    go kind.Number is = rw is refl
+    go kind.Text is = let yes : b ≡ true = tells.1 is in cc

@@ -1,0 +1,19 @@
+use Rattle.std.proofs.Common.{◌≡◌, FitsSigned, w64, rules, None, Some, ap, subst, sym, ◌∙◌}
+use Rattle.star_interval.specs.Range.{FitsI64}
+use Rattle.star_admission.specs.Ranges.{KnownNumber, loaded_known}
+use Rattle.star_admission.specs.Refusals.{overflow_of}
+use Rattle.star_verify.proofs.Overflows.{fitting}
+use Rattle.star_verify.proofs.Texts.{not_text}
+use Rattle.star_verify.proofs.facts.Facts.loaded.Goals as goal
+
+pub returns : goal.returns
+returns c = λ w facts.
+    let number = not_text c.args.column c.is_text.result c.is_text.ensures c.if-is_text.false in
+    let bounds = facts.bounds c.args.column c.bounds.result c.bounds.ensures in
+    let low : FitsSigned w64 c.bounds.result.low = search rules in
+    let high : FitsSigned w64 c.bounds.result.high = search rules in (
+      (λ i. KnownNumber (bounds i) (c.only.ensures i) (Some c.args.column))
+          ∙ sym (ap (λ b. loaded_known w c.args.column b) number),
+      subst (λ b. overflow_of w (loaded_known w c.args.column b) ≡ None) (sym number)
+          (fitting w _ _ (subst FitsI64 bounds (low, high))),
+    )

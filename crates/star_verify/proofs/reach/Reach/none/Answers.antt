@@ -1,0 +1,8 @@
+use Rattle.std.proofs.Common.{ap}
+use Rattle.std.proofs.lemmas.Nat.Bits.{bit_at-zero}
+use Rattle.std.specs.Prelude.{nat_eq}
+use Rattle.star_schema.specs.Schema.{index_of}
+use Rattle.star_verify.proofs.reach.Reach.none.Goals as goal
+
+pub returns : goal.returns
+returns c = λ i column. ap (λ b. nat_eq b 1) (bit_at-zero (index_of column)) i

@@ -1,0 +1,3 @@
+pub mod RefusalTexts
+pub mod Shown
+pub mod Private

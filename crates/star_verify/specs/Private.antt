@@ -1,0 +1,7 @@
+-- What no public clause speaks of.
+pub mod Shown
+pub mod Facts
+pub mod Bounded
+pub mod Made
+pub mod Kept
+pub mod Judged

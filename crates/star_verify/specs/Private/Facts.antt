@@ -1,0 +1,15 @@
+-- What a check needs of a world.
+use Rattle.std.specs.Prelude.{◌≡◌, slice_index_or}
+use Rattle.star_schema.specs.declared.column.ColumnId.{ColumnId}
+use Rattle.star_schema.specs.declared.table.TableId.{TableId}
+use Rattle.star_schema.specs.Schema.{index_of}
+use Rattle.star_schema.specs.Sizes.{size_of}
+use Rattle.star_interval.specs.declared.Interval.{Interval}
+use Rattle.star_interval.specs.Interval.{range_of}
+use Rattle.star_program.specs.World.{World}
+use Rattle.star_verify.specs.declared.facts.Facts.{Facts}
+
+pub record AreFacts (w : World) (facts : Facts) : Type 0 where
+  pub sizes : (t : TableId) → size_of facts.sizes t ≡ w.size t
+  pub bounds : (c : ColumnId) (i : Interval) → i ≡ slice_index_or facts.bounds (index_of c) i
+      → range_of i ≡ w.bounds c

@@ -1,0 +1,70 @@
+-- What a check answers of an instruction, and what it keeps for the next.
+use Rattle.std.specs.Prelude.{◌≡◌, ◌*◌, ◌+◌, ◌≤◌, ◌^◌, ℕ, Bool, List, length, Option, Some, None, Result, MatchResult}
+use Rattle.std.specs.Option.{option_or}
+use Rattle.star_schema.specs.declared.table.TableId.{TableId}
+use Rattle.star_program.specs.declared.op.Op.{Op}
+use Rattle.star_program.specs.declared.program.Parts.{Parts}
+use Rattle.star_program.specs.Code.{Code}
+use Rattle.star_program.specs.World.{World}
+use Rattle.star_admission.specs.Contexts.{Context, after_op, at_end, in_scan}
+use Rattle.star_admission.specs.Private.Forward.{first_reason}
+use Rattle.star_admission.specs.Refusals as refusals
+use Rattle.star_admission.specs.Refusals.{op_reason, scan_reason}
+use Rattle.star_admission.specs.Standing.{at_place}
+use Rattle.star_verify.specs.declared.instructions.Noted.{Noted}
+use Rattle.star_verify.specs.declared.instructions.Place.{Place}
+use Rattle.star_verify.specs.declared.refusal.Refusal.{Refusal}
+use Rattle.star_verify.specs.declared.refusal.Refusal.TheVariants as told
+use Rattle.star_verify.specs.declared.register.Register.{Register}
+use Rattle.star_verify.specs.Private.Kept.{AreFew, HasShares, flag_at}
+use Rattle.star_verify.specs.Private.Shown.{known_in}
+use Rattle.star_verify.specs.Shown.{reason_shown}
+
+-- this reason at this instruction, or want of memory
+abbrev pub IsFirst : Refusal → Option (ℕ × refusals.Reason) → Type 0
+IsFirst told.OutOfMemory found = Unit {0}
+IsFirst (told.Refused at reason) found = found ≡ Some (at, reason_shown reason)
+IsFirst _ found = ⊥
+
+-- ---- what is kept
+
+-- a flag for each register, and eight tallies for each of eight groups
+pub record IsSized (parts : Parts) (noted : Noted) : Type 0 where
+  pub written : length noted.written.items ≡ parts.registers
+  pub tallies : length noted.tallies.items ≡ 64
+
+pub record AreNoted (parts : Parts) (noted : Noted) (x : Context) : Type 0 where
+  pub written : flag_at noted.written.items ≡ x.written
+  pub shares : HasShares parts noted.tallies.items x
+
+pub record Keeps (parts : Parts) (registers : List Register) (noted : Noted) (x : Context)
+    : Type 0 where
+  pub known : known_in registers ≡ x.known
+  pub earlier : AreNoted parts noted x
+
+pub record IsPlaced (place : Place) (x : Context) : Type 0 where
+  pub inside : x.inside ≡ place.inside
+  pub met : x.met ≡ place.met
+
+-- of at most 10^15 numbers for each instruction so far
+abbrev pub AreFewAt : Noted → ℕ → Type 0
+AreFewAt noted at = AreFew noted.tallies.items (at * 10 ^ 15)
+
+-- ---- what is answered
+
+-- Ok where there is no reason, with what is kept then, else the reason
+abbrev pub IsJudged : Result (Unit {0}) Refusal → ℕ → Option refusals.Reason → Type 0 → Type 0
+IsJudged result at reason Kept =
+    MatchResult result (λ _. (reason ≡ None) × Kept) (λ refusal. IsFirst refusal (at_place at reason))
+
+-- Ok where nothing refuses some code, with what is kept then, else what does first
+abbrev pub IsWalked : Result ℕ Refusal → Option (ℕ × refusals.Reason) → Type 0 → Type 0
+IsWalked result first Kept =
+    MatchResult result (λ _. (first ≡ None) × Kept) (λ refusal. IsFirst refusal first)
+
+-- what refuses a scan or its body first
+abbrev pub scan_first : World → Parts → (ℕ → Bool) → Context → ℕ → TableId → ℕ → Code
+    → Option (ℕ × refusals.Reason)
+scan_first w parts pending x at table r body =
+    option_or (at_place at (scan_reason parts x r))
+    (first_reason w parts pending (in_scan w x table r) (at + 1) body)

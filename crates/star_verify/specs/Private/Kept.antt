@@ -1,0 +1,50 @@
+-- What a check keeps between instructions, as the context of the next.
+use Rattle.std.specs.Prelude.{◌≡◌, ◌+◌, ◌*◌, ◌<◌, ◌≤◌, ◌^◌, ℕ, Bool, false, List, length, map, pos, slice_index_or, Option, Some}
+use Rattle.star_schema.specs.declared.group.Aggregate.{Aggregate}
+use Rattle.star_interval.specs.Range.{only}
+use Rattle.star_program.specs.declared.program.Parts.{Parts}
+use Rattle.star_program.specs.Faults.{group_at}
+use Rattle.star_program.specs.Puts.{aligned}
+use Rattle.star_admission.specs.Contexts.{Context}
+use Rattle.star_admission.specs.Ranges as ranges
+use Rattle.star_verify.specs.declared.register.Register.{Register}
+use Rattle.star_verify.specs.declared.tally.Tally.{Tally}
+use Rattle.star_verify.specs.Private.Bounded.{IsBounded}
+use Rattle.star_verify.specs.Private.Made.{AreTallies}
+use Rattle.star_verify.specs.Private.Shown.{known_in}
+
+abbrev pub flag_at : List Bool → ℕ → Bool
+flag_at flags n = slice_index_or flags n false
+
+-- eight tallies for each group
+abbrev pub HasShares : Parts → List Tally → Context → Type 0
+HasShares parts tallies x =
+    (g : ℕ) → g < length parts.groups
+    → AreTallies tallies (8 * g) (group_at parts g).aggregates (x.so_far g)
+
+-- what is known of the numbers of a put, one for each aggregate
+abbrev pub numbers_known : List Aggregate → ranges.Table → List ℕ → List (Option ranges.Known)
+numbers_known aggregates known values =
+    aligned (Some (ranges.given (only (pos 1)))) aggregates (map known values)
+
+-- ---- how much is put
+
+-- a tally takes so many numbers more
+pub record HasRoom (tally : Tally) (times : ℕ) : Type 0 where
+  pub bounded : IsBounded tally
+  pub room : tally.many + times ≤ 2 ^ 62
+
+-- of at most so many numbers more than before
+pub record IsGrown (old new : Tally) (times : ℕ) : Type 0 where
+  pub bounded : IsBounded new
+  pub many : new.many ≤ old.many + times
+
+-- each tally is of at most so many numbers
+abbrev pub AreFew : List Tally → ℕ → Type 0
+AreFew tallies most =
+    (p : ℕ) (t : Tally) → p < length tallies
+    → IsBounded (slice_index_or tallies p t) × ((slice_index_or tallies p t).many ≤ most)
+
+-- the groups that are marked are those that are put to
+abbrev pub AreMarked : Parts → List Bool → (ℕ → Bool) → Type 0
+AreMarked parts flags pending = (g : ℕ) → g < length parts.groups → flag_at flags g ≡ pending g

@@ -1,0 +1,38 @@
+-- What is known of what an instruction makes, or what leaves 64 bits.
+use Rattle.std.specs.Prelude.{◌≡◌, ◌+◌, ◌<◌, ℕ, List, length, slice_index_or, Option, Some, None, Result, MatchResult}
+use Rattle.star_schema.specs.declared.group.Aggregate.{Aggregate}
+use Rattle.star_interval.specs.Interval.{wide_range_of}
+use Rattle.star_program.specs.World.{World}
+use Rattle.star_admission.specs.Ranges as ranges
+use Rattle.star_admission.specs.Refusals.{Reason, Overflow, overflow_of, reached}
+use Rattle.star_admission.specs.Tallies.{Share}
+use Rattle.star_verify.specs.declared.known.Beyond.{Beyond}
+use Rattle.star_verify.specs.declared.known.Known.{Known}
+use Rattle.star_verify.specs.declared.tally.Tally.{Tally}
+use Rattle.star_verify.specs.Private.Shown.{IsTally, known_shown, reach_shown}
+
+abbrev pub beyond_shown : World → Beyond → Reason
+beyond_shown w beyond =
+    Overflow (wide_range_of beyond.range) (reached w (reach_shown beyond.reach))
+
+-- Ok with what is known, which leaves 64 bits nowhere, else where it does
+abbrev pub IsMade : World → Result Known Beyond → ranges.Known → Type 0
+IsMade w result k =
+    MatchResult result (λ known. (known_shown known ≡ k) × (overflow_of w k ≡ None))
+    (λ beyond. overflow_of w k ≡ Some (beyond_shown w beyond))
+
+-- Ok where nothing leaves 64 bits, else what does
+abbrev pub IsWithin : World → Result (Unit {0}) Beyond → Option Reason → Type 0
+IsWithin w result reason =
+    MatchResult result (λ _. reason ≡ None) (λ beyond. reason ≡ Some (beyond_shown w beyond))
+
+-- ---- tallies in a list
+
+-- the tally of a place is that of some shares
+abbrev pub IsTallyAt : List Tally → ℕ → List Share → Type 0
+IsTallyAt tallies place ss = (t : Tally) → IsTally (slice_index_or tallies place t) ss
+
+-- from a place on stands the tally of each aggregate
+abbrev pub AreTallies : List Tally → ℕ → List Aggregate → (ℕ → List Share) → Type 0
+AreTallies tallies first aggregates shares =
+    (a : ℕ) → a < length aggregates → IsTallyAt tallies (first + a) (shares a)

@@ -1,0 +1,88 @@
+// What a check needs of a catalogue: how many rows its tables have, and between what its numbers
+// lie.
+
+ghost use Rattle.std.specs.Prelude.{◌≡◌, IfOk, None, map, slice_index_or};
+ghost use Rattle.star_schema.specs.Schema.{index_of};
+ghost use Rattle.star_program.specs.World as world;
+ghost use Rattle.star_program.specs.World.{World};
+ghost use Rattle.star_admission.specs.Ranges as ranges;
+ghost use Rattle.star_admission.specs.Refusals as refusals;
+ghost use Rattle.star_verify.specs.Private.Facts.{AreFacts};
+ghost use Rattle.star_verify.specs.Private.Shown.{known_shown, reach_shown};
+ghost use Rattle.star_verify.specs.Shown.{reached_shown};
+
+use crate::known::Known;
+use crate::reach::Reach;
+use crate::refusal::{Reached, ReachedColumns};
+use star_interval::Interval;
+use star_schema::{COLUMNS, ColumnId, Sizes, TableId, is_text, references};
+use std::alloc::{AllocError, Global};
+
+// The bounds go by the order of all columns, and are 0 and 0 for columns of texts.
+#[derive(Clone, Copy)]
+pub(crate) struct Facts {
+    pub(crate) sizes: Sizes,
+    pub(crate) bounds: [Interval; 58],
+}
+
+impl Facts {
+    // The least and the greatest number of a column.
+    pub(crate) fn bounds(&self, column: ColumnId) -> Interval
+        ensures { result ≡ slice_index_or self.now.bounds (index_of column) result }
+    {
+        self.bounds[column as usize]
+    }
+
+    // What is known of a column's value in a row.
+    pub(crate) fn loaded(&self, column: ColumnId) -> Known
+        ensures { (w : World) → AreFacts w self.now
+            → (known_shown result ≡ ranges.loaded_known w column (world.is_text column))
+            × (refusals.overflow_of w (ranges.loaded_known w column (world.is_text column)) ≡ None) }
+    {
+        if is_text(column) {
+            return Known::Text(column);
+        }
+        Known::Number {
+            range: self.bounds(column),
+            reach: Reach::only(column),
+            origin: Some(column),
+        }
+    }
+
+    // Columns in their order, each with its bounds.
+    pub(crate) fn reached(&self, alloc: Global, reach: Reach) -> Result<ReachedColumns, AllocError>
+        ensures { (w : World) → AreFacts w self.now
+            → IfOk result (λ columns. map reached_shown columns
+            ≡ refusals.reached w (reach_shown reach)) }
+    {
+        let mut columns = Vec::new(alloc);
+        for column in &COLUMNS {
+            if reach.has(*column) {
+                columns.push(Reached {
+                    column: *column,
+                    bounds: self.bounds(*column),
+                })?;
+            }
+        }
+        Ok(ReachedColumns::from_vec(columns))
+    }
+}
+
+fn is_table(table: TableId, other: Option<TableId>) -> bool
+    ensures { result ≡ refusals.is_some_table table other }
+{
+    match other {
+        Some(other) => table == other,
+        None => false,
+    }
+}
+
+// Whether a column's numbers are keys of the table.
+pub(crate) fn refers_to(table: TableId, column: Option<ColumnId>) -> bool
+    ensures { result ≡ refusals.refers_to table column }
+{
+    match column {
+        Some(column) => is_table(table, references(column)),
+        None => false,
+    }
+}

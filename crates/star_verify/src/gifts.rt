@@ -1,0 +1,88 @@
+// What a put gives the aggregates of its group.
+
+ghost use Rattle.std.specs.Prelude.{◌≡◌, ◌+◌, ◌<◌, ◌≤◌, ◌∷◌, ◌⊎◌, ℕ, List, None, length, slice_index_or};
+ghost use Rattle.std.specs.Option.{option_map};
+ghost use Rattle.star_schema.specs.declared.group.Aggregate.{Aggregate as Kind};
+ghost use Rattle.star_program.specs.Faults.{value_count};
+ghost use Rattle.star_admission.specs.Contexts.{known_share};
+ghost use Rattle.star_admission.specs.Tallies.{Share};
+ghost use Rattle.star_verify.specs.Private.Bounded.{IsBounded};
+ghost use Rattle.star_verify.specs.Private.Kept.{HasRoom, IsGrown, numbers_known};
+ghost use Rattle.star_verify.specs.Private.Made.{IsTallyAt};
+ghost use Rattle.star_verify.specs.Private.Shown.{known_in, known_shown};
+
+use crate::known::{Known, given, range_at, reach_at};
+use crate::register::{Register, known_at};
+use crate::tally::Tally;
+use crate::totals::tally_at;
+use star_interval::Interval;
+use star_schema::Aggregate;
+
+// Adds to the tally of a place numbers of which this is known, so many.
+fn add(tallies: &mut [Tally], place: usize, met: u64, known: Option<Known>)
+    requires there { place < length tallies.old }
+    requires room { (t : Tally) → HasRoom (slice_index_or tallies.old place t) met }
+    ensures given { (ss : List Share) → IsTallyAt tallies.old place ss
+        → IsTallyAt tallies.new place (known_share met (option_map known_shown known) ∷ ss) }
+    ensures grown { (t : Tally) → IsGrown (slice_index_or tallies.old place t)
+        (slice_index_or tallies.new place t) met }
+    ensures others { (p : ℕ) (t : Tally) → ¬ (p ≡ place)
+        → slice_index_or tallies.new p t ≡ slice_index_or tallies.old p t }
+    ensures len { length tallies.new ≡ length tallies.old }
+{
+    let tally = tally_at(tallies, place);
+    tallies[place] = tally.with(met, range_at(known), reach_at(known));
+}
+
+// What is known of the number of the next aggregate, and the values that are left.
+fn next_number<'v>(
+    aggregate: Aggregate,
+    registers: &[Register],
+    values: &'v [u16],
+) -> (Option<Known>, &'v [u16])
+    ensures known { (others : List Kind) → length values.now ≡ value_count (aggregate ∷ others)
+        → numbers_known (aggregate ∷ others) (known_in registers.now) values.now
+        ≡ option_map known_shown result.0
+        ∷ numbers_known others (known_in registers.now) result.1.now }
+    ensures left { (others : List Kind) → length values.now ≡ value_count (aggregate ∷ others)
+        → length result.1.now ≡ value_count others }
+{
+    match (aggregate, values) {
+        (Aggregate::Count, _) => (Some(given(Interval::point(1))), values),
+        (_, [value, left @ ..]) => (known_at(registers, *value).known, left),
+        (_, []) => (None, values),
+    }
+}
+
+// Adds what a put gives to the tallies of its group, which stand from a place on.
+pub(crate) fn give(
+    tallies: &mut [Tally],
+    first: usize,
+    registers: &[Register],
+    aggregates: &[Aggregate],
+    values: &[u16],
+    met: u64,
+)
+    requires there { first + length aggregates.now ≤ length tallies.old }
+    requires values { length values.now ≡ value_count aggregates.now }
+    requires room { (p : ℕ) (t : Tally) → first ≤ p → p < length tallies.old
+        → HasRoom (slice_index_or tallies.old p t) met }
+    ensures given { (a : ℕ) (ss : List Share) → a < length aggregates.now
+        → IsTallyAt tallies.old (first + a) ss
+        → IsTallyAt tallies.new (first + a) (known_share met (slice_index_or
+        (numbers_known aggregates.now (known_in registers.now) values.now) a None) ∷ ss) }
+    ensures grown { (p : ℕ) (t : Tally) → IsBounded (slice_index_or tallies.old p t)
+        → IsGrown (slice_index_or tallies.old p t) (slice_index_or tallies.new p t) met }
+    ensures others { (p : ℕ) (t : Tally) → (p < first) ⊎ (first + length aggregates.now ≤ p)
+        → slice_index_or tallies.new p t ≡ slice_index_or tallies.old p t }
+    ensures len { length tallies.new ≡ length tallies.old }
+{
+    match aggregates {
+        [] => {}
+        [aggregate, others @ ..] => {
+            let (known, left) = next_number(*aggregate, registers, values);
+            add(tallies, first, met, known);
+            give(tallies, first + 1, registers, others, left, met);
+        }
+    }
+}

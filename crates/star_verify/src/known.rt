@@ -1,0 +1,127 @@
+// What is known of a register before a run.
+
+ghost use Rattle.std.specs.Prelude.{◌≡◌, ◌↔◌, None, Some, IfOk, IfErr, IsOk, MatchResult};
+ghost use Rattle.std.specs.Option.{option_map};
+ghost use Rattle.star_interval.specs.Interval.{bounds_of, range_of, wide_range_of};
+ghost use Rattle.star_interval.specs.Range.{FitsI64};
+ghost use Rattle.star_program.specs.World.{World};
+ghost use Rattle.star_admission.specs.Ranges as ranges;
+ghost use Rattle.star_admission.specs.Refusals as refusals;
+ghost use Rattle.star_verify.specs.Private.Shown.{known_shown, reach_shown};
+
+use crate::reach::Reach;
+use star_interval::{Interval, Wide};
+use star_program::Operator;
+use star_schema::{ColumnId, TableId};
+
+// The kind of a register, and of a number its range, the columns that it is computed from, and the
+// column that it was loaded from, if it was.
+#[derive(Clone, Copy)]
+pub(crate) enum Known {
+    Number {
+        range: Interval,
+        reach: Reach,
+        origin: Option<ColumnId>,
+    },
+    Text(ColumnId),
+    Place(ColumnId),
+    Row(TableId),
+    Flag,
+}
+
+// A result of arithmetic that leaves 64 bits.
+#[derive(Clone, Copy)]
+pub(crate) struct Beyond {
+    pub(crate) range: Wide,
+    pub(crate) reach: Reach,
+}
+
+// A number that is computed from no column.
+pub(crate) fn given(range: Interval) -> Known
+    ensures { known_shown result ≡ ranges.given (range_of range) }
+{
+    Known::Number {
+        range,
+        reach: Reach::none(),
+        origin: None,
+    }
+}
+
+// The range of a number, which is that of 0 where nothing is known of one.
+pub(crate) fn range_at(known: Option<Known>) -> Interval
+    ensures { range_of result ≡ ranges.range_at (option_map known_shown known) }
+{
+    match known {
+        Some(Known::Number { range, .. }) => range,
+        _ => Interval::point(0),
+    }
+}
+
+pub(crate) fn reach_at(known: Option<Known>) -> Reach
+    ensures { reach_shown result ≡ ranges.reach_at (option_map known_shown known) }
+{
+    match known {
+        Some(Known::Number { reach, .. }) => reach,
+        _ => Reach::none(),
+    }
+}
+
+pub(crate) fn origin_at(known: Option<Known>) -> Option<ColumnId>
+    ensures { result ≡ ranges.origin_at (option_map known_shown known) }
+{
+    match known {
+        Some(Known::Number { origin, .. }) => origin,
+        _ => None,
+    }
+}
+
+// What arithmetic makes, by its range and the columns that it is computed from.
+pub(crate) fn computed(range: Result<Interval, Wide>, reach: Reach) -> Result<Known, Beyond>
+    requires { IsOk range ↔ FitsI64 (bounds_of range) }
+    ensures made { IfOk result (λ known. known_shown known
+        ≡ ranges.KnownNumber (bounds_of range) (reach_shown reach) None) }
+    ensures overflow { (w : World) → MatchResult result
+        (λ _. refusals.overflow_of w (ranges.KnownNumber (bounds_of range) (reach_shown reach) None)
+        ≡ None)
+        (λ beyond. refusals.overflow_of w
+        (ranges.KnownNumber (bounds_of range) (reach_shown reach) None)
+        ≡ Some (refusals.Overflow (wide_range_of beyond.range)
+        (refusals.reached w (reach_shown beyond.reach)))) }
+{
+    match range {
+        Ok(range) => Ok(Known::Number {
+            range,
+            reach,
+            origin: None,
+        }),
+        Err(range) => Err(Beyond { range, reach }),
+    }
+}
+
+// What an operator makes of two registers.
+pub(crate) fn answer(
+    operator: Operator,
+    left: Option<Known>,
+    right: Option<Known>,
+) -> Result<Known, Beyond>
+    ensures made { IfOk result (λ known. known_shown known
+        ≡ ranges.answer_known operator (option_map known_shown left) (option_map known_shown right)) }
+    ensures overflow { (w : World) → MatchResult result
+        (λ _. refusals.overflow_of w
+        (ranges.answer_known operator (option_map known_shown left) (option_map known_shown right))
+        ≡ None)
+        (λ beyond. refusals.overflow_of w
+        (ranges.answer_known operator (option_map known_shown left) (option_map known_shown right))
+        ≡ Some (refusals.Overflow (wide_range_of beyond.range)
+        (refusals.reached w (reach_shown beyond.reach)))) }
+{
+    let from = range_at(left);
+    let to = range_at(right);
+    let reach = reach_at(left).joined(reach_at(right));
+    match operator {
+        Operator::Add => computed(from.add(&to), reach),
+        Operator::Sub => computed(from.sub(&to), reach),
+        Operator::Mul => computed(from.mul(&to), reach),
+        _ => Ok(Known::Flag),
+    }
+}

@@ -1,0 +1,20 @@
+//! The check of a program before a run: what refuses it, and what it costs at most.
+#![tactic(auto)]
+
+mod facts;
+mod gifts;
+mod instructions;
+mod known;
+mod open_groups;
+mod operations;
+mod reach;
+mod refusal;
+mod register;
+mod report;
+mod tally;
+mod totals;
+mod visits;
+mod walk;
+
+pub use refusal::{Reached, ReachedColumns, Reason, Refusal};
+pub use visits::quote;

@@ -1,0 +1,151 @@
+// What is known of what an operation makes, and what it may not look for or read.
+
+ghost use Rattle.std.specs.Prelude.{◌≡◌, ◌*◌, ◌+◌, ◌<◌, ◌≤◌, ℕ, Bool, None, Some, length, MatchResult};
+ghost use Rattle.star_program.specs.CodeOfSteps.{code_of_steps};
+ghost use Rattle.star_program.specs.declared.op.Op.TheVariants.{Assign};
+ghost use Rattle.star_program.specs.Faults.{group_at, place_fault};
+ghost use Rattle.star_program.specs.World.{World};
+ghost use Rattle.star_admission.specs.Contexts as contexts;
+ghost use Rattle.star_admission.specs.Contexts.{Context, operation_known};
+ghost use Rattle.star_admission.specs.Private.Forward.{open_with};
+ghost use Rattle.star_admission.specs.Ranges as ranges;
+ghost use Rattle.star_admission.specs.Refusals.{source_reason};
+ghost use Rattle.star_admission.specs.Tallies.{read_range};
+ghost use Rattle.star_interval.specs.Range.{only};
+ghost use Rattle.star_verify.specs.Private.Facts.{AreFacts};
+ghost use Rattle.star_verify.specs.Private.Kept.{AreMarked, HasShares, flag_at};
+ghost use Rattle.star_verify.specs.Private.Made.{IsMade};
+ghost use Rattle.star_verify.specs.Private.Shown.{known_in};
+ghost use Rattle.star_verify.specs.Shown.{IsReason};
+
+use crate::facts::{Facts, refers_to};
+use crate::known::{Beyond, Known, answer, given, origin_at};
+use crate::open_groups::mark_puts;
+use crate::refusal::Reason;
+use crate::register::{Register, known_at};
+use crate::tally::Tally;
+use crate::totals::{read, tally_at};
+use star_interval::Interval;
+use star_program::{Operation, Parts, Step};
+use star_schema::Aggregate;
+
+// An aggregate of a group, by their numbers.
+fn aggregate_at(parts: &Parts, group: u16, aggregate: u16) -> Aggregate
+    ensures { result ≡ contexts.aggregate_at parts.now group aggregate }
+{
+    match parts.group(group) {
+        Some(declared) => match declared.aggregates.as_slice().get(aggregate as usize) {
+            Some(kind) => *kind,
+            None => Aggregate::Count,
+        },
+        None => Aggregate::Count,
+    }
+}
+
+// What is known of a read of a declared aggregate.
+fn read_total(
+    parts: &Parts,
+    tallies: &[Tally],
+    group: u16,
+    aggregate: u16,
+    default: i64,
+) -> Result<Known, Beyond>
+    requires group { group < length parts.now.groups }
+    requires aggregate { aggregate < length (group_at parts.now group).aggregates }
+    requires there { 8 * group + aggregate < length tallies.now }
+    ensures { (w : World) (x : Context) → HasShares parts.now tallies.now x
+        → IsMade w result (ranges.given (read_range
+        (contexts.aggregate_at parts.now group aggregate) (x.so_far group aggregate) (only default))) }
+{
+    let place = 8 * group as usize + aggregate as usize;
+    read(
+        aggregate_at(parts, group, aggregate),
+        tally_at(tallies, place),
+        default,
+    )
+}
+
+// What is known of what an operation makes.
+pub(crate) fn make(
+    parts: &Parts,
+    facts: &Facts,
+    registers: &[Register],
+    tallies: &[Tally],
+    operation: &Operation,
+) -> Result<Known, Beyond>
+    requires placed { (inside : Bool) × (target : ℕ)
+        × (place_fault parts.now inside (Assign target operation.now) ≡ None) }
+    requires there { (g a : ℕ) → g < length parts.now.groups
+        → a < length (group_at parts.now g).aggregates → 8 * g + a < length tallies.now }
+    ensures { (w : World) (x : Context) → AreFacts w facts.now → known_in registers.now ≡ x.known
+        → HasShares parts.now tallies.now x
+        → IsMade w result (operation_known w parts.now x operation.now) }
+{
+    match operation {
+        Operation::Const { number } => Ok(given(Interval::point(*number))),
+        Operation::Edge { column, .. } => Ok(Known::Place(*column)),
+        Operation::Load { column, .. } => Ok(facts.loaded(*column)),
+        Operation::Find { table, .. } => Ok(Known::Row(*table)),
+        Operation::Binary {
+            operator,
+            left,
+            right,
+        } => answer(
+            *operator,
+            known_at(registers, *left).known,
+            known_at(registers, *right).known,
+        ),
+        Operation::Within { .. } | Operation::Not { .. } => Ok(Known::Flag),
+        Operation::Read {
+            group,
+            aggregate,
+            default,
+        } => read_total(parts, tallies, *group, *aggregate, *default),
+    }
+}
+
+// Whether a group is put to by these steps, or was open already.
+fn is_open(pending: [bool; 8], steps: &[Step], group: u16) -> bool
+    requires { group < 8 }
+    ensures { (pending_now : ℕ → Bool) → flag_at pending group ≡ pending_now group
+        → result ≡ open_with pending_now (code_of_steps steps.now) group }
+{
+    let mut opened = pending;
+    mark_puts(&mut opened, steps);
+    opened[group as usize]
+}
+
+// Refuses a find by what is no foreign key to its table, and a read of a group that is still put to.
+pub(crate) fn check_source(
+    parts: &Parts,
+    registers: &[Register],
+    pending: [bool; 8],
+    rest: &[Step],
+    operation: &Operation,
+) -> Result<(), Reason>
+    requires placed { (inside : Bool) × (target : ℕ)
+        × (place_fault parts.now inside (Assign target operation.now) ≡ None) }
+    requires few { length parts.now.groups ≤ 8 }
+    ensures { (x : Context) (pending_now : ℕ → Bool) (target : ℕ) → known_in registers.now ≡ x.known
+        → AreMarked parts.now pending pending_now
+        → IsReason result (source_reason (open_with pending_now (code_of_steps rest.now)) x
+        (Assign target operation.now)) }
+{
+    match operation {
+        Operation::Find { table, key } => {
+            if refers_to(*table, origin_at(known_at(registers, *key).known)) {
+                Ok(())
+            } else {
+                Err(Reason::NotAForeignKey)
+            }
+        }
+        Operation::Read { group, .. } => {
+            if is_open(pending, rest, *group) {
+                Err(Reason::OpenGroup)
+            } else {
+                Ok(())
+            }
+        }
+        _ => Ok(()),
+    }
+}

@@ -1,0 +1,45 @@
+// The columns that a number is computed from.
+
+ghost use Rattle.std.specs.Prelude.{◌≡◌};
+ghost use Rattle.star_program.specs.World.{is_column};
+ghost use Rattle.star_admission.specs.Ranges.{joined_reach, no_reach};
+ghost use Rattle.star_verify.specs.Private.Shown.{reach_shown};
+
+use star_schema::ColumnId;
+
+// Columns, a bit for each in their order, the first column's the lowest.
+#[derive(Clone, Copy)]
+pub(crate) struct Reach {
+    columns: u64,
+}
+
+impl Reach {
+    pub(crate) fn none() -> Reach
+        ensures { reach_shown result ≡ no_reach }
+    {
+        Reach { columns: 0 }
+    }
+
+    pub(crate) fn only(column: ColumnId) -> Reach
+        ensures { reach_shown result ≡ is_column column }
+    {
+        Reach {
+            columns: 1 << (column as u64),
+        }
+    }
+
+    // The columns of either.
+    pub(crate) fn joined(self, other: Reach) -> Reach
+        ensures { reach_shown result ≡ joined_reach (reach_shown self) (reach_shown other) }
+    {
+        Reach {
+            columns: self.columns | other.columns,
+        }
+    }
+
+    pub(crate) fn has(self, column: ColumnId) -> bool
+        ensures { result ≡ reach_shown self column }
+    {
+        (self.columns >> (column as u64)) & 1 == 1
+    }
+}

@@ -1,0 +1,78 @@
+// Registers, by what is known of them.
+
+ghost use Rattle.std.specs.Prelude.{◌≡◌, ◌<◌, length};
+ghost use Rattle.star_check.specs.Kinds.{Answers};
+ghost use Rattle.star_program.specs.Faults.{fault_of};
+ghost use Rattle.star_program.specs.Values.{with_entry};
+ghost use Rattle.star_admission.specs.Ranges.{kinds_known, known_kind};
+ghost use Rattle.star_verify.specs.Private.Shown.{kind_known, known_in, known_of, known_shown};
+
+use crate::known::Known;
+use star_check::{Kinded, check};
+use star_program::{Fault, Kind, Op, Parts};
+
+// What is known of a register, where something in scope writes it.
+#[derive(Clone, Copy)]
+pub(crate) struct Register {
+    pub(crate) known: Option<Known>,
+}
+
+fn kind_of(known: Known) -> Kind
+    ensures { result ≡ known_kind (known_shown known) }
+{
+    match known {
+        Known::Number { .. } => Kind::Number,
+        Known::Text(column) => Kind::Text(column),
+        Known::Place(column) => Kind::Place(column),
+        Known::Row(table) => Kind::Row(table),
+        Known::Flag => Kind::Flag,
+    }
+}
+
+impl Kinded for Register {
+    ghost kind = { kind_known };
+
+    fn kind(&self) -> Option<Kind> {
+        match self.known {
+            Some(known) => Some(kind_of(known)),
+            None => None,
+        }
+    }
+}
+
+// What is known of the register of a number.
+pub(crate) fn known_at(registers: &[Register], number: u16) -> Register
+    ensures { known_of result ≡ known_in registers.now number }
+{
+    match registers.get(number as usize) {
+        Some(register) => *register,
+        None => Register { known: None },
+    }
+}
+
+// Writes what is known of a register.
+#[tactic(auto, using(crate::proofs::Registers::known_set))]
+pub(crate) fn learn(registers: &mut [Register], target: u16, known: Known)
+    requires { target < length registers.old }
+    ensures learned { known_in registers.new
+        ≡ with_entry (known_in registers.old) target (known_shown known) }
+    ensures len { length registers.new ≡ length registers.old }
+{
+    registers[target as usize] = Register { known: Some(known) };
+}
+
+// What is wrong with an instruction by the kinds of its operands; `again` is what is wrong with its
+// target beside.
+pub(crate) fn check_kinds(
+    parts: &Parts,
+    inside: bool,
+    again: Option<Fault>,
+    registers: &[Register],
+    op: &Op,
+) -> Result<(), Fault>
+    requires { length registers.now ≡ parts.now.registers }
+    ensures { Answers result
+        (fault_of parts.now inside again (kinds_known (known_in registers.now)) op.now) }
+{
+    check(parts, inside, again, registers, op)
+}

@@ -1,0 +1,64 @@
+// Whether a report names what is there.
+
+ghost use Rattle.std.specs.Prelude.{◌≡◌, ◌≤◌, length, map};
+ghost use Rattle.star_program.specs.Limits.{IsWithinLimits};
+ghost use Rattle.star_program.specs.Shown as shown;
+
+use star_program::{GroupDecl, Parts, Show};
+use star_schema::{GroupColumn, SortKey};
+
+fn has_column(declared: &GroupDecl, column: GroupColumn) -> bool
+    ensures { result ≡ shown.has_column declared.now column }
+{
+    match column {
+        GroupColumn::Key(place) => (place as usize) < declared.keys.as_slice().len(),
+        GroupColumn::Aggregate(place) => (place as usize) < declared.aggregates.as_slice().len(),
+    }
+}
+
+// The number of the first show line that names what its group does not have.
+fn bad_show(declared: &GroupDecl, shows: &[Show]) -> Option<u8>
+    requires { length shows.now ≤ 16 }
+    ensures { result ≡ shown.first_unshown declared.now 1 (map (λ show. show.column) shows.now) }
+{
+    let mut line = 1;
+    for show in shows {
+        if !has_column(declared, show.column) {
+            return Some(line);
+        }
+        line += 1;
+    }
+    None
+}
+
+// The number of the first such sort line, where they are numbered from here on.
+fn bad_sort(declared: &GroupDecl, first: u8, sorts: &[SortKey]) -> Option<u8>
+    requires few { length sorts.now ≤ 16 }
+    requires first { first ≤ 17 }
+    ensures { result ≡ shown.first_unshown declared.now first (map (λ sort. sort.column) sorts.now) }
+{
+    let mut line = first;
+    for sort in sorts {
+        if !has_column(declared, sort.column) {
+            return Some(line);
+        }
+        line += 1;
+    }
+    None
+}
+
+// Where a report names what is not there: 0 for its group or where it shows nothing, else the number
+// of the first such line among the show and then the sort lines, from 1.
+pub(crate) fn misnamed_line(parts: &Parts) -> Option<u8>
+    requires { IsWithinLimits parts.now }
+    ensures { result ≡ shown.shown_fault parts.now }
+{
+    let shows = parts.shows.as_slice();
+    match parts.group(parts.report) {
+        Some(declared) if !shows.is_empty() => match bad_show(declared, shows) {
+            Some(line) => Some(line),
+            None => bad_sort(declared, shows.len() as u8 + 1, parts.sorts.as_slice()),
+        },
+        _ => Some(0),
+    }
+}

@@ -1,0 +1,97 @@
+// What the updates of a group can add up to.
+
+ghost use Rattle.std.specs.Prelude.{◌≡◌, ◌≤◌, ◌+◌, ◌^◌, ◌∷◌, [], List, ◌+ℤ◌, ◌≤ℤ◌, pos};
+ghost use Rattle.std.specs.Option.{option_map};
+ghost use Rattle.star_interval.specs.Interval.{bounds_of, range_of, wide_range_of};
+ghost use Rattle.star_admission.specs.Tallies.{Share, hull_with};
+ghost use Rattle.star_verify.specs.Private.Bounded.{IsBounded};
+ghost use Rattle.star_verify.specs.Private.Shown.{IsTally, reach_shown};
+
+use crate::reach::Reach;
+use star_interval::{Interval, Wide};
+
+// Of the numbers that puts give an aggregate: between what their sum lies, how many there can be,
+// the least range that holds each, and the columns that they are computed from.
+#[derive(Clone, Copy)]
+pub(crate) struct Tally {
+    pub(crate) sum: Wide,
+    pub(crate) many: u64,
+    pub(crate) each: Option<Interval>,
+    pub(crate) reach: Reach,
+}
+
+// An answer's bounds.
+fn wide(range: Result<Interval, Wide>) -> Wide
+    ensures { wide_range_of result ≡ bounds_of range }
+{
+    match range {
+        Ok(range) => Wide::from(range),
+        Err(range) => range,
+    }
+}
+
+// The bounds of the sums.
+fn total(sum: Wide, more: Wide) -> Wide
+    requires sum_low { pos 0 ≤ℤ (sum.low +ℤ pos (2 ^ 125)) }
+    requires sum_high { sum.high ≤ℤ pos (2 ^ 125) }
+    requires more_low { pos 0 ≤ℤ (more.low +ℤ pos (2 ^ 125)) }
+    requires more_high { more.high ≤ℤ pos (2 ^ 125) }
+    ensures low { result.low ≡ sum.low +ℤ more.low }
+    ensures high { result.high ≡ sum.high +ℤ more.high }
+{
+    Wide {
+        low: sum.low + more.low,
+        high: sum.high + more.high,
+    }
+}
+
+// The least range that holds also these.
+fn with_range(each: Option<Interval>, range: Interval) -> Interval
+    ensures { range_of result ≡ hull_with (option_map range_of each) (range_of range) }
+{
+    match each {
+        None => range,
+        Some(before) => before.hull(&range),
+    }
+}
+
+impl Tally {
+    // Of no numbers.
+    pub(crate) fn none() -> Tally
+        ensures shares { IsTally result [] }
+        ensures many { result.many ≡ 0 }
+        ensures bounded { IsBounded result }
+    {
+        Tally {
+            sum: Wide { low: 0, high: 0 },
+            many: 0,
+            each: None,
+            reach: Reach::none(),
+        }
+    }
+
+    // With so many numbers of a range more, or fewer.
+    pub(crate) fn with(self, times: u64, range: Interval, reach: Reach) -> Tally
+        requires few { self.many + times ≤ 2 ^ 62 }
+        requires bounded { IsBounded self }
+        ensures shares { (ss : List Share) → IsTally self ss
+            → IsTally result (record {
+              met = times;
+              range = range_of range;
+              reach = reach_shown reach;
+            } ∷ ss) }
+        ensures many { result.many ≡ self.many + times }
+        ensures bounded { IsBounded result }
+    {
+        let widened = range.with_zero();
+        let product = widened.times(times);
+        let more = wide(product);
+        let sum = total(self.sum, more);
+        Tally {
+            sum,
+            many: self.many + times,
+            each: Some(with_range(self.each, range)),
+            reach: self.reach.joined(reach),
+        }
+    }
+}

@@ -1,0 +1,38 @@
+// How many rows a program can visit at most.
+
+ghost use Rattle.std.specs.Prelude.{◌≡◌, ◌≤◌, ◌*◌, ◌^◌};
+ghost use Rattle.star_schema.specs.Sizes.{size_of};
+ghost use Rattle.star_program.specs.Code.{code_size, scan_depth};
+ghost use Rattle.star_admission.specs.Quote as spec;
+
+use star_program::{Body, Program, Step};
+use star_schema::Sizes;
+
+// The turns of a body that is met so many times. 32 bits a scan of those that stand one in another
+// bound how often an instruction is met, and so 128 bits hold the sum over all instructions.
+fn turns_met(sizes: &Sizes, times: u128, body: &Body) -> u128
+    requires few { code_size body.now ≤ 4096 }
+    requires deep { times * (2 ^ 32) ^ scan_depth body.now ≤ 2 ^ 96 }
+    ensures turns { result ≡ spec.turns_met (size_of sizes.now) times body.now }
+    ensures bound { result ≤ code_size body.now * 2 ^ 96 }
+{
+    let mut total = 0;
+    for step in body.as_slice() {
+        match step {
+            Step::Act(_) => {}
+            Step::Scan { table, body, .. } => {
+                let turns = times * u128::from(sizes.of(*table));
+                total += turns + turns_met(sizes, turns, body);
+            }
+        }
+    }
+    total
+}
+
+/// How many turns of scans a program can take at most over tables of these sizes: the sum, over the
+/// scans, of the product of the row counts of that scan and of the scans round it.
+pub fn quote(program: &Program, sizes: &Sizes) -> u128
+    ensures { result ≡ spec.quote (size_of sizes.now) program.now }
+{
+    turns_met(sizes, 1, &program.parts().body)
+}

@@ -1,0 +1,4 @@
+pub mod Found
+pub mod Loaded
+mod Shown
+mod Worked

@@ -1,0 +1,2 @@
+pub mod WorldOf
+pub mod Shown

@@ -1,0 +1,40 @@
+-- What a program sees of some rows, column by column.
+use Rattle.std.specs.Prelude.{◌≡◌, ◌↔◌, ◌<◌, ℕ, ℤ, List, true, false, Some, length, nat_lt, slice_get}
+use Rattle.std.specs.Ordering.{is_le, is_lt}
+use Rattle.star_schema.specs.declared.column.ColumnId.{ColumnId}
+use Rattle.star_schema.specs.declared.table.Key.TheVariants.{One}
+use Rattle.star_schema.specs.declared.table.TableId.{TableId}
+use Rattle.star_schema.specs.Database.{Database, rows_in}
+use Rattle.star_schema.specs.Dictionary.{text_cmp}
+use Rattle.star_schema.specs.Schema.{key_of, references, table_of}
+use Rattle.star_program.specs.World.{World, IsRowOf, is_text}
+use Rattle.star_world.specs.WorldOf.{column_numbers, column_texts}
+
+-- a row has this number, or this text, in a column
+abbrev pub HasNumber : Database → ColumnId → ℕ → ℤ → Type 0
+HasNumber database c row n = slice_get (column_numbers database c) row ≡ Some n
+
+abbrev pub HasText : Database → ColumnId → ℕ → List ℕ → Type 0
+HasText database c row text = slice_get (column_texts database c) row ≡ Some text
+
+-- a code is that of a text of a column: it is how many of the column's texts are less, it lies
+-- below what is counted for any text, of the column or not, exactly where the two texts compare so,
+-- and it leads back to the text
+pub record IsCodeOf (w : World) (c : ColumnId) (text : List ℕ) (code : ℕ) : Type 0 where
+  pub place : code ≡ w.low c text
+  pub low : (bound : List ℕ) → nat_lt code (w.low c bound) ≡ is_lt (text_cmp text bound)
+  pub high : (bound : List ℕ) → nat_lt code (w.high c bound) ≡ is_le (text_cmp text bound)
+  pub shown : w.text c code ≡ text
+
+-- a world is what programs see of these rows: their numbers and the codes of their texts, the row
+-- of a key, which is the one row that has it, and a row for each foreign key
+pub record IsWorldOf (database : Database) (w : World) : Type 0 where
+  pub size : (t : TableId) → w.size t ≡ length (rows_in database t)
+  pub number : (c : ColumnId) (row : ℕ) (n : ℤ) → is_text c ≡ false → HasNumber database c row n
+      → w.number c row ≡ n
+  pub code : (c : ColumnId) (row : ℕ) (text : List ℕ) → is_text c ≡ true
+      → HasText database c row text → IsCodeOf w c text (w.code c row)
+  pub find : (key : ColumnId) (n : ℤ) (row : ℕ) → key_of (table_of key) ≡ One key
+      → (w.find (table_of key) n ≡ Some row) ↔ HasNumber database key row n
+  pub found : (c : ColumnId) (t : TableId) (row : ℕ) → references c ≡ Some t
+      → row < w.size (table_of c) → IsRowOf w t (w.find t (w.number c row))

@@ -1,0 +1,19 @@
+//! Laws of the world that programs see: functions with no body, whose clauses are the laws.
+
+ghost use Rattle.star_schema.specs.Database.{Database};
+ghost use Rattle.star_schema.specs.Loadable.{IsSound};
+ghost use Rattle.star_program.specs.World.{IsLoaded};
+ghost use Rattle.star_world.specs.Shown.{IsWorldOf};
+ghost use Rattle.star_world.specs.WorldOf.{world_of};
+
+/// In the world of sound rows each column's bounds hold its numbers, its codes lie below how many
+/// texts it has, and each foreign key is found.
+pub fn sound_rows_are_loaded()
+    ensures { (database : Database) → IsSound database → IsLoaded (world_of database) }
+{}
+
+/// The world of sound rows shows them: numbers, codes that compare as the texts do, and the one row
+/// of each key.
+pub fn sound_rows_have_a_world()
+    ensures { (database : Database) → IsSound database → IsWorldOf database (world_of database) }
+{}
