@@ -4,13 +4,18 @@ use Rattle.star_schema.specs.declared.table.TableId.{TableId}
 use Rattle.star_schema.specs.declared.table.TableId.TheVariants.{Date, Customer, Supplier, Part, Lineorder}
 use Rattle.star_schema.specs.Database.{AreTables, rows_in}
 use Rattle.star_common.specs.First.{first_answer}
-use Rattle.star_schema.specs.Loadable.{HasDistinctKeys, IsLoadable, IsSound, database_of}
+use Rattle.star_schema.specs.Loadable.{keys_of, HasDistinctKeys, IsLoadable, IsSound, database_of}
 use Rattle.star_schema.specs.Tables.{IsTable, rows_of}
 use Rattle.star_reader.proofs.Law.{table_complete}
 use Rattle.star_catalogue.specs.declared.fault.LoadFault.{LoadFault}
 use Rattle.star_catalogue.specs.Load.{absent_fault, load_fault, table_fault, tables_fault}
 use Rattle.star_catalogue.proofs.KeyLists.{distinct_no_fault}
-use Rattle.star_catalogue.proofs.Refers.{none_absent, sound_none_absent}
+use Rattle.star_catalogue.proofs.ReferredRows.{found_keys}
+use Rattle.star_catalogue.specs.declared.referred.Referred.{Referred}
+use Rattle.star_catalogue.specs.Private.Referred.{AreReferred, rows_kept}
+use Rattle.star_schema.specs.Bounds.{numbers_of}
+use Rattle.star_schema.specs.Schema.{table_of}
+use Rattle.star_catalogue.proofs.Refers.{sound_none_absent}
 
 -- a table whose keys differ has no fault
 pub table_none : (t : TableId) (most : ℕ) (text : List ℕ) → IsTable t most text
@@ -99,12 +104,14 @@ pub refused_key : (most : ℕ) (texts : TableId → List ℕ) (f : LoadFault) �
 refused_key most texts f are distinct e =
     refused most texts f (rw (tables_none most texts are distinct) e)
 
--- rows without a fault are sound
-pub loaded_sound : (texts : TableId → List ℕ)
+-- rows whose foreign keys lead to rows are sound
+pub referred_sound : (texts : TableId → List ℕ) (kept : Referred)
     → ((t : TableId) → HasDistinctKeys t (rows_of t (texts t)))
-    → absent_fault (database_of texts) ≡ None → IsSound (database_of texts)
-loaded_sound texts distinct none =
+    → AreReferred (database_of texts) kept → IsSound (database_of texts)
+referred_sound texts kept distinct are =
+    let database = database_of texts in
     record {
       distinct = λ t. rw (rows_in-database_of texts t) (distinct t);
-      found = none_absent (database_of texts) none;
+      found = λ c t refers. found_keys (keys_of t (rows_in database t))
+          (numbers_of c (rows_in database (table_of c))) (rows_kept kept c) (are c t refers);
     }

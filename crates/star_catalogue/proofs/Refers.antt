@@ -13,9 +13,8 @@ use Rattle.std.proofs.lemmas.Cmp.{int_eq_equiv}
 use Rattle.std.proofs.lemmas.List.Elements.{All-cons, All-map, All-nil}
 use Rattle.std.proofs.lemmas.List.FromFn.{get_or-enumerate_from, length-enumerate_from}
 use Rattle.std.proofs.lemmas.Map.Keys.{any_passes_from_place}
-use Rattle.std.proofs.lemmas.Map.Views.{list_any-from_Contains}
+use Rattle.std.proofs.lemmas.Map.Views.{Contains-from_any, list_any-from_Contains}
 use Rattle.std.proofs.lemmas.Option.{slice_get-get_or, slice_get-map}
-use Rattle.indexmap.proofs.CallerLemmas.{Contains-list_any}
 use Rattle.star_schema.specs.declared.column.ColumnId.{ColumnId}
 use Rattle.star_schema.specs.declared.column.ColumnId.TheVariants.{LoCustkey, LoPartkey, LoSuppkey, LoOrderdate, LoCommitdate}
 use Rattle.star_schema.specs.declared.table.TableId.{TableId}
@@ -88,7 +87,7 @@ cell_absent database at_row row c t n refers number none =
     elim (cases_Bool (list_any (same_key (n ∷ [])) (keys_of t (rows_in database t)))) [
       | inl found ↦
           let (place, within, is) =
-          Contains-list_any same_key key_is (keys_of t (rows_in database t)) (n ∷ []) found in
+          Contains-from_any key_is (n ∷ []) (keys_of t (rows_in database t)) found in
           absurd (none place
           (slice_get-get_or (keys_of t (rows_in database t)) place (n ∷ []) within
           ∙ ap (λ (k : List ℤ). Some k) is))
@@ -182,7 +181,7 @@ cell_found database at_row row c t refers none =
       | inl found ↦ found
       | inr absent ↦ let bad : Some (AbsentKey at_row c) ≡ None = rw absent at none in cc bad
     ] in
-    Contains-list_any same_key key_is (keys_of t (rows_in database t)) (number_at c row ∷ [])
+    Contains-from_any key_is (number_at c row ∷ []) (keys_of t (rows_in database t))
     (rw refers at known)
 
 pub none_absent : (database : Database) → absent_fault database ≡ None

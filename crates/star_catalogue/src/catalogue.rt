@@ -1,11 +1,11 @@
 // The catalogue of the five tables.
 
-ghost use Rattle.std.specs.Prelude.{◌≡◌, ◌↔◌, ◌<◌, ◌∷◌, [], ℕ, All, Some, IfErr, IfOk, length, slice_get};
+ghost use Rattle.std.specs.Prelude.{◌≡◌, ◌↔◌, ◌<◌, ◌∷◌, [], ℕ, ℤ, All, Some, IfErr, IfOk, IsSome, length, slice_get};
 ghost use Rattle.star_common.specs.Memory.{UnlessMemory};
 ghost use Rattle.star_schema.specs.Bounds.{greatest, least, numbers_of};
 ghost use Rattle.star_schema.specs.Database.{rows_in};
 ghost use Rattle.star_schema.specs.Loadable.{IsLoadable, IsSound, database_of, keys_of};
-ghost use Rattle.star_schema.specs.Schema.{kind_of, table_of};
+ghost use Rattle.star_schema.specs.Schema.{kind_of, references, table_of};
 ghost use Rattle.star_schema.specs.Sizes.{size_of};
 ghost use Rattle.star_schema.specs.Tables.{IsRowOf};
 ghost use Rattle.star_schema.specs.Texts.{texts_of};
@@ -16,7 +16,8 @@ ghost use Rattle.star_catalogue.specs.ColumnBounds.{HasI64Bounds};
 ghost use Rattle.star_catalogue.specs.Load.{load_fault, text_of};
 
 use crate::fault::LoadFault;
-use crate::references::check_references;
+use crate::references::absent_key;
+use crate::referred::Referred;
 use crate::tables::Tables;
 use crate::texts::Texts;
 use star_column::ColumnData;
@@ -29,19 +30,22 @@ use std::marker::Model;
 #[derive(Drop)]
 pub struct Catalogue {
     tables: Box<Tables>,
+    referred: Box<Referred>,
 }
 
 impl Model for Catalogue {
     ghost use Rattle.star_schema.specs.Database.{Database};
     ghost use Rattle.star_schema.specs.Loadable.{IsSound};
     ghost use Rattle.star_catalogue.specs.ColumnBounds.{HasI64Bounds};
+    ghost use Rattle.star_catalogue.specs.Private.Referred.{AreReferred};
 
     ghost Value = { Database };
 
     ghost view = { λ catalogue. catalogue.tables.value };
 
     ghost invariant = { λ catalogue. IsSound catalogue.tables.value
-        × HasI64Bounds catalogue.tables.value };
+        × HasI64Bounds catalogue.tables.value
+        × AreReferred catalogue.tables.value catalogue.referred.value };
 }
 
 impl Catalogue {
@@ -57,8 +61,13 @@ impl Catalogue {
     {
         let loaded = Tables::load(alloc, texts, limits)?;
         let tables = Box::new(alloc, loaded)?;
-        check_references(&tables)?;
-        Ok(Catalogue { tables })
+        match Referred::build(alloc, &tables)? {
+            Some(referred) => Ok(Catalogue {
+                tables,
+                referred: Box::new(alloc, referred)?,
+            }),
+            None => Err(absent_key(&tables)),
+        }
     }
 
     /// What holds of every catalogue: each row of a table has a value for each column, of the
@@ -189,5 +198,17 @@ impl Catalogue {
             ↔ (slice_get (keys_of table (rows_in self.now table)) row ≡ Some (key ∷ [])) }
     {
         self.tables.find(table, key)
+    }
+    /// The row, from 0, of the table that a column refers to whose key is the number of a row, from
+    /// 0, of the column. It was found at the load.
+    pub fn referred(&self, column: ColumnId, row: u32) -> u32
+        requires refers { IsSome (references column) }
+        requires row { row < length (rows_in self.now (table_of column)) }
+        ensures { (table : TableId) (number : ℤ) → references column ≡ Some table
+            → slice_get (numbers_of column (rows_in self.now (table_of column))) row ≡ Some number
+            → slice_get (keys_of table (rows_in self.now table)) result ≡ Some (number ∷ []) }
+    {
+        let rows = self.referred.rows(column);
+        rows.get(row as usize).unsigned_abs() as u32
     }
 }

@@ -4,7 +4,7 @@ ghost use Rattle.std.specs.Prelude.{◌≡◌, ◌<◌, ◌^◌, All, IfOk, leng
 ghost use Rattle.star_reader.specs.Columns.{kind_of as raw_kind, values as raw_values};
 ghost use Rattle.star_catalogue.specs.Private.Columns.{kind_of, values};
 
-use star_column::{NumberColumn, PackedColumn, TextColumn};
+use star_column::{PackedColumn, TextColumn};
 use star_reader::RawColumn;
 use std::alloc::{AllocError, Global};
 
@@ -25,8 +25,7 @@ impl Column {
     {
         match raw {
             RawColumn::Numbers(numbers) => {
-                let plain = NumberColumn::build(numbers)?;
-                Ok(Column::Numbers(PackedColumn::build(alloc, &plain)?))
+                Ok(Column::Numbers(PackedColumn::from_flat(alloc, numbers)?))
             }
             RawColumn::Texts(texts) => Ok(Column::Texts(TextColumn::from_flat(alloc, texts)?)),
         }

@@ -13,6 +13,7 @@ ghost use Rattle.star_catalogue.specs.Private.Keys.{AreKept, ArePlaces, dense_at
 ghost use Rattle.star_catalogue.specs.Load.{first_repeat, keys_fault};
 
 use crate::fault::LoadFault;
+use star_flat::FlatNumbers;
 use star_reader::RawTable;
 use star_schema::{Key, TableId, key_of, place_of};
 use std::alloc::{AllocError, Global};
@@ -145,7 +146,23 @@ pub enum KeyIndex {
 
 impl KeyIndex {
     /// The index of the keys of a table, or the first record whose key an earlier one has.
-    pub(crate) fn build(alloc: Global, table: TableId, keys: &[i64]) -> Result<KeyIndex, LoadFault>
+    pub(crate) fn build(
+        alloc: Global,
+        table: TableId,
+        keys: &FlatNumbers,
+    ) -> Result<KeyIndex, LoadFault>
+        requires { length keys.now < 2 ^ 32 }
+        ensures { MatchResult result
+            (λ index. ArePlaces int_eq (row_in index) keys.now × IsDistinct int_eq keys.now)
+            (λ fault. UnlessMemory LoadFault.OutOfMemory fault
+            (option_map (LoadFault.DuplicateKey table) (first_repeat int_eq keys.now)
+            ≡ Some fault)) }
+    {
+        let wide = wide(alloc, keys)?;
+        KeyIndex::of_keys(alloc, table, wide.as_slice())
+    }
+
+    fn of_keys(alloc: Global, table: TableId, keys: &[i64]) -> Result<KeyIndex, LoadFault>
         requires { length keys.now < 2 ^ 32 }
         ensures { MatchResult result
             (λ index. ArePlaces int_eq (row_in index) keys.now × IsDistinct int_eq keys.now)
@@ -174,12 +191,12 @@ impl KeyIndex {
 }
 
 /// The pair of numbers at a place.
-fn pair_at(firsts: &[i64], seconds: &[i64], place: usize) -> (i64, i64)
+fn pair_at(firsts: &FlatNumbers, seconds: &FlatNumbers, place: usize) -> (i64, i64)
     requires first { place < length firsts.now }
     requires second { place < length seconds.now }
     ensures { slice_get (zip firsts.now seconds.now) place ≡ Some result }
 {
-    (firsts[place], seconds[place])
+    (firsts.get(place), seconds.get(place))
 }
 
 /// Whether a pair is less than another.
@@ -190,7 +207,7 @@ fn rises(before: (i64, i64), after: (i64, i64)) -> bool
 }
 
 /// Whether each pair of numbers at one place is greater than the pair before.
-fn is_rising(firsts: &[i64], seconds: &[i64]) -> bool
+fn is_rising(firsts: &FlatNumbers, seconds: &FlatNumbers) -> bool
     requires { length firsts.now ≡ length seconds.now }
     ensures { IsTrue result → AllPairs (λ a b. a ≢ b) (zip firsts.now seconds.now) }
 {
@@ -205,14 +222,30 @@ fn is_rising(firsts: &[i64], seconds: &[i64]) -> bool
 }
 
 /// These numbers in pairs.
-fn pairs_of(alloc: Global, firsts: &[i64], seconds: &[i64]) -> Result<Vec<(i64, i64)>, AllocError>
+fn pairs_of(
+    alloc: Global,
+    firsts: &FlatNumbers,
+    seconds: &FlatNumbers,
+) -> Result<Vec<(i64, i64)>, AllocError>
+    requires { length firsts.now ≡ length seconds.now }
     ensures { IfOk result (λ pairs. pairs.items ≡ zip firsts.now seconds.now) }
 {
-    firsts
-        .iter()
-        .copied()
-        .zip(seconds.iter().copied())
-        .collect(alloc)
+    let mut pairs = Vec::with_capacity(alloc, firsts.len())?;
+    for place in 0..firsts.len() {
+        pairs.push_reserved(pair_at(firsts, seconds, place));
+    }
+    Ok(pairs)
+}
+
+/// These numbers, each in 64 bits.
+fn wide(alloc: Global, numbers: &FlatNumbers) -> Result<Vec<i64>, AllocError>
+    ensures { IfOk result (λ wide. wide.items ≡ numbers.now) }
+{
+    let mut wide = Vec::with_capacity(alloc, numbers.len())?;
+    for place in 0..numbers.len() {
+        wide.push_reserved(numbers.get(place));
+    }
+    Ok(wide)
 }
 
 /// Checks that no two of the pairs of numbers at one place are equal. Pairs that rise take no
@@ -220,8 +253,8 @@ fn pairs_of(alloc: Global, firsts: &[i64], seconds: &[i64]) -> Result<Vec<(i64, 
 pub(crate) fn check_pairs(
     alloc: Global,
     table: TableId,
-    firsts: &[i64],
-    seconds: &[i64],
+    firsts: &FlatNumbers,
+    seconds: &FlatNumbers,
 ) -> Result<(), LoadFault>
     requires len { length firsts.now ≡ length seconds.now }
     requires few { length firsts.now < 2 ^ 32 }

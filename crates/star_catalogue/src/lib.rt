@@ -7,6 +7,7 @@ mod columns;
 mod fault;
 mod keys;
 mod references;
+mod referred;
 mod sample_texts;
 mod table;
 mod tables;

@@ -2,8 +2,10 @@
 
 ghost use Rattle.std.specs.Prelude.{◌≡◌, ◌+◌, ◌<◌, ◌^◌, [], None, Some, MatchResult, length, slice_index_or};
 ghost use Rattle.star_schema.specs.Database.{rows_in};
-ghost use Rattle.star_schema.specs.Loadable.{foreign_keys};
-ghost use Rattle.star_schema.specs.Schema.{kind_of, table_of};
+ghost use Rattle.star_schema.specs.Loadable.{RefersTo, foreign_keys};
+ghost use Rattle.star_schema.specs.Schema.{kind_of, references, table_of};
+ghost use Rattle.star_schema.specs.declared.column.ColumnId.{ColumnId};
+ghost use Rattle.star_schema.specs.declared.table.TableId.{TableId};
 ghost use Rattle.star_catalogue.specs.Load.{absent_fault, cell_fault, row_fault};
 
 use crate::fault::LoadFault;
@@ -67,7 +69,7 @@ fn check_row(tables: &Tables, row: u32) -> Result<(), LoadFault>
 }
 
 /// Checks the foreign keys of all rows of lineorder, row by row.
-pub(crate) fn check_references(tables: &Tables) -> Result<(), LoadFault>
+fn check_references(tables: &Tables) -> Result<(), LoadFault>
     ensures { MatchResult result
         (λ _. absent_fault tables.now ≡ None)
         (λ fault. absent_fault tables.now ≡ Some fault) }
@@ -76,4 +78,17 @@ pub(crate) fn check_references(tables: &Tables) -> Result<(), LoadFault>
         check_row(tables, row)?;
     }
     Ok(())
+}
+
+/// The first foreign key that is no key of its table, by record and then by column, where one is
+/// none.
+pub(crate) fn absent_key(tables: &Tables) -> LoadFault
+    requires { ¬ ((column : ColumnId) (table : TableId) → references column ≡ Some table
+        → RefersTo tables.now column table) }
+    ensures { absent_fault tables.now ≡ Some result }
+{
+    match check_references(tables) {
+        Ok(()) => unreachable!(),
+        Err(fault) => fault,
+    }
 }

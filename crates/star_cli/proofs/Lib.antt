@@ -1,1 +1,2 @@
 mod WorkedFaults
+pub mod Giving

@@ -1,37 +1,133 @@
 -- What a task asks of the bytes that were read for it.
-use Rattle.std.specs.Prelude.{◌≡◌, ℕ, List}
-use Rattle.star_schema.specs.declared.limits.TheConstants.{MOST_ROWS}
-use Rattle.star_schema.specs.Loadable.{IsLoadable, database_of}
+use Rattle.std.specs.Prelude.{◌≡◌, ◌⊎◌, ℕ, Bool, true, false, List, Result, Ok, Err, IfOk, OnOk}
+use Rattle.star_schema.specs.declared.limits.Limits.{Limits}
+use Rattle.star_schema.specs.declared.limits.TheConstants.{MOST_ROWS, MOST_VISITS}
+use Rattle.star_schema.specs.declared.table.TableId.{TableId}
 use Rattle.star_catalogue.specs.Load.{text_of}
-use Rattle.star_machine.specs.declared.fault.TrialFault.{TrialFault}
-use Rattle.star_engine.specs.Listing.{check_text}
-use Rattle.star_engine.specs.Trials.{IsReport, IsStopped}
+use Rattle.star_engine.specs.declared.fault.EngineFault.{EngineFault}
+use Rattle.star_engine.specs.declared.fault.EngineFault.TheVariants as engine
+use Rattle.star_engine.specs.Answered.{Change, IsAnswered, IsUntouched}
+use Rattle.star_engine.specs.Bench.{AllFit, IsBench, IsUnbenched, SomeIsUnfit}
+use Rattle.star_engine.specs.Executions.{IsQuoteOf, IsToldOf, IsUntold}
+use Rattle.star_engine.specs.Listing.{IsListing}
+use Rattle.star_engine.specs.Loads.{IsUnloaded}
+use Rattle.star_engine.specs.Noted.{IsNoted}
+use Rattle.star_engine.specs.Queries.{IsExplained, IsNoQuery, IsQueryQuote, IsQueryTold, IsUnanswered}
+use Rattle.star_engine.specs.QuoteTexts.{IsQuoteText, IsUnquoted}
+use Rattle.star_engine.specs.Trials.{IsNoTrial, IsTrialReport}
 use Rattle.star_cli.specs.declared.answers.Bytes.{Bytes}
 use Rattle.star_cli.specs.declared.words.Task.{Task}
-use Rattle.star_cli.specs.declared.words.Task.TheVariants.{Trial}
+use Rattle.star_cli.specs.declared.words.Task.TheVariants.{Sample, Check, Bench, Query, Explain, Exec, Quote, Trial}
 
--- the most rows of a table
-abbrev pub most_rows : Task → ℕ
-most_rows (Trial folder file limits) = limits.rows
-most_rows task = MOST_ROWS
+-- the Ok of a call that refuses nothing by it
+abbrev pub whole : Result (Unit {0}) EngineFault → Result Bool EngineFault
+whole (Ok answer) = Ok true
+whole (Err fault) = Err fault
 
--- the tables can be loaded
-abbrev pub CanLoad : Task → Bytes → Type 0
-CanLoad task bytes = IsLoadable (most_rows task) (text_of bytes.texts)
+-- what such a call answers
+abbrev pub IsWhole : (Result (Unit {0}) EngineFault → Type 0) → Result Bool EngineFault → Type 0
+IsWhole IsAnswer result =
+    (answer : Result (Unit {0}) EngineFault) × IsAnswer answer × (result ≡ whole answer)
 
--- the whole text that a task asks for: of `trial` the report of the program, and else the listing
-abbrev pub IsAnswer : Task → Bytes → List ℕ → Type 0
-IsAnswer (Trial folder file limits) bytes text =
-    IsReport (database_of (text_of bytes.texts)) bytes.file.now limits.visits text
-IsAnswer task bytes text = text ≡ check_text (text_of bytes.texts)
+-- the tables of five texts are listed
+abbrev pub IsListed : {S : Type 0} → Change S → (TableId → List ℕ)
+    → Result (Unit {0}) EngineFault → Type 0
+IsListed out texts answer =
+    IsAnswered out (IsListing MOST_ROWS texts) (IsUnloaded MOST_ROWS texts) answer
 
--- the program is trapped or meets its limit
-abbrev pub IsHalted : Task → Bytes → TrialFault → Type 0
-IsHalted (Trial folder file limits) bytes fault =
-    IsStopped (database_of (text_of bytes.texts)) bytes.file.now limits.visits fault
-IsHalted task bytes fault = ⊥
+-- the queries of the benchmark are answered over them, and the answer is whether each fits
+pub record IsBenched {S : Type 0} (out : Change S) (texts : TableId → List ℕ)
+    (result : Result Bool EngineFault) : Type 0 where
+  pub answered : IsAnswered out (IsBench MOST_ROWS MOST_VISITS texts) (IsUnbenched MOST_ROWS texts)
+      result
+  pub all_fit : IfOk result (λ fits. fits ≡ true → AllFit MOST_VISITS texts)
+  pub some_unfit : IfOk result (λ fits. fits ≡ false → SomeIsUnfit MOST_VISITS texts)
 
--- the task is `trial`, which alone has the file of a program
-abbrev pub HasProgram : Task → Type 0
-HasProgram (Trial folder file limits) = Unit {0}
-HasProgram task = ⊥
+-- the one and then the other, where the one isn't stopped
+abbrev pub IsListedAndBenched : {S : Type 0} → Change S → (TableId → List ℕ)
+    → Result Bool EngineFault → Type 0
+IsListedAndBenched {S} out texts result =
+    ((fault : EngineFault) × IsListed out texts (Err fault) × (result ≡ Err fault))
+    ⊎ ((listed : S) × IsListed (record out { new = listed }) texts (Ok tt)
+    × IsBenched (record out { old = listed }) texts result)
+
+-- the query of a file is answered over them, with notes
+abbrev pub IsQueried : {S N : Type 0} → Change S → Change N → (TableId → List ℕ) → List ℕ
+    → Result (Unit {0}) EngineFault → Type 0
+IsQueried out notes texts file answer =
+    IsNoted out notes (IsQueryQuote MOST_ROWS texts file)
+    (IsQueryTold MOST_ROWS MOST_VISITS texts file)
+    (IsUnanswered MOST_ROWS MOST_VISITS texts file) answer
+
+-- the program of the query of a file is written
+abbrev pub IsExplanation : {S : Type 0} → Change S → List ℕ
+    → Result (Unit {0}) EngineFault → Type 0
+IsExplanation out file answer = IsAnswered out (IsExplained file) (IsNoQuery file) answer
+
+-- the program of a file is verified and run over them, with notes
+abbrev pub IsExecuted : {S N : Type 0} → Change S → Change N → (TableId → List ℕ) → List ℕ
+    → Result (Unit {0}) EngineFault → Type 0
+IsExecuted out notes texts file answer =
+    IsNoted out notes (IsQuoteOf MOST_ROWS texts file) (IsToldOf MOST_ROWS MOST_VISITS texts file)
+    (IsUntold MOST_ROWS MOST_VISITS texts file) answer
+
+-- it is told how many visits of the query, or of the program, of a file are quoted over them
+abbrev pub IsQuote : {S : Type 0} → Change S → (TableId → List ℕ) → List ℕ
+    → Result (Unit {0}) EngineFault → Type 0
+IsQuote out texts file answer =
+    IsAnswered out (IsQuoteText MOST_ROWS texts file) (IsUnquoted MOST_ROWS texts file) answer
+
+-- the program of a file is run over them under these limits
+abbrev pub IsTried : {S : Type 0} → Limits → Change S → (TableId → List ℕ) → List ℕ
+    → Result (Unit {0}) EngineFault → Type 0
+IsTried limits out texts file answer =
+    IsAnswered out (IsTrialReport limits.rows texts file limits.visits)
+    (IsNoTrial limits.rows texts file limits.visits) answer
+
+-- what the engine answers: `query` and `exec` alone write notes
+abbrev pub IsGiven : {S N : Type 0} → Task → Bytes → Change S → Change N
+    → Result Bool EngineFault → Type 0
+IsGiven Sample bytes out notes result =
+    IsListedAndBenched out (text_of bytes.texts) result × IsUntouched notes
+IsGiven (Check folder) bytes out notes result =
+    IsWhole (IsListed out (text_of bytes.texts)) result × IsUntouched notes
+IsGiven (Bench folder) bytes out notes result =
+    IsBenched out (text_of bytes.texts) result × IsUntouched notes
+IsGiven (Query folder file) bytes out notes result =
+    IsWhole (IsQueried out notes (text_of bytes.texts) bytes.file.now) result
+IsGiven (Explain file) bytes out notes result =
+    IsWhole (IsExplanation out bytes.file.now) result × IsUntouched notes
+IsGiven (Exec folder file) bytes out notes result =
+    IsWhole (IsExecuted out notes (text_of bytes.texts) bytes.file.now) result
+IsGiven (Quote folder file) bytes out notes result =
+    IsWhole (IsQuote out (text_of bytes.texts) bytes.file.now) result × IsUntouched notes
+IsGiven (Trial folder file limits) bytes out notes result =
+    IsWhole (IsTried limits out (text_of bytes.texts) bytes.file.now) result × IsUntouched notes
+
+-- ---- the exit status
+
+abbrev pub fault_status : EngineFault → ℕ
+fault_status (engine.Refused refusal) = 1
+fault_status (engine.Trial fault) = 1
+fault_status (engine.Load fault) = 3
+fault_status (engine.Query fault) = 4
+fault_status (engine.Plan fault) = 4
+fault_status (engine.Program fault) = 5
+fault_status (engine.Write sent) = 6
+fault_status engine.OutOfMemory = 7
+
+-- a query of the benchmark that is refused is no fault
+abbrev pub status_of : Result Bool EngineFault → ℕ
+status_of (Ok true) = 0
+status_of (Ok false) = 1
+status_of (Err fault) = fault_status fault
+
+-- what the engine answers, with its notes on standard error, gives the status; behind a fault more
+-- may come there
+pub record IsExit {S E : Type 0} (task : Task) (bytes : Bytes) (out : Change S) (err : Change E)
+    (status : ℕ) : Type 0 where
+  pub result : Result Bool EngineFault
+  pub noted : E
+  pub given : IsGiven task bytes out (record err { new = noted }) result
+  pub is_status : status ≡ status_of result
+  pub whole : OnOk result (err.new ≡ noted)

@@ -18,18 +18,25 @@ struct Read {
     file: Vec<u8>,
 }
 
-// Reads what a task is about: the file of a program first, and then the tables.
+// Reads what a task is about: its file first, and then its tables.
 fn read_for<'a, R: Files + AllocGlobal>(rt: &R, task: Task<'a>) -> Result<Read, Failure<'a>> {
     Ok(match task {
-        Task::CheckSample => Read {
+        Task::Sample => Read {
             tables: None,
             file: Vec::new(rt.alloc()),
         },
-        Task::Check { folder } => Read {
+        Task::Explain { file } => Read {
+            tables: None,
+            file: read_file(rt, file)?,
+        },
+        Task::Check { folder } | Task::Bench { folder } => Read {
             tables: Some(Folder::read(rt, folder)?),
             file: Vec::new(rt.alloc()),
         },
-        Task::Trial { folder, file, .. } => {
+        Task::Query { folder, file }
+        | Task::Exec { folder, file }
+        | Task::Quote { folder, file }
+        | Task::Trial { folder, file, .. } => {
             let file = read_file(rt, file)?;
             Read {
                 tables: Some(Folder::read(rt, folder)?),
@@ -63,9 +70,10 @@ fn prepare<'a, R: Files + AllocGlobal>(
 }
 
 /// Does what the words ask for, the program's own name left off, and gives the exit status: 0 where
-/// all is well, 1 for a program that is trapped or meets its limit, 2 for words that are no
-/// command, 3 for table files that can't be loaded, 5 for a file that is no program, 6 for a file
-/// that can't be read or output that can't be written, 7 for want of memory.
+/// all is well, 1 for a query or a program that is refused, or a program that is trapped or meets its
+/// limit, 2 for words that are no command, 3 for table files that can't be loaded, 4 for a file that
+/// is no query, 5 for a file that is no program, 6 for a file that can't be read or output that can't
+/// be written, 7 for want of memory.
 pub fn command<R: Files + AllocGlobal, W: Write, E: Write>(
     rt: &R,
     words: &[String],
@@ -74,8 +82,9 @@ pub fn command<R: Files + AllocGlobal, W: Write, E: Write>(
 ) -> u8 {
     match prepare(rt, words) {
         Ok((task, read)) => {
-            let mut sink = Out::new(&mut *out);
-            answer(rt.alloc(), task, &read.bytes(), &mut sink, err)
+            let mut answers = Out::new(&mut *out);
+            let mut notes = Out::new(&mut *err);
+            answer(rt.alloc(), task, &read.bytes(), &mut answers, &mut notes)
         }
         Err(failure) => told(failure, out, err),
     }

@@ -2,9 +2,11 @@
 #![tactic(auto)]
 
 mod answers;
+mod calls;
 mod commands;
 mod failure;
 mod files;
+mod lines;
 mod words;
 
 pub use crate::answers::{Bytes, answer};

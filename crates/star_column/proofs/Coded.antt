@@ -13,7 +13,7 @@ use Rattle.star_schema.specs.Dictionary.{dictionary_of, codes_of, low_in}
 use Rattle.star_schema.proofs.Dictionaries.{IsDictionary-dictionary_of}
 use Rattle.star_common.proofs.Members.{contains_here}
 use Rattle.star_schema.proofs.Extremes.{least_is, greatest_is}
-use Rattle.star_schema.proofs.TextPlaces.{code_within, low_in-place, slice_get-low_in}
+use Rattle.star_schema.proofs.TextPlaces.{code_within, low_in-place}
 
 module _ (texts : List (List ℕ)) where
   -- the code of a row whose text stands at a place of the dictionary is that place

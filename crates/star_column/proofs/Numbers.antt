@@ -1,8 +1,8 @@
 -- The texts of rows, numbered among the different ones, and then coded by their places in the
 -- dictionary.
-use Rattle.std.proofs.Common.{◌≡◌, ◌⊎◌, ℕ, ◌+◌, ◌-◌, ◌^◌, ◌<◌, ◌≤◌, List, [], ◌∷◌, ◌++◌, Some, length, get_or, map, take, refl, sym, ap, ◌∙◌, arith, inl, ⊎_elim, subst, length-append}
+use Rattle.std.proofs.Common.{◌≡◌, ◌⊎◌, ℕ, ◌+◌, ◌-◌, ◌^◌, ◌<◌, ◌≤◌, List, [], ◌∷◌, ◌++◌, Some, length, get_or, map, take, sym, ap, ◌∙◌, arith, ⊎_elim, subst, length-append}
 use Rattle.std.specs.List.{All, Contains, slice_get}
-use Rattle.std.proofs.lemmas.List.{get_or_append_left, get_or-map, get_or-take, length-map, map-append, take_more}
+use Rattle.std.proofs.lemmas.List.{get_or_append_left, length-map, map-append, take_more}
 use Rattle.std.proofs.lemmas.List.Elements.{All-push, All-get_or, All-map, All-weaker, Contains-get_or, Contains-append_left, Contains-push, Contains-push_cases, All-contains}
 use Rattle.std.proofs.lemmas.Simd.{map-map}
 use Rattle.std.proofs.lemmas.Option.{get_or_from_slice_get, slice_get-get_or, slice_get-map, slice_get_within}
@@ -77,32 +77,6 @@ module _ (ds es : List (List ℕ)) (t : List ℕ) (grown : (es ≡ ds) ⊎ (es �
       ⊎_elim {C = length es ≤ n + 1}
       (λ e. omega (arith, h, ap length e))
       (λ e. omega (arith, h, ap length e, length-append ds (t ∷ []))) grown
-
--- ---- a text that repeats the one before it
-last_text : (ds all : List (List ℕ)) (ns : List ℕ) (n : ℕ) (t : List ℕ)
-    → AreNumbers ds ns (take (length ns) all) → slice_get ns (length ns - 1) ≡ Some n
-    → slice_get all (length ns - 1) ≡ Some t → slice_get ds n ≡ Some t
-last_text ds all ns n t numbered last before =
-    let place = length ns - 1 in
-    let some : place < length ns = slice_get_within ns place n last in
-    let number : get_or ns place 0 ≡ n = get_or_from_slice_get ns place n 0 last in
-    let within : n < length ds =
-    subst (λ m. m < length ds) number
-    (All-get_or (λ m. m < length ds) ns place 0 some numbered.within) in
-    let text : get_or ds n [] ≡ t =
-    ap (λ m. get_or ds m []) (sym number)
-    ∙ sym (get_or-map (λ m. get_or ds m []) ns place 0 [] some)
-    ∙ ap (λ ts. get_or ts place []) numbered.texts_are
-    ∙ get_or-take (length ns) all place [] some ∙ get_or_from_slice_get all place t [] before in
-    slice_get-get_or ds n [] within ∙ ap Some text
-
-pub repeated : (ds all : List (List ℕ)) (ns : List ℕ) (n : ℕ) (s t : List ℕ)
-    → AreNumbers ds ns (take (length ns) all) → slice_get ns (length ns - 1) ≡ Some n
-    → slice_get all (length ns - 1) ≡ Some s → s ≡ t → slice_get all (length ns) ≡ Some t
-    → AreNumbers ds (ns ++ n ∷ []) (take (length ns + 1) all)
-repeated ds all ns n s t numbered last before same here =
-    row_more ds ds t (inl refl) all (length ns) ns n numbered
-    (last_text ds all ns n t numbered last (before ∙ ap Some same)) here
 
 -- ---- the codes of all rows
 -- each of the texts is among the different ones

@@ -26,8 +26,7 @@ pub(crate) fn number_each<'t>(
     Ok((distinct, numbers))
 }
 
-/// The number of the first text that has none yet. A text that repeats the one before it isn't
-/// looked up.
+/// The number of the first text that has none yet.
 fn next_number<'t>(
     distinct: &mut Distinct<'t>,
     numbers: &[u32],
@@ -42,11 +41,7 @@ fn next_number<'t>(
         (take (length numbers.now + 1) texts.now)) }
     ensures few { OnOk result (length distinct.new ≤ length distinct.old + 1) }
 {
-    let text = texts.get(numbers.len());
-    match numbers.last() {
-        Some(number) if texts.get(numbers.len() - 1) == text => Ok(*number),
-        _ => distinct.number_of(text),
-    }
+    distinct.number_of(texts.get(numbers.len()))
 }
 
 /// For each number of these texts, which are in order, the place of the text.

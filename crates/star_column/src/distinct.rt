@@ -1,6 +1,6 @@
 // The different texts of a column, numbered in the order in which they are first met.
 
-ghost use Rattle.std.specs.Prelude.{◌≡◌, ◌⊎◌, ◌<◌, ◌^◌, ◌++◌, ◌∷◌, [], Some, IfOk, OnOk, length, map, slice_get};
+ghost use Rattle.std.specs.Prelude.{◌≡◌, ◌⊎◌, ◌<◌, ◌^◌, ◌++◌, ◌∷◌, [], Some, IfOk, IfSome, OnOk, length, map, slice_get};
 ghost use Rattle.std.specs.List.{range_with_len};
 ghost use Rattle.star_column.specs.Private.Order.{IsOrderOf};
 
@@ -24,14 +24,33 @@ impl AsSlice<u8> for Numbered<'_> {
     }
 }
 
+/// How many texts that were met lately are remembered.
+const SLOTS: usize = 256;
+
+/// The slot in which the number of a text is remembered.
+fn slot_of(text: &[u8]) -> usize
+    ensures { result < 256 }
+{
+    match (text.first(), text.last()) {
+        (Some(first), Some(last)) => {
+            (text.len() % SLOTS + 7 * usize::from(*first) + 31 * usize::from(*last)) % SLOTS
+        }
+        _ => 0,
+    }
+}
+
 /// Different texts, numbered from 0 in the order in which they were first met. A contract sees them
 /// as a list in that order.
 ///
-/// A text's number is found in a tree, so that no texts are slow to number.
+/// A text's number is found in a tree, so that no texts are slow to number, unless the text is one of
+/// those that were met lately.
 #[derive(Drop)]
 pub(crate) struct Distinct<'t> {
     texts: Vec<&'t [u8]>,
     numbers: BTreeMap<&'t [u8], u32>,
+    // Numbers of texts that were met lately, each in the slot of its text. Any number may stand
+    // here: it is tried.
+    recent: [u32; SLOTS],
 }
 
 impl<'t> Model for Distinct<'t> {
@@ -53,6 +72,18 @@ impl<'t> Distinct<'t> {
         Distinct {
             texts: Vec::new(alloc),
             numbers: BTreeMap::new(alloc),
+            recent: [0; SLOTS],
+        }
+    }
+
+    /// The number of a text that was met lately.
+    fn recent_number(&self, text: &'t [u8]) -> Option<u32>
+        ensures { IfSome result (λ number. slice_get self.now number ≡ Some text.now) }
+    {
+        let number = self.recent[slot_of(text)];
+        match self.texts.get(number as usize) {
+            Some(known) if *known == text => Some(number),
+            _ => None,
         }
     }
 
@@ -63,7 +94,21 @@ impl<'t> Distinct<'t> {
         ensures texts { OnOk result
             ((self.new ≡ self.old) ⊎ (self.new ≡ self.old ++ text.now ∷ [])) }
     {
+        match self.recent_number(text) {
+            Some(number) => Ok(number),
+            None => self.look_up(text),
+        }
+    }
+
+    /// The number of a text by the tree, the next one where the text is new. It is remembered.
+    fn look_up(&mut self, text: &'t [u8]) -> Result<u32, AllocError>
+        requires { length self.old < 2 ^ 32 }
+        ensures number { IfOk result (λ number. slice_get self.new number ≡ Some text.now) }
+        ensures texts { OnOk result
+            ((self.new ≡ self.old) ⊎ (self.new ≡ self.old ++ text.now ∷ [])) }
+    {
         if let Some(number) = self.numbers.get(&text) {
+            self.recent[slot_of(text)] = *number;
             return Ok(*number);
         }
         let number = self.texts.len() as u32;

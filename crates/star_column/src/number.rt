@@ -1,9 +1,11 @@
 // Columns of numbers.
 
-ghost use Rattle.std.specs.Prelude.{◌≡◌, ◌<◌, ◌^◌, ◌≤ℤ◌, [], All, Contains, IfSome, IsOkAnd, MatchOption, length, vec_len};
+ghost use Rattle.std.specs.Prelude.{◌≡◌, ◌<◌, ◌^◌, [], All, Contains, IfSome, IsOkAnd, MatchOption, false, length, map, vec_len};
+ghost use Rattle.std.specs.Ordering.{is_gt, is_lt};
 ghost use Rattle.star_column.specs.Private.Bounds.{AreBounds};
 
 use crate::column::ColumnData;
+use star_flat::SignedWord;
 use star_interval::Interval;
 use std::alloc::AllocError;
 use std::marker::Model;
@@ -66,26 +68,31 @@ impl ColumnData for NumberColumn {
     }
 }
 
-/// The least and the greatest number, 0 and 0 where there is none.
-fn bounds_of(numbers: &[i64]) -> Interval
-    ensures { AreBounds result numbers.now }
+/// The least and the greatest of some numbers, 0 and 0 where there is none.
+pub(crate) fn bounds_of<S: SignedWord>(numbers: &[S]) -> Interval
+    ensures { AreBounds result (map S.number numbers.now) }
 {
     let (Some(low), Some(high)) = (least_of(numbers), greatest_of(numbers)) else {
         return Interval::point(0);
     };
-    Interval { low, high }
+    Interval {
+        low: low.value(),
+        high: high.value(),
+    }
 }
 
-fn least_of(numbers: &[i64]) -> Option<i64>
+fn least_of<S: SignedWord>(numbers: &[S]) -> Option<S>
     ensures reached { MatchOption result (numbers.now ≡ []) (Contains numbers.now) }
-    ensures bound { IfSome result (λ least. All (λ number. least ≤ℤ number) numbers.now) }
+    ensures bound { IfSome result
+        (λ least. All (λ number. is_lt (S.cmp number least) ≡ false) numbers.now) }
 {
     numbers.iter().copied().min()
 }
 
-fn greatest_of(numbers: &[i64]) -> Option<i64>
+fn greatest_of<S: SignedWord>(numbers: &[S]) -> Option<S>
     ensures reached { MatchOption result (numbers.now ≡ []) (Contains numbers.now) }
-    ensures bound { IfSome result (λ greatest. All (λ number. number ≤ℤ greatest) numbers.now) }
+    ensures bound { IfSome result
+        (λ greatest. All (λ number. is_gt (S.cmp number greatest) ≡ false) numbers.now) }
 {
     numbers.iter().copied().max()
 }

@@ -1,13 +1,14 @@
 // Columns of numbers in words no wider than they need.
 
-ghost use Rattle.std.specs.Prelude.{◌≡◌, IfOk, pos, ◌+ℤ◌};
+ghost use Rattle.std.specs.Prelude.{◌≡◌, ◌<◌, ◌^◌, IfOk, length, map, pos, ◌+ℤ◌};
 ghost use Rattle.star_interval.specs.Range.{Holds};
 ghost use Rattle.star_interval.specs.Interval.{range_of};
 ghost use Rattle.star_column.specs.Width.{bits_of};
 
 use crate::column::ColumnData;
-use crate::number::NumberColumn;
+use crate::number::{NumberColumn, bounds_of};
 use crate::words::Words;
+use star_flat::{FlatNumbers, SignedWord, SignedWords};
 use star_interval::Interval;
 use std::alloc::{AllocError, Global};
 use std::marker::Model;
@@ -38,8 +39,30 @@ impl PackedColumn {
     pub fn build(alloc: Global, column: &NumberColumn) -> Result<PackedColumn, AllocError>
         ensures { IfOk result (λ packed. packed ≡ column.now) }
     {
-        let bounds = column.bounds();
-        let words = Words::of_numbers(alloc, column.numbers(), bounds)?;
+        PackedColumn::pack(alloc, column.numbers())
+    }
+
+    /// The numbers of this list, of which there are at most 4,294,967,295, packed. The list is let
+    /// go.
+    pub fn from_flat(alloc: Global, numbers: FlatNumbers) -> Result<PackedColumn, AllocError>
+        requires { length numbers < 2 ^ 32 }
+        ensures { IfOk result (λ packed. packed ≡ numbers) }
+    {
+        match numbers.words() {
+            SignedWords::Bits8(words) => PackedColumn::pack(alloc, words.as_slice()),
+            SignedWords::Bits16(words) => PackedColumn::pack(alloc, words.as_slice()),
+            SignedWords::Bits32(words) => PackedColumn::pack(alloc, words.as_slice()),
+            SignedWords::Bits64(words) => PackedColumn::pack(alloc, words.as_slice()),
+        }
+    }
+
+    // The numbers of these words, packed.
+    fn pack<S: SignedWord>(alloc: Global, words: &[S]) -> Result<PackedColumn, AllocError>
+        requires { length words.now < 2 ^ 32 }
+        ensures { IfOk result (λ packed. packed ≡ map S.number words.now) }
+    {
+        let bounds = bounds_of(words);
+        let words = Words::of_numbers(alloc, words, bounds)?;
         Ok(PackedColumn { bounds, words })
     }
 

@@ -7,6 +7,7 @@ ghost use Rattle.star_interval.specs.Interval.{range_of};
 ghost use Rattle.star_column.specs.Width.{least_width};
 ghost use Rattle.star_column.specs.Private.Words.{above, numbers_in, width_of};
 
+use star_flat::SignedWord;
 use star_interval::Interval;
 use std::alloc::{AllocError, Global};
 
@@ -112,13 +113,14 @@ impl Words {
 
     /// How far each number lies above the lower bound, in the least width in which the difference of
     /// the bounds fits.
-    pub(crate) fn of_numbers(
+    pub(crate) fn of_numbers<S: SignedWord>(
         alloc: Global,
-        numbers: &[i64],
+        numbers: &[S],
         bounds: Interval,
     ) -> Result<Words, AllocError>
-        requires { All (Holds (range_of bounds)) numbers.now }
-        ensures numbers { IfOk result (λ words. above bounds.low (numbers_in words) ≡ numbers.now) }
+        requires { All (λ number. Holds (range_of bounds) (S.number number)) numbers.now }
+        ensures numbers { IfOk result
+            (λ words. above bounds.low (numbers_in words) ≡ map S.number numbers.now) }
         ensures width { IfOk result
             (λ words. width_of words ≡ least_width (unsigned_abs (bounds.high -ℤ bounds.low))) }
     {
@@ -161,14 +163,19 @@ impl Words {
 }
 
 /// How far each number lies above another.
-fn differences<W: Word>(alloc: Global, numbers: &[i64], low: i64) -> Result<Vec<W>, AllocError>
-    requires above { All (λ number. low ≤ℤ number) numbers.now }
-    requires fit { All (λ number. unsigned_abs (number -ℤ low) < W.limit) numbers.now }
-    ensures { IfOk result (λ words. above low (map W.number words.items) ≡ numbers.now) }
+fn differences<S: SignedWord, W: Word>(
+    alloc: Global,
+    numbers: &[S],
+    low: i64,
+) -> Result<Vec<W>, AllocError>
+    requires above { All (λ number. low ≤ℤ S.number number) numbers.now }
+    requires fit { All (λ number. unsigned_abs (S.number number -ℤ low) < W.limit) numbers.now }
+    ensures { IfOk result
+        (λ words. above low (map W.number words.items) ≡ map S.number numbers.now) }
 {
     let mut words = Vec::with_capacity(alloc, numbers.len())?;
     for number in numbers {
-        words.push_reserved(W::of(number.abs_diff(low)));
+        words.push_reserved(W::of(number.value().abs_diff(low)));
     }
     Ok(words)
 }

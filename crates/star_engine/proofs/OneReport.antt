@@ -1,16 +1,28 @@
--- A file's report over some tables is one.
-use Rattle.std.proofs.Common.{◌≡◌, ◌∙◌, ℕ, List, subst, sym}
+-- A file's report over some tables is one, and so is what is told of its run; where it is told, no fault is due.
+use Rattle.std.proofs.Common.{◌≡◌, ◌∙◌, ℕ, List, Some, subst, sym}
+use Rattle.star_schema.specs.declared.table.TableId.{TableId}
+use Rattle.star_schema.specs.Loadable.{database_of}
 use Rattle.star_schema.specs.Database.{Database}
 use Rattle.star_program.specs.declared.outcome.Outcome.{Outcome}
 use Rattle.star_program.specs.declared.program.Parts.{Parts}
 use Rattle.star_program.specs.Outcome.{IsOutcome}
-use Rattle.star_program.specs.Run.{End, bounded_run_of}
+use Rattle.star_program.specs.Run.{End, bounded_run_of, run_of}
 use Rattle.star_program.specs.World.{World}
 use Rattle.star_program.proofs.Text.OneProgram.{one_program}
 use Rattle.star_report.specs.Report.{report_text}
 use Rattle.star_report.proofs.OneOrder.{one_outcome}
 use Rattle.star_machine.specs.Trials.{Yields}
 use Rattle.star_world.specs.WorldOf.{world_of}
+use Rattle.star_program.specs.Text.Places.{text_fault}
+use Rattle.star_program.specs.declared.spelling.fault.TextFault.{TextFault}
+use Rattle.star_program.proofs.Text.Faultless.{faultless}
+use Rattle.star_verify.specs.declared.refusal.Refusal.{Refusal}
+use Rattle.star_engine.specs.declared.fault.EngineFault.{EngineFault}
+use Rattle.star_engine.specs.declared.fault.EngineFault.TheVariants.{Load, Program, Refused}
+use Rattle.star_engine.specs.Executions.{IsAccepted, IsRefusal, IsToldOf, IsUntold, quote_over}
+use Rattle.star_engine.specs.Loads.{IsProgramOf}
+use Rattle.star_engine.specs.Noted.{Telling}
+use Rattle.star_engine.specs.Notes.{counts_line, quote_line}
 use Rattle.star_engine.specs.Trials.{IsReport}
 
 -- a run that comes to its end has one outcome
@@ -26,3 +38,48 @@ report_is_one database file visits report other h k =
     let yields = subst (λ p. Yields w p (bounded_run_of w visits p) h.outcome) program h.yields in
     let outcome = yields_one w k.program (bounded_run_of w visits k.program) h.outcome k.outcome yields k.yields in
     h.printed ∙ (λ i. report_text (outcome i).names (outcome i).rows) ∙ sym k.printed
+
+-- what is told of the program of a file is one
+pub telling_is_one : (most visits : ℕ) (texts : TableId → List ℕ) (file : List ℕ)
+    (telling other : Telling) → IsToldOf most visits texts file telling
+    → IsToldOf most visits texts file other → telling ≡ other
+telling_is_one most visits texts file telling other h k =
+    let database = database_of texts in
+    let w = world_of database in
+    let program = one_program file h.program k.program h.of_file.spelled k.of_file.spelled in
+    let yields = subst (λ p. Yields w p (run_of w p) h.told.outcome) program h.told.yields in
+    let outcome = yields_one w k.program (run_of w k.program) h.told.outcome k.told.outcome yields k.told.yields in
+    let quoted : telling.quoted ≡ other.quoted =
+    h.told.quoted ∙ (λ i. quote_line (quote_over database (program i))) ∙ sym k.told.quoted in
+    let report : telling.report ≡ other.report =
+    h.told.reported ∙ (λ i. report_text (outcome i).names (outcome i).rows) ∙ sym k.told.reported in
+    let done : telling.done ≡ other.done =
+    h.told.done ∙ (λ i. counts_line (outcome i).visits (outcome i).lookups (outcome i).updates) ∙ sym k.told.done in
+    λ i. record { quoted = quoted i; report = report i; done = done i }
+
+-- ---- what is told is not refused
+
+-- a text that spells a program has no fault
+no_fault : (file : List ℕ) (program : Parts) (fault : TextFault) → IsProgramOf file program
+    → text_fault file ≡ Some fault → ⊥
+no_fault file program fault of_file is =
+    let none = (faultless file).1 (program, of_file.spelled, of_file.limits) in cc
+
+accepted_is_not_refused : (database : Database) (most : ℕ) (file : List ℕ) (told refused : Parts)
+    (refusal : Refusal) → IsProgramOf file told → IsProgramOf file refused
+    → IsAccepted database most told → IsRefusal database most refused refusal → ⊥
+accepted_is_not_refused database most file told refused refusal h k accepted is =
+    is.not_accepted
+    (subst (IsAccepted database most) (one_program file told refused h.spelled k.spelled) accepted)
+
+pub told_is_not_untold : (most visits : ℕ) (texts : TableId → List ℕ) (file : List ℕ)
+    (telling : Telling) (fault : EngineFault) → IsToldOf most visits texts file telling
+    → IsUntold most visits texts file fault → ⊥
+told_is_not_untold most visits texts file telling (Program fault) told due =
+    no_fault file told.program fault told.of_file due
+told_is_not_untold most visits texts file telling (Load fault) told due =
+    due.1.not_loadable told.loadable
+told_is_not_untold most visits texts file telling (Refused refusal) told due =
+    accepted_is_not_refused (database_of texts) visits file told.program due.program refusal
+    told.of_file due.of_file told.told.accepted due.refused
+told_is_not_untold most visits texts file telling _ told due = due

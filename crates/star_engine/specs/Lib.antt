@@ -1,5 +1,16 @@
-pub mod Listing
+pub mod Answered
+pub mod Noted
 pub mod Faults
+pub mod FaultTexts
+pub mod Loads
+pub mod Listing
 pub mod Trials
+pub mod Notes
+pub mod Executions
 pub mod Reading
+pub mod Queries
+pub mod QueryRuns
+pub mod QuoteTexts
+pub mod Thirteen
+pub mod Bench
 pub mod Private

@@ -1,6 +1,6 @@
 -- What `check` prints of five tables: how many rows each has, and the bounds of its columns of
 -- numbers.
-use Rattle.std.specs.Prelude.{◌++◌, ℕ, ℤ, List, [], codes, decimal, length}
+use Rattle.std.specs.Prelude.{◌≡◌, ◌++◌, ℕ, ℤ, List, [], codes, decimal, length}
 use Rattle.std.specs.Fmt.{signed_decimal}
 use Rattle.std.specs.List.{flat_map}
 use Rattle.star_schema.specs.declared.column.ColumnId.{ColumnId}
@@ -9,6 +9,7 @@ use Rattle.star_schema.specs.declared.column.Kind.TheVariants as kind
 use Rattle.star_schema.specs.declared.table.TableId.{TableId}
 use Rattle.star_schema.specs.declared.table.TheConstants.{TABLES}
 use Rattle.star_schema.specs.Bounds.{greatest, least, numbers_of}
+use Rattle.star_schema.specs.Loadable.{IsLoadable}
 use Rattle.star_schema.specs.Schema.{column_name, columns_of, kind_of, table_name}
 use Rattle.star_schema.specs.Tables.{Value, rows_of}
 
@@ -38,3 +39,8 @@ listing_of rows = flat_map (λ t. table_text t (rows t)) TABLES
 -- the text of `check` for five texts
 abbrev pub check_text : (TableId → List ℕ) → List ℕ
 check_text texts = listing_of (λ t. rows_of t (texts t))
+
+-- the listing of five texts that can be loaded
+pub record IsListing (most : ℕ) (texts : TableId → List ℕ) (text : List ℕ) : Type 0 where
+  pub loadable : IsLoadable most texts
+  pub listed : text ≡ check_text texts

@@ -1,25 +1,19 @@
 -- What `trial` prints of a program over five tables.
 use Rattle.std.specs.Prelude.{◌≡◌, ℕ, List}
+use Rattle.star_schema.specs.declared.table.TableId.{TableId}
 use Rattle.star_schema.specs.Database.{Database}
+use Rattle.star_schema.specs.Loadable.{IsLoadable, database_of}
 use Rattle.star_program.specs.declared.outcome.Outcome.{Outcome}
 use Rattle.star_program.specs.declared.program.Parts.{Parts}
-use Rattle.star_program.specs.Limits.{IsWithinLimits}
 use Rattle.star_program.specs.Run.{End, bounded_run_of}
-use Rattle.star_program.specs.Text.Spelling.{Spells}
 use Rattle.star_report.specs.Report.{report_text}
 use Rattle.star_machine.specs.declared.fault.TrialFault.{TrialFault}
 use Rattle.star_machine.specs.declared.fault.TrialFault.TheVariants as trial
 use Rattle.star_machine.specs.Trials.{IsFaultOf, Yields}
 use Rattle.star_world.specs.WorldOf.{world_of}
-
--- a program within the limits that a file spells
-pub record IsProgramOf (file : List ℕ) (program : Parts) : Type 0 where
-  pub spelled : Spells file program
-  pub limits : IsWithinLimits program
-
--- a file that spells a program within the limits
-abbrev pub IsProgram : List ℕ → Type 0
-IsProgram file = (program : Parts) × IsProgramOf file program
+use Rattle.star_engine.specs.declared.fault.EngineFault.{EngineFault}
+use Rattle.star_engine.specs.declared.fault.EngineFault.TheVariants.{Trial}
+use Rattle.star_engine.specs.Loads.{IsProgramOf, IsUnread}
 
 -- the printed rows of the program that a file spells, run over these tables with so many visits at
 -- most
@@ -43,3 +37,17 @@ pub record IsStopped (database : Database) (file : List ℕ) (visits : ℕ)
   pub program : Parts
   pub of_file : IsProgramOf file program
   pub stopped : IsStop (bounded_run_of (world_of database) visits program) fault
+
+-- ---- over five texts
+
+-- the report of a trial over the rows of five texts
+pub record IsTrialReport (most : ℕ) (texts : TableId → List ℕ) (file : List ℕ) (visits : ℕ)
+    (report : List ℕ) : Type 0 where
+  pub loadable : IsLoadable most texts
+  pub reported : IsReport (database_of texts) file visits report
+
+-- why there is none
+abbrev pub IsNoTrial : ℕ → (TableId → List ℕ) → List ℕ → ℕ → EngineFault → Type 0
+IsNoTrial most texts file visits (Trial fault) =
+    IsLoadable most texts × IsStopped (database_of texts) file visits fault
+IsNoTrial most texts file visits fault = IsUnread most texts file fault

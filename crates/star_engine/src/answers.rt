@@ -1,21 +1,23 @@
 // The answers that the program gives. Each is made whole before any of it is written.
 
-ghost use Rattle.std.specs.Prelude.{◌≡◌, ◌≤◌, ◌<◌, ◌^◌, ℕ, true, false, List, Some, Err, OnOk, length, take};
-ghost use Rattle.std.specs.Io.KnownBytes.{Appends};
-ghost use Rattle.star_schema.specs.Loadable.{IsLoadable, database_of};
-ghost use Rattle.star_catalogue.specs.Load.{load_fault, text_of};
-ghost use Rattle.star_catalogue.specs.declared.fault.LoadFault.{LoadFault};
-ghost use Rattle.star_machine.specs.declared.fault.TrialFault.{TrialFault};
-ghost use Rattle.star_program.specs.Text.Places.{text_fault};
-ghost use Rattle.star_program.specs.declared.spelling.fault.TextFault.{TextFault};
-ghost use Rattle.star_engine.specs.Listing.{check_text};
-ghost use Rattle.star_engine.specs.Trials.{IsProgram, IsReport, IsStopped};
+ghost use Rattle.std.specs.Prelude.{◌≤◌, ◌^◌};
+ghost use Rattle.star_catalogue.specs.Load.{text_of};
+ghost use Rattle.star_engine.specs.Answered.{IsAnswered, change};
+ghost use Rattle.star_engine.specs.Executions.{IsQuoteOf, IsToldOf, IsUntold};
+ghost use Rattle.star_engine.specs.Listing.{IsListing};
+ghost use Rattle.star_engine.specs.Loads.{IsUnloaded};
+ghost use Rattle.star_engine.specs.Noted.{IsNoted};
+ghost use Rattle.star_engine.specs.QuoteTexts.{IsQuoteText, IsUnquoted};
+ghost use Rattle.star_engine.specs.Trials.{IsNoTrial, IsTrialReport};
 
+use crate::executions::execute;
 use crate::fault::EngineFault;
 use crate::listing::listing;
-use crate::reports::report_of;
+use crate::loading::load;
+use crate::quotes::quote_of;
+use crate::reports::{read_program, report_of};
+use crate::writing::write_text;
 use star_catalogue::Texts;
-use star_report::write_whole;
 use star_schema::{Limits, Sink};
 use std::alloc::Global;
 
@@ -26,29 +28,12 @@ pub fn check<S: Sink>(
     limits: Limits,
     out: &mut S,
 ) -> Result<(), EngineFault>
-    ensures loadable { OnOk result (IsLoadable limits.rows (text_of texts.now)) }
-    ensures printed { OnOk result
-        (Appends (S.contents out.old) (S.contents out.new) (check_text (text_of texts.now))) }
-    ensures not_failed { OnOk result (S.is_failed out.new ≡ false) }
-
-    // Each fault comes where it is due, and has given `out` nothing but what it says.
-    ensures memory { result ≡ Err EngineFault.OutOfMemory → out.new ≡ out.old }
-    ensures load { (fault : LoadFault) → result ≡ Err (EngineFault.Load fault)
-        → (load_fault limits.rows (text_of texts.now) ≡ Some fault)
-        × ¬ IsLoadable limits.rows (text_of texts.now) × (out.new ≡ out.old) }
-    ensures write { (sent : ℕ) → result ≡ Err (EngineFault.Write sent)
-        → IsLoadable limits.rows (text_of texts.now)
-        × (sent < length (check_text (text_of texts.now)))
-        × Appends (S.contents out.old) (S.contents out.new)
-        (take sent (check_text (text_of texts.now))) × (S.is_failed out.new ≡ true) }
-
-    // No other fault comes.
-    ensures no_program { (fault : TextFault) → ¬ (result ≡ Err (EngineFault.Program fault)) }
-    ensures no_trial { (fault : TrialFault) → ¬ (result ≡ Err (EngineFault.Trial fault)) }
+    ensures { IsAnswered (change S.contents S.is_failed out.old out.new)
+        (IsListing limits.rows (text_of texts.now)) (IsUnloaded limits.rows (text_of texts.now))
+        result }
 {
     let text = listing(alloc, texts, limits)?;
-    write_whole(out, text.as_bytes())?;
-    Ok(())
+    write_text(out, text.as_bytes())
 }
 
 /// Runs the program whose text a file holds over the tables, with at most so many turns of scans,
@@ -62,31 +47,52 @@ pub fn trial_program<S: Sink>(
     out: &mut S,
 ) -> Result<(), EngineFault>
     requires { visits ≤ 10 ^ 15 }
-    ensures loadable { OnOk result (IsLoadable limits.rows (text_of texts.now)) }
-    ensures printed { OnOk result
-        ((report : List ℕ) × IsReport (database_of (text_of texts.now)) file.now visits report
-        × Appends (S.contents out.old) (S.contents out.new) report) }
-    ensures not_failed { OnOk result (S.is_failed out.new ≡ false) }
-
-    // Each fault comes where it is due, and has given `out` nothing but what it says.
-    ensures memory { result ≡ Err EngineFault.OutOfMemory → out.new ≡ out.old }
-    ensures program { (fault : TextFault) → result ≡ Err (EngineFault.Program fault)
-        → (text_fault file.now ≡ Some fault) × (out.new ≡ out.old) }
-    ensures load { (fault : LoadFault) → result ≡ Err (EngineFault.Load fault)
-        → IsProgram file.now × (load_fault limits.rows (text_of texts.now) ≡ Some fault)
-        × ¬ IsLoadable limits.rows (text_of texts.now) × (out.new ≡ out.old) }
-    ensures trial { (fault : TrialFault) → result ≡ Err (EngineFault.Trial fault)
-        → IsLoadable limits.rows (text_of texts.now)
-        × IsStopped (database_of (text_of texts.now)) file.now visits fault
-        × (out.new ≡ out.old) }
-    ensures write { (sent : ℕ) → result ≡ Err (EngineFault.Write sent)
-        → IsLoadable limits.rows (text_of texts.now)
-        × ((report : List ℕ) × IsReport (database_of (text_of texts.now)) file.now visits report
-        × (sent < length report)
-        × Appends (S.contents out.old) (S.contents out.new) (take sent report))
-        × (S.is_failed out.new ≡ true) }
+    ensures { IsAnswered (change S.contents S.is_failed out.old out.new)
+        (IsTrialReport limits.rows (text_of texts.now) file.now visits)
+        (IsNoTrial limits.rows (text_of texts.now) file.now visits) result }
 {
     let report = report_of(alloc, texts, file, visits, limits)?;
-    write_whole(out, report.as_slice())?;
-    Ok(())
+    write_text(out, report.as_slice())
+}
+
+/// Checks the program whose text a file holds over the tables, runs it, and writes its report on
+/// `out`. A note of how many visits are quoted goes to `notes` before the check, and one of what the
+/// run did behind the report. A program is refused where it is not admissible over the tables, or
+/// more visits are quoted than the limits allow. The file is read first, and then the tables.
+pub fn answer_program<S: Sink, N: Sink>(
+    alloc: Global,
+    texts: &Texts<'_>,
+    file: &[u8],
+    limits: Limits,
+    out: &mut S,
+    notes: &mut N,
+) -> Result<(), EngineFault>
+    ensures { IsNoted (change S.contents S.is_failed out.old out.new)
+        (change N.contents N.is_failed notes.old notes.new)
+        (IsQuoteOf limits.rows (text_of texts.now) file.now)
+        (IsToldOf limits.rows limits.visits (text_of texts.now) file.now)
+        (IsUntold limits.rows limits.visits (text_of texts.now) file.now) result }
+{
+    let program = read_program(alloc, file)?;
+    let catalogue = load(alloc, texts, limits)?;
+    execute(alloc, &catalogue, program, limits, out, notes)
+}
+
+/// Writes how many visits are quoted over the tables: of the program that a file spells, or of the
+/// program of the query that it means. A file that begins with `star program ` is taken for a
+/// program, and any other for a query. Nothing is checked against the tables. The file is read
+/// first, and then the tables.
+pub fn quote_text<S: Sink>(
+    alloc: Global,
+    texts: &Texts<'_>,
+    file: &[u8],
+    limits: Limits,
+    out: &mut S,
+) -> Result<(), EngineFault>
+    ensures { IsAnswered (change S.contents S.is_failed out.old out.new)
+        (IsQuoteText limits.rows (text_of texts.now) file.now)
+        (IsUnquoted limits.rows (text_of texts.now) file.now) result }
+{
+    let note = quote_of(alloc, texts, file, limits)?;
+    write_text(out, note.as_bytes())
 }

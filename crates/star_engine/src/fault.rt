@@ -1,34 +1,58 @@
 // Why an answer was not given.
 
-ghost use Rattle.std.specs.Prelude.{◌≡◌};
+ghost use Rattle.std.specs.Prelude.{◌≡◌, Some};
 ghost use Rattle.star_common.specs.Memory.{TellsMemory};
+ghost use Rattle.star_engine.specs.FaultTexts.{fault_text};
+ghost use Rattle.star_engine.specs.Faults.{fault_of_load, fault_of_plan, fault_of_query, fault_of_refusal, fault_of_text, fault_of_trial};
 ghost use Rattle.star_engine.specs.declared.fault.EngineFault.TheVariants.{OutOfMemory, Write};
 
 use star_catalogue::LoadFault;
 use star_machine::TrialFault;
+use star_plan::PlanFault;
 use star_program::TextFault;
+use star_query::QueryFault;
 use star_report::WriteFault;
+use star_verify::Refusal;
 use std::alloc::AllocError;
-use thiserror::Error;
+use std::fmt;
 
 /// Why an answer was not given. Shown, it is the line that the program prints.
-#[derive(Clone, Copy, Debug, PartialEq, Eq, Error)]
+#[derive(Drop)]
 pub enum EngineFault {
     /// Memory was refused.
-    #[error("memory")]
     OutOfMemory,
+    /// The file is no query.
+    Query(QueryFault),
+    /// The query has no plan.
+    Plan(PlanFault),
     /// The file is no program.
-    #[error("program {0}")]
     Program(TextFault),
     /// The texts were not loaded.
-    #[error("load {0}")]
     Load(LoadFault),
+    /// The program was refused before its run.
+    Refused(Refusal),
     /// The program did not come to its end.
-    #[error("{0}")]
     Trial(TrialFault),
     /// A write did not go through, after so many bytes of the answer.
-    #[error("write {sent}")]
     Write { sent: u64 },
+}
+
+impl fmt::Display for EngineFault {
+    ghost output = { λ fault. Some (fault_text fault) };
+
+    #[tactic(auto, unfolding(crate::specs::FaultTexts::fault_text))]
+    fn fmt<W: fmt::Write>(&self, f: &mut fmt::Formatter<W>) -> fmt::Result {
+        match self {
+            EngineFault::OutOfMemory => f.write_str("memory"),
+            EngineFault::Query(fault) => write!(f, "query {fault}"),
+            EngineFault::Plan(fault) => write!(f, "query {fault}"),
+            EngineFault::Program(fault) => write!(f, "program {fault}"),
+            EngineFault::Load(fault) => write!(f, "load {fault}"),
+            EngineFault::Refused(refusal) => write!(f, "{refusal}"),
+            EngineFault::Trial(fault) => write!(f, "{fault}"),
+            EngineFault::Write { sent } => write!(f, "write {sent}"),
+        }
+    }
 }
 
 impl From<AllocError> for EngineFault {
@@ -39,9 +63,29 @@ impl From<AllocError> for EngineFault {
     }
 }
 
-impl From<TextFault> for EngineFault {
-    ghost use Rattle.star_engine.specs.Faults.{fault_of_text};
+impl From<QueryFault> for EngineFault {
+    ghost from_gives = { λ fault shown. shown ≡ fault_of_query fault };
 
+    fn from(fault: QueryFault) -> EngineFault {
+        match fault {
+            QueryFault::OutOfMemory => EngineFault::OutOfMemory,
+            fault => EngineFault::Query(fault),
+        }
+    }
+}
+
+impl From<PlanFault> for EngineFault {
+    ghost from_gives = { λ fault shown. shown ≡ fault_of_plan fault };
+
+    fn from(fault: PlanFault) -> EngineFault {
+        match fault {
+            PlanFault::OutOfMemory => EngineFault::OutOfMemory,
+            fault => EngineFault::Plan(fault),
+        }
+    }
+}
+
+impl From<TextFault> for EngineFault {
     ghost from_gives = { λ fault shown. shown ≡ fault_of_text fault };
 
     fn from(fault: TextFault) -> EngineFault {
@@ -53,8 +97,6 @@ impl From<TextFault> for EngineFault {
 }
 
 impl From<LoadFault> for EngineFault {
-    ghost use Rattle.star_engine.specs.Faults.{fault_of_load};
-
     ghost from_gives = { λ fault shown. shown ≡ fault_of_load fault };
 
     fn from(fault: LoadFault) -> EngineFault {
@@ -65,9 +107,18 @@ impl From<LoadFault> for EngineFault {
     }
 }
 
-impl From<TrialFault> for EngineFault {
-    ghost use Rattle.star_engine.specs.Faults.{fault_of_trial};
+impl From<Refusal> for EngineFault {
+    ghost from_gives = { λ refusal shown. shown ≡ fault_of_refusal refusal };
 
+    fn from(refusal: Refusal) -> EngineFault {
+        match refusal {
+            Refusal::OutOfMemory => EngineFault::OutOfMemory,
+            refusal => EngineFault::Refused(refusal),
+        }
+    }
+}
+
+impl From<TrialFault> for EngineFault {
     ghost from_gives = { λ fault shown. shown ≡ fault_of_trial fault };
 
     fn from(fault: TrialFault) -> EngineFault {

@@ -2,15 +2,30 @@
 #![tactic(auto)]
 
 mod answers;
+mod benchmark;
+mod executions;
 mod fault;
 pub mod law;
 mod listing;
+mod loading;
+mod notes;
+mod queries;
+pub mod query_laws;
+mod quotes;
 mod reading;
 mod reports;
+mod thirteen;
+mod writing;
 
-pub use answers::{check, trial_program};
+pub use answers::{answer_program, check, quote_text, trial_program};
+pub use benchmark::bench;
 pub use fault::EngineFault;
+pub use queries::{answer_query, explain_query};
 pub use reading::{FileFault, Tally, read_expected, read_whole};
 pub use star_catalogue::{LoadFault, Texts, sample};
 pub use star_machine::{Fault, TrapKind, TrialFault};
+pub use star_plan::PlanFault;
 pub use star_program::TextFault;
+pub use star_query::QueryFault;
+pub use star_verify::{Reached, ReachedColumns, Reason, Refusal};
+pub use thirteen::{BenchmarkQuery, THIRTEEN};

@@ -1,8 +1,9 @@
 // A list of texts, one after another in one buffer.
 
 ghost use Rattle.std.specs.Prelude.{◌≡◌, ◌<◌, ◌++◌, ◌∷◌, ◌↔◌, [], IsTrue, Some, length, slice_get, OnOk, OnErr};
-ghost use Rattle.star_flat.specs.Private.Cut.{texts_from, start_of, IsCut};
+ghost use Rattle.star_flat.specs.Private.Cut.{places, texts_from, start_of, IsCut};
 
+use crate::numbers::FlatNumbers;
 use std::alloc::{AllocError, Global};
 use std::marker::Model;
 
@@ -11,18 +12,18 @@ use std::marker::Model;
 #[derive(Drop)]
 pub struct FlatTexts {
     bytes: Vec<u8>,
-    ends: Vec<usize>,
+    ends: FlatNumbers,
 }
 
 impl Model for FlatTexts {
     ghost use Rattle.std.specs.Prelude.{List, ℕ, length};
-    ghost use Rattle.star_flat.specs.Private.Cut.{texts_from, IsCut};
+    ghost use Rattle.star_flat.specs.Private.Cut.{places, texts_from, IsCut};
 
     ghost Value = { List (List ℕ) };
 
-    ghost view = { λ texts. texts_from 0 texts.bytes.items texts.ends.items };
+    ghost view = { λ texts. texts_from 0 texts.bytes.items (places texts.ends) };
 
-    ghost invariant = { λ texts. IsCut 0 texts.ends.items (length texts.bytes.items) };
+    ghost invariant = { λ texts. IsCut 0 (places texts.ends) (length texts.bytes.items) };
 }
 
 impl FlatTexts {
@@ -32,7 +33,7 @@ impl FlatTexts {
     {
         FlatTexts {
             bytes: Vec::new(alloc),
-            ends: Vec::new(alloc),
+            ends: FlatNumbers::new(alloc),
         }
     }
 
@@ -55,7 +56,7 @@ impl FlatTexts {
         requires { place < length self.now }
         ensures { slice_get self.now place ≡ Some result.now }
     {
-        text_at(self.bytes.as_slice(), self.ends.as_slice(), place)
+        text_at(self.bytes.as_slice(), &self.ends, place)
     }
 
     /// Puts a text at the end, or changes nothing where memory is refused.
@@ -65,28 +66,42 @@ impl FlatTexts {
     {
         let start = self.bytes.len();
         self.bytes.extend_from_slice(text)?;
-        if self.ends.push(self.bytes.len()).is_err() {
-            self.bytes.truncate(start);
-            return Err(AllocError);
+        match self.ends.push(self.bytes.len() as i64) {
+            Ok(()) => Ok(()),
+            Err(error) => {
+                self.bytes.truncate(start);
+                Err(error)
+            }
         }
-        Ok(())
     }
 }
 
-// Where the text at a place begins.
-fn start_at(ends: &[usize], place: usize) -> usize
+// Where the text at a place ends.
+fn end_at(ends: &FlatNumbers, place: usize) -> usize
     requires { place < length ends.now }
-    ensures { result ≡ start_of 0 ends.now place }
+    ensures { slice_get (places ends.now) place ≡ Some result }
 {
-    if place == 0 { 0 } else { ends[place - 1] }
+    ends.get(place).unsigned_abs() as usize
 }
 
-fn text_at<'t>(bytes: &'t [u8], ends: &[usize], place: usize) -> &'t [u8]
-    requires cut { IsCut 0 ends.now (length bytes.now) }
+// Where the text at a place begins.
+fn start_at(ends: &FlatNumbers, place: usize) -> usize
+    requires { place < length ends.now }
+    ensures { result ≡ start_of 0 (places ends.now) place }
+{
+    if place == 0 {
+        0
+    } else {
+        end_at(ends, place - 1)
+    }
+}
+
+fn text_at<'t>(bytes: &'t [u8], ends: &FlatNumbers, place: usize) -> &'t [u8]
+    requires cut { IsCut 0 (places ends.now) (length bytes.now) }
     requires within { place < length ends.now }
-    ensures { slice_get (texts_from 0 bytes.now ends.now) place ≡ Some result.now }
+    ensures { slice_get (texts_from 0 bytes.now (places ends.now)) place ≡ Some result.now }
 {
     let start = start_at(ends, place);
-    let end = ends[place];
+    let end = end_at(ends, place);
     &bytes[start..end]
 }

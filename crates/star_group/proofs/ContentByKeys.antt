@@ -22,16 +22,16 @@ plus_comm x y = omega (arith, ints)
 pub plus_assoc : (x y z : ℤ) → (x +ℤ y) +ℤ z ≡ x +ℤ (y +ℤ z)
 plus_assoc x y z = omega (arith, ints)
 
-least_comm : (x y : ℤ) → int_min x y ≡ int_min y x
+pub least_comm : (x y : ℤ) → int_min x y ≡ int_min y x
 least_comm x y = omega (arith, ints, int_min_is x y, int_min_is y x)
 
-least_assoc : (x y z : ℤ) → int_min (int_min x y) z ≡ int_min x (int_min y z)
+pub least_assoc : (x y z : ℤ) → int_min (int_min x y) z ≡ int_min x (int_min y z)
 least_assoc x y z = omega (arith, ints, int_min_is x y, int_min_is (int_min x y) z, int_min_is y z, int_min_is x (int_min y z))
 
-greatest_comm : (x y : ℤ) → int_max x y ≡ int_max y x
+pub greatest_comm : (x y : ℤ) → int_max x y ≡ int_max y x
 greatest_comm x y = omega (arith, ints, int_max_is x y, int_max_is y x)
 
-greatest_assoc : (x y z : ℤ) → int_max (int_max x y) z ≡ int_max x (int_max y z)
+pub greatest_assoc : (x y z : ℤ) → int_max (int_max x y) z ≡ int_max x (int_max y z)
 greatest_assoc x y z = omega (arith, ints, int_max_is x y, int_max_is (int_max x y) z, int_max_is y z, int_max_is x (int_max y z))
 
 ones : (us : List Put) → unwrap_or (joined (λ x y. x +ℤ y) (map (λ u. pos 1) us)) (pos 0) ≡ pos (length us)

@@ -58,26 +58,26 @@ module _ {A : Type 0} where
       by true f = (suc f.0, f.1)
       by false f = f
 
-  contained : (xs : List A) (i : ℕ) (x : A) → slice_get xs i ≡ Some x → Contains xs x
+  pub contained : (xs : List A) (i : ℕ) (x : A) → slice_get xs i ≡ Some x → Contains xs x
   contained xs i x e =
       let within : i < length xs = slice_get_within xs i x e in
       (i, within, (let same : get_or xs i x ≡ x = cc (slice_get-get_or xs i x within, e) in same))
 
-  place_of : (xs : List A) (x : A) → Contains xs x → (i : ℕ) × (slice_get xs i ≡ Some x)
+  pub place_of : (xs : List A) (x : A) → Contains xs x → (i : ℕ) × (slice_get xs i ≡ Some x)
   place_of xs x c = (c.0, slice_get-get_or xs c.0 x c.1 ∙ ap Some c.2)
 
-  all_at : (P : A → Type 0) (xs : List A) (i : ℕ) (x : A) → slice_get xs i ≡ Some x → AllByRecursion P xs → P x
+  pub all_at : (P : A → Type 0) (xs : List A) (i : ℕ) (x : A) → slice_get xs i ≡ Some x → AllByRecursion P xs → P x
   all_at P [] i x e h = absurd (let no : ⊥ = cc in no)
   all_at P (y ∷ xs) zero x e h = subst P (let is : y ≡ x = cc e in is) h.0
   all_at P (y ∷ xs) (suc i) x e h = all_at P xs i x e h.1
 
   -- what a mapped list has at a place
-  mapped : {B : Type 0} (f : A → B) (xs : List A) (i : ℕ) (y : B) → slice_get (map f xs) i ≡ Some y → (x : A) × (slice_get xs i ≡ Some x) × (f x ≡ y)
+  pub mapped : {B : Type 0} (f : A → B) (xs : List A) (i : ℕ) (y : B) → slice_get (map f xs) i ≡ Some y → (x : A) × (slice_get xs i ≡ Some x) × (f x ≡ y)
   mapped f [] i y e = absurd (let no : ⊥ = cc in no)
   mapped f (x ∷ xs) zero y e = (x, refl, (let is : f x ≡ y = cc e in is))
   mapped f (x ∷ xs) (suc i) y e = mapped f xs i y e
 
-distinct_at : (ks : List (List (Option KeyValue))) (i j : ℕ) (k : List (Option KeyValue)) → slice_get ks i ≡ Some k → slice_get ks j ≡ Some k → IsDistinct key_eq ks → i ≡ j
+pub distinct_at : (ks : List (List (Option KeyValue))) (i j : ℕ) (k : List (Option KeyValue)) → slice_get ks i ≡ Some k → slice_get ks j ≡ Some k → IsDistinct key_eq ks → i ≡ j
 distinct_at [] i j k a b d = absurd (let no : ⊥ = cc a in no)
 distinct_at (x ∷ ks) zero zero k a b d = refl
 distinct_at (x ∷ ks) zero (suc j) k a b d =

@@ -19,7 +19,7 @@ keys_equiv = lists_equiv laws-law
 pub keys_decide : (ks ls : List KeyValue) → Decides (same_keys ks ls) (ks ≡ ls)
 keys_decide ks ls = slice_eq-Decides value_decides ks ls (same_keys ks ls) refl
 
-or_left : (a b : Bool) → a ≡ true → (a || b) ≡ true
+pub or_left : (a b : Bool) → a ≡ true → (a || b) ≡ true
 or_left a b h = ap (λ c. c || b) h
 
 -- each key list of a list is in it

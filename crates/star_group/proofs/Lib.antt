@@ -20,4 +20,10 @@ pub mod JoinedParts
 pub mod ContentByKeys
 pub mod ContentMade
 pub mod ContentMore
+pub mod MergedCells
+pub mod Merging
+pub mod Bases
+pub mod Passes
+pub mod Rolling
+pub mod AllRows
 pub mod Worked

@@ -28,7 +28,7 @@ module _ {A : Type 0} where
   all_mapped f P [] h = tt
   all_mapped f P (x ∷ xs) h = (h.0, all_mapped f P xs h.1)
 
-  any_mapped : {B : Type 0} (f : A → B) (p : B → Bool) (xs : List A) → list_any p (map f xs) ≡ list_any (λ x. p (f x)) xs
+  pub any_mapped : {B : Type 0} (f : A → B) (p : B → Bool) (xs : List A) → list_any p (map f xs) ≡ list_any (λ x. p (f x)) xs
   any_mapped f p [] = refl
   any_mapped f p (x ∷ xs) = ap (λ b. p (f x) || b) (any_mapped f p xs)
 

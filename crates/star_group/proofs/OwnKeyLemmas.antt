@@ -21,12 +21,12 @@ length-padded (suc n) [] = ap suc (length-padded n [])
 length-padded (suc n) (k ∷ ks) = ap suc (length-padded n ks)
 
 module _ {A : Type 0} where
-  one_more : (key : List A) (p : ℕ) (d : A) (s : List A) → p < length key → take (suc p) key ++ s ≡ take p key ++ (get_or key p d ∷ s)
+  pub one_more : (key : List A) (p : ℕ) (d : A) (s : List A) → p < length key → take (suc p) key ++ s ≡ take p key ++ (get_or key p d ∷ s)
   one_more [] p d s h = absurd (omega arith)
   one_more (x ∷ xs) zero d s h = refl
   one_more (x ∷ xs) (suc p) d s h = ap (λ t. x ∷ t) (one_more xs p d s (omega arith))
 
-  set_there : (key : List A) (p : ℕ) (y : A) (s : List A) → p < length key → set (take (suc p) key ++ s) p y ≡ take p key ++ (y ∷ s)
+  pub set_there : (key : List A) (p : ℕ) (y : A) (s : List A) → p < length key → set (take (suc p) key ++ s) p y ≡ take p key ++ (y ∷ s)
   set_there [] p y s h = absurd (omega arith)
   set_there (x ∷ xs) zero y s h = refl
   set_there (x ∷ xs) (suc p) y s h = ap (λ t. x ∷ t) (set_there xs p y s (omega arith))

@@ -10,12 +10,14 @@ use Rattle.star_interval.specs.Range.{is_i64}
 use Rattle.star_program.specs.declared.key.KeyValue.{KeyValue}
 use Rattle.star_program.specs.Keys.{value_cmp}
 use Rattle.star_program.specs.Puts.{own_groups, some_leaves, leaves}
+use Rattle.star_group.specs.Cells.{held}
 use Rattle.star_group.specs.Stores.{Put, Group, aggregate_at, number_at, overflows, above_zero, below_zero, HasRoom}
 use Rattle.star_group.proofs.ContentByKeys.{length-numbers, sums}
 use Rattle.star_group.proofs.ContentMade.{made, made_content}
 use Rattle.star_group.proofs.Contents.{no_leaves}
 use Rattle.star_group.proofs.JoinedParts.{joined_more, more}
 use Rattle.star_group.proofs.OwnGroups.{any_false}
+use Rattle.star_group.proofs.Totals.{some_aggregate}
 
 abbrev all_of : List ℤ → ℤ
 all_of [] = pos 0
@@ -79,36 +81,48 @@ count_small : (n : ℕ) → n < 2 ^ 63 → is_i64 (pos n) ≡ true
 unfolding is_i64
 count_small n h = lt-ltb n (2 ^ 63) h
 
--- ---- a group of the puts
+-- ---- the puts whose key lists pass a test
 
-module _ (d : Group) (us : List Put) (room : HasRoom d us) (m : List (Option KeyValue)) (place : ℕ) (declared : place < length d.aggregates) where
-  sum_fits : aggregate_at d place ≡ Sum → (z : ℤ) → joined (λ x y. x +ℤ y) (numbers_for place (members value_cmp m us)) ≡ Some z → is_i64 z ≡ true
+module _ (d : Group) (us : List Put) (room : HasRoom d us) (p : List KeyValue → Bool) (place : ℕ) (declared : place < length d.aggregates) where
+  sum_fits : aggregate_at d place ≡ Sum → (z : ℤ) → joined (λ x y. x +ℤ y) (numbers_for place (filter (λ w. p w.keys) us)) ≡ Some z → is_i64 z ≡ true
   sum_fits same z e =
       let es = made d us in
-      let zs = numbers_for place (filter (λ w. belongs value_cmp m w.keys) es) in
-      let whole = sums d us es (made_content d us) place declared (belongs value_cmp m) same ∙ e in
+      let zs = numbers_for place (filter (λ w. p w.keys) es) in
+      let whole = sums d us es (made_content d us) place declared p same ∙ e in
       let up = room.sums es (made_content d us) place declared same in
-      let less = fewer_kept (λ w. belongs value_cmp m w.keys) place es in
+      let less = fewer_kept (λ w. p w.keys) place es in
       let r = bounded zs in
       ap is_i64 (sum_is zs z whole) ∙ fits_between (all_of zs) _ _ r.0 r.1 (omega (arith, less.above, up.above)) (omega (arith, less.below, up.below))
 
-  stays_at : (g : Aggregate) → aggregate_at d place ≡ g → leaves g (aggregate g (numbers_for place (members value_cmp m us))) ≡ false
-  stays_at Sum same = by (joined (λ x y. x +ℤ y) (numbers_for place (members value_cmp m us))) refl
+  stays_at : (g : Aggregate) → aggregate_at d place ≡ g → leaves g (aggregate g (numbers_for place (filter (λ w. p w.keys) us))) ≡ false
+  stays_at Sum same = by (joined (λ x y. x +ℤ y) (numbers_for place (filter (λ w. p w.keys) us))) refl
     where
-      by : (r : Option ℤ) → joined (λ x y. x +ℤ y) (numbers_for place (members value_cmp m us)) ≡ r → leaves Sum r ≡ false
+      by : (r : Option ℤ) → joined (λ x y. x +ℤ y) (numbers_for place (filter (λ w. p w.keys) us)) ≡ r → leaves Sum r ≡ false
       by None e = refl
       by (Some z) e = ap not (sum_fits same z e)
-  stays_at Count same = ap not (count_small _ (omega (arith, length-numbers place (members value_cmp m us), fewer (λ w. belongs value_cmp m w.keys) us, room.counts place declared same)))
-  stays_at Min same = by (aggregate Min (numbers_for place (members value_cmp m us)))
+  stays_at Count same = ap not (count_small _ (omega (arith, length-numbers place (filter (λ w. p w.keys) us), fewer (λ w. p w.keys) us, room.counts place declared same)))
+  stays_at Min same = by (aggregate Min (numbers_for place (filter (λ w. p w.keys) us)))
     where
       by : (r : Option ℤ) → leaves Min r ≡ false
       by None = refl
       by (Some z) = refl
-  stays_at Max same = by (aggregate Max (numbers_for place (members value_cmp m us)))
+  stays_at Max same = by (aggregate Max (numbers_for place (filter (λ w. p w.keys) us)))
     where
       by : (r : Option ℤ) → leaves Max r ≡ false
       by None = refl
       by (Some z) = refl
+
+-- what is held of them stays within 64 bits
+pub held_stays : (d : Group) (us : List Put) → HasRoom d us → (p : List KeyValue → Bool) (place : ℕ) → place < length d.aggregates → leaves (aggregate_at d place) (held (aggregate_at d place) (numbers_for place (filter (λ w. p w.keys) us))) ≡ false
+unfolding held
+held_stays d us room p place declared = by (aggregate_at d place) (numbers_for place (filter (λ w. p w.keys) us)) (stays_at d us room p place declared (aggregate_at d place) refl)
+  where
+    by : (g : Aggregate) (vs : List ℤ) → leaves g (aggregate g vs) ≡ false → leaves g (held g vs) ≡ false
+    by Sum [] h = refl
+    by Count [] h = refl
+    by Min [] h = refl
+    by Max [] h = refl
+    by g (v ∷ vs) h = ap (leaves g) (some_aggregate g v vs) ∙ h
 
 all_always : {A : Type 0} (P : A → Type 0) → ((x : A) → P x) → (xs : List A) → AllByRecursion P xs
 all_always P each [] = tt
@@ -117,4 +131,4 @@ all_always P each (x ∷ xs) = (each x, all_always P each xs)
 pub room_stays : (d : Group) (us : List Put) (u : Put) → HasRoom d (u ∷ us) → overflows d us u ≡ false
 room_stays d us u room = any_false (λ m. some_leaves d.aggregates 0 (members value_cmp m (u ∷ us))) (own_groups d.shape u.keys)
     (all_always (λ m. some_leaves d.aggregates 0 (members value_cmp m (u ∷ us)) ≡ false)
-    (λ m. no_leaves d.aggregates 0 (members value_cmp m (u ∷ us)) (λ a lt. let zeros : 0 + a ≡ a = omega arith in rw zeros (stays_at d (u ∷ us) room m a lt (aggregate_at d a) refl))) (own_groups d.shape u.keys))
+    (λ m. no_leaves d.aggregates 0 (members value_cmp m (u ∷ us)) (λ a lt. let zeros : 0 + a ≡ a = omega arith in rw zeros (stays_at d (u ∷ us) room (belongs value_cmp m) a lt (aggregate_at d a) refl))) (own_groups d.shape u.keys))

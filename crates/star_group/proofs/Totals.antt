@@ -83,7 +83,7 @@ all_belong d u = by d.shape u.keys
     by Plain (k ∷ ks) = or_right (key_eq (padded 6 []) (padded 6 (k ∷ ks))) _ (ap (λ b. b || false) (key_equiv.refl (padded 6 [])))
     by Cube ks = vary_all 6 ks
 
-all_rows : (d : Group) (us : List Put) → puts_at d (padded 6 []) us ≡ us
+pub all_rows : (d : Group) (us : List Put) → puts_at d (padded 6 []) us ≡ us
 all_rows d [] = refl
 all_rows d (u ∷ us) = one_more d us u (padded 6 []) (all_belong d u) ∙ ap (λ r. u ∷ r) (all_rows d us)
 

@@ -5,5 +5,7 @@ pub mod OneMore
 pub mod OwnKeys
 pub mod Held
 pub mod Eager
+pub mod Base
+pub mod Deferred
 pub mod Shown
 pub mod Private

@@ -1,3 +1,6 @@
 -- What the contracts of functions that are not public cite.
 pub mod Rows
 pub mod Given
+pub mod Merged
+pub mod BasePut
+pub mod Coarser

@@ -2,7 +2,7 @@
 
 ghost use Rattle.std.specs.Prelude.{◌≤◌, vec_len};
 
-mod given;
+pub(crate) mod given;
 mod store;
 
 use crate::cell::Row;

@@ -1,9 +1,10 @@
-//! The rows of a group: what the traits of stores promise, and a store that keeps every row up to date.
+//! The rows of a group: what the traits of stores promise, a store that keeps every row up to date, and one that makes the rows in which keys are ALL in the end.
 //!
 //! A store is told by lists of puts: it has the content of some puts, the newest first, and then its rows are the groups of these puts with their aggregates, and its totals are the aggregates over all of them.
 #![tactic(auto)]
 
 mod cell;
+mod deferred;
 mod eager;
 mod group_row;
 pub mod law;
@@ -11,6 +12,7 @@ mod own;
 mod rows;
 mod store;
 
+pub use deferred::DeferredStore;
 pub use eager::EagerStore;
 pub use group_row::{GroupRow, RowAggregates, RowKeys};
 pub use rows::PutFault;

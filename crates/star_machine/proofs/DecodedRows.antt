@@ -27,7 +27,7 @@ use Rattle.star_program.specs.Keys as by_code
 use Rattle.star_program.specs.Outcome.{decoded, decoded_keys, decoded_row}
 use Rattle.star_program.specs.Puts.{Update}
 use Rattle.star_machine.specs.Private.Decoded.{AreDecodable, IsDecodable}
-use Rattle.star_machine.specs.Private.Runs.{AreSoundKeys, IsSoundKey}
+use Rattle.star_machine.specs.SoundKeys.{AreSoundKeys, IsSoundKey}
 use Rattle.star_world.specs.WorldOf.{column_dictionary, column_texts, world_of}
 use Rattle.star_machine.proofs.SortedRows.{sorted_mapped}
 

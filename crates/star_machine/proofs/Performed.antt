@@ -21,7 +21,7 @@ use Rattle.star_machine.specs.declared.run.Run.{Run}
 use Rattle.star_machine.specs.Private.Acts.{IsMade, IsStop, Sets}
 use Rattle.star_machine.specs.Private.Stops.{stop_of_put}
 use Rattle.star_machine.specs.Private.Runs.{HasDone}
-use Rattle.star_machine.specs.Private.Sound.{IsSoundEntry, IsSoundValue}
+use Rattle.star_machine.specs.Sound.{IsSoundEntry, IsSoundValue}
 
 answer_sound : (database : Database) (o : Operator) (l r : Option Value) → IsSoundEntry database (answer_of o l r)
 answer_sound database o l r = go o

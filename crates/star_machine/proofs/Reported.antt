@@ -1,5 +1,5 @@
 -- The outcome of a run, from the sorted groups of a store.
-use Rattle.std.proofs.Common.{◌≡◌, List, Some, get_or, slice_get, map, ap, sym, subst, refl, ◌∙◌}
+use Rattle.std.proofs.Common.{◌≡◌, suc, length, List, [], ◌∷◌, Some, get_or, slice_get, map, ap, sym, subst, refl, ◌∙◌}
 use Rattle.std.specs.List.{All, AllByRecursion, Contains}
 use Rattle.std.proofs.lemmas.List.Elements.{Contains-get_or}
 use Rattle.std.proofs.lemmas.Simd.{map-map}
@@ -8,6 +8,7 @@ use Rattle.star_schema.specs.declared.group.SortKey.{SortKey}
 use Rattle.star_schema.specs.Groups.{GroupRow as Row}
 use Rattle.star_schema.specs.Order.{AreInOrder, value_cmp}
 use Rattle.star_program.specs.declared.group.GroupDecl.{GroupDecl}
+use Rattle.star_program.specs.declared.group.GroupKey.{GroupKey}
 use Rattle.star_program.specs.declared.outcome.Outcome.{Outcome}
 use Rattle.star_program.specs.declared.program.Parts.{Parts}
 use Rattle.star_program.specs.declared.program.Show.{Show}
@@ -19,11 +20,14 @@ use Rattle.star_program.specs.Puts.{Update}
 use Rattle.star_group.specs.declared.eager.EagerStore.{EagerStore}
 use Rattle.star_group.specs.declared.group_row.GroupRow.{GroupRow}
 use Rattle.star_group.specs.Eager.{Has, group_of}
-use Rattle.star_group.specs.Shown.{row_shown}
-use Rattle.star_group.specs.Stores.{group_declared}
+use Rattle.star_group.specs.Shown.{AreRows as AreGroupRows, row_shown}
+use Rattle.star_group.specs.Stores.{Group, group_declared}
 use Rattle.star_machine.specs.Private.Decoded.{AreDecodable, AreSortedGroups, row_cells}
-use Rattle.star_machine.specs.Private.Runs.{AreSoundKeys, HasDone}
+use Rattle.star_machine.specs.Private.Runs.{HasDone}
+use Rattle.star_machine.specs.SoundKeys.{AreSoundKeys}
 use Rattle.star_world.specs.WorldOf.{world_of}
+use Rattle.star_machine.specs.Reported.{IsLeft}
+use Rattle.star_machine.specs.declared.outcome.Counts.{Counts}
 use Rattle.star_machine.specs.declared.run.Run.{Run}
 use Rattle.star_machine.proofs.DecodedRows.{decoded_in_order, group_decodable}
 use Rattle.star_common.proofs.Members.{contains_mapped}
@@ -41,23 +45,48 @@ rows_decodable db d sorts updates rows sound are = λ k row within.
 
 -- ---- the outcome
 
--- the groups of the reported store, in the words of its declaration
-module _ (db : Database) (parts : Parts) (run : Run) (s : Store) (store : EagerStore) (d : GroupDecl) (sorts : List SortKey) (rows : List GroupRow) (done : HasDone db parts run s) (at : slice_get run.stores.items parts.report ≡ Some store) (is_group : d ≡ group_at parts parts.report)
-    (are : (updates : List Update) → Has store updates → AreSortedGroups (group_of store) sorts updates rows) where
+-- each key list has as many keys as are declared
+sound_count : (db : Database) (ds : List GroupKey) (ks : List KeyValue) → AreSoundKeys db ds ks → length ks ≡ length ds
+sound_count db [] [] h = refl
+sound_count db (d ∷ ds) (k ∷ ks) h = ap suc (sound_count db ds ks h.1)
+sound_count db [] (k ∷ ks) h = absurd h
+sound_count db (d ∷ ds) [] h = absurd h
+
+sound_counts : (db : Database) (ds : List GroupKey) (us : List Update) → AllByRecursion (λ u. AreSoundKeys db ds u.keys) us → AllByRecursion (λ u. length u.keys ≡ length ds) us
+sound_counts db ds [] h = tt
+sound_counts db ds (u ∷ us) h = (sound_count db ds u.keys h.0, sound_counts db ds us h.1)
+
+pub left_counts : (db : Database) (parts : Parts) (s : Store) (rows : List GroupRow) (counts : Counts) → IsLeft db parts s rows counts
+    → AllByRecursion (λ u. length u.keys ≡ length (group_at parts parts.report).keys) (s.updates_of parts.report)
+left_counts db parts s rows counts left = sound_counts db (group_at parts parts.report).keys (s.updates_of parts.report) left.sound
+
+-- what a run has done leaves the rows of its reported store
+pub is_left : (db : Database) (parts : Parts) (run : Run) (s : Store) (store : EagerStore) (rows : List GroupRow) → HasDone db parts run s → slice_get run.stores.items parts.report ≡ Some store
+    → ((updates : List Update) → Has store updates → AreGroupRows (group_of store) updates rows) → IsLeft db parts s rows (record { visits = run.visits; lookups = run.lookups; updates = run.updates })
+is_left db parts run s store rows done at are =
+    let is = done.stores.each parts.report store at in record {
+      are = subst (λ d. AreGroupRows d (s.updates_of parts.report) rows) is.group (are (s.updates_of parts.report) is.has);
+      sound = done.sound.each parts.report;
+      visits = done.visits;
+      lookups = done.lookups;
+      updates = done.updates;
+    }
+
+-- the sorted rows, in the words of the group's declaration
+module _ (db : Database) (parts : Parts) (s : Store) (left : List GroupRow) (counts : Counts) (d : GroupDecl) (sorts : List SortKey) (rows : List GroupRow) (is : IsLeft db parts s left counts) (is_group : d ≡ group_at parts parts.report)
+    (sorted : (e : Group) (updates : List Update) → AreGroupRows e updates left → AreSortedGroups e sorts updates rows) where
   sound : AllByRecursion (λ u. AreSoundKeys db d.keys u.keys) (s.updates_of parts.report)
-  sound = subst (λ e. AllByRecursion (λ u. AreSoundKeys db e.keys u.keys) (s.updates_of parts.report)) (sym is_group) (done.sound.each parts.report)
+  sound = subst (λ e. AllByRecursion (λ u. AreSoundKeys db e.keys u.keys) (s.updates_of parts.report)) (sym is_group) is.sound
 
   groups : AreSortedGroups (group_declared d) sorts (s.updates_of parts.report) rows
-  groups =
-      let is = done.stores.each parts.report store at in
-      subst (λ e. AreSortedGroups e sorts (s.updates_of parts.report) rows) (is.group ∙ ap group_declared (sym is_group)) (are (s.updates_of parts.report) is.has)
+  groups = subst (λ e. AreSortedGroups (group_declared e) sorts (s.updates_of parts.report) rows) (sym is_group) (sorted (group_declared (group_at parts parts.report)) (s.updates_of parts.report) is.are)
 
   pub keys_as_declared : (xs : List GroupRow) → xs ≡ rows → All (λ row. AreDecodable db d.keys row.keys) xs
   keys_as_declared xs e = subst (λ ys. All (λ row. AreDecodable db d.keys row.keys) ys) (sym e) (rows_decodable db d sorts (s.updates_of parts.report) rows sound groups)
 
   pub is_outcome : (xs : List GroupRow) (shows : List Show) (outcome : Outcome) → xs ≡ rows → sorts ≡ parts.sorts → shows ≡ parts.shows → outcome.names ≡ map (λ show. show.name) shows
       → outcome.rows ≡ map (row_cells (world_of db) d shows) xs
-      → outcome.visits ≡ run.visits → outcome.lookups ≡ run.lookups → outcome.updates ≡ run.updates → IsOutcome (world_of db) parts s outcome
+      → outcome.visits ≡ counts.visits → outcome.lookups ≡ counts.lookups → outcome.updates ≡ counts.updates → IsOutcome (world_of db) parts s outcome
   is_outcome xs shows outcome is_rows is_sorts is_shows names cells visits lookups updates = record {
     names = names ∙ ap (map (λ show. show.name)) is_shows;
     rows = map (decoded_row (world_of db) d) (map row_shown rows);
@@ -70,7 +99,7 @@ module _ (db : Database) (parts : Parts) (run : Run) (s : Store) (store : EagerS
     });
     cells = cells ∙ (λ i. map (row_cells (world_of db) d (is_shows i)) (is_rows i))
         ∙ sym (map-map (shown_cells parts) (decoded_row (world_of db) d) (map row_shown rows) ∙ map-map (λ row. shown_cells parts (decoded_row (world_of db) d row)) row_shown rows);
-    visits = visits ∙ done.visits;
-    lookups = lookups ∙ done.lookups;
-    updates = updates ∙ done.updates;
+    visits = visits ∙ is.visits;
+    lookups = lookups ∙ is.lookups;
+    updates = updates ∙ is.updates;
   }

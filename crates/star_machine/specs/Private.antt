@@ -1,5 +1,4 @@
 -- What the contracts of functions that are not public cite.
-pub mod Sound
 pub mod Shown
 pub mod Stops
 pub mod Runs

@@ -21,7 +21,7 @@ ghost use Rattle.star_program.specs.Puts.{Update};
 ghost use Rattle.star_machine.specs.Private.Runs.{AreStores, HasDone, IsPlaced};
 ghost use Rattle.std.specs.Prelude.{List};
 ghost use Rattle.star_machine.specs.Private.Shown.{held};
-ghost use Rattle.star_machine.specs.Private.Sound.{AreSound};
+ghost use Rattle.star_machine.specs.Sound.{AreSound};
 ghost use Rattle.star_world.specs.WorldOf.{world_of};
 
 use crate::compute::{answer, flag, is_within, number, row, set};

@@ -5,7 +5,7 @@ mod act;
 mod compute;
 mod fault;
 pub mod law;
-mod lookups;
+pub mod lookups;
 mod machine;
 mod outcome;
 mod report;
@@ -16,5 +16,6 @@ mod value;
 mod walk;
 
 pub use fault::TrialFault;
+pub use outcome::{Counts, outcome_of_rows};
 pub use star_program::{Cell, Fault, Outcome, TrapKind};
 pub use trials::trial;

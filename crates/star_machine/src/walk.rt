@@ -3,7 +3,7 @@
 ghost use Rattle.std.specs.Prelude.{◌≡◌, ◌≤◌, ◌<◌, ◌+◌, ◌*◌, ◌^◌, OnOk, length};
 ghost use Rattle.star_program.specs.Code.{code_size, scan_depth};
 ghost use Rattle.star_machine.specs.Private.Shown.{held};
-ghost use Rattle.star_machine.specs.Private.Sound.{AreSound, IsSoundValue};
+ghost use Rattle.star_machine.specs.Sound.{AreSound, IsSoundValue};
 ghost use Rattle.star_machine.specs.Private.Walks.{Does, HasRun, HasWorked, IsFew, fault_at, means, means_scan, means_turn, means_turns};
 
 use crate::act::{Flow, act};

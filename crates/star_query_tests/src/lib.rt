@@ -10,6 +10,8 @@ mod plan_tree;
 #[cfg(test)]
 mod plans;
 #[cfg(test)]
+mod programs;
+#[cfg(test)]
 mod queries;
 #[cfg(test)]
 mod query_tree;

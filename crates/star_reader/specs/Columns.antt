@@ -13,7 +13,7 @@ kind_of (Numbers numbers) = kind.Number
 kind_of (Texts texts) = kind.Text
 
 abbrev pub values : RawColumn → List Value
-values (Numbers numbers) = map Number numbers.items
+values (Numbers numbers) = map Number numbers
 values (Texts texts) = map Text texts
 
 -- the row at a place of columns of one length

@@ -8,14 +8,14 @@ ghost use Rattle.star_reader.specs.Faults.{cell_fault};
 
 use crate::cell::{is_printable, parse_number};
 use crate::fault::ReadFault;
-use star_flat::FlatTexts;
+use star_flat::{FlatNumbers, FlatTexts};
 use star_schema::Kind;
 use std::alloc::Global;
 
 /// The values of a column, in the order of the rows.
 #[derive(Drop)]
 pub enum RawColumn {
-    Numbers(Vec<i64>),
+    Numbers(FlatNumbers),
     Texts(FlatTexts),
 }
 
@@ -52,7 +52,7 @@ impl RawColumn {
         ensures values { values result ≡ [] }
     {
         match kind {
-            Kind::Number => RawColumn::Numbers(Vec::new(alloc)),
+            Kind::Number => RawColumn::Numbers(FlatNumbers::new(alloc)),
             Kind::Text => RawColumn::Texts(FlatTexts::new(alloc)),
         }
     }

@@ -18,6 +18,7 @@ use crate::fault::ReadFault;
 use crate::lines::{read_next, records_reader};
 use crate::record::push_record;
 use csv::{ByteRecord, Reader};
+use star_flat::FlatNumbers;
 use star_schema::{Kind, Limits, TableId, column_at, kind_of, width};
 use std::alloc::{AllocError, Global};
 use std::marker::Model;
@@ -67,18 +68,18 @@ impl RawTable {
         ensures { value_at self.now.rows row place ≡ Some (Number result) }
     {
         match &self.columns[place] {
-            RawColumn::Numbers(numbers) => numbers[row as usize],
+            RawColumn::Numbers(numbers) => numbers.get(row as usize),
             RawColumn::Texts(_) => unreachable!(),
         }
     }
 
     /// The numbers of a column of numbers, in the order of the rows.
-    pub fn numbers(&self, place: usize) -> &[i64]
+    pub fn numbers(&self, place: usize) -> &FlatNumbers
         requires { slice_get (kinds_of self.now.table) place ≡ Some Kind.Number }
         ensures numbers { result.now ≡ numbers_at place self.now.rows }
     {
         match &self.columns[place] {
-            RawColumn::Numbers(numbers) => numbers.as_slice(),
+            RawColumn::Numbers(numbers) => numbers,
             RawColumn::Texts(_) => unreachable!(),
         }
     }

@@ -277,15 +277,18 @@ fn is_sent(
     left: usize,
     whole: &str,
 ) -> Result<bool, Fail> {
-    if answer == Err(EngineFault::OutOfMemory) {
-        return Err(Fail::from(AllocError));
-    }
-    let expected = if left < whole.len() {
-        Err(EngineFault::Write { sent: left as u64 })
-    } else {
-        Ok(())
+    let sent = match answer {
+        Ok(()) => None,
+        Err(EngineFault::Write { sent }) => Some(sent),
+        Err(EngineFault::OutOfMemory) => return Err(Fail::from(AllocError)),
+        Err(fault) => return Err(Fail::from(format_args!("{fault}"))),
     };
-    Ok(answer == expected && whole.as_bytes().get(..left) == Some(taken))
+    let expected = if left < whole.len() {
+        Some(left as u64)
+    } else {
+        None
+    };
+    Ok(sent == expected && whole.as_bytes().get(..left) == Some(taken))
 }
 
 fn check_sends(alloc: Global, left: usize) -> Result<bool, Fail> {

@@ -43,6 +43,11 @@ fn asks_for_words(rt: HostRuntime) -> Result<(), Fail> {
         ["no"].as_slice(),
         ["check"].as_slice(),
         ["check", "a", "b"].as_slice(),
+        ["exec", "a"].as_slice(),
+        ["query", "a"].as_slice(),
+        ["explain"].as_slice(),
+        ["bench"].as_slice(),
+        ["quote", "a", "b", "c"].as_slice(),
         ["trial", "a", "b"].as_slice(),
         ["trial", "a", "b", "1000000000000001"].as_slice(),
         ["trial", "a", "b", "-1"].as_slice(),
@@ -94,12 +99,24 @@ pub(crate) fn write_sample<R: Files + AllocGlobal>(rt: &R, folder: &str) -> io::
 #[test]
 fn checks_folders(rt: HostRuntime) -> Result<(), Fail> {
     write_sample(&rt, "whole")?;
-    let sample = run(&rt, [].as_slice())?;
     let whole = run(&rt, ["check", "whole"].as_slice())?;
-    assert_eq!(rt; (sample.status, whole.status), (0, 0));
-    assert!(rt; sample.out.as_slice().starts_with(b"table date rows 3\n"));
-    assert_eq!(rt; sample.out.as_slice(), whole.out.as_slice());
-    assert_eq!(rt; sample.err.len() + whole.err.len(), 0);
+    assert!(rt; text(whole.out.as_slice()).starts_with("table date rows 3\n"));
+    assert_eq!(rt; (whole.status, whole.err.len()), (0, 0));
+    Ok(())
+}
+
+#[test]
+fn answers_the_benchmark_behind_the_listing(rt: HostRuntime) -> Result<(), Fail> {
+    write_sample(&rt, "whole")?;
+    let sample = run(&rt, [].as_slice())?;
+    let mut printed = Vec::with_capacity(rt.alloc(), ROOM)?;
+    for command in ["check", "bench"] {
+        let ran = run(&rt, [command, "whole"].as_slice())?;
+        assert_eq!(rt; (ran.status, ran.err.len()), (0, 0), "{command}");
+        printed.extend_from_slice(ran.out.as_slice())?;
+    }
+    assert_eq!(rt; (sample.status, sample.err.len()), (0, 0));
+    assert_eq!(rt; text(sample.out.as_slice()), text(printed.as_slice()));
     Ok(())
 }
 
@@ -209,6 +226,139 @@ fn tells_faults_of_trials(rt: HostRuntime) -> Result<(), Fail> {
         assert_fault(&rt, ["trial", folder, file, limit].as_slice(), line, status)?;
     }
     Ok(())
+}
+
+#[test]
+fn executes_programs(rt: HostRuntime) -> Result<(), Fail> {
+    write_sample(&rt, "tables")?;
+    fs::write(&rt, "above.star", ABOVE_AVERAGE.as_bytes())?;
+    let ran = run(&rt, ["exec", "tables", "above.star"].as_slice())?;
+    assert_eq!(rt; text(ran.out.as_slice()), "n\n2\n");
+    assert_eq!(rt;
+        text(ran.err.as_slice()),
+        "quote 10\nvisits 10 lookups 0 updates 7\n"
+    );
+    let quoted = run(&rt, ["quote", "tables", "above.star"].as_slice())?;
+    assert_eq!(rt; text(quoted.out.as_slice()), "quote 10\n");
+    assert_eq!(rt; (ran.status, quoted.status, quoted.err.len()), (0, 0, 0));
+    Ok(())
+}
+
+#[test]
+fn tells_faults_of_executions(rt: HostRuntime) -> Result<(), Fail> {
+    write_sample(&rt, "tables")?;
+    fs::write(&rt, "above.star", ABOVE_AVERAGE.as_bytes())?;
+    fs::write(&rt, "astray.star", ASTRAY.as_bytes())?;
+    fs::write(&rt, "query.sql", b"select count(*) from lineorder")?;
+    for (command, folder, file, line, status) in [
+        (
+            "exec",
+            "tables",
+            "astray.star",
+            "quote 5\nrefused 65 NotAForeignKey at 3\n",
+            1,
+        ),
+        ("exec", "tables", "query.sql", "program 50 BadHeader\n", 5),
+        ("exec", "none", "above.star", "file date.tbl\n", 6),
+        ("quote", "none", "no.star", "file no.star\n", 6),
+        (
+            "exec",
+            "",
+            "above.star",
+            "error: the folder's name is empty\n",
+            2,
+        ),
+        (
+            "quote",
+            "",
+            "above.star",
+            "error: the folder's name is empty\n",
+            2,
+        ),
+    ] {
+        assert_fault(&rt, [command, folder, file].as_slice(), line, status)?;
+    }
+    Ok(())
+}
+
+const YEARS: &str = concat!(
+    "select d_year, sum(lo_revenue) as revenue from lineorder, date\n",
+    "where lo_orderdate = d_datekey group by d_year order by d_year",
+);
+
+#[test]
+fn answers_queries(rt: HostRuntime) -> Result<(), Fail> {
+    write_sample(&rt, "tables")?;
+    fs::write(&rt, "years.sql", YEARS.as_bytes())?;
+    let ran = run(&rt, ["query", "tables", "years.sql"].as_slice())?;
+    assert_eq!(rt;
+        text(ran.out.as_slice()),
+        "d_year|revenue\n1993|2920\n1994|495\n1997|3630\n"
+    );
+    assert_eq!(rt;
+        text(ran.err.as_slice()),
+        "quote 5\nvisits 5 lookups 5 updates 5\n"
+    );
+    let quoted = run(&rt, ["quote", "tables", "years.sql"].as_slice())?;
+    assert_eq!(rt; text(quoted.out.as_slice()), "quote 5\n");
+    Ok(())
+}
+
+// The program that `explain` prints is run by `exec` as the query is by `query`.
+#[test]
+fn explains_queries(rt: HostRuntime) -> Result<(), Fail> {
+    write_sample(&rt, "tables")?;
+    fs::write(&rt, "years.sql", YEARS.as_bytes())?;
+    let explained = run(&rt, ["explain", "years.sql"].as_slice())?;
+    fs::write(&rt, "years.star", explained.out.as_slice())?;
+    let asked = run(&rt, ["query", "tables", "years.sql"].as_slice())?;
+    let executed = run(&rt, ["exec", "tables", "years.star"].as_slice())?;
+    assert_eq!(rt; text(executed.out.as_slice()), text(asked.out.as_slice()));
+    assert_eq!(rt; text(executed.err.as_slice()), text(asked.err.as_slice()));
+    assert_eq!(rt;
+        (explained.status, asked.status, executed.status),
+        (0, 0, 0)
+    );
+    Ok(())
+}
+
+#[test]
+fn tells_faults_of_queries(rt: HostRuntime) -> Result<(), Fail> {
+    write_sample(&rt, "tables")?;
+    fs::write(&rt, "open.sql", b"select count(*) from")?;
+    fs::write(&rt, "join.sql", b"select count(*) from lineorder, date")?;
+    for (command, folder, file, line, status) in [
+        (
+            "query",
+            "tables",
+            "open.sql",
+            "query 24 Unexpected at 20\n",
+            4,
+        ),
+        (
+            "quote",
+            "tables",
+            "join.sql",
+            "query 34 JoinMissing at 32\n",
+            4,
+        ),
+        ("query", "none", "open.sql", "file date.tbl\n", 6),
+        (
+            "query",
+            "",
+            "open.sql",
+            "error: the folder's name is empty\n",
+            2,
+        ),
+    ] {
+        assert_fault(&rt, [command, folder, file].as_slice(), line, status)?;
+    }
+    assert_fault(
+        &rt,
+        ["explain", "join.sql"].as_slice(),
+        "query 34 JoinMissing at 32\n",
+        4,
+    )
 }
 
 fn spaces(alloc: Global, count: usize) -> Result<Vec<u8>, AllocError> {

@@ -11,6 +11,8 @@ mod columns;
 #[cfg(test)]
 mod commands;
 #[cfg(test)]
+mod executions;
+#[cfg(test)]
 mod flat_texts;
 #[cfg(test)]
 mod groups;
@@ -36,3 +38,5 @@ mod surroundings;
 mod tables;
 #[cfg(test)]
 mod trials;
+#[cfg(test)]
+mod verified;

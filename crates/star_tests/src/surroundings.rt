@@ -2,6 +2,7 @@
 // streams that fail, and answers of many bytes.
 
 use crate::commands::{assert_fault, run, text, write_sample};
+use crate::programs_at_hand::ABOVE_AVERAGE;
 use crate::streams::Short;
 use star_cli::command;
 use std::alloc::{AllocError, Global};
@@ -59,7 +60,7 @@ fn run_short<R: Files + AllocGlobal>(
 #[test]
 fn keeps_its_status_where_streams_fail(rt: HostRuntime) -> Result<(), Fail> {
     for (words, out_left, err_left, status, line) in [
-        ([].as_slice(), 2_000, 0, 0, ""),
+        ([].as_slice(), 4_000, 0, 0, ""),
         ([].as_slice(), 0, 100, 6, "write 0\n"),
         ([].as_slice(), 10, 100, 6, "write 10\n"),
         ([].as_slice(), 10, 0, 6, ""),
@@ -76,6 +77,42 @@ fn keeps_its_status_where_streams_fail(rt: HostRuntime) -> Result<(), Fail> {
             (got.0, text(got.2.as_slice())),
             (status, line),
             "{words:?} {out_left}"
+        );
+    }
+    Ok(())
+}
+
+#[test]
+fn tells_notes_that_fail(rt: HostRuntime) -> Result<(), Fail> {
+    write_sample(&rt, "noted")?;
+    fs::write(&rt, "noted.star", ABOVE_AVERAGE.as_bytes())?;
+    for (out_left, err_left, status, out_text, err_text) in [
+        (100, 0, 6, "", ""),
+        (100, 8, 6, "", "quote 10"),
+        (100, 9, 6, "n\n2\n", "quote 10\n"),
+        (
+            100,
+            38,
+            6,
+            "n\n2\n",
+            "quote 10\nvisits 10 lookups 0 updates 7",
+        ),
+        (
+            100,
+            39,
+            0,
+            "n\n2\n",
+            "quote 10\nvisits 10 lookups 0 updates 7\n",
+        ),
+        (3, 100, 6, "n\n2", "quote 10\nwrite 3\n"),
+    ] {
+        let out = Short::with_room(rt.alloc(), out_left, 1)?;
+        let err = Short::with_room(rt.alloc(), err_left, 1)?;
+        let got = run_short(&rt, ["exec", "noted", "noted.star"].as_slice(), out, err)?;
+        assert_eq!(rt;
+            (got.0, text(got.1.as_slice()), text(got.2.as_slice())),
+            (status, out_text, err_text),
+            "{out_left} {err_left}"
         );
     }
     Ok(())
@@ -137,6 +174,16 @@ fn helps_with_each_command(rt: HostRuntime) -> Result<(), Fail> {
             ["check", "--help"].as_slice(),
             "Usage: star check <FOLDER>\n",
             "  star check data\n",
+        ),
+        (
+            ["exec", "--help"].as_slice(),
+            "Usage: star exec <FOLDER> <FILE>\n",
+            "  star exec data above.star\n",
+        ),
+        (
+            ["quote", "--help"].as_slice(),
+            "Usage: star quote <FOLDER> <FILE>\n",
+            "  star quote data above.star\n",
         ),
         (
             ["trial", "--help"].as_slice(),

@@ -1,5 +1,5 @@
 -- What a put gives one aggregate after another.
-use Rattle.std.proofs.Common.{◌≡◌, ◌+◌, ◌<◌, ◌≤◌, ◌⊎◌, ◌∷◌, ℕ, zero, suc, List, Option, None, inl, inr, ⊎_elim, arith, ap, sym, subst, ◌∙◌}
+use Rattle.std.proofs.Common.{◌≡◌, ◌+◌, ◌<◌, ◌≤◌, ◌⊎◌, ◌∷◌, ℕ, zero, suc, List, Option, None, inl, ⊎_elim, arith, sym, subst}
 use Rattle.std.proofs.lemmas.Bool.Decides.{eqb_tells}
 use Rattle.std.specs.Prelude.{slice_index_or}
 use Rattle.star_admission.specs.Contexts.{known_share}

@@ -18,3 +18,7 @@ mod Writing
 mod Judging
 mod Placing
 mod Walking
+mod TextBounds
+mod ColumnBounds
+mod Starting
+mod Refusing

@@ -1,5 +1,5 @@
 -- What is known of what an instruction makes, where it leaves 64 bits nowhere.
-use Rattle.std.proofs.Common.{◌≡◌, ◌+◌, ◌<◌, ℕ, suc, List, [], ◌∷◌, length, Option, Some, None, Result, Ok, Err, refl, sym, ap, subst, ◌∙◌, arith}
+use Rattle.std.proofs.Common.{◌≡◌, ◌+◌, ℕ, suc, List, ◌∷◌, Some, None, Result, Ok, Err, ap, subst, ◌∙◌, arith}
 use Rattle.std.specs.Option.{option_or}
 use Rattle.std.specs.Prelude.{IfOk, MatchResult}
 use Rattle.star_schema.specs.declared.group.Aggregate.{Aggregate}
@@ -10,7 +10,7 @@ use Rattle.star_admission.specs.Tallies.{Share}
 use Rattle.star_verify.specs.declared.known.Beyond.{Beyond}
 use Rattle.star_verify.specs.declared.known.Known.{Known}
 use Rattle.star_verify.specs.declared.tally.Tally.{Tally}
-use Rattle.star_verify.specs.Private.Made.{AreTallies, IsMade, IsTallyAt, IsWithin, beyond_shown}
+use Rattle.star_verify.specs.Private.Made.{AreTallies, IsMade, IsTallyAt, beyond_shown}
 use Rattle.star_verify.specs.Private.Shown.{known_shown}
 
 pub made_as : (w : World) (result : Result Known Beyond) (k made : ranges.Known) → k ≡ made

@@ -1,52 +1,58 @@
--- What refuses some code first, by its first step.
-use Rattle.std.proofs.Common.{◌≡◌, ◌+◌, ◌-◌, ◌≤◌, ℕ, Bool, List, ◌∷◌, length, take, drop, get_or, Option, Some, None, Result, Ok, Err, refl, ap, sym, subst, ◌∙◌}
+-- What is first of the steps of a body, one step after another.
+use Rattle.std.proofs.Common.{◌≡◌, ◌+◌, ◌-◌, ◌≤◌, ◌<◌, ◌^◌, ℕ, Bool, List, [], ◌∷◌, length, take, drop, get_or, Option, Some, None, Result, Ok, Err, arith, refl, ap, sym, subst, ◌∙◌}
 use Rattle.std.specs.Option.{option_or}
-use Rattle.star_common.proofs.Firsts.{or_none}
+use Rattle.std.specs.Prelude.{◌||◌}
+use Rattle.star_schema.specs.Sizes.{size_of}
 use Rattle.star_schema.specs.declared.table.TableId.{TableId}
 use Rattle.star_program.specs.declared.body.Step.{Step}
 use Rattle.star_program.specs.declared.body.Step.TheVariants.{Act, Scan}
 use Rattle.star_program.specs.declared.op.Op.{Op}
 use Rattle.star_program.specs.declared.program.Parts.{Parts}
-use Rattle.star_program.specs.Code.{Code, Then, Each, code_size}
+use Rattle.star_program.specs.Code.{Code, Each, Stop, code_size}
 use Rattle.star_program.specs.CodeOfSteps.{before, code_of_steps}
 use Rattle.star_program.specs.World.{World}
 use Rattle.star_admission.specs.Contexts.{Context, after_op, after_scan, at_end, in_scan}
-use Rattle.star_admission.specs.Private.Forward.{first_reason, open_with}
+use Rattle.star_admission.specs.Private.Forward.{code_puts_to, first_reason, open_with}
+use Rattle.star_admission.specs.Quote.{turns_met}
 use Rattle.star_admission.specs.Refusals as refusals
 use Rattle.star_admission.specs.Refusals.{op_reason, scan_reason}
 use Rattle.star_admission.specs.Standing.{at_place}
 use Rattle.star_verify.specs.declared.instructions.Noted.{Noted}
+use Rattle.star_verify.specs.declared.instructions.Place.{Place}
 use Rattle.star_verify.specs.declared.refusal.Refusal.{Refusal}
 use Rattle.star_verify.specs.declared.refusal.Refusal.TheVariants as told
-use Rattle.star_verify.specs.Private.Judged.{AreNoted, IsFirst, IsWalked, scan_first}
+use Rattle.star_verify.specs.declared.register.Register.{Register}
+use Rattle.star_verify.specs.Private.Facts.{AreFacts}
+use Rattle.star_verify.specs.Private.Judged.{AreFewAt, AreNoted, IsFirst, IsPlaced, IsSized, IsWalked, Keeps, scan_first}
+use Rattle.star_verify.specs.Private.Kept.{AreMarked}
+use Rattle.star_verify.specs.Private.Shown.{known_in}
+use Rattle.star_verify.specs.Private.Walked.{IsLeft, Walk, after_step, step_first, step_size}
 use Rattle.star_verify.proofs.Firsts.{first_and_others}
+use Rattle.star_verify.proofs.Marks.{or_assoc as either_assoc}
 
 -- ---- the first step
 
-module _ (steps : List Step) (step : Step) where
-  abbrev pub others : List Step
-  others = take (length steps - 1) (drop 1 steps)
+abbrev pub others : List Step → List Step
+others steps = take (length steps - 1) (drop 1 steps)
 
-  pub code_first : 1 ≤ length steps → step ≡ get_or steps 0 step
-      → code_of_steps steps ≡ before step (code_of_steps others)
-  code_first some is =
-      sym (ap code_of_steps (first_and_others steps step some))
-      ∙ ap (λ s. before s (code_of_steps others)) (sym is)
+pub code_first : (steps : List Step) (step : Step) → 1 ≤ length steps → step ≡ get_or steps 0 step
+    → code_of_steps steps ≡ before step (code_of_steps (others steps))
+code_first steps step some is =
+    sym (ap code_of_steps (first_and_others steps step some))
+    ∙ ap (λ s. before s (code_of_steps (others steps))) (sym is)
 
-  pub code_act : (op : Op) → 1 ≤ length steps → step ≡ get_or steps 0 step → step ≡ Act op
-      → code_of_steps steps ≡ Then op (code_of_steps others)
-  code_act op some is acts =
-      code_first some is ∙ ap (λ s. before s (code_of_steps others)) acts
+pub size_first : (step : Step) (rest : Code) → code_size (before step rest) ≡ step_size step + code_size rest
+size_first (Act op) rest = refl
+size_first (Scan table r body) rest = refl
 
-  pub code_scan : (table : TableId) (r : ℕ) (body : Code) → 1 ≤ length steps
-      → step ≡ get_or steps 0 step → step ≡ Scan table r body
-      → code_of_steps steps ≡ Each table r body (code_of_steps others)
-  code_scan table r body some is scans =
-      code_first some is ∙ ap (λ s. before s (code_of_steps others)) scans
+pub turns_after : (size : TableId → ℕ) (met : ℕ) (step : Step) (rest : Code)
+    → turns_met size met rest ≤ turns_met size met (before step rest)
+turns_after size met (Act op) rest = omega arith
+turns_after size met (Scan table r body) rest = omega arith
 
 -- ---- what is first
 
-first_of : (refusal : Refusal) (p q : Option (ℕ × refusals.Reason)) → IsFirst refusal p
+pub first_of : (refusal : Refusal) (p q : Option (ℕ × refusals.Reason)) → IsFirst refusal p
     → IsFirst refusal (option_or p q)
 first_of told.OutOfMemory p q h = tt
 first_of (told.TooCostly n) p q h = absurd h
@@ -58,66 +64,183 @@ or_assoc : {A : Type 0} (p q r : Option A)
 or_assoc None q r = refl
 or_assoc (Some a) q r = refl
 
-module _ (w : World) (parts : Parts) (pending : ℕ → Bool) (x : Context) (at : ℕ) (code : Code) where
-  pub act_stops : (op : Op) (rest : Code) (refusal : Refusal) → code ≡ Then op rest
-      → IsFirst refusal (at_place at (op_reason w parts (open_with pending rest) x op))
-      → IsFirst refusal (first_reason w parts pending x at code)
-  act_stops op rest refusal is h =
-      subst (λ k. IsFirst refusal (first_reason w parts pending x at k)) (sym is)
-      (first_of refusal _ (first_reason w parts pending (after_op w parts x op) (at + 1) rest) h)
-
-  pub act_goes : (op : Op) (rest : Code) (result : Result ℕ Refusal) (noted : Noted)
-      → code ≡ Then op rest → op_reason w parts (open_with pending rest) x op ≡ None
-      → IsWalked result (first_reason w parts pending (after_op w parts x op) (at + 1) rest)
-      (AreNoted parts noted (at_end w parts (after_op w parts x op) rest))
-      → IsWalked result (first_reason w parts pending x at code)
-      (AreNoted parts noted (at_end w parts x code))
-  act_goes op rest result noted is none h =
-      subst (λ k. IsWalked result (first_reason w parts pending x at k)
-      (AreNoted parts noted (at_end w parts x k))) (sym is)
-      (subst (λ o. IsWalked result
-      (option_or (at_place at o) (first_reason w parts pending (after_op w parts x op) (at + 1) rest))
-      (AreNoted parts noted (at_end w parts (after_op w parts x op) rest))) (sym none) h)
-
-  pub scan_stops : (table : TableId) (r : ℕ) (body rest : Code) (refusal : Refusal)
-      → code ≡ Each table r body rest
-      → IsFirst refusal (scan_first w parts (open_with pending code) x at table r body)
-      → IsFirst refusal (first_reason w parts pending x at code)
-  scan_stops table r body rest refusal is h =
-      let later = after_scan x (at_end w parts (in_scan w x table r) body) in
-      let inside = open_with pending (Each table r body rest) in
-      let left = first_reason w parts pending later (at + 1 + code_size body) rest in
-      subst (λ k. IsFirst refusal (first_reason w parts pending x at k)) (sym is)
-      (subst (IsFirst refusal)
-      (or_assoc (at_place at (scan_reason parts x r))
-      (first_reason w parts inside (in_scan w x table r) (at + 1) body) left)
-      (first_of refusal (scan_first w parts inside x at table r body) left
-      (subst (λ k. IsFirst refusal (scan_first w parts (open_with pending k) x at table r body)) is h)))
-
-  pub scan_goes : (table : TableId) (r : ℕ) (body rest : Code) (result : Result ℕ Refusal)
-      (noted : Noted) (next : ℕ) → code ≡ Each table r body rest
-      → next ≡ at + 1 + code_size body
-      → scan_first w parts (open_with pending code) x at table r body ≡ None
-      → (let later = after_scan x (at_end w parts (in_scan w x table r) body) in
-      IsWalked result (first_reason w parts pending later next rest)
-      (AreNoted parts noted (at_end w parts later rest))
-      → IsWalked result (first_reason w parts pending x at code)
-      (AreNoted parts noted (at_end w parts x code)))
-  scan_goes table r body rest result noted next is number none h =
-      let later = after_scan x (at_end w parts (in_scan w x table r) body) in
-      let inside = open_with pending (Each table r body rest) in
-      let left = first_reason w parts pending later (at + 1 + code_size body) rest in
-      let fine : scan_first w parts inside x at table r body ≡ None =
-      subst (λ k. scan_first w parts (open_with pending k) x at table r body ≡ None) is none in
-      let same : option_or (at_place at (scan_reason parts x r)) (option_or (first_reason w parts inside (in_scan w x table r) (at + 1) body) left) ≡ left =
+module _ (w : World) (parts : Parts) (pending : ℕ → Bool) (x : Context) (at : ℕ) where
+  pub first_step : (step : Step) (rest : Code)
+      → first_reason w parts pending x at (before step rest)
+      ≡ option_or (step_first w parts pending x at step rest)
+      (first_reason w parts pending (after_step w parts x step) (at + step_size step) rest)
+  first_step (Act op) rest = refl
+  first_step (Scan table r body) rest =
+      let there = after_step w parts x (Scan table r body) in
+      let inside = open_with pending (before (Scan table r body) rest) in
       sym (or_assoc (at_place at (scan_reason parts x r))
-      (first_reason w parts inside (in_scan w x table r) (at + 1) body) left)
-      ∙ ap (λ o. option_or o left) fine in
-      subst (λ k. IsWalked result (first_reason w parts pending x at k)
-      (AreNoted parts noted (at_end w parts x k))) (sym is)
-      (subst (λ o. IsWalked result o (AreNoted parts noted (at_end w parts later rest))) (sym same)
-      (subst (λ n. IsWalked result (first_reason w parts pending later n rest)
-      (AreNoted parts noted (at_end w parts later rest))) number h))
+      (first_reason w parts inside (in_scan w x table r) (at + 1) body)
+      (first_reason w parts pending there (at + 1 + code_size body) rest))
+      ∙ ap (λ n. option_or (step_first w parts pending x at (Scan table r body) rest)
+      (first_reason w parts pending there n rest)) (omega arith)
+
+  end_first : (step : Step) (rest : Code)
+      → at_end w parts x (before step rest) ≡ at_end w parts (after_step w parts x step) rest
+  end_first (Act op) rest = refl
+  end_first (Scan table r body) rest = refl
+
+still_placed : (w : World) (parts : Parts) (place : Place) (x : Context) (step : Step)
+    → IsPlaced place x → IsPlaced place (after_step w parts x step)
+still_placed w parts place x (Act op) is = record { inside = is.inside; met = is.met }
+still_placed w parts place x (Scan table r body) is = record { inside = is.inside; met = is.met }
+
+-- ---- what a step is answered
+
+module _ (w : World) (parts : Parts) (pending : ℕ → Bool) (x : Context) (at : ℕ) (step : Step)
+    (rest : Code) (registers : List Register) (noted : Noted) where
+  pub act_walked : (op : Op) → step ≡ Act op
+      → op_reason w parts (open_with pending rest) x op ≡ None
+      → Keeps parts registers noted (after_op w parts x op)
+      → (step_first w parts pending x at step rest ≡ None)
+      × Keeps parts registers noted (after_step w parts x step)
+  act_walked op is none kept =
+      subst (λ s. (step_first w parts pending x at s rest ≡ None)
+      × Keeps parts registers noted (after_step w parts x s)) (sym is) (ap (at_place at) none, kept)
+
+  -- what is known of registers before a scan is known of them after it
+  pub scan_walked : (result : Result ℕ Refusal) (table : TableId) (r : ℕ) (body : Code)
+      → step ≡ Scan table r body → known_in registers ≡ x.known
+      → IsWalked result
+      (scan_first w parts (open_with pending (Each table r body rest)) x at table r body)
+      (AreNoted parts noted (at_end w parts (in_scan w x table r) body))
+      → IsWalked result (step_first w parts pending x at step rest)
+      (Keeps parts registers noted (after_step w parts x step))
+  scan_walked result table r body is known h =
+      subst (λ s. IsWalked result (step_first w parts pending x at s rest)
+      (Keeps parts registers noted (after_step w parts x s))) (sym is) (go result h)
+    where
+      first : Option (ℕ × refusals.Reason)
+      first = scan_first w parts (open_with pending (Each table r body rest)) x at table r body
+
+      there : Context
+      there = at_end w parts (in_scan w x table r) body
+
+      go : (result : Result ℕ Refusal) → IsWalked result first (AreNoted parts noted there)
+          → IsWalked result first (Keeps parts registers noted (after_scan x there))
+      go (Ok next) (none, are) =
+          (none, record { known = known; earlier = record { written = are.written; shares = are.shares } })
+      go (Err refusal) is_first = is_first
+
+-- what the body of a scan and the steps after it put to is open, or was open already
+pub opened_in : (g : ℕ) (pending : ℕ → Bool) (table : TableId) (r : ℕ) (body rest body_as : Code)
+    (old inner outer : Bool) → outer ≡ inner || code_puts_to g rest
+    → inner ≡ old || code_puts_to g body_as → body_as ≡ body → old ≡ pending g
+    → outer ≡ open_with pending (Each table r body rest) g
+opened_in g pending table r body rest body_as old inner outer e f is same =
+    e ∙ ap (λ b. b || code_puts_to g rest) (f ∙ ap (λ c. old || code_puts_to g c) is
+    ∙ ap (λ b. b || code_puts_to g body) same)
+    ∙ either_assoc (pending g) (code_puts_to g body) (code_puts_to g rest)
+
+-- ---- how far a walk is
+
+pub none_walked : (walk : Walk) → turns_met (size_of walk.facts.sizes) walk.place.met (code_of_steps walk.steps) ≤ 10 ^ 15
+    → IsSized walk.parts walk.noted → AreFewAt walk.noted walk.place.at
+    → IsLeft walk walk.registers walk.noted walk.place.at walk.steps
+none_walked walk turns sized few = record {
+  past = omega arith;
+  size = refl;
+  turns = turns;
+  wide = refl;
+  sized = sized;
+  few = few;
+  kept = λ w x pending facts keeps placed marked.
+      (x, keeps, placed, record { first = refl; after = refl });
+}
+
+-- what the walk of a step answers where nothing refuses it
+abbrev IsStepped : Walk → List Register → Noted → ℕ → Step → Code → List Register → Noted → Type 0
+IsStepped walk registers noted at step rest registers_then noted_then =
+    (w : World) (x : Context) (pending : ℕ → Bool) → AreFacts w walk.facts
+    → Keeps walk.parts registers noted x → IsPlaced (record walk.place { at = at }) x
+    → AreMarked walk.parts walk.pending pending
+    → (step_first w walk.parts pending x at step rest ≡ None)
+    × Keeps walk.parts registers_then noted_then (after_step w walk.parts x step)
+
+module _ (walk : Walk) (registers : List Register) (noted : Noted) (at : ℕ) (left : List Step)
+    (step : Step) (some : 1 ≤ length left) (is : step ≡ get_or left 0 step)
+    (so_far : IsLeft walk registers noted at left) where
+  abbrev rest : Code
+  rest = code_of_steps (others left)
+
+  pub one_walked : (registers_then : List Register) (noted_then : Noted) (next : ℕ)
+      → IsStepped walk registers noted at step rest registers_then noted_then
+      → next ≡ at + step_size step → length registers_then ≡ length registers
+      → IsSized walk.parts noted_then → AreFewAt noted_then next
+      → IsLeft walk registers_then noted_then next (others left)
+  one_walked registers_then noted_then next stepped number wide sized few =
+      let code = code_first left step some is in
+      record {
+        past = omega (arith, number, so_far.past);
+        size = omega (arith, number, so_far.size, ap code_size code, size_first step rest);
+        turns = omega (
+          arith,
+          so_far.turns,
+          ap (turns_met (size_of walk.facts.sizes) walk.place.met) code,
+          turns_after (size_of walk.facts.sizes) walk.place.met step rest,
+        );
+        wide = wide ∙ so_far.wide;
+        sized = sized;
+        few = few;
+        kept = λ w x pending facts keeps placed marked.
+            let here = so_far.kept w x pending facts keeps placed marked in
+            let there = here.0 in
+            let done = stepped w there pending facts here.1 (record { inside = here.2.inside; met = here.2.met }) marked in
+            let next_there = after_step w walk.parts there step in (
+              next_there,
+              done.1,
+              still_placed w walk.parts walk.place there step here.2,
+              record {
+                first = here.3.first
+                    ∙ ap (first_reason w walk.parts pending there at) code
+                    ∙ first_step w walk.parts pending there at step rest
+                    ∙ ap (λ o. option_or o (first_reason w walk.parts pending next_there (at + step_size step) rest)) done.0
+                    ∙ ap (λ n. first_reason w walk.parts pending next_there n rest) (sym number);
+                after = here.3.after ∙ ap (at_end w walk.parts there) code ∙ end_first w walk.parts pending there at step rest;
+              },
+            );
+      }
+
+  -- what refuses the step is first
+  pub step_refused : (w : World) (x : Context) (pending : ℕ → Bool) (refusal : Refusal)
+      → ((there : Context) → Keeps walk.parts registers noted there
+      → IsPlaced (record walk.place { at = at }) there
+      → IsFirst refusal (step_first w walk.parts pending there at step rest))
+      → AreFacts w walk.facts → Keeps walk.parts walk.registers walk.noted x → IsPlaced walk.place x
+      → AreMarked walk.parts walk.pending pending
+      → IsFirst refusal (first_reason w walk.parts pending x walk.place.at (code_of_steps walk.steps))
+  step_refused w x pending refusal stops facts keeps placed marked =
+      let here = so_far.kept w x pending facts keeps placed marked in
+      let there = here.0 in
+      subst (IsFirst refusal)
+      (sym (here.3.first ∙ ap (first_reason w walk.parts pending there at) (code_first left step some is)
+      ∙ first_step w walk.parts pending there at step rest))
+      (first_of refusal (step_first w walk.parts pending there at step rest) _
+      (stops there here.1 (record { inside = here.2.inside; met = here.2.met })))
+
+none_left : (left : List Step) → length left < 1 → code_of_steps left ≡ Stop
+none_left [] h = refl
+none_left (step ∷ rest) h = absurd (omega (arith, h))
+
+pub all_walked : (walk : Walk) (registers : List Register) (noted : Noted) (at : ℕ) (left : List Step)
+    → length left < 1 → IsLeft walk registers noted at left
+    → (w : World) (x : Context) (pending : ℕ → Bool) → AreFacts w walk.facts
+    → Keeps walk.parts walk.registers walk.noted x → IsPlaced walk.place x
+    → AreMarked walk.parts walk.pending pending
+    → (first_reason w walk.parts pending x walk.place.at (code_of_steps walk.steps) ≡ None)
+    × AreNoted walk.parts noted (at_end w walk.parts x (code_of_steps walk.steps))
+all_walked walk registers noted at left none so_far w x pending facts keeps placed marked =
+    let here = so_far.kept w x pending facts keeps placed marked in
+    let there = here.0 in
+    let code = none_left left none in (
+      here.3.first ∙ ap (first_reason w walk.parts pending there at) code,
+      subst (AreNoted walk.parts noted) (sym (here.3.after ∙ ap (at_end w walk.parts there) code))
+          here.1.earlier,
+    )
 
 -- a scan whose register nothing refuses
 pub scan_entered : (result : Result ℕ Refusal) (at : ℕ) (reason : Option refusals.Reason)

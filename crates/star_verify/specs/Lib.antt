@@ -1,3 +1,4 @@
 pub mod RefusalTexts
 pub mod Shown
+pub mod Checked
 pub mod Private

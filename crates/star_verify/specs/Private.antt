@@ -5,3 +5,4 @@ pub mod Bounded
 pub mod Made
 pub mod Kept
 pub mod Judged
+pub mod Walked

@@ -1,5 +1,5 @@
 -- What a refusal says, in the words of the definitions.
-use Rattle.std.specs.Prelude.{◌≡◌, List, map, Option, Some, None, Result, MatchResult}
+use Rattle.std.specs.Prelude.{◌≡◌, map, Option, Some, None, Result, MatchResult}
 use Rattle.star_schema.specs.declared.column.ColumnId.{ColumnId}
 use Rattle.star_interval.specs.Interval.{range_of, wide_range_of}
 use Rattle.star_interval.specs.Range.{Range}

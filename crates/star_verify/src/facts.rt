@@ -3,6 +3,8 @@
 
 ghost use Rattle.std.specs.Prelude.{◌≡◌, IfOk, None, map, slice_index_or};
 ghost use Rattle.star_schema.specs.Schema.{index_of};
+ghost use Rattle.star_interval.specs.Interval.{range_of};
+ghost use Rattle.star_world.specs.WorldOf.{world_of};
 ghost use Rattle.star_program.specs.World as world;
 ghost use Rattle.star_program.specs.World.{World};
 ghost use Rattle.star_admission.specs.Ranges as ranges;
@@ -14,6 +16,7 @@ ghost use Rattle.star_verify.specs.Shown.{reached_shown};
 use crate::known::Known;
 use crate::reach::Reach;
 use crate::refusal::{Reached, ReachedColumns};
+use star_catalogue::Catalogue;
 use star_interval::Interval;
 use star_schema::{COLUMNS, ColumnId, Sizes, TableId, is_text, references};
 use std::alloc::{AllocError, Global};
@@ -25,7 +28,33 @@ pub(crate) struct Facts {
     pub(crate) bounds: [Interval; 58],
 }
 
+// The least and the greatest number of a column, of a column of texts 0 and 0.
+fn column_bounds(catalogue: &Catalogue, column: ColumnId) -> Interval
+    ensures { range_of result ≡ (world_of catalogue.now).bounds column }
+{
+    catalogue.law();
+    if is_text(column) {
+        Interval::point(0)
+    } else {
+        catalogue.bounds(column)
+    }
+}
+
 impl Facts {
+    // What a check needs of a catalogue.
+    pub(crate) fn of(catalogue: &Catalogue) -> Facts
+        ensures { AreFacts (world_of catalogue.now) result }
+    {
+        let mut bounds = [Interval::point(0); 58];
+        for column in &COLUMNS {
+            bounds[*column as usize] = column_bounds(catalogue, *column);
+        }
+        Facts {
+            sizes: catalogue.sizes(),
+            bounds,
+        }
+    }
+
     // The least and the greatest number of a column.
     pub(crate) fn bounds(&self, column: ColumnId) -> Interval
         ensures { result ≡ slice_index_or self.now.bounds (index_of column) result }

@@ -1,6 +1,7 @@
 //! The check of a program before a run: what refuses it, and what it costs at most.
 #![tactic(auto)]
 
+mod check;
 mod facts;
 mod gifts;
 mod instructions;
@@ -13,8 +14,10 @@ mod register;
 mod report;
 mod tally;
 mod totals;
+mod verified;
 mod visits;
 mod walk;
 
 pub use refusal::{Reached, ReachedColumns, Reason, Refusal};
+pub use verified::{Refused, Verified, verify};
 pub use visits::quote;

@@ -3,7 +3,7 @@
 ghost use Rattle.std.specs.Prelude.{◌≡◌, ◌*◌, ◌+◌, ◌<◌, ◌≤◌, ◌^◌, ℕ, Bool, IfOk, length};
 ghost use Rattle.star_schema.specs.Sizes.{size_of};
 ghost use Rattle.star_program.specs.Code.{code_size};
-ghost use Rattle.star_program.specs.CodeOfSteps.{code_of_steps};
+ghost use Rattle.star_program.specs.CodeOfSteps.{before, code_of_steps};
 ghost use Rattle.star_program.specs.Limits.{IsWithinLimits};
 ghost use Rattle.star_program.specs.World.{World};
 ghost use Rattle.star_admission.specs.Contexts.{Context, at_end, in_scan};
@@ -13,6 +13,7 @@ ghost use Rattle.star_admission.specs.Refusals.{scan_reason};
 ghost use Rattle.star_verify.specs.Private.Facts.{AreFacts};
 ghost use Rattle.star_verify.specs.Private.Judged.{AreFewAt, AreNoted, IsPlaced, IsSized, IsWalked, Keeps, scan_first};
 ghost use Rattle.star_verify.specs.Private.Kept.{AreMarked, flag_at};
+ghost use Rattle.star_verify.specs.Private.Walked.{after_step, step_first, step_size};
 ghost use Rattle.star_verify.specs.Shown.{IsReason};
 
 use crate::facts::Facts;
@@ -77,38 +78,75 @@ fn scan(
     ensures sized { IsSized parts.now noted.new }
     ensures few { IfOk result (λ next. AreFewAt noted.new next) }
 {
-    match check_target(parts, &noted.written, target) {
-        Ok(()) => match copied(parts.groups.allocator(), registers) {
-            Ok(inner) => {
-                let mut inner = inner;
-                learn(&mut inner, target, Known::Row(table));
-                note(&mut noted.written, target);
-                let inside = Place {
-                    at: place.at + 1,
-                    inside: true,
-                    met: place.met * u64::from(facts.sizes.of(table)),
-                };
-                walk(
-                    parts,
-                    facts,
-                    inside,
-                    pending,
-                    &mut inner,
-                    noted,
-                    body.as_slice(),
-                )
-            }
-            Err(_) => Err(Refusal::OutOfMemory),
-        },
-        Err(reason) => Err(Refusal::Refused {
-            at: place.at,
-            reason,
-        }),
+    if let Err(reason) = check_target(parts, &noted.written, target) {
+        let at = place.at;
+        return Err(Refusal::Refused { at, reason });
+    }
+    let mut inner = copied(parts.groups.allocator(), registers)?;
+    learn(&mut inner, target, Known::Row(table));
+    note(&mut noted.written, target);
+    let inside = Place {
+        at: place.at + 1,
+        inside: true,
+        met: place.met * u64::from(facts.sizes.of(table)),
+    };
+    let steps = body.as_slice();
+    walk(parts, facts, inside, pending, &mut inner, noted, steps)
+}
+
+// Checks a step before others, and answers the number of the next instruction.
+#[cycle(walk)]
+fn walk_step(
+    parts: &Parts,
+    facts: &Facts,
+    place: Place,
+    pending: [bool; 8],
+    registers: &mut [Register],
+    noted: &mut Noted,
+    step: &Step,
+    rest: &[Step],
+) -> Result<u16, Refusal>
+    requires limits { IsWithinLimits parts.now }
+    requires size { place.at + code_size (before step.now (code_of_steps rest.now)) ≤ 4097 }
+    requires met { place.met ≤ 10 ^ 15 }
+    requires quote { turns_met (size_of facts.now.sizes) place.met
+        (before step.now (code_of_steps rest.now)) ≤ 10 ^ 15 }
+    requires wide { length registers.old ≡ parts.now.registers }
+    requires sized { IsSized parts.now noted.old }
+    requires few { AreFewAt noted.old place.at }
+    ensures judged { (w : World) (x : Context) (pending_now : ℕ → Bool) → AreFacts w facts.now
+        → Keeps parts.now registers.old noted.old x → IsPlaced place x
+        → AreMarked parts.now pending pending_now
+        → IsWalked result
+        (step_first w parts.now pending_now x place.at step.now (code_of_steps rest.now))
+        (Keeps parts.now registers.new noted.new (after_step w parts.now x step.now)) }
+    ensures next { IfOk result (λ next. next ≡ place.at + step_size step.now) }
+    ensures wide { length registers.new ≡ length registers.old }
+    ensures sized { IsSized parts.now noted.new }
+    ensures few { IfOk result (λ next. AreFewAt noted.new next) }
+{
+    match step {
+        Step::Act(op) => {
+            judge(parts, facts, place, pending, rest, registers, noted, op)?;
+            Ok(place.at + 1)
+        }
+        Step::Scan {
+            table,
+            target,
+            body,
+        } => {
+            let mut opened = pending;
+            mark_puts(&mut opened, body.as_slice());
+            mark_puts(&mut opened, rest);
+            scan(
+                parts, facts, place, opened, registers, noted, *table, *target, body,
+            )
+        }
     }
 }
 
-// Checks the steps of a body from one on, where so many groups are put to after them or in a scan
-// round them, and answers the number of the next instruction.
+// Checks the steps of a body, where so many groups are put to after them or in a scan round them,
+// and answers the number of the next instruction.
 #[cycle(walk)]
 pub(crate) fn walk(
     parts: &Parts,
@@ -138,45 +176,12 @@ pub(crate) fn walk(
     ensures sized { IsSized parts.now noted.new }
     ensures few { IfOk result (λ next. AreFewAt noted.new next) }
 {
-    match steps {
-        [] => Ok(place.at),
-        [step, rest @ ..] => {
-            match step {
-                Step::Act(op) => {
-                    match judge(parts, facts, place, pending, rest, registers, noted, op) {
-                        Ok(()) => {
-                            let next = Place {
-                                at: place.at + 1,
-                                inside: place.inside,
-                                met: place.met,
-                            };
-                            walk(parts, facts, next, pending, registers, noted, rest)
-                        }
-                        Err(refusal) => Err(refusal),
-                    }
-                }
-                Step::Scan {
-                    table,
-                    target,
-                    body,
-                } => {
-                    let mut opened = pending;
-                    mark_puts(&mut opened, steps);
-                    match scan(
-                        parts, facts, place, opened, registers, noted, *table, *target, body,
-                    ) {
-                        Ok(at) => {
-                            let next = Place {
-                                at,
-                                inside: place.inside,
-                                met: place.met,
-                            };
-                            walk(parts, facts, next, pending, registers, noted, rest)
-                        }
-                        Err(refusal) => Err(refusal),
-                    }
-                }
-            }
-        }
+    let mut at = place.at;
+    let mut left = steps;
+    while let [step, rest @ ..] = left {
+        let here = Place { at, ..place };
+        at = walk_step(parts, facts, here, pending, registers, noted, step, rest)?;
+        left = rest;
     }
+    Ok(at)
 }

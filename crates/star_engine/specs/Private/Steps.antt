@@ -1,46 +1,75 @@
--- The faults of the steps before anything is written, in their order. Memory may have been refused
--- before any.
-use Rattle.std.specs.Prelude.{◌≡◌, ℕ, List, Some}
-use Rattle.star_schema.specs.declared.table.TableId.{TableId}
-use Rattle.star_schema.specs.Loadable.{IsLoadable, database_of}
-use Rattle.star_catalogue.specs.Load.{load_fault}
-use Rattle.star_catalogue.specs.declared.fault.LoadFault.{LoadFault}
-use Rattle.star_catalogue.specs.declared.fault.LoadFault.TheVariants as load
+-- The faults of the steps before anything is written. Memory may have been refused before any.
+use Rattle.std.specs.Prelude.{◌≡◌, ◌≤◌, ◌⊎◌, ℕ, List, Some, Result, Ok, Err, length}
+use Rattle.star_machine.specs.Trials.{Yields}
+use Rattle.star_program.specs.declared.outcome.Outcome.{Outcome}
 use Rattle.star_program.specs.declared.program.Parts.{Parts}
+use Rattle.star_program.specs.Run.{End, bounded_run_of, run_of}
 use Rattle.star_program.specs.Text.Places.{text_fault}
-use Rattle.star_program.specs.Run.{End, bounded_run_of}
+use Rattle.star_schema.specs.declared.table.TableId.{TableId}
+use Rattle.star_schema.specs.Database.{Database}
+use Rattle.star_schema.specs.Loadable.{IsLoadable, database_of}
 use Rattle.star_world.specs.WorldOf.{world_of}
 use Rattle.star_engine.specs.declared.fault.EngineFault.{EngineFault}
-use Rattle.star_engine.specs.declared.fault.EngineFault.TheVariants.{OutOfMemory, Program, Load, Trial, Write}
-use Rattle.star_engine.specs.Trials.{IsProgram, IsStop, IsStopped}
+use Rattle.star_engine.specs.declared.fault.EngineFault.TheVariants.{Load, OutOfMemory, Program, Refused, Trial, Write}
+use Rattle.star_engine.specs.Answered.{Change, HasGained, HasGainedPart, IsUntouched}
+use Rattle.star_engine.specs.Executions.{IsAccepted, IsRefusal, quote_over}
+use Rattle.star_engine.specs.Loads.{IsLoadFault}
+use Rattle.star_engine.specs.Trials.{IsStop}
 
--- of loading five texts: their first fault, and they are not loadable
-abbrev pub IsLoadFault : ℕ → (TableId → List ℕ) → LoadFault → Type 0
-IsLoadFault most texts load.OutOfMemory = Unit {0}
-IsLoadFault most texts fault = (load_fault most texts ≡ Some fault) × ¬ IsLoadable most texts
+-- a fault that is due, or want of memory; and no write has failed
+abbrev pub OrMemory : (EngineFault → Type 0) → EngineFault → Type 0
+OrMemory IsDue OutOfMemory = Unit {0}
+OrMemory IsDue (Write sent) = ⊥
+OrMemory IsDue fault = IsDue fault
 
--- of a program's run over loaded tables, by how it ends
+-- of reading a file: it spells no program
+abbrev pub IsNoProgram : List ℕ → EngineFault → Type 0
+IsNoProgram file (Program fault) = text_fault file ≡ Some fault
+IsNoProgram file _ = ⊥
+
+-- of a program's bounded run over loaded tables, by how it ends
 abbrev pub IsNoEnd : End → EngineFault → Type 0
-IsNoEnd end OutOfMemory = Unit {0}
 IsNoEnd end (Trial fault) = IsStop end fault
 IsNoEnd end _ = ⊥
 
--- of a program's run over the tables of five texts
+-- of such a run over the tables of five texts
 abbrev pub IsNoOutcome : ℕ → (TableId → List ℕ) → Parts → ℕ → EngineFault → Type 0
-IsNoOutcome most texts program visits OutOfMemory = Unit {0}
-IsNoOutcome most texts program visits (Load fault) =
-    (load_fault most texts ≡ Some fault) × ¬ IsLoadable most texts
+IsNoOutcome most texts program visits (Load fault) = IsLoadFault most texts fault
 IsNoOutcome most texts program visits (Trial fault) =
     IsLoadable most texts
     × IsStop (bounded_run_of (world_of (database_of texts)) visits program) fault
 IsNoOutcome most texts program visits _ = ⊥
 
--- of the report of the program that a file spells
-abbrev pub IsNoReport : ℕ → (TableId → List ℕ) → List ℕ → ℕ → EngineFault → Type 0
-IsNoReport most texts file visits OutOfMemory = Unit {0}
-IsNoReport most texts file visits (Program fault) = text_fault file ≡ Some fault
-IsNoReport most texts file visits (Load fault) =
-    IsProgram file × (load_fault most texts ≡ Some fault) × ¬ IsLoadable most texts
-IsNoReport most texts file visits (Trial fault) =
-    IsLoadable most texts × IsStopped (database_of texts) file visits fault
-IsNoReport most texts file visits (Write sent) = ⊥
+-- of the check of a program over loaded tables
+abbrev pub IsNotVerified : Database → ℕ → Parts → EngineFault → Type 0
+IsNotVerified database most program (Refused refusal) = IsRefusal database most program refusal
+IsNotVerified database most program _ = ⊥
+
+-- a program that was accepted has run
+pub record IsRun (database : Database) (most : ℕ) (program : Parts) (outcome : Outcome)
+    : Type 0 where
+  pub accepted : IsAccepted database most program
+  pub yields : Yields (world_of database) program (run_of (world_of database) program) outcome
+  pub within : outcome.visits ≤ quote_over database program
+
+-- ---- writing
+
+-- a whole text was written, or its first bytes
+abbrev pub IsWritten : {S : Type 0} → Change S → List ℕ → Result (Unit {0}) EngineFault → Type 0
+IsWritten sink text (Ok answer) = HasGained sink text
+IsWritten sink text (Err (Write sent)) = HasGainedPart sink text sent
+IsWritten sink text (Err fault) = ⊥
+
+-- some first bytes of a note were written
+abbrev pub IsPart : {N : Type 0} → Change N → List ℕ → Type 0
+IsPart notes note = (noted : ℕ) × HasGainedPart notes note noted
+
+-- of making a report and a note and writing one after the other: which write failed, if one did
+abbrev pub IsDelivered : {S N : Type 0} → Change S → Change N → List ℕ → List ℕ
+    → Result (Unit {0}) EngineFault → Type 0
+IsDelivered out notes report done (Ok answer) = HasGained out report × HasGained notes done
+IsDelivered out notes report done (Err OutOfMemory) = IsUntouched out × IsUntouched notes
+IsDelivered out notes report done (Err (Write sent)) =
+    (HasGainedPart out report sent × IsUntouched notes)
+    ⊎ (HasGained out report × (sent ≡ length report) × IsPart notes done)
+IsDelivered out notes report done (Err fault) = ⊥

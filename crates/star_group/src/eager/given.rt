@@ -15,7 +15,7 @@ use star_schema::{Aggregate, Shape};
 use std::alloc::{AllocError, Global};
 
 // Whether a row is one of the group's, and not only the total of a plain group with keys.
-fn is_given(shape: Shape, count: usize, key: &Key) -> bool
+pub(crate) fn is_given(shape: Shape, count: usize, key: &Key) -> bool
     ensures { result ≡ spec.is_given shape count key.now }
 {
     match shape {
@@ -45,7 +45,7 @@ fn shown_row(aggregates: &[Aggregate], row: &Row) -> Row
     changed
 }
 
-fn row_given(count: usize, aggregates: &[Aggregate], key: &Key, row: &Row) -> GroupRow
+pub(crate) fn row_given(count: usize, aggregates: &[Aggregate], key: &Key, row: &Row) -> GroupRow
     requires few_keys { count ≤ 6 }
     requires few { length aggregates.now ≤ 8 }
     ensures { result ≡ spec.row_given count aggregates.now (key.now, row.now) }

@@ -16,7 +16,7 @@ use Rattle.star_program.specs.World.{World}
 use Rattle.star_group.specs.declared.group_row.GroupRow.{GroupRow}
 use Rattle.star_group.specs.Shown.{row_shown}
 use Rattle.star_group.specs.Stores.{Group}
-use Rattle.star_machine.specs.Private.Runs.{IsSoundKey}
+use Rattle.star_machine.specs.SoundKeys.{IsSoundKey}
 
 -- a key of a row: ALL, or as declared
 abbrev pub IsDecodable : Database → GroupKey → Option KeyValue → Type 0

@@ -1,5 +1,5 @@
 -- What a check needs of a world.
-use Rattle.std.specs.Prelude.{◌≡◌, slice_index_or}
+use Rattle.std.specs.Prelude.{◌≡◌, ◌<◌, ℕ, List, slice_index_or}
 use Rattle.star_schema.specs.declared.column.ColumnId.{ColumnId}
 use Rattle.star_schema.specs.declared.table.TableId.{TableId}
 use Rattle.star_schema.specs.Schema.{index_of}
@@ -13,3 +13,9 @@ pub record AreFacts (w : World) (facts : Facts) : Type 0 where
   pub sizes : (t : TableId) → size_of facts.sizes t ≡ w.size t
   pub bounds : (c : ColumnId) (i : Interval) → i ≡ slice_index_or facts.bounds (index_of c) i
       → range_of i ≡ w.bounds c
+
+-- those of the columns that stand before a place among all
+abbrev pub AreBounds : World → List Interval → ℕ → Type 0
+AreBounds w bounds place =
+    (c : ColumnId) (i : Interval) → index_of c < place
+    → i ≡ slice_index_or bounds (index_of c) i → range_of i ≡ w.bounds c

@@ -1,13 +1,15 @@
 -- What a check answers of an instruction, and what it keeps for the next.
-use Rattle.std.specs.Prelude.{◌≡◌, ◌*◌, ◌+◌, ◌≤◌, ◌^◌, ℕ, Bool, List, length, Option, Some, None, Result, MatchResult}
+use Rattle.std.specs.Prelude.{◌≡◌, ◌*◌, ◌+◌, ◌^◌, ℕ, Bool, List, length, Option, Some, None, Result, MatchResult}
 use Rattle.std.specs.Option.{option_or}
+use Rattle.star_common.specs.Memory.{UnlessMemory}
 use Rattle.star_schema.specs.declared.table.TableId.{TableId}
-use Rattle.star_program.specs.declared.op.Op.{Op}
 use Rattle.star_program.specs.declared.program.Parts.{Parts}
 use Rattle.star_program.specs.Code.{Code}
 use Rattle.star_program.specs.World.{World}
-use Rattle.star_admission.specs.Contexts.{Context, after_op, at_end, in_scan}
+use Rattle.star_admission.specs.Contexts.{Context, in_scan}
+use Rattle.star_admission.specs.Admissible.{first_refusal}
 use Rattle.star_admission.specs.Private.Forward.{first_reason}
+use Rattle.star_admission.specs.Quote.{quote}
 use Rattle.star_admission.specs.Refusals as refusals
 use Rattle.star_admission.specs.Refusals.{op_reason, scan_reason}
 use Rattle.star_admission.specs.Standing.{at_place}
@@ -18,7 +20,7 @@ use Rattle.star_verify.specs.declared.refusal.Refusal.TheVariants as told
 use Rattle.star_verify.specs.declared.register.Register.{Register}
 use Rattle.star_verify.specs.Private.Kept.{AreFew, HasShares, flag_at}
 use Rattle.star_verify.specs.Private.Shown.{known_in}
-use Rattle.star_verify.specs.Shown.{reason_shown}
+use Rattle.star_verify.specs.Shown.{reason_shown, refusal_shown}
 
 -- this reason at this instruction, or want of memory
 abbrev pub IsFirst : Refusal → Option (ℕ × refusals.Reason) → Type 0
@@ -68,3 +70,13 @@ abbrev pub scan_first : World → Parts → (ℕ → Bool) → Context → ℕ �
 scan_first w parts pending x at table r body =
     option_or (at_place at (scan_reason parts x r))
     (first_reason w parts pending (in_scan w x table r) (at + 1) body)
+
+-- ---- a whole program
+
+-- Ok with its quote where nothing refuses it, else what does first, or want of memory
+abbrev pub IsChecked : Result ℕ Refusal → World → ℕ → Parts → Type 0
+IsChecked result w most parts =
+    MatchResult result
+    (λ visits. (first_refusal w most parts ≡ None) × (visits ≡ quote w.size parts))
+    (λ refusal. UnlessMemory told.OutOfMemory refusal
+    (first_refusal w most parts ≡ refusal_shown refusal))

@@ -7,11 +7,9 @@ use Rattle.star_program.specs.Faults.{group_at}
 use Rattle.star_program.specs.Puts.{aligned}
 use Rattle.star_admission.specs.Contexts.{Context}
 use Rattle.star_admission.specs.Ranges as ranges
-use Rattle.star_verify.specs.declared.register.Register.{Register}
 use Rattle.star_verify.specs.declared.tally.Tally.{Tally}
 use Rattle.star_verify.specs.Private.Bounded.{IsBounded}
 use Rattle.star_verify.specs.Private.Made.{AreTallies}
-use Rattle.star_verify.specs.Private.Shown.{known_in}
 
 abbrev pub flag_at : List Bool → ℕ → Bool
 flag_at flags n = slice_index_or flags n false

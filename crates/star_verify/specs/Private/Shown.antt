@@ -3,9 +3,7 @@ use Rattle.std.specs.Prelude.{◌≡◌, nat_eq, List, slice_index_or, Option, N
 use Rattle.std.specs.Option.{option_map}
 use Rattle.std.specs.Int.{bit_at}
 use Rattle.star_schema.specs.Schema.{index_of}
-use Rattle.star_schema.specs.declared.column.ColumnId.{ColumnId}
 use Rattle.star_interval.specs.Interval.{range_of, wide_range_of}
-use Rattle.star_interval.specs.Range.{Range}
 use Rattle.star_program.specs.declared.value.Kind.{Kind}
 use Rattle.star_admission.specs.Ranges as ranges
 use Rattle.star_admission.specs.Tallies.{Share, sum_range, most_of, hull_of, reach_of}

@@ -1,35 +1,26 @@
-use Rattle.std.proofs.Common.{OnOk, refl, subst}
-use Rattle.star_schema.specs.Loadable.{IsLoadable}
-use Rattle.star_catalogue.specs.Load.{text_of}
-use Rattle.star_engine.specs.Listing.{check_text}
+use Rattle.std.proofs.Common.{refl}
 use Rattle.star_cli.proofs.answers.give.Goals as goal
 
-pub returns-in-CheckSample-clause-loadable : goal.returns-in-CheckSample-clause-loadable
-returns-in-CheckSample-clause-loadable g c =
-    rw c.in-CheckSample.is (subst (λ most. OnOk c.check.result (IsLoadable most (text_of c.args.bytes.now.texts)))
-    c.widest.ensures.rows c.check.ensures.loadable)
+pub returns-in-Sample : goal.returns-in-Sample
+returns-in-Sample g c = rw c.in-Sample.is (c.list_and_bench.ensures, refl)
 
-pub returns-in-CheckSample-clause-write : goal.returns-in-CheckSample-clause-write
-returns-in-CheckSample-clause-write g c sent is =
-    let told = c.check.ensures.write sent is in (
-      rw c.in-CheckSample.is (subst (λ most. IsLoadable most (text_of c.args.bytes.now.texts)) c.widest.ensures.rows told.0),
-      (check_text (text_of c.args.bytes.now.texts), rw c.in-CheckSample.is refl, told.1, told.2),
-    )
+pub returns-in-Check : goal.returns-in-Check
+returns-in-Check g c = rw c.in-Check.is (c.list.ensures, refl)
 
-pub returns-in-Check-clause-loadable : goal.returns-in-Check-clause-loadable
-returns-in-Check-clause-loadable g c =
-    rw c.in-Check.is (subst (λ most. OnOk c.check-in-Check.result (IsLoadable most (text_of c.args.bytes.now.texts)))
-    c.widest-in-Check.ensures.rows c.check-in-Check.ensures.loadable)
+pub returns-in-Bench : goal.returns-in-Bench
+returns-in-Bench g c = rw c.in-Bench.is (c.answer_benchmark.ensures, refl)
 
-pub returns-in-Check-clause-write : goal.returns-in-Check-clause-write
-returns-in-Check-clause-write g c sent is =
-    let told = c.check-in-Check.ensures.write sent is in (
-      rw c.in-Check.is (subst (λ most. IsLoadable most (text_of c.args.bytes.now.texts)) c.widest-in-Check.ensures.rows told.0),
-      (check_text (text_of c.args.bytes.now.texts), rw c.in-Check.is refl, told.1, told.2),
-    )
+pub returns-in-Query : goal.returns-in-Query
+returns-in-Query g c = rw c.in-Query.is c.query.ensures
 
-pub returns-in-Trial-clause-loadable : goal.returns-in-Trial-clause-loadable
-returns-in-Trial-clause-loadable g c = rw c.in-Trial.is c.trial_program.ensures.loadable
+pub returns-in-Explain : goal.returns-in-Explain
+returns-in-Explain g c = rw c.in-Explain.is (c.explain.ensures, refl)
 
-pub returns-in-Trial-clause-trial : goal.returns-in-Trial-clause-trial
-returns-in-Trial-clause-trial g c fault is = rw c.in-Trial.is (c.trial_program.ensures.trial fault is)
+pub returns-in-Exec : goal.returns-in-Exec
+returns-in-Exec g c = rw c.in-Exec.is c.execute.ensures
+
+pub returns-in-Quote : goal.returns-in-Quote
+returns-in-Quote g c = rw c.in-Quote.is (c.quote.ensures, refl)
+
+pub returns-in-Trial : goal.returns-in-Trial
+returns-in-Trial g c = rw c.in-Trial.is (c.try_program.ensures, refl)

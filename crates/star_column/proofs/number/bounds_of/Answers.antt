@@ -1,12 +1,12 @@
-use Rattle.std.proofs.Common.{◌≡◌, [], ap, FitsSigned, w64, to_z-of_z, rules}
+use Rattle.std.proofs.Common.{◌≡◌, [], ap, ◌∙◌, FitsSigned, w64, to_z-of_z, rules}
 use Rattle.star_schema.specs.Bounds.{least, greatest}
-use Rattle.star_schema.proofs.Extremes.{least_is, greatest_is}
+use Rattle.star_column.proofs.Extremes.{greatest_word, least_word}
 use Rattle.star_column.proofs.number.bounds_of.Goals as goal
 use Rattle.star_column.proofs.number.bounds_of.Goals.{in_default-via-in-Some+in_default, in_default-via-in_default}
 
 pub returns-in_default : goal.returns-in_default
 unfolding least greatest
-returns-in_default c =
+returns-in_default g c =
     let none : c.args.numbers.now ≡ [] = elim c.in_default.branch [
       | in_default-via-in-Some+in_default w ↦ w.in_default.ensures'.reached
       | in_default-via-in_default w ↦ rw w.in_default.is-0 at c.least_of.ensures.reached
@@ -17,14 +17,18 @@ returns-in_default c =
     })
 
 pub returns : goal.returns
-returns c =
-    let fits_low : FitsSigned w64 c.in-Some-Some.low = search rules in
-    let fits_high : FitsSigned w64 c.in-Some-Some.high = search rules in
+returns g c =
+    let fits_low : FitsSigned w64 c.value.result = search rules in
+    let fits_high : FitsSigned w64 c.value-2.result = search rules in
     record {
       low = rw to_z-of_z
-          (least_is c.args.numbers.now c.in-Some-Some.low c.in-Some-Some.ensures.bound
-          c.in-Some-Some.ensures.reached);
+          (c.value.ensures.value
+          ∙ least_word g.S.Ord.cmp g.S.SignedWord.number g.met.S.SignedWord.in_order
+          c.args.numbers.now c.in-Some-Some.low c.in-Some-Some.ensures.reached
+          c.in-Some-Some.ensures.bound);
       high = rw to_z-of_z
-          (greatest_is c.args.numbers.now c.in-Some-Some.high c.in-Some-Some.ensures'.bound
-          c.in-Some-Some.ensures'.reached);
+          (c.value-2.ensures.value
+          ∙ greatest_word g.S.Ord.cmp g.S.SignedWord.number g.met.S.SignedWord.in_order
+          c.args.numbers.now c.in-Some-Some.high c.in-Some-Some.ensures'.reached
+          c.in-Some-Some.ensures'.bound);
     }

@@ -1,5 +1,6 @@
-use Rattle.std.proofs.Common.{◌≡◌, ◌<◌, ◌-◌, ℕ, List, zero, suc, sym, length, arith, get_or, refl}
-use Rattle.star_flat.specs.Private.Cut.{start_of}
+use Rattle.std.proofs.Common.{◌≡◌, ◌<◌, ◌-◌, ℕ, List, zero, suc, Some, sym, length, arith, refl, slice_get, ◌∙◌}
+use Rattle.std.proofs.lemmas.Option.{get_or_from_slice_get, slice_get_within}
+use Rattle.star_flat.specs.Private.Cut.{places, start_of}
 use Rattle.star_flat.proofs.CutLemmas.{start_after}
 use Rattle.star_flat.proofs.texts.start_at.Goals as goal
 
@@ -8,14 +9,20 @@ unfolding start_of
 first es zero e = refl
 first es (suc p) e = absurd (omega (arith, e))
 
-later : (es : List ℕ) (p : ℕ) → 0 < p → p < length es → get_or es (p - 1) 0 ≡ start_of 0 es p
-later es zero e h = absurd (omega arith)
-later es (suc p) e h = let back : suc p - 1 ≡ p =
-    omega arith in rw back (sym (start_after 0 es p (omega arith)))
+later : (es : List ℕ) (p e : ℕ) → 0 < p → p - 1 < length es → slice_get es (p - 1) ≡ Some e
+    → e ≡ start_of 0 es p
+later es zero e h within at = absurd (omega arith)
+later es (suc p) e h within at =
+    let back : suc p - 1 ≡ p = omega arith in
+    let there : slice_get es p ≡ Some e = rw back at at in
+    sym (get_or_from_slice_get es p e 0 there)
+    ∙ sym (start_after 0 es p (slice_get_within es p e there))
 
 pub returns-then-place-eq0 : goal.returns-then-place-eq0
-returns-then-place-eq0 c = first c.args.ends.now c.args.place c.if-place-eq0.true
+returns-then-place-eq0 c = first (places c.args.ends.now) c.args.place c.if-place-eq0.true
 
 pub returns-else-place-eq0 : goal.returns-else-place-eq0
-returns-else-place-eq0 c = let some : 0 < c.args.place =
-    omega arith in later c.args.ends.now c.args.place some c.requires
+returns-else-place-eq0 c =
+    later (places c.args.ends.now) c.args.place c.end_at.result (omega arith)
+    (slice_get_within (places c.args.ends.now) (c.args.place - 1) c.end_at.result c.end_at.ensures)
+    c.end_at.ensures

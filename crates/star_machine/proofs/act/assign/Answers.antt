@@ -1,6 +1,6 @@
 use Rattle.std.proofs.Common.{sym, subst}
 use Rattle.star_machine.specs.Private.Shown.{held}
-use Rattle.star_machine.specs.Private.Sound.{AreSound}
+use Rattle.star_machine.specs.Sound.{AreSound}
 use Rattle.star_machine.proofs.Registers.{sound_set}
 use Rattle.star_machine.proofs.act.assign.Goals as goal
 

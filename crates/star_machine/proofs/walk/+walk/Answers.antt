@@ -9,7 +9,7 @@ use Rattle.star_program.specs.Run.{visited}
 use Rattle.star_program.specs.Values.{Registers, with_entry}
 use Rattle.star_program.specs.declared.value.Value.TheVariants.{Row}
 use Rattle.star_machine.specs.Private.Shown.{held}
-use Rattle.star_machine.specs.Private.Sound.{AreSound}
+use Rattle.star_machine.specs.Sound.{AreSound}
 use Rattle.star_machine.specs.Trials.{IsFaultOf}
 use Rattle.star_machine.specs.Private.Walks.{HasWorked, IsEnd, means, means_at}
 use Rattle.star_machine.specs.Private.Runs.{HasDone}

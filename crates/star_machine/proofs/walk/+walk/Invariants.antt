@@ -8,7 +8,7 @@ use Rattle.star_program.specs.Run.{turns}
 use Rattle.star_program.specs.declared.value.Value.TheVariants.{Row}
 use Rattle.star_machine.specs.Private.Runs.{HasDone}
 use Rattle.star_machine.specs.Private.Shown.{held}
-use Rattle.star_machine.specs.Private.Sound.{AreSound}
+use Rattle.star_machine.specs.Sound.{AreSound}
 use Rattle.star_machine.specs.Private.Walks.{HasWorked, means, means_at, means_turns}
 use Rattle.star_machine.proofs.walk.+walk.Given as goal
 

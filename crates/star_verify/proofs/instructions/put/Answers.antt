@@ -1,6 +1,5 @@
-use Rattle.std.proofs.Common.{ap, sym, subst, ◌∙◌, ◌≡◌}
+use Rattle.std.proofs.Common.{ap, sym, subst, ◌∙◌}
 use Rattle.star_program.specs.declared.op.Op.TheVariants as op
-use Rattle.star_program.specs.Faults.{group_at}
 use Rattle.star_admission.specs.Contexts.{after_op}
 use Rattle.star_admission.specs.Refusals.{sums_overflow}
 use Rattle.star_admission.specs.Standing.{at_place}

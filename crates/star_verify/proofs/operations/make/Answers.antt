@@ -1,5 +1,4 @@
-use Rattle.std.proofs.Common.{◌≡◌, ◌<◌, FitsSigned, w64, None, Option, ap, length, to_z-of_z, rules, subst, sym, ◌∙◌}
-use Rattle.std.specs.Option.{option_map}
+use Rattle.std.proofs.Common.{◌≡◌, ◌<◌, FitsSigned, w64, None, ap, length, to_z-of_z, rules, subst, sym, ◌∙◌}
 use Rattle.star_interval.specs.Interval.{range_of}
 use Rattle.star_interval.specs.Range.{only}
 use Rattle.star_program.specs.declared.op.Operation.{Operation}

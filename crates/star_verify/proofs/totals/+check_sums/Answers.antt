@@ -1,4 +1,4 @@
-use Rattle.std.proofs.Common.{◌-◌, Some, ap, sym, subst, ◌∙◌, length, take, drop, get_or}
+use Rattle.std.proofs.Common.{◌-◌, ap, sym, subst, ◌∙◌, length, take, drop, get_or}
 use Rattle.std.specs.Prelude.{◌+◌}
 use Rattle.star_schema.specs.declared.group.Aggregate.TheVariants.{Sum}
 use Rattle.star_admission.specs.Refusals.{sums_overflow}

@@ -1,7 +1,9 @@
 use Rattle.std.proofs.Common.{◌∙◌, inl, inr}
 use Rattle.std.proofs.lemmas.Result.{err_from_is_err_and}
+use Rattle.star_schema.specs.Loadable.{IsSound, database_of}
 use Rattle.star_catalogue.specs.Load.{text_of}
-use Rattle.star_catalogue.proofs.Loading.{loaded_sound, refused_key, refused_table}
+use Rattle.star_catalogue.specs.Private.Referred.{AreReferred}
+use Rattle.star_catalogue.proofs.Loading.{referred_sound, refused_key, refused_table}
 use Rattle.star_catalogue.proofs.SmallNumbers.{bounds_small}
 use Rattle.star_catalogue.proofs.catalogue.Catalogue.load.Goals as goal
 
@@ -14,36 +16,41 @@ returns-in_err-loaded-clause-refused c =
       | inr fault ↦ inr (refused_table c.args.limits.rows (text_of c.args.texts.now) _ fault)
     ])
 
-pub returns-in_err-check_references-clause-refused : goal.returns-in_err-check_references-clause-refused
-returns-in_err-check_references-clause-refused c =
-    let p = err_from_is_err_and c.from_residual-in_err-check_references.result
-    c.from_residual-in_err-check_references.ensures.1 in
+pub absent_key-requires : goal.absent_key-requires
+absent_key-requires c =
+    rw (c.in-None.is, c.deref.ensures, ← c.deref-in-None.ensures) at c.in_ok-referred.ensures
+
+pub returns-in-None-clause-refused : goal.returns-in-None-clause-refused
+returns-in-None-clause-refused c =
     let loaded = c.in_ok-loaded.ensures in
-    let same = c.deref.ensures ∙ c.in_ok-tables.ensures.ok ∙ loaded.1 in
-    rw (p.1, p.2)
-    (inr (refused_key c.args.limits.rows (text_of c.args.texts.now) _ loaded.0 loaded.2
-    (rw same at c.in_err-check_references.ensures)))
+    let same = c.deref-in-None.ensures ∙ c.in_ok-tables.ensures.ok ∙ loaded.1 in
+    inr (refused_key c.args.limits.rows (text_of c.args.texts.now) _ loaded.0 loaded.2
+    (rw same at c.absent_key.ensures))
+
+-- the rows that were found
+referred : (c : goal.In_ok-new-in-Some)
+    → AreReferred (database_of (text_of c.args.texts.now)) c.in-Some.referred
+referred c =
+    rw (c.in-Some.is, c.deref.ensures ∙ c.in_ok-tables.ensures.ok ∙ c.in_ok-loaded.ensures.1) at
+    c.in_ok-referred.ensures
+
+sound : (c : goal.In_ok-new-in-Some) → IsSound (database_of (text_of c.args.texts.now))
+sound c =
+    referred_sound (text_of c.args.texts.now) c.in-Some.referred c.in_ok-loaded.ensures.2
+    (referred c)
 
 pub invariant_of-result : goal.invariant_of-result
 invariant_of-result c =
     let loaded = c.in_ok-loaded.ensures in
-    let same = c.in_ok-tables.ensures.ok ∙ loaded.1 in
-    rw same (
-      loaded_sound (text_of c.args.texts.now) loaded.2
-          (rw (c.deref.ensures ∙ c.in_ok-tables.ensures.ok ∙ loaded.1) at
-          c.in_ok-check_references.ensures),
+    rw (c.in_ok-tables.ensures.ok ∙ loaded.1, c.in_ok-new-in-Some.ensures.ok) (
+      sound c,
       bounds_small c.args.limits.rows (text_of c.args.texts.now) loaded.0,
+      referred c,
     )
 
-pub returns-clause-loadable : goal.returns-clause-loadable
-returns-clause-loadable c =
-    let loaded = c.in_ok-loaded.ensures in
-    record {
-      tables = loaded.0;
-      sound = loaded_sound (text_of c.args.texts.now) loaded.2
-          (rw (c.deref.ensures ∙ c.in_ok-tables.ensures.ok ∙ loaded.1) at
-          c.in_ok-check_references.ensures);
-    }
+pub returns-in_ok-new-in-Some-clause-loadable : goal.returns-in_ok-new-in-Some-clause-loadable
+returns-in_ok-new-in-Some-clause-loadable c =
+    record { tables = c.in_ok-loaded.ensures.0; sound = sound c }
 
-pub returns-clause-rows : goal.returns-clause-rows
-returns-clause-rows c = c.in_ok-tables.ensures.ok ∙ c.in_ok-loaded.ensures.1
+pub returns-in_ok-new-in-Some-clause-rows : goal.returns-in_ok-new-in-Some-clause-rows
+returns-in_ok-new-in-Some-clause-rows c = c.in_ok-tables.ensures.ok ∙ c.in_ok-loaded.ensures.1

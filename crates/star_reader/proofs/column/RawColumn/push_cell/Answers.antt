@@ -13,6 +13,6 @@ returns-in_ok-push-in-Some-clause-pushed c =
     grind (arith, ints, to_z-of_z) in
     rw c.in-Numbers.is (
       plain,
-      rw (c.in_ok-push-in-Some.ensures.items, same, is)
-          (map-append Number c.in-Numbers.numbers.items (_ ∷ [])),
+      rw (c.in_ok-push-in-Some.ensures.ok, same, is)
+          (map-append Number c.in-Numbers.numbers (_ ∷ [])),
     )

@@ -1,7 +1,7 @@
-use Rattle.std.proofs.Common.{refl, rules, FitsSigned, w64, ◌≡◌, ◌<◌, Some, length, map, slice_get, ap, ◌∙◌, arith}
+use Rattle.std.proofs.Common.{rules, FitsSigned, w64, ◌≡◌, ◌<◌, Some, length, map, slice_get, ap, ◌∙◌, arith}
 use Rattle.std.proofs.lemmas.Int.{to_z-of_z}
 use Rattle.std.proofs.lemmas.List.{length-map}
-use Rattle.std.proofs.lemmas.Option.{slice_get_read, slice_get-map}
+use Rattle.std.proofs.lemmas.Option.{slice_get-map}
 use Rattle.std.specs.Option.{option_map}
 use Rattle.star_schema.specs.declared.column.Kind.TheVariants as kind
 use Rattle.star_schema.specs.Schema.{kinds_of}
@@ -22,8 +22,8 @@ unreachable-requires c =
     let bad = rw c.in-Texts.is at column.kind in
     cc bad
 
-pub index-requires-in-Numbers : goal.index-requires-in-Numbers
-index-requires-in-Numbers c =
+pub get-requires : goal.get-requires
+get-requires c =
     let raw = c.self.inside in
     let at : slice_get (kinds_of raw.table) c.args.place ≡ Some kind.Number =
     rw (← c.self.view_is) at c.requires.place in
@@ -37,8 +37,7 @@ index-requires-in-Numbers c =
       arith,
       row,
       full,
-      c.in-Numbers.numbers.ok.0,
-      length-map c.in-Numbers.numbers.items Number,
+      length-map c.in-Numbers.numbers Number,
       length-first_rows raw.rows (map values raw.columns.items),
     )
 
@@ -56,16 +55,13 @@ returns c =
     rw (← c.self.view_is) at c.requires.row in
     let below : c.args.row < raw.rows =
     omega (arith, row, length-first_rows raw.rows (map values raw.columns.items)) in
-    let within : c.args.row < length (map Number c.in-Numbers.numbers.items) =
+    let within : c.args.row < length (map Number c.in-Numbers.numbers) =
     omega (arith, full, below) in
-    let inside : c.args.row < length c.in-Numbers.numbers.items =
-    omega (arith, within, length-map c.in-Numbers.numbers.items Number) in
-    let here = slice_get_read c.in-Numbers.numbers.items
-    (length c.in-Numbers.numbers.items) c.args.row c.index-in-Numbers.result.now refl inside
-    c.index-in-Numbers.ensures in
-    let fits : FitsSigned w64 c.index-in-Numbers.result.now = search rules in
+    let inside : c.args.row < length c.in-Numbers.numbers =
+    omega (arith, within, length-map c.in-Numbers.numbers Number) in
+    let fits : FitsSigned w64 c.get.result = search rules in
     rw (← c.self.view_is)
     (rw (to_z-of_z w64 _ fits)
     (value_there raw.rows (map values raw.columns.items) c.args.row c.args.place
-    (map Number c.in-Numbers.numbers.items) below there within
-    ∙ slice_get-map Number c.in-Numbers.numbers.items c.args.row ∙ ap (option_map Number) here))
+    (map Number c.in-Numbers.numbers) below there within
+    ∙ slice_get-map Number c.in-Numbers.numbers c.args.row ∙ ap (option_map Number) c.get.ensures))

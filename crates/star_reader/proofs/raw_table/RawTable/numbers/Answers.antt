@@ -18,11 +18,10 @@ returns c =
     c.self.invariant at c.index.ensures in
     let full = rw c.in-Numbers.is at column.full in
     let there = rw c.in-Numbers.is at column.there in
-    let all : length c.in-Numbers.numbers.items ≡ raw.rows =
-    sym (length-map c.in-Numbers.numbers.items Number) ∙ full in
+    let all : length c.in-Numbers.numbers ≡ raw.rows =
+    sym (length-map c.in-Numbers.numbers Number) ∙ full in
     rw (← c.self.view_is)
     record {
-      numbers = c.as_slice.ensures.value
-          ∙ sym (numbers_are raw.rows
-          (map values raw.columns.items) c.args.place c.in-Numbers.numbers.items all there);
+      numbers = sym (numbers_are raw.rows
+          (map values raw.columns.items) c.args.place c.in-Numbers.numbers all there);
     }

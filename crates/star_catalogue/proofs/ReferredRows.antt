@@ -1,0 +1,162 @@
+-- The rows that foreign keys refer to.
+use Rattle.std.proofs.Common.{◌≡◌, ◌+◌, ◌<◌, ◌≤◌, ◌^◌, ◌∷◌, ◌++◌, ◌∙◌, ℕ, ℤ, List, [], All, Contains, IsSome, Option, Some, None, ap, arith, get_or, length, pos, refl, sym, take}
+use Rattle.std.specs.Int.RustNames.{unsigned_abs}
+use Rattle.std.specs.List.{slice_get}
+use Rattle.std.specs.Option.{option_map}
+use Rattle.std.proofs.lemmas.List.{length-map, map-append, take_all}
+use Rattle.std.proofs.lemmas.List.Elements.{All-get_or, All-nil, All-push}
+use Rattle.std.proofs.lemmas.Option.{get_or_from_slice_get, slice_get-get_or, slice_get-map, slice_get_within}
+use Rattle.star_schema.specs.declared.column.ColumnId.{ColumnId}
+use Rattle.star_schema.specs.declared.column.ColumnId.TheVariants.{LoCustkey, LoPartkey, LoSuppkey, LoOrderdate, LoCommitdate}
+use Rattle.star_schema.specs.declared.table.TableId.{TableId}
+use Rattle.star_schema.specs.declared.table.TableId.TheVariants.{Date, Customer, Supplier, Part}
+use Rattle.star_schema.specs.Bounds.{numbers_of}
+use Rattle.star_schema.specs.Database.{Database, rows_in}
+use Rattle.star_schema.specs.Loadable.{keys_of}
+use Rattle.star_schema.specs.Schema.{column_of, place_of, references, table_of}
+use Rattle.star_catalogue.specs.declared.referred.Referred.{Referred}
+use Rattle.star_catalogue.specs.Private.Referred.{AreFound, AreReferred, rows_kept}
+use Rattle.star_catalogue.proofs.KeyLists.{length-numbers_at}
+use Rattle.star_catalogue.proofs.Copies.{copied_more}
+
+-- the rows of the first numbers, and of one more
+pub none_found : (keys : List (List ℤ)) (numbers : List ℤ) → AreFound keys (take 0 numbers) []
+none_found keys numbers = record {
+  small = All-nil (λ (row : ℤ). unsigned_abs row < 2 ^ 32);
+  found = refl;
+}
+
+pub found_more : (keys : List (List ℤ)) (numbers rows more : List ℤ) (i : ℕ) (number : ℤ) (row : ℕ)
+    → AreFound keys (take i numbers) rows → more ≡ rows ++ pos row ∷ []
+    → slice_get numbers i ≡ Some number → row < 2 ^ 32 → slice_get keys row ≡ Some (number ∷ [])
+    → AreFound keys (take (i + 1) numbers) more
+found_more keys numbers rows more i number row so_far pushed at few key =
+    let next : take i numbers ++ number ∷ [] ≡ take (i + 1) numbers =
+    copied_more numbers (take i numbers) (take i numbers ++ number ∷ []) i number refl refl at in
+    rw (pushed, ← next) (record {
+      small = All-push (λ (r : ℤ). unsigned_abs r < 2 ^ 32) rows (pos row) so_far.small few;
+      found = map-append (λ (r : ℤ). slice_get keys (unsigned_abs r)) rows (pos row ∷ [])
+          ∙ rw (so_far.found, key) refl
+          ∙ sym (map-append (λ (n : ℤ). Some (n ∷ [])) (take i numbers) (number ∷ []));
+    })
+
+pub found_all : (keys : List (List ℤ)) (numbers rows : List ℤ) (i : ℕ) → length numbers ≤ i
+    → AreFound keys (take i numbers) rows → AreFound keys numbers rows
+found_all keys numbers rows i all found = rw (take_all i numbers all) at found
+
+-- a number that no row has as its key
+pub absent_one : (keys : List (List ℤ)) (numbers : List ℤ) (i : ℕ) (number : ℤ)
+    → slice_get numbers i ≡ Some number
+    → ((row : ℕ) → slice_get keys row ≡ Some (number ∷ []) → ⊥)
+    → All (λ n. Contains keys (n ∷ [])) numbers → ⊥
+absent_one keys numbers i number at none all =
+    let within = slice_get_within numbers i number at in
+    let (row, inside, is) =
+    rw (get_or_from_slice_get numbers i number number at) at (all i number within) in
+    none row (slice_get-get_or keys row (number ∷ []) inside ∙ ap (λ (k : List ℤ). Some k) is)
+
+-- the row at a place, and its key
+pub row_there : (keys : List (List ℤ)) (numbers rows : List ℤ) (i : ℕ) (number : ℤ)
+    → AreFound keys numbers rows → slice_get numbers i ≡ Some number
+    → (row : ℤ) × (slice_get rows i ≡ Some row) × (unsigned_abs row < 2 ^ 32)
+    × (slice_get keys (unsigned_abs row) ≡ Some (number ∷ []))
+row_there keys numbers rows i number h at =
+    let count : length rows ≡ length numbers =
+    sym (length-map rows (λ (r : ℤ). slice_get keys (unsigned_abs r))) ∙ ap length h.found
+    ∙ length-map numbers (λ (n : ℤ). Some (n ∷ [])) in
+    let within : i < length rows = omega (arith, count, slice_get_within numbers i number at) in
+    let row = get_or rows i (pos 0) in
+    let there : slice_get rows i ≡ Some row = slice_get-get_or rows i (pos 0) within in
+    let key : Some (slice_get keys (unsigned_abs row)) ≡ Some (Some (number ∷ [])) =
+    ap (option_map (λ (r : ℤ). slice_get keys (unsigned_abs r))) (sym there)
+    ∙ sym (slice_get-map (λ (r : ℤ). slice_get keys (unsigned_abs r)) rows i)
+    ∙ ap (λ xs. slice_get xs i) h.found
+    ∙ slice_get-map (λ (n : ℤ). Some (n ∷ [])) numbers i
+    ∙ ap (option_map (λ (n : ℤ). Some (n ∷ []))) at in
+    let is : slice_get keys (unsigned_abs row) ≡ Some (number ∷ []) = cc in (
+      row,
+      there,
+      All-get_or (λ (r : ℤ). unsigned_abs r < 2 ^ 32) rows i (pos 0) within h.small,
+      is,
+    )
+
+-- then each number is a key
+pub found_keys : (keys : List (List ℤ)) (numbers rows : List ℤ) → AreFound keys numbers rows
+    → All (λ n. Contains keys (n ∷ [])) numbers
+found_keys keys numbers rows h i d within =
+    let at = slice_get-get_or numbers i d within in
+    let (row, there, few, key) = row_there keys numbers rows i (get_or numbers i d) h at in (
+      unsigned_abs row,
+      slice_get_within keys (unsigned_abs row) (get_or numbers i d ∷ []) key,
+      get_or_from_slice_get keys (unsigned_abs row) (get_or numbers i d ∷ [])
+          (get_or numbers i d ∷ []) key,
+    )
+
+-- what holds of the five foreign keys holds of each column that refers to a table
+pub of_five : (P : ColumnId → TableId → Type 0) → P LoCustkey Customer → P LoPartkey Part
+    → P LoSuppkey Supplier → P LoOrderdate Date → P LoCommitdate Date
+    → (c : ColumnId) (t : TableId) → references c ≡ Some t → P c t
+unfolding column_of
+of_five P a b d e f LoCustkey t refers = let same : Customer ≡ t = cc in rw same at a
+of_five P a b d e f LoPartkey t refers = let same : Part ≡ t = cc in rw same at b
+of_five P a b d e f LoSuppkey t refers = let same : Supplier ≡ t = cc in rw same at d
+of_five P a b d e f LoOrderdate t refers = let same : Date ≡ t = cc in rw same at e
+of_five P a b d e f LoCommitdate t refers = let same : Date ≡ t = cc in rw same at f
+of_five P a b d e f _ t refers = let bad : ⊥ = cc in absurd bad
+
+-- no other column refers to one
+pub no_other : (c : ColumnId) → (c ≡ LoCustkey → ⊥) → (c ≡ LoPartkey → ⊥) → (c ≡ LoSuppkey → ⊥)
+    → (c ≡ LoOrderdate → ⊥) → (c ≡ LoCommitdate → ⊥) → IsSome (references c) → ⊥
+unfolding column_of
+no_other LoCustkey customer part supplier order commit some = customer refl
+no_other LoPartkey customer part supplier order commit some = part refl
+no_other LoSuppkey customer part supplier order commit some = supplier refl
+no_other LoOrderdate customer part supplier order commit some = order refl
+no_other LoCommitdate customer part supplier order commit some = commit refl
+no_other _ customer part supplier order commit some = cc
+
+-- what is kept of a row of a column that refers to a table
+pub record LeadsOn (database : Database) (kept : Referred) (c : ColumnId) (row : ℕ) : Type 0 where
+  pub place : ℤ
+  pub there : slice_get (rows_kept kept c) row ≡ Some place
+  pub few : unsigned_abs place < 2 ^ 32
+  pub key : (t : TableId) (number : ℤ) → references c ≡ Some t
+      → slice_get (numbers_of c (rows_in database (table_of c))) row ≡ Some number
+      → slice_get (keys_of t (rows_in database t)) (unsigned_abs place) ≡ Some (number ∷ [])
+
+pub leads_on : (database : Database) (kept : Referred) (c : ColumnId) (row : ℕ)
+    → AreReferred database kept → IsSome (references c)
+    → row < length (rows_in database (table_of c)) → LeadsOn database kept c row
+leads_on database kept c row are some within = by (references c) refl
+  where
+    numbers : List ℤ
+    numbers = numbers_of c (rows_in database (table_of c))
+
+    by : (r : Option TableId) → references c ≡ r → LeadsOn database kept c row
+    by None free = let none = rw free at some in let bad : ⊥ = cc in absurd bad
+    by (Some t) refers =
+        let number = get_or numbers row (pos 0) in
+        let at : slice_get numbers row ≡ Some number =
+        slice_get-get_or numbers row (pos 0)
+        (omega (arith, within, length-numbers_at (place_of c) (rows_in database (table_of c)))) in
+        let (place, there, few, key) =
+        row_there (keys_of t (rows_in database t)) numbers (rows_kept kept c) row number
+        (are c t refers) at in
+        record {
+          place = place;
+          there = there;
+          few = few;
+          key = λ other n refers_to stands.
+              let same : t ≡ other = cc in
+              let is : number ≡ n = cc in
+              rw (← same, ← is) key;
+        }
+
+-- what was read there
+pub read_there : (database : Database) (kept : Referred) (c : ColumnId) (row : ℕ) (rows : List ℤ)
+    (place : ℤ) (l : LeadsOn database kept c row) → rows ≡ rows_kept kept c
+    → slice_get rows row ≡ Some place → l.place ≡ place
+read_there database kept c row rows place l are at =
+    let here : slice_get (rows_kept kept c) row ≡ Some place = rw are at at in
+    let same : Some l.place ≡ Some place = sym l.there ∙ here in
+    cc same

@@ -1,0 +1,307 @@
+-- An emitter writes pieces one behind another.
+use Rattle.std.proofs.Common.{◌≡◌, ℕ, ◌+◌, ◌≤◌, ◌<◌, List, [], ◌∷◌, ◌++◌, refl, sym, ap, subst, ◌∙◌, arith, append-nil, append_assoc, Result, Ok, Err, IfOk}
+use Rattle.std.specs.declared.alloc.AllocError.{AllocError}
+use Rattle.star_schema.specs.declared.column.ColumnId.{ColumnId}
+use Rattle.star_schema.specs.declared.table.TableId.{TableId}
+use Rattle.star_plan.specs.declared.tree.Join.{Join}
+use Rattle.star_plan.specs.Limits.{comparisons_of, operands_of}
+use Rattle.star_plan.specs.Meaning.{Condition, either, both, negation, compare, between, Expression, column, constant, add, sub, mul, Measure, counted, summed, least, greatest}
+use Rattle.star_program.specs.declared.op.Op.{Op}
+use Rattle.star_program.specs.declared.op.Op.TheVariants.{Assign, Keep}
+use Rattle.star_program.specs.declared.op.Operation.{Operation}
+use Rattle.star_program.specs.declared.op.Operation.TheVariants.{Binary, Within}
+use Rattle.star_program.specs.declared.op.Operator.{Operator}
+use Rattle.star_program.specs.Code.{Code, Then}
+use Rattle.star_program.specs.CodeOfSteps as step
+use Rattle.star_program.specs.Faults.{target_of}
+use Rattle.star_program.specs.declared.body.Step.{Step}
+use Rattle.star_program.specs.declared.body.Step.TheVariants.{Act}
+use Rattle.star_compiled.specs.Compiled.{Env, Rest, Rests, writes_one, register_count, column_code, expression_code, condition_code, conjunct_code, keys_code, values_code, binary_code, write, one_more}
+use Rattle.star_compile.specs.declared.emitter.Emitter.{Emitter}
+use Rattle.star_compile.specs.Private.Emitted.{Whole, steps_then, env_of, whole, Wrote, Writes, HasRoom, keys_after, value_after, values_after}
+
+-- ---- one more step
+
+then_last : (steps : List Step) (s : Step) (k : Code)
+    → steps_then (steps ++ s ∷ []) k ≡ steps_then steps (step.before s k)
+then_last [] s k = refl
+then_last (x ∷ steps) s k = ap (step.before x) (then_last steps s k)
+
+abbrev made : Code → ℕ → Whole
+made c n = record { code = c; registers = n }
+
+-- an instruction that numbers so many registers
+pub act : (old new : Emitter) (o : Op) (k : Code)
+    → new.steps.items ≡ old.steps.items ++ Act o ∷ []
+    → new.next ≡ old.next + writes_one (target_of o)
+    → whole new k ≡ whole old (Then o k)
+unfolding whole
+act old new o k pushed next =
+    let code : steps_then new.steps.items k ≡ steps_then old.steps.items (Then o k) =
+    ap (λ l. steps_then l k) pushed ∙ then_last old.steps.items (Act o) k in
+    let count : new.next + register_count k
+    ≡ old.next + (writes_one (target_of o) + register_count k) = omega arith in
+    λ i. made (code i) (count i)
+
+-- what an assignment is: the next register is written, and then this is known
+abbrev assignment : Operation → (Env → Env) → Env → Rest → Code
+assignment o known env k = Then (Assign env.next o) (k (known env) env.next)
+
+pub room_to_assign : (e : Emitter) (o : Operation) (known : Env → Env)
+    → HasRoom e (assignment o known) → e.next < 4096
+unfolding whole
+room_to_assign e o known room = omega (arith, room.fits)
+
+abbrev env : ℕ → List (ColumnId × ℕ) → List (TableId × ℕ) → Env
+env n ls fs = record { next = n; loaded = ls; found = fs }
+
+pub assigned : (old new : Emitter) (o : Operation) (known : Env → Env) (r : ℕ)
+    → new.steps.items ≡ old.steps.items ++ Act (Assign old.next o) ∷ []
+    → new.next ≡ old.next + 1 → new.loaded.items ≡ (known (env_of old)).loaded
+    → new.found.items ≡ (known (env_of old)).found
+    → (known (env_of old)).next ≡ old.next + 1 → r ≡ old.next
+    → Writes old new (assignment o known) r
+assigned old new o known r pushed next loaded found known_next register = record {
+  same = λ k.
+      act old new (Assign old.next o) (k (env_of new) r) pushed next
+      ∙ (λ i.
+      whole old
+      (Then (Assign old.next o) (k (env ((next ∙ sym known_next) i) (loaded i) (found i)) (register i))));
+}
+
+-- the same of what a call answers
+pub assigned_if_ok : (result : Result ℕ AllocError) (old new : Emitter) (o : Operation)
+    → IfOk result (λ r. r ≡ old.next)
+    → IfOk result (λ _. new.steps.items ≡ old.steps.items ++ Act (Assign old.next o) ∷ [])
+    → IfOk result (λ _. new.next ≡ old.next + 1) → new.loaded ≡ old.loaded → new.found ≡ old.found
+    → IfOk result (Writes old new (assignment o one_more))
+assigned_if_ok (Err e) old new o register pushed next loaded found = tt
+assigned_if_ok (Ok r) old new o register pushed next loaded found =
+    assigned old new o one_more r pushed next (ap (λ v. v.items) loaded) (ap (λ v. v.items) found)
+    refl register
+
+-- ---- a piece and then another
+
+abbrev followed_by : {K : Type 0} → (Env → Rest → Code) → (ℕ → Env → K → Code) → Env → K → Code
+followed_by first second env k = first env (λ e x. second x e k)
+
+pub room_for_first : {K : Type 0} (e : Emitter) (first : Env → Rest → Code)
+    (second : ℕ → Env → K → Code) → HasRoom e (followed_by first second) → HasRoom e first
+room_for_first e first second room = record {
+  rest = λ e x. second x e room.rest;
+  fits = room.fits;
+}
+
+pub room_for_second : {K : Type 0} (old new : Emitter) (first : Env → Rest → Code) (x : ℕ)
+    (second : ℕ → Env → K → Code) → Writes old new first x
+    → HasRoom old (followed_by first second) → HasRoom new (second x)
+room_for_second old new first x second wrote room = record {
+  rest = room.rest;
+  fits =
+      subst (λ w. w.registers ≤ 4096) (sym (wrote.same (λ e x. second x e room.rest))) room.fits;
+}
+
+pub then_if_ok : {A : Type 0} (result : Result A AllocError) (old middle new : Emitter)
+    (first : Env → Rest → Code) (x : ℕ) (second : ℕ → Env → (Env → A → Code) → Code)
+    → Writes old middle first x → IfOk result (Writes middle new (second x))
+    → IfOk result (Writes old new (followed_by first second))
+then_if_ok (Err e) old middle new first x second f g = tt
+then_if_ok (Ok y) old middle new first x second f g =
+    record { same = λ k. g.same k ∙ f.same (λ e x. second x e k) }
+
+-- an operator's right part, behind its left one
+pub room_for_right : (old new : Emitter) (left right : Env → Rest → Code) (o : Operator) (x : ℕ)
+    → Writes old new left x → HasRoom old (binary_code left right o) → HasRoom new right
+room_for_right old new left right o x wrote room =
+    room_for_first new right (λ y. write (Binary o x y))
+    (room_for_second old new left x (λ x. followed_by right (λ y. write (Binary o x y))) wrote room)
+
+-- between two operands
+module _ (from upto made : Operation) (x : ℕ) where
+  abbrev within : Env → Rest → Code
+  within = followed_by (write from) (λ m. followed_by (write upto) (λ n. write (Within x m n)))
+
+  pub room_for_start : (old : Emitter) → made ≡ from → HasRoom old within
+      → HasRoom old (write made)
+  room_for_start old same room =
+      subst (λ o. HasRoom old (write o)) (sym same)
+      (room_for_first old (write from) (λ m. followed_by (write upto) (λ n. write (Within x m n)))
+      room)
+
+  from_written : (old new : Emitter) (m : ℕ) → made ≡ from → Writes old new (write made) m
+      → Writes old new (write from) m
+  from_written old new m same wrote = subst (λ o. Writes old new (write o) m) same wrote
+
+  room_for_end_first : (old new : Emitter) (m : ℕ) → made ≡ from → Writes old new (write made) m
+      → HasRoom old within → HasRoom new (followed_by (write upto) (λ n. write (Within x m n)))
+  room_for_end_first old new m same wrote room =
+      room_for_second old new (write from) m
+      (λ m. followed_by (write upto) (λ n. write (Within x m n)))
+      (from_written old new m same wrote) room
+
+  pub room_for_end : (old new : Emitter) (m : ℕ) (end' : Operation) → made ≡ from
+      → Writes old new (write made) m → end' ≡ upto → HasRoom old within
+      → HasRoom new (write end')
+  room_for_end old new m end' same wrote ends room =
+      subst (λ o. HasRoom new (write o)) (sym ends)
+      (room_for_first new (write upto) (λ n. write (Within x m n))
+      (room_for_end_first old new m same wrote room))
+
+  pub room_for_within : (old middle new : Emitter) (m n : ℕ) (end' : Operation) → made ≡ from
+      → Writes old middle (write made) m → end' ≡ upto → Writes middle new (write end') n
+      → HasRoom old within → HasRoom new (write (Within x m n))
+  room_for_within old middle new m n end' same wrote ends wrote_end room =
+      room_for_second middle new (write upto) n (λ n. write (Within x m n))
+      (subst (λ o. Writes middle new (write o) n) ends wrote_end)
+      (room_for_end_first old middle m same wrote room)
+
+  pub within_written : (result : Result ℕ AllocError) (old middle new last : Emitter) (m n : ℕ)
+      (end' : Operation) → made ≡ from → Writes old middle (write made) m → end' ≡ upto
+      → Writes middle new (write end') n
+      → IfOk result (Writes new last (write (Within x m n)))
+      → IfOk result (Writes old last within)
+  within_written result old middle new last m n end' same wrote ends wrote_end rest =
+      then_if_ok result old middle last (write from) m
+      (λ m. followed_by (write upto) (λ n. write (Within x m n)))
+      (from_written old middle m same wrote)
+      (then_if_ok result middle new last (write upto) n (λ n. write (Within x m n))
+      (subst (λ o. Writes middle new (write o) n) ends wrote_end) rest)
+
+-- ---- a piece of which some is written
+
+-- what is left of a piece follows what is written of it
+pub record Follows {K : Type 0} (old new : Emitter) (piece left : Env → K → Code) : Type 0 where
+  pub same : (k : K) → whole new (left (env_of new) k) ≡ whole old (piece (env_of old) k)
+
+pub room_for_rest : {K : Type 0} (old new : Emitter) (piece left : Env → K → Code)
+    → Follows old new piece left → HasRoom old piece → HasRoom new left
+room_for_rest old new piece left follows room = record {
+  rest = room.rest;
+  fits = subst (λ w. w.registers ≤ 4096) (sym (follows.same room.rest)) room.fits;
+}
+
+-- ---- registers so far
+
+module _ (js : List Join) where
+  keys_more : (cs : List ColumnId) (so_far : List ℕ) (env : Env) (k : Rests)
+      → keys_after js cs so_far env k ≡ keys_code js cs env (λ e xs. k e (so_far ++ xs))
+  keys_more [] so_far env k = ap (k env) (sym (append-nil so_far))
+  keys_more (c ∷ cs) so_far env k =
+      λ i.
+      column_code js c env (λ e x.
+      (keys_more cs (so_far ++ x ∷ []) e k
+      ∙ (λ j. keys_code js cs e (λ e xs. k e (append_assoc so_far (x ∷ []) xs j)))) i)
+
+  pub keys_are : (cs : List ColumnId) (env : Env) (k : Rests)
+      → keys_after js cs [] env k ≡ keys_code js cs env k
+  keys_are cs env k = keys_more cs [] env k
+
+  -- a number, and those after it
+  number_more : (a : Expression) (ms : List Measure) (so_far : List ℕ) (env : Env) (k : Rests)
+      → ((so_far : List ℕ) (env : Env)
+      → values_after js ms so_far env k ≡ values_code js ms env (λ e xs. k e (so_far ++ xs)))
+      → expression_code js a env (λ e x. values_after js ms (so_far ++ x ∷ []) e k)
+      ≡ expression_code js a env (λ e x. values_code js ms e (λ e xs. k e (so_far ++ x ∷ xs)))
+  number_more a ms so_far env k more =
+      λ i.
+      expression_code js a env (λ e x.
+      (more (so_far ++ x ∷ []) e
+      ∙ (λ j. values_code js ms e (λ e xs. k e (append_assoc so_far (x ∷ []) xs j)))) i)
+
+  values_more : (ms : List Measure) (so_far : List ℕ) (env : Env) (k : Rests)
+      → values_after js ms so_far env k ≡ values_code js ms env (λ e xs. k e (so_far ++ xs))
+  values_more [] so_far env k = ap (k env) (sym (append-nil so_far))
+  values_more (counted ∷ ms) so_far env k = values_more ms so_far env k
+  values_more (summed a ∷ ms) so_far env k =
+      number_more a ms so_far env k (λ so_far env. values_more ms so_far env k)
+  values_more (least a ∷ ms) so_far env k =
+      number_more a ms so_far env k (λ so_far env. values_more ms so_far env k)
+  values_more (greatest a ∷ ms) so_far env k =
+      number_more a ms so_far env k (λ so_far env. values_more ms so_far env k)
+
+  pub values_are : (ms : List Measure) (env : Env) (k : Rests)
+      → values_after js ms [] env k ≡ values_code js ms env k
+  values_are ms env k = values_more ms [] env k
+
+  -- the next key, and all of them
+  pub room_for_key : (old new : Emitter) (cs left : List ColumnId) (c : ColumnId) (rest : List ColumnId)
+      (so_far : List ℕ) → left ≡ c ∷ rest
+      → Follows old new (keys_after js cs []) (keys_after js left so_far)
+      → HasRoom old (keys_code js cs) → HasRoom new (column_code js c)
+  room_for_key old new cs left c rest so_far same follows room =
+      room_for_first new (column_code js c) (λ x. keys_after js rest (so_far ++ x ∷ []))
+      (subst (λ l. HasRoom new (keys_after js l so_far)) same
+      (room_for_rest old new (keys_after js cs []) (keys_after js left so_far) follows
+      record {
+        rest = room.rest;
+        fits =
+            subst (λ w. w.registers ≤ 4096) (ap (whole old) (sym (keys_are cs (env_of old) room.rest)))
+            room.fits;
+      }))
+
+  pub keys_written : (old new : Emitter) (cs left : List ColumnId) (so_far : List ℕ) → left ≡ []
+      → Follows old new (keys_after js cs []) (keys_after js left so_far)
+      → Writes old new (keys_code js cs) so_far
+  keys_written old new cs left so_far none follows = record {
+    same = λ k.
+        ap (λ l. whole new (keys_after js l so_far (env_of new) k)) (sym none) ∙ follows.same k
+        ∙ ap (whole old) (keys_are cs (env_of old) k);
+  }
+
+  -- the next number, and all of them
+  pub room_for_value : (old new : Emitter) (ms left : List Measure) (m : Measure)
+      (rest : List Measure) (so_far : List ℕ) → left ≡ m ∷ rest
+      → Follows old new (values_after js ms []) (values_after js left so_far)
+      → HasRoom old (values_code js ms) → HasRoom new (value_after js m so_far)
+  room_for_value old new ms left m rest so_far same follows room =
+      let here =
+      subst (λ l. HasRoom new (values_after js l so_far)) same
+      (room_for_rest old new (values_after js ms []) (values_after js left so_far) follows
+      record {
+        rest = room.rest;
+        fits =
+            subst (λ w. w.registers ≤ 4096) (ap (whole old) (sym (values_are ms (env_of old) room.rest)))
+            room.fits;
+      }) in
+      record { rest = λ e rs. values_after js rest rs e here.rest; fits = here.fits }
+
+  pub values_written : (old new : Emitter) (ms left : List Measure) (so_far : List ℕ) → left ≡ []
+      → Follows old new (values_after js ms []) (values_after js left so_far)
+      → Writes old new (values_code js ms) so_far
+  values_written old new ms left so_far none follows = record {
+    same = λ k.
+        ap (λ l. whole new (values_after js l so_far (env_of new) k)) (sym none) ∙ follows.same k
+        ∙ ap (whole old) (values_are ms (env_of old) k);
+  }
+
+-- a condition, and a keep of it
+pub conjunct_written : (result : Result (Unit {0}) AllocError) (js : List Join) (c : Condition)
+    (old middle new : Emitter) (x : ℕ) → Writes old middle (condition_code js c) x
+    → IfOk result (λ _. new.steps.items ≡ middle.steps.items ++ Act (Keep x) ∷ [])
+    → new.next ≡ middle.next → new.loaded ≡ middle.loaded → new.found ≡ middle.found
+    → IfOk result (λ _. Wrote old new (conjunct_code js c))
+conjunct_written (Err e) js c old middle new x wrote pushed next loaded found = tt
+conjunct_written (Ok u) js c old middle new x wrote pushed next loaded found = record {
+  same = λ k.
+      act middle new (Keep x) (k (env_of new)) pushed (omega (arith, next))
+      ∙ (λ i.
+      whole middle
+      (Then (Keep x) (k (env (next i) ((ap (λ v. v.items) loaded) i) ((ap (λ v. v.items) found) i)))))
+      ∙ wrote.same (λ e x. Then (Keep x) (k e));
+}
+
+-- ---- parts have something in them
+
+pub some_operand : (a : Expression) → 1 ≤ operands_of a
+some_operand (column c) = omega arith
+some_operand (constant z) = omega arith
+some_operand (add a b) = omega (arith, some_operand a)
+some_operand (sub a b) = omega (arith, some_operand a)
+some_operand (mul a b) = omega (arith, some_operand a)
+
+pub some_comparison : (c : Condition) → 1 ≤ comparisons_of c
+some_comparison (either a b) = omega (arith, some_comparison a)
+some_comparison (both a b) = omega (arith, some_comparison a)
+some_comparison (negation a) = omega arith
+some_comparison (compare c s v) = omega arith
+some_comparison (between c a b) = omega arith

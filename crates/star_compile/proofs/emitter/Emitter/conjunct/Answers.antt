@@ -1,0 +1,13 @@
+use Rattle.star_plan.specs.Shown.{condition_shown}
+use Rattle.star_compile.proofs.Emits.{conjunct_written}
+use Rattle.star_compile.proofs.emitter.Emitter.conjunct.Goals as goal
+
+pub returns : goal.returns
+returns c =
+    let kept = c.keep.ensures in
+    record {
+      written =
+          conjunct_written c.keep.result c.args.joins.now (condition_shown c.args.condition.now)
+          c.args.self.now c.condition.new.self c.keep.new.self c.in_ok-flag.flag
+          c.in_ok-flag.ensures.written kept.pushed kept.next kept.loaded kept.found;
+    }

@@ -1,0 +1,16 @@
+-- The conjuncts so far and those to come are the conjuncts.
+use Rattle.std.proofs.Common.{◌≡◌, drop, map, true}
+use Rattle.std.specs.List.{list_all}
+use Rattle.star_plan.specs.Shown.{condition_shown}
+use Rattle.star_plan.specs.Spelled.{condition_is_spelled}
+use Rattle.star_compiled.specs.Compiled.{conjuncts_code}
+use Rattle.star_compile.proofs.Emits.{Follows}
+use Rattle.star_compile.proofs.emitter.Emitter.conjuncts.Given as goal
+
+abbrev pub invariant-loop-condition : goal.invariant-loop-condition
+invariant-loop-condition l = record {
+  rest : Follows l.fn.self l.self (conjuncts_code l.joins (map condition_shown l.conditions))
+      (conjuncts_code l.joins (map condition_shown (drop l.condition-index l.conditions)));
+  spelled : list_all condition_is_spelled
+      (map condition_shown (drop l.condition-index l.conditions)) ≡ true;
+}

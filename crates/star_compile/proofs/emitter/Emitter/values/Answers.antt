@@ -1,0 +1,33 @@
+use Rattle.std.proofs.Common.{◌+◌, drop, ◌∷◌, sym, ap, ◌∙◌, drop_of_length-le}
+use Rattle.std.proofs.lemmas.List.{drop_more}
+use Rattle.star_plan.specs.Shown.{measure_shown, measures_shown}
+use Rattle.star_compile.proofs.Emits.{room_for_value, values_written}
+use Rattle.star_compile.proofs.emitter.Emitter.values.Goals as goal
+
+pub value-requires : goal.value-requires
+value-requires c =
+    let aggregates = c.args.aggregates.now in
+    let at = c.loop-aggregate.aggregate-index in
+    record {
+      room =
+          room_for_value c.args.joins.now c.args.self.now c.loop-aggregate.self
+          (measures_shown aggregates) (measures_shown (drop at aggregates))
+          (measure_shown c.aggregate-item.result.measure)
+          (measures_shown (drop (at + 1) aggregates)) c.loop-aggregate.registers.items
+          (ap measures_shown (drop_more aggregates at c.aggregate-item.result c.loop-aggregate-test.true)
+          ∙ ap (λ a. measure_shown a.measure ∷ measures_shown (drop (at + 1) aggregates))
+          (sym c.aggregate-item.is))
+          c.loop-aggregate.invariant c.requires.room;
+    }
+
+pub returns : goal.returns
+returns c =
+    let aggregates = c.args.aggregates.now in
+    record {
+      written =
+          values_written c.args.joins.now c.args.self.now c.loop-aggregate.self
+          (measures_shown aggregates)
+          (measures_shown (drop c.loop-aggregate.aggregate-index aggregates))
+          c.loop-aggregate.registers.items (ap measures_shown
+          (drop_of_length-le aggregates c.loop-aggregate-test.false)) c.loop-aggregate.invariant;
+    }

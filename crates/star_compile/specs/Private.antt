@@ -1,0 +1,2 @@
+-- What no public clause speaks of.
+pub mod Emitted

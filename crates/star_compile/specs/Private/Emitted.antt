@@ -1,0 +1,69 @@
+-- What an emitter has written, and what of a compiled program it writes next.
+use Rattle.std.specs.Prelude.{◌≡◌, ℕ, ◌+◌, ◌≤◌, List, [], ◌∷◌, ◌++◌}
+use Rattle.star_schema.specs.declared.column.ColumnId.{ColumnId}
+use Rattle.star_plan.specs.declared.tree.Join.{Join}
+use Rattle.star_plan.specs.Meaning.{Measure, counted, summed, least, greatest}
+use Rattle.star_program.specs.Code.{Code}
+use Rattle.star_program.specs.CodeOfSteps as step
+use Rattle.star_program.specs.declared.body.Step.{Step}
+use Rattle.star_compiled.specs.Compiled.{Env, Rests, column_code, expression_code, register_count}
+use Rattle.star_compile.specs.declared.emitter.Emitter.{Emitter}
+
+-- some steps, and the code after them
+abbrev pub steps_then : List Step → Code → Code
+steps_then [] k = k
+steps_then (s ∷ steps) k = step.before s (steps_then steps k)
+
+-- what is known where an emitter writes next
+abbrev pub env_of : Emitter → Env
+env_of e = record { next = e.next; loaded = e.loaded.items; found = e.found.items }
+
+-- some code, and a count of registers
+pub record Whole : Type 0 where
+  pub code : Code
+  pub registers : ℕ
+
+-- some code behind what an emitter has written, and how many registers are numbered where it ends
+unfoldable pub whole : Emitter → Code → Whole
+whole e k = record {
+  code = steps_then e.steps.items k;
+  registers = e.next + register_count k;
+}
+
+-- an emitter has gone from the old to the new by writing a piece: whatever is to come after the
+-- piece comes after what is written
+pub record Wrote (old new : Emitter) (piece : Env → (Env → Code) → Code) : Type 0 where
+  pub same : (k : Env → Code) → whole new (k (env_of new)) ≡ whole old (piece (env_of old) k)
+
+-- the same of a piece whose result is x
+pub record Writes {A : Type 0} (old new : Emitter) (piece : Env → (Env → A → Code) → Code) (x : A)
+    : Type 0 where
+  pub same : (k : Env → A → Code) → whole new (k (env_of new) x) ≡ whole old (piece (env_of old) k)
+
+-- a piece is to be written, and with it and with some code after it a program has at most 4,096
+-- registers
+pub record HasRoom {K : Type 0} (e : Emitter) (piece : Env → K → Code) : Type 0 where
+  pub rest : K
+  pub fits : (whole e (piece (env_of e) rest)).registers ≤ 4096
+
+-- columns behind some registers
+abbrev pub keys_after : List Join → List ColumnId → List ℕ → Env → Rests → Code
+keys_after js [] so_far env k = k env so_far
+keys_after js (c ∷ cs) so_far env k =
+    column_code js c env (λ e x. keys_after js cs (so_far ++ x ∷ []) e k)
+
+-- the value of an aggregate behind some registers
+abbrev pub value_after : List Join → Measure → List ℕ → Env → Rests → Code
+value_after js counted so_far env k = k env so_far
+value_after js (summed a) so_far env k =
+    expression_code js a env (λ e x. k e (so_far ++ x ∷ []))
+value_after js (least a) so_far env k =
+    expression_code js a env (λ e x. k e (so_far ++ x ∷ []))
+value_after js (greatest a) so_far env k =
+    expression_code js a env (λ e x. k e (so_far ++ x ∷ []))
+
+-- the values of aggregates behind some registers
+abbrev pub values_after : List Join → List Measure → List ℕ → Env → Rests → Code
+values_after js [] so_far env k = k env so_far
+values_after js (m ∷ ms) so_far env k =
+    value_after js m so_far env (λ e rs. values_after js ms rs e k)

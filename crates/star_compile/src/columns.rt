@@ -1,0 +1,143 @@
+// Loads columns, each where it is used first.
+
+ghost use Rattle.std.specs.Prelude.{◌≡◌, IfOk};
+ghost use Rattle.star_schema.specs.Schema as schema;
+ghost use Rattle.star_schema.specs.declared.table.TableId.TheVariants.{Lineorder};
+ghost use Rattle.star_program.specs.World as world;
+ghost use Rattle.star_compiled.specs.Compiled as spec;
+ghost use Rattle.star_compiled.specs.Compiled.{found_in, foreign_of, loaded_in};
+ghost use Rattle.star_compile.specs.Private.Emitted.{HasRoom, Writes};
+
+use crate::emitter::Emitter;
+use star_plan::Join;
+use star_program::Operation;
+use star_schema::{ColumnId, TableId, table_of};
+use std::alloc::AllocError;
+
+fn is_table(table: TableId, other: TableId) -> bool
+    ensures { result ≡ schema.is_table table other }
+{
+    table == other
+}
+
+fn is_column(column: ColumnId, other: ColumnId) -> bool
+    ensures { result ≡ world.is_column column other }
+{
+    column == other
+}
+
+// The register of a column, if it is loaded.
+fn register_of(loaded: &[(ColumnId, u16)], column: ColumnId) -> Option<u16>
+    ensures { result ≡ loaded_in loaded.now column }
+{
+    for entry in loaded {
+        if is_column(column, entry.0) {
+            return Some(entry.1);
+        }
+    }
+    None
+}
+
+// The register of a table's row, if it is found.
+fn row_of(found: &[(TableId, u16)], table: TableId) -> Option<u16>
+    ensures { result ≡ found_in found.now table }
+{
+    for entry in found {
+        if is_table(table, entry.0) {
+            return Some(entry.1);
+        }
+    }
+    None
+}
+
+// The foreign key by which a table is joined.
+fn foreign_key(joins: &[Join], table: TableId) -> ColumnId
+    ensures { result ≡ foreign_of joins.now table }
+{
+    for join in joins {
+        if is_table(table, table_of(join.key)) {
+            return join.foreign;
+        }
+    }
+    ColumnId::LoOrderdate
+}
+
+impl Emitter {
+    fn load(&mut self, column: ColumnId, row: u16) -> Result<u16, AllocError>
+        requires room { HasRoom self.old (spec.load_code column row) }
+        ensures written { IfOk result (Writes self.old self.new (spec.load_code column row)) }
+    {
+        let register = self.assign(Operation::Load { column, row })?;
+        self.loaded.push((column, register))?;
+        Ok(register)
+    }
+
+    // The row of a table with a key.
+    fn find(&mut self, table: TableId, key: u16) -> Result<u16, AllocError>
+        requires room { HasRoom self.old (spec.find_code table key) }
+        ensures written { IfOk result (Writes self.old self.new (spec.find_code table key)) }
+    {
+        let register = self.assign(Operation::Find { table, key })?;
+        self.found.push((table, register))?;
+        Ok(register)
+    }
+
+    // A column of the fact.
+    fn fact_column(&mut self, column: ColumnId) -> Result<u16, AllocError>
+        requires room { HasRoom self.old (λ env k.
+            spec.fact_code column env k (loaded_in env.loaded column)) }
+        ensures written { IfOk result (Writes self.old self.new (λ env k.
+            spec.fact_code column env k (loaded_in env.loaded column))) }
+    {
+        match register_of(&self.loaded, column) {
+            Some(register) => Ok(register),
+            None => self.load(column, 0),
+        }
+    }
+
+    // The row of a dimension.
+    fn row(&mut self, joins: &[Join], table: TableId) -> Result<u16, AllocError>
+        requires room { HasRoom self.old (λ env k.
+            spec.row_code joins.now table env k (found_in env.found table)) }
+        ensures written { IfOk result (Writes self.old self.new (λ env k.
+            spec.row_code joins.now table env k (found_in env.found table))) }
+    {
+        match row_of(&self.found, table) {
+            Some(register) => Ok(register),
+            None => {
+                let key = self.fact_column(foreign_key(joins, table))?;
+                self.find(table, key)
+            }
+        }
+    }
+
+    // A column of the fact, or of a dimension's row.
+    fn place(&mut self, joins: &[Join], column: ColumnId) -> Result<u16, AllocError>
+        requires room { HasRoom self.old (λ env k.
+            spec.place_code joins.now column env k
+            (schema.is_table (schema.table_of column) Lineorder)) }
+        ensures written { IfOk result (Writes self.old self.new (λ env k.
+            spec.place_code joins.now column env k
+            (schema.is_table (schema.table_of column) Lineorder))) }
+    {
+        let table = table_of(column);
+        if is_table(table, TableId::Lineorder) {
+            self.load(column, 0)
+        } else {
+            let row = self.row(joins, table)?;
+            self.load(column, row)
+        }
+    }
+
+    /// The register of a column, which is loaded at its first use.
+    pub(crate) fn column(&mut self, joins: &[Join], column: ColumnId) -> Result<u16, AllocError>
+        requires room { HasRoom self.old (spec.column_code joins.now column) }
+        ensures written { IfOk result (
+            Writes self.old self.new (spec.column_code joins.now column)) }
+    {
+        match register_of(&self.loaded, column) {
+            Some(register) => Ok(register),
+            None => self.place(joins, column),
+        }
+    }
+}

@@ -1,0 +1,172 @@
+// Writes comparisons of a column with literals.
+
+ghost use Rattle.std.specs.Prelude.{◌≡◌, true, IfOk};
+ghost use Rattle.star_plan.specs.Shown.{literal_value};
+ghost use Rattle.star_plan.specs.Spelled.{value_is_spelled};
+ghost use Rattle.star_program.specs.declared.op.Operation.TheVariants.{Binary};
+ghost use Rattle.star_query.specs.declared.token.Relation.TheVariants as sign;
+ghost use Rattle.star_compiled.specs.Compiled as spec;
+ghost use Rattle.star_compile.specs.Private.Emitted.{HasRoom, Writes};
+
+use crate::emitter::Emitter;
+use crate::operands::{edge_of, end_of, start_of};
+use star_program::{Edge, Operation, Operator};
+use star_query::{Literal, Relation};
+use star_schema::ColumnId;
+use std::alloc::AllocError;
+
+impl Emitter {
+    // An operand, and an operator on a value and it.
+    fn value_first(
+        &mut self,
+        operator: Operator,
+        value: u16,
+        operand: Operation,
+    ) -> Result<u16, AllocError>
+        requires room { HasRoom self.old (spec.beside operand (λ n. Binary operator value n)) }
+        ensures written { IfOk result (
+            Writes self.old self.new (spec.beside operand (λ n. Binary operator value n))) }
+    {
+        let bound = self.write(operand)?;
+        self.write(Operation::Binary {
+            operator,
+            left: value,
+            right: bound,
+        })
+    }
+
+    // An operand, and an operator on it and a value.
+    fn operand_first(
+        &mut self,
+        operator: Operator,
+        operand: Operation,
+        value: u16,
+    ) -> Result<u16, AllocError>
+        requires room { HasRoom self.old (spec.beside operand (λ n. Binary operator n value)) }
+        ensures written { IfOk result (
+            Writes self.old self.new (spec.beside operand (λ n. Binary operator n value))) }
+    {
+        let bound = self.write(operand)?;
+        self.write(Operation::Binary {
+            operator,
+            left: bound,
+            right: value,
+        })
+    }
+
+    /// Whether a column's value, which stands in a register, lies from one literal to another.
+    pub(crate) fn between(
+        &mut self,
+        column: ColumnId,
+        value: u16,
+        from: &Literal,
+        upto: &Literal,
+    ) -> Result<u16, AllocError>
+        requires room { HasRoom self.old
+            (spec.between_code column value (literal_value from.now) (literal_value upto.now)) }
+        requires spelled { value_is_spelled (literal_value upto.now) ≡ true }
+        ensures written { IfOk result (Writes self.old self.new
+            (spec.between_code column value (literal_value from.now) (literal_value upto.now))) }
+    {
+        let from = self.write(start_of(column, from)?)?;
+        let below = self.write(end_of(column, upto)?)?;
+        self.write(Operation::Within { value, from, below })
+    }
+
+    // Whether the value equals the literal.
+    fn equal(&mut self, column: ColumnId, value: u16, literal: &Literal) -> Result<u16, AllocError>
+        requires room { HasRoom self.old
+            (spec.equal_code column value (literal_value literal.now)) }
+        requires spelled { value_is_spelled (literal_value literal.now) ≡ true }
+        ensures written { IfOk result (Writes self.old self.new
+            (spec.equal_code column value (literal_value literal.now))) }
+    {
+        match literal {
+            Literal::Number(number) => {
+                self.value_first(Operator::Equal, value, Operation::Const { number: *number })
+            }
+            Literal::Text(_) => self.between(column, value, literal, literal),
+        }
+    }
+
+    // Whether the value is at most the literal.
+    fn at_most(
+        &mut self,
+        column: ColumnId,
+        value: u16,
+        literal: &Literal,
+    ) -> Result<u16, AllocError>
+        requires room { HasRoom self.old
+            (spec.test_code sign.AtMost column value (literal_value literal.now)) }
+        ensures written { IfOk result (Writes self.old self.new
+            (spec.test_code sign.AtMost column value (literal_value literal.now))) }
+    {
+        match literal {
+            Literal::Number(number) => {
+                let bound = Operation::Const { number: *number };
+                self.value_first(Operator::LessOrEqual, value, bound)
+            }
+            Literal::Text(text) => {
+                let end = edge_of(Edge::High, column, text)?;
+                self.value_first(Operator::Less, value, end)
+            }
+        }
+    }
+
+    // Whether the value is greater than the literal.
+    fn greater(
+        &mut self,
+        column: ColumnId,
+        value: u16,
+        literal: &Literal,
+    ) -> Result<u16, AllocError>
+        requires room { HasRoom self.old
+            (spec.test_code sign.Greater column value (literal_value literal.now)) }
+        ensures written { IfOk result (Writes self.old self.new
+            (spec.test_code sign.Greater column value (literal_value literal.now))) }
+    {
+        match literal {
+            Literal::Number(number) => {
+                let bound = Operation::Const { number: *number };
+                self.operand_first(Operator::Less, bound, value)
+            }
+            Literal::Text(text) => {
+                let end = edge_of(Edge::High, column, text)?;
+                self.operand_first(Operator::LessOrEqual, end, value)
+            }
+        }
+    }
+
+    /// Whether a column's value, which stands in a register, has a relation to a literal.
+    pub(crate) fn compare(
+        &mut self,
+        relation: Relation,
+        column: ColumnId,
+        value: u16,
+        literal: &Literal,
+    ) -> Result<u16, AllocError>
+        requires room { HasRoom self.old
+            (spec.test_code relation column value (literal_value literal.now)) }
+        requires spelled { value_is_spelled (literal_value literal.now) ≡ true }
+        ensures written { IfOk result (Writes self.old self.new
+            (spec.test_code relation column value (literal_value literal.now))) }
+    {
+        match relation {
+            Relation::Equal => self.equal(column, value, literal),
+            Relation::Unequal => {
+                let flag = self.equal(column, value, literal)?;
+                self.write(Operation::Not { flag })
+            }
+            Relation::Less => {
+                let start = start_of(column, literal)?;
+                self.value_first(Operator::Less, value, start)
+            }
+            Relation::AtMost => self.at_most(column, value, literal),
+            Relation::Greater => self.greater(column, value, literal),
+            Relation::AtLeast => {
+                let start = start_of(column, literal)?;
+                self.operand_first(Operator::LessOrEqual, start, value)
+            }
+        }
+    }
+}

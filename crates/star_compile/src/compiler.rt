@@ -1,0 +1,82 @@
+// The program of a plan.
+
+ghost use Rattle.std.specs.Prelude.{◌≡◌, ◌+◌, ◌≤◌, true, map, IfOk};
+ghost use Rattle.std.specs.List.{list_all};
+ghost use Rattle.star_schema.specs.declared.table.TableId.TheVariants.{Lineorder};
+ghost use Rattle.star_plan.specs.Limits.{IsWithinLimits};
+ghost use Rattle.star_plan.specs.PlanTrees.{plan_tree};
+ghost use Rattle.star_plan.specs.Shown.{shown};
+ghost use Rattle.star_plan.specs.Sound.{IsSound};
+ghost use Rattle.star_plan.specs.Spelled.{IsSpelled, condition_is_spelled};
+ghost use Rattle.star_program.specs.Code.{Each, Stop};
+ghost use Rattle.star_program.specs.CodeOfSteps.{code_of_steps};
+ghost use Rattle.star_compiled.specs.Compiled.{compiled, register_count, turn_code};
+
+use crate::declarations::{group, shows};
+use crate::emitter::Emitter;
+use star_plan::{Plan, PlanTree};
+use star_program::{Body, Items, Parts, Program, Step};
+use star_schema::TableId;
+use std::alloc::{AllocError, Global};
+
+// A turn of the scan: the conjuncts, the keys, the numbers of the aggregates, and one put.
+fn turn(alloc: Global, tree: &PlanTree) -> Result<Emitter, AllocError>
+    requires room { 1 + register_count (turn_code (shown tree.now)) ≤ 4096 }
+    requires spelled { list_all condition_is_spelled (shown tree.now).conjuncts ≡ true }
+    ensures code { IfOk result (λ emitter.
+        code_of_steps emitter.steps.items ≡ turn_code (shown tree.now)) }
+    ensures registers { IfOk result (λ emitter.
+        emitter.next ≡ 1 + register_count (turn_code (shown tree.now))) }
+{
+    let mut emitter = Emitter::new(alloc);
+    emitter.conjuncts(&tree.joins, &tree.conjuncts)?;
+    let keys = emitter.keys(alloc, &tree.joins, &tree.keys)?;
+    let values = emitter.values(alloc, &tree.joins, &tree.aggregates)?;
+    emitter.put(keys, values)?;
+    Ok(emitter)
+}
+
+// One scan of the fact.
+fn scan(alloc: Global, turn: Vec<Step>) -> Result<Body, AllocError>
+    ensures { IfOk result (λ body. body ≡ Each Lineorder 0 (code_of_steps turn.items) Stop) }
+{
+    let mut steps = Vec::new(alloc);
+    steps.push(Step::Scan {
+        table: TableId::Lineorder,
+        target: 0,
+        body: Body::from_vec(turn),
+    })?;
+    Ok(Body::from_vec(steps))
+}
+
+// What the program is made of.
+fn parts(alloc: Global, tree: &PlanTree) -> Result<Parts, AllocError>
+    requires sound { IsSound (shown tree.now) }
+    requires limits { IsWithinLimits (shown tree.now) }
+    requires spelled { IsSpelled (shown tree.now) }
+    ensures { IfOk result (λ parts. parts ≡ compiled (shown tree.now)) }
+{
+    let Emitter { steps, next, .. } = turn(alloc, tree)?;
+    let mut groups = Vec::new(alloc);
+    groups.push(group(alloc, tree)?)?;
+    Ok(Parts {
+        registers: next,
+        groups: Items::from_vec(groups),
+        body: scan(alloc, steps)?,
+        report: 0,
+        shows: Items::from_vec(shows(alloc, tree)?),
+        sorts: Items::from_vec(tree.sorts.iter().copied().collect(alloc)?),
+    })
+}
+
+/// The program of a plan: one group, one scan of lineorder that puts each selected row, and the
+/// items and sort keys as they come. A column is loaded, and a dimension's row is found, once,
+/// where it is used first. No catalogue is looked at. It fails for want of memory alone.
+pub fn compile(alloc: Global, plan: &Plan) -> Result<Program, AllocError>
+    ensures { IfOk result (λ program. program ≡ compiled (shown (plan_tree plan.now))) }
+{
+    match Program::new(parts(alloc, plan.tree())?) {
+        Some(program) => Ok(program),
+        None => unreachable!(),
+    }
+}

@@ -1,0 +1,104 @@
+// Writes conditions, and keeps the rows for which they hold.
+
+ghost use Rattle.std.specs.Prelude.{◌≡◌, true, map, IfOk};
+ghost use Rattle.std.specs.List.{list_all};
+ghost use Rattle.star_plan.specs.Shown.{condition_shown};
+ghost use Rattle.star_plan.specs.Spelled.{condition_is_spelled};
+ghost use Rattle.star_compiled.specs.Compiled as spec;
+ghost use Rattle.star_compiled.specs.Compiled.{condition_code};
+ghost use Rattle.star_compile.specs.Private.Emitted.{HasRoom, Writes, Wrote};
+
+use crate::emitter::Emitter;
+use star_plan::{Condition, Join};
+use star_program::{Operation, Operator};
+use std::alloc::AllocError;
+
+impl Emitter {
+    // The left part, the right one, and the operator behind both.
+    #[cycle(condition)]
+    fn connective(
+        &mut self,
+        joins: &[Join],
+        operator: Operator,
+        left: &Condition,
+        right: &Condition,
+    ) -> Result<u16, AllocError>
+        requires room { HasRoom self.old (spec.binary_code
+            (condition_code joins.now (condition_shown left.now))
+            (condition_code joins.now (condition_shown right.now)) operator) }
+        requires left { condition_is_spelled (condition_shown left.now) ≡ true }
+        requires right { condition_is_spelled (condition_shown right.now) ≡ true }
+        ensures written { IfOk result (Writes self.old self.new (spec.binary_code
+            (condition_code joins.now (condition_shown left.now))
+            (condition_code joins.now (condition_shown right.now)) operator)) }
+    {
+        let left = self.condition(joins, left)?;
+        let right = self.condition(joins, right)?;
+        self.write(Operation::Binary {
+            operator,
+            left,
+            right,
+        })
+    }
+
+    /// The register of whether a condition holds.
+    #[cycle(condition)]
+    pub(crate) fn condition(
+        &mut self,
+        joins: &[Join],
+        condition: &Condition,
+    ) -> Result<u16, AllocError>
+        requires room { HasRoom self.old
+            (condition_code joins.now (condition_shown condition.now)) }
+        requires spelled { condition_is_spelled (condition_shown condition.now) ≡ true }
+        ensures written { IfOk result (Writes self.old self.new
+            (condition_code joins.now (condition_shown condition.now))) }
+    {
+        match condition {
+            Condition::Or(left, right) => self.connective(joins, Operator::Or, left, right),
+            Condition::And(left, right) => self.connective(joins, Operator::And, left, right),
+            Condition::Not(negated) => {
+                let flag = self.condition(joins, negated)?;
+                self.write(Operation::Not { flag })
+            }
+            Condition::Compare(column, relation, literal) => {
+                let value = self.column(joins, *column)?;
+                self.compare(*relation, *column, value, literal)
+            }
+            Condition::Between(column, from, upto) => {
+                let value = self.column(joins, *column)?;
+                self.between(*column, value, from, upto)
+            }
+        }
+    }
+
+    // Keeps the rows for which a condition holds.
+    fn conjunct(&mut self, joins: &[Join], condition: &Condition) -> Result<(), AllocError>
+        requires room { HasRoom self.old
+            (spec.conjunct_code joins.now (condition_shown condition.now)) }
+        requires spelled { condition_is_spelled (condition_shown condition.now) ≡ true }
+        ensures written { IfOk result (λ _. Wrote self.old self.new
+            (spec.conjunct_code joins.now (condition_shown condition.now))) }
+    {
+        let flag = self.condition(joins, condition)?;
+        self.keep(flag)
+    }
+
+    /// Keeps the rows for which all of these hold.
+    pub(crate) fn conjuncts(
+        &mut self,
+        joins: &[Join],
+        conditions: &[Condition],
+    ) -> Result<(), AllocError>
+        requires room { HasRoom self.old
+            (spec.conjuncts_code joins.now (map condition_shown conditions.now)) }
+        requires spelled { list_all condition_is_spelled (map condition_shown conditions.now) ≡ true }
+        ensures written { IfOk result (λ _. Wrote self.old self.new
+            (spec.conjuncts_code joins.now (map condition_shown conditions.now))) }
+    {
+        for condition in conditions {
+            self.conjunct(joins, condition)?;
+        }
+        Ok(())
+    }
+}

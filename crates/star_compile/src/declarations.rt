@@ -1,0 +1,100 @@
+// What a program says beside its instructions: its group, and what is shown of it in which order.
+
+ghost use Rattle.std.specs.Prelude.{◌≡◌, true, length, map, IfOk};
+ghost use Rattle.std.specs.List.{list_all};
+ghost use Rattle.star_plan.specs.Meaning.{aggregate_of};
+ghost use Rattle.star_plan.specs.Shown.{measure_shown, measures_shown, shown};
+ghost use Rattle.star_plan.specs.Sound.{is_column};
+ghost use Rattle.star_compiled.specs.Compiled as spec;
+ghost use Rattle.star_answers.specs.Answers.{shown_name};
+
+use star_plan::{Measure, PlanTree};
+use star_program::{GroupDecl, GroupKey, Items, Show};
+use star_query::Fold;
+use star_schema::{Aggregate, ColumnId, GroupColumn, is_text, name_of};
+use std::alloc::{AllocError, Global};
+
+fn key_of(column: ColumnId) -> GroupKey
+    ensures { result ≡ spec.key_of_group column }
+{
+    if is_text(column) {
+        GroupKey::Text(column)
+    } else {
+        GroupKey::Number
+    }
+}
+
+fn keys(alloc: Global, columns: &[ColumnId]) -> Result<Vec<GroupKey>, AllocError>
+    ensures { IfOk result (λ keys. keys.items ≡ map spec.key_of_group columns.now) }
+{
+    columns.iter().map(|column| key_of(*column)).collect(alloc)
+}
+
+fn aggregate(measure: &Measure) -> Aggregate
+    ensures { result ≡ aggregate_of (measure_shown measure.now) }
+{
+    match measure {
+        Measure::Count => Aggregate::Count,
+        Measure::Fold(Fold::Sum, _) => Aggregate::Sum,
+        Measure::Fold(Fold::Min, _) => Aggregate::Min,
+        Measure::Fold(Fold::Max, _) => Aggregate::Max,
+    }
+}
+
+fn aggregates(
+    alloc: Global,
+    aggregates: &[star_plan::Aggregate],
+) -> Result<Vec<Aggregate>, AllocError>
+    ensures { IfOk result (λ declared.
+        declared.items ≡ map aggregate_of (measures_shown aggregates.now)) }
+{
+    let mut declared = Vec::new(alloc);
+    for each in aggregates {
+        declared.push(aggregate(&each.measure))?;
+    }
+    Ok(declared)
+}
+
+/// The group of a plan: its keys as texts or as numbers, and its aggregates.
+pub(crate) fn group(alloc: Global, tree: &PlanTree) -> Result<GroupDecl, AllocError>
+    ensures { IfOk result (λ group. group ≡ spec.group_of (shown tree.now)) }
+{
+    Ok(GroupDecl {
+        shape: tree.shape,
+        keys: Items::from_vec(keys(alloc, &tree.keys)?),
+        aggregates: Items::from_vec(aggregates(alloc, &tree.aggregates)?),
+    })
+}
+
+// The name under which a column of the group is shown.
+fn name(alloc: Global, tree: &PlanTree, column: GroupColumn) -> Result<Vec<u8>, AllocError>
+    requires there { is_column (length tree.now.keys.items) (length tree.now.aggregates.items) column ≡ true }
+    ensures { IfOk result (λ name. name.items ≡ shown_name (shown tree.now) column) }
+{
+    match column {
+        GroupColumn::Key(place) => {
+            Vec::from_slice(alloc, name_of(tree.keys[place as usize]).as_bytes())
+        }
+        GroupColumn::Aggregate(place) => tree.aggregates[place as usize].name.clone(),
+    }
+}
+
+/// What is shown of the group, each column under its name.
+pub(crate) fn shows(alloc: Global, tree: &PlanTree) -> Result<Vec<Show>, AllocError>
+    requires there { list_all
+        (is_column (length tree.now.keys.items) (length tree.now.aggregates.items))
+        tree.now.items.items ≡ true }
+    ensures { IfOk result (λ shows.
+        shows.items ≡ map (spec.show_of (shown tree.now)) tree.now.items.items) }
+{
+    let mut shows = Vec::new(alloc);
+    for column in &tree.items {
+        let name = Items::from_vec(name(alloc, tree, *column)?);
+        let show = Show {
+            name,
+            column: *column,
+        };
+        shows.push(show)?;
+    }
+    Ok(shows)
+}

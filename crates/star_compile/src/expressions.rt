@@ -1,0 +1,60 @@
+// Writes expressions.
+
+ghost use Rattle.std.specs.Prelude.{IfOk};
+ghost use Rattle.star_plan.specs.Shown.{expression_shown};
+ghost use Rattle.star_compiled.specs.Compiled as spec;
+ghost use Rattle.star_compiled.specs.Compiled.{expression_code};
+ghost use Rattle.star_compile.specs.Private.Emitted.{HasRoom, Writes};
+
+use crate::emitter::Emitter;
+use star_plan::{Expression, Join};
+use star_program::{Operation, Operator};
+use std::alloc::AllocError;
+
+impl Emitter {
+    // The left part, the right one, and the operator behind both.
+    #[cycle(expression)]
+    fn arithmetic(
+        &mut self,
+        joins: &[Join],
+        operator: Operator,
+        left: &Expression,
+        right: &Expression,
+    ) -> Result<u16, AllocError>
+        requires room { HasRoom self.old (spec.binary_code
+            (expression_code joins.now (expression_shown left.now))
+            (expression_code joins.now (expression_shown right.now)) operator) }
+        ensures written { IfOk result (Writes self.old self.new (spec.binary_code
+            (expression_code joins.now (expression_shown left.now))
+            (expression_code joins.now (expression_shown right.now)) operator)) }
+    {
+        let left = self.expression(joins, left)?;
+        let right = self.expression(joins, right)?;
+        self.write(Operation::Binary {
+            operator,
+            left,
+            right,
+        })
+    }
+
+    /// The register of an expression's number.
+    #[cycle(expression)]
+    pub(crate) fn expression(
+        &mut self,
+        joins: &[Join],
+        expression: &Expression,
+    ) -> Result<u16, AllocError>
+        requires room { HasRoom self.old
+            (expression_code joins.now (expression_shown expression.now)) }
+        ensures written { IfOk result (Writes self.old self.new
+            (expression_code joins.now (expression_shown expression.now))) }
+    {
+        match expression {
+            Expression::Column(column) => self.column(joins, *column),
+            Expression::Number(number) => self.write(Operation::Const { number: *number }),
+            Expression::Add(left, right) => self.arithmetic(joins, Operator::Add, left, right),
+            Expression::Sub(left, right) => self.arithmetic(joins, Operator::Sub, left, right),
+            Expression::Mul(left, right) => self.arithmetic(joins, Operator::Mul, left, right),
+        }
+    }
+}

@@ -1,0 +1,70 @@
+// Writes what is put of a row: its keys, and a number for each aggregate that isn't a count.
+
+ghost use Rattle.std.specs.Prelude.{IfOk};
+ghost use Rattle.star_plan.specs.Shown.{measure_shown, measures_shown};
+ghost use Rattle.star_compiled.specs.Compiled.{keys_code, values_code};
+ghost use Rattle.star_compile.specs.Private.Emitted.{HasRoom, Writes, value_after};
+
+use crate::emitter::Emitter;
+use star_plan::{Aggregate, Join, Measure};
+use star_schema::ColumnId;
+use std::alloc::{AllocError, Global};
+
+impl Emitter {
+    /// The registers of columns, in their order.
+    pub(crate) fn keys(
+        &mut self,
+        alloc: Global,
+        joins: &[Join],
+        columns: &[ColumnId],
+    ) -> Result<Vec<u16>, AllocError>
+        requires room { HasRoom self.old (keys_code joins.now columns.now) }
+        ensures written { IfOk result (λ registers.
+            Writes self.old self.new (keys_code joins.now columns.now) registers.items) }
+    {
+        let mut registers = Vec::new(alloc);
+        for column in columns {
+            let key = self.column(joins, *column)?;
+            registers.push(key)?;
+        }
+        Ok(registers)
+    }
+
+    // The register of an aggregate's number, behind those so far; of a count none.
+    fn value(
+        &mut self,
+        joins: &[Join],
+        measure: &Measure,
+        registers: &mut Vec<u16>,
+    ) -> Result<(), AllocError>
+        requires room { HasRoom self.old
+            (value_after joins.now (measure_shown measure.now) registers.old.items) }
+        ensures written { IfOk result (λ _. Writes self.old self.new
+            (value_after joins.now (measure_shown measure.now) registers.old.items)
+            registers.new.items) }
+    {
+        if let Measure::Fold(_, expression) = measure {
+            let number = self.expression(joins, expression)?;
+            registers.push(number)?;
+        }
+        Ok(())
+    }
+
+    /// The registers of the aggregates' numbers, in their order; a count has none.
+    pub(crate) fn values(
+        &mut self,
+        alloc: Global,
+        joins: &[Join],
+        aggregates: &[Aggregate],
+    ) -> Result<Vec<u16>, AllocError>
+        requires room { HasRoom self.old (values_code joins.now (measures_shown aggregates.now)) }
+        ensures written { IfOk result (λ registers. Writes self.old self.new
+            (values_code joins.now (measures_shown aggregates.now)) registers.items) }
+    {
+        let mut registers = Vec::new(alloc);
+        for aggregate in aggregates {
+            self.value(joins, &aggregate.measure, &mut registers)?;
+        }
+        Ok(registers)
+    }
+}

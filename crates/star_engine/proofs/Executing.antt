@@ -1,0 +1,174 @@
+-- What is told of a program that is checked and then run.
+use Rattle.std.proofs.Common.{◌≡◌, ◌≤◌, ◌<◌, ℕ, List, Some, None, arith, inl, inr, length, refl, subst}
+use Rattle.std.specs.Prelude.{◌↔◌, Result, Ok, Err}
+use Rattle.star_common.specs.Memory.{UnlessMemory}
+use Rattle.star_schema.specs.declared.table.TableId.{TableId}
+use Rattle.star_schema.specs.Database.{Database}
+use Rattle.star_schema.specs.Loadable.{IsLoadable, database_of}
+use Rattle.star_program.specs.declared.outcome.Outcome.{Outcome}
+use Rattle.star_program.specs.declared.program.Parts.{Parts}
+use Rattle.star_admission.specs.Admissible as admissible
+use Rattle.star_admission.specs.Admissible.{first_refusal}
+use Rattle.star_admission.specs.Admissible.{IsAdmissible}
+use Rattle.star_report.specs.Report.{report_text}
+use Rattle.star_verify.specs.declared.refusal.Refusal.{Refusal}
+use Rattle.star_verify.specs.declared.refusal.Refusal.TheVariants as why
+use Rattle.star_verify.specs.Shown.{refusal_shown}
+use Rattle.star_world.specs.WorldOf.{world_of}
+use Rattle.star_engine.specs.declared.fault.EngineFault.{EngineFault}
+use Rattle.star_engine.specs.declared.fault.EngineFault.TheVariants.{OutOfMemory, Refused, Write}
+use Rattle.star_engine.specs.Answered.{Change}
+use Rattle.star_engine.specs.Executions.{IsQuote, IsQuoteOf, IsRefusal, IsTold, IsToldOf, IsUntold, quote_over}
+use Rattle.star_engine.specs.Faults.{fault_of_refusal}
+use Rattle.star_engine.specs.Loads.{IsProgramOf}
+use Rattle.star_engine.specs.Noted.{BeforeTheReport, BehindTheReport, InTheReport, IsBroken, IsNoted, Telling}
+use Rattle.star_engine.specs.Notes.{counts_line, quote_line}
+use Rattle.star_engine.specs.Private.Steps.{IsNotVerified, IsRun, OrMemory}
+
+-- ---- notes have bytes
+
+pub quote_some : (visits : ℕ) → 0 < length (quote_line visits)
+unfolding quote_line
+quote_some visits = omega arith
+
+pub counts_some : (visits lookups updates : ℕ) → 0 < length (counts_line visits lookups updates)
+unfolding counts_line
+counts_some visits lookups updates = omega arith
+
+-- ---- the check
+
+-- nothing refuses a program exactly where it is accepted
+abbrev RefusedByNone : Database → ℕ → Parts → Type 0
+RefusedByNone database most program =
+    (first_refusal (world_of database) most program ≡ None)
+    ↔ (IsAdmissible (world_of database) program × (quote_over database program ≤ most))
+
+refusal_of : (database : Database) (most : ℕ) (program : Parts) (refusal : Refusal)
+    (shown : admissible.Refusal) → RefusedByNone database most program
+    → first_refusal (world_of database) most program ≡ Some shown
+    → refusal_shown refusal ≡ Some shown → IsRefusal database most program refusal
+refusal_of database most program refusal shown none first told = record {
+  not_accepted = λ yes. let is = none.1 (yes.admissible, yes.cheap) in cc;
+  shown = shown;
+  first = first;
+  told = told;
+}
+
+-- what the check tells is what refuses the program first
+pub refused : (database : Database) (most : ℕ) (program : Parts) (refusal : Refusal)
+    → RefusedByNone database most program → UnlessMemory why.OutOfMemory refusal
+    (first_refusal (world_of database) most program ≡ refusal_shown refusal)
+    → OrMemory (IsNotVerified database most program) (fault_of_refusal refusal)
+refused database most program why.OutOfMemory none is = tt
+refused database most program (why.TooCostly visits) none is =
+    elim is [
+      | inl memory ↦ absurd (cc)
+      | inr first ↦ refusal_of database most program (why.TooCostly visits) _ none first refl
+    ]
+refused database most program (why.Refused at reason) none is =
+    elim is [
+      | inl memory ↦ absurd (cc)
+      | inr first ↦ refusal_of database most program (why.Refused at reason) _ none first refl
+    ]
+refused database most program (why.BadShow place) none is =
+    elim is [
+      | inl memory ↦ absurd (cc)
+      | inr first ↦ refusal_of database most program (why.BadShow place) _ none first refl
+    ]
+
+-- what is told of a run
+pub told_run : (database : Database) (most : ℕ) (program : Parts) (outcome : Outcome)
+    → IsRun database most program outcome
+    → IsTold database most program (record {
+      quoted = quote_line (quote_over database program);
+      report = report_text outcome.names outcome.rows;
+      done = counts_line outcome.visits outcome.lookups outcome.updates;
+    })
+told_run database most program outcome has_run = record {
+  accepted = has_run.accepted;
+  outcome = outcome;
+  yields = has_run.yields;
+  within = has_run.within;
+  quoted = refl;
+  reported = refl;
+  done = refl;
+}
+
+-- ---- the program of a file, over the rows of five texts
+
+told_of_file : (most visits : ℕ) (texts : TableId → List ℕ) (file : List ℕ) (program : Parts)
+    (telling : Telling) → IsLoadable most texts → IsProgramOf file program
+    → IsTold (database_of texts) visits program telling → IsToldOf most visits texts file telling
+told_of_file most visits texts file program telling loadable of_file told = record {
+  loadable = loadable;
+  program = program;
+  of_file = of_file;
+  told = told;
+}
+
+quote_of_file : (most : ℕ) (texts : TableId → List ℕ) (file : List ℕ) (program : Parts)
+    (note : List ℕ) → IsLoadable most texts → IsProgramOf file program
+    → IsQuote (database_of texts) program note → IsQuoteOf most texts file note
+quote_of_file most texts file program note loadable of_file quoted = record {
+  loadable = loadable;
+  program = program;
+  of_file = of_file;
+  quoted = quoted;
+}
+
+broken_of_file : {S N : Type 0} (out : Change S) (notes : Change N) (most visits : ℕ)
+    (texts : TableId → List ℕ) (file : List ℕ) (program : Parts) (sent : ℕ) → IsLoadable most texts
+    → IsProgramOf file program
+    → IsBroken out notes (IsQuote (database_of texts) program) (IsTold (database_of texts) visits program) sent
+    → IsBroken out notes (IsQuoteOf most texts file) (IsToldOf most visits texts file) sent
+broken_of_file out notes most visits texts file program sent loadable of_file broken =
+    elim broken [
+      | BeforeTheReport quoted quote noted part same none ↦
+          BeforeTheReport quoted (quote_of_file most texts file program quoted loadable of_file quote) noted part same none
+      | InTheReport telling told noted part ↦
+          InTheReport telling (told_of_file most visits texts file program telling loadable of_file told) noted part
+      | BehindTheReport telling told noted behind part gained all ↦
+          BehindTheReport telling (told_of_file most visits texts file program telling loadable of_file told) noted behind part gained all
+    ]
+
+of_file_over : {S N : Type 0} (out : Change S) (notes : Change N) (most visits : ℕ)
+    (texts : TableId → List ℕ) (file : List ℕ) (program : Parts)
+    (result : Result (Unit {0}) EngineFault) → IsLoadable most texts → IsProgramOf file program
+    → IsNoted out notes (IsQuote (database_of texts) program) (IsTold (database_of texts) visits program)
+    (IsNotVerified (database_of texts) visits program) result
+    → IsNoted out notes (IsQuoteOf most texts file) (IsToldOf most visits texts file)
+    (IsUntold most visits texts file) result
+of_file_over out notes most visits texts file program (Ok answer) loadable of_file noted = (
+  noted.0,
+  told_of_file most visits texts file program noted.0 loadable of_file noted.1,
+  noted.2,
+  noted.3,
+)
+of_file_over out notes most visits texts file program (Err OutOfMemory) loadable of_file noted = (
+  noted.0,
+  elim noted.1 [
+    | inl same ↦ inl same
+    | inr q ↦ inr (q.0, quote_of_file most texts file program q.0 loadable of_file q.1, q.2)
+  ],
+)
+of_file_over out notes most visits texts file program (Err (Write sent)) loadable of_file noted =
+    broken_of_file out notes most visits texts file program sent loadable of_file noted
+of_file_over out notes most visits texts file program (Err (Refused refusal)) loadable of_file noted = (
+  record { loadable = loadable; program = program; of_file = of_file; refused = noted.0 },
+  noted.1,
+  (noted.2.0, quote_of_file most texts file program noted.2.0 loadable of_file noted.2.1, noted.2.2),
+)
+of_file_over out notes most visits texts file program (Err _) loadable of_file noted = absurd noted.0
+
+pub of_file : {S N : Type 0} (out : Change S) (notes : Change N) (most visits : ℕ)
+    (texts : TableId → List ℕ) (file : List ℕ) (database : Database) (program : Parts)
+    (result : Result (Unit {0}) EngineFault) → database ≡ database_of texts
+    → IsLoadable most texts → IsProgramOf file program
+    → IsNoted out notes (IsQuote database program) (IsTold database visits program)
+    (IsNotVerified database visits program) result
+    → IsNoted out notes (IsQuoteOf most texts file) (IsToldOf most visits texts file)
+    (IsUntold most visits texts file) result
+of_file out notes most visits texts file database program result same loadable spelled noted =
+    of_file_over out notes most visits texts file program result loadable spelled
+    (subst (λ d. IsNoted out notes (IsQuote d program) (IsTold d visits program)
+    (IsNotVerified d visits program) result) same noted)

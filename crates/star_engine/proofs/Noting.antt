@@ -1,0 +1,70 @@
+-- What a call that runs a program answers, by its steps.
+use Rattle.std.proofs.Common.{◌≡◌, ◌+◌, ◌++◌, ℕ, List, Option, Bool, arith, inl, inr, length, refl, subst, sym, take}
+use Rattle.std.specs.Prelude.{Result, Ok, Err}
+use Rattle.std.proofs.KnownBytes.{Appends-trans}
+use Rattle.std.proofs.Math.Seq.{take-append-add}
+use Rattle.std.proofs.lemmas.List.{length-append}
+use Rattle.star_engine.specs.declared.fault.EngineFault.{EngineFault}
+use Rattle.star_engine.specs.declared.fault.EngineFault.TheVariants.{OutOfMemory, Write}
+use Rattle.star_engine.specs.Answered.{Change, HasGained, HasGainedPart, IsUntouched, change}
+use Rattle.star_engine.specs.Noted.{BeforeTheReport, BehindTheReport, InTheReport, IsNoted, Telling}
+use Rattle.star_engine.specs.Private.Steps.{IsDelivered, IsPart, IsWritten}
+
+-- the report was not sent whole, and no note is written behind it
+pub report_broken : {S N : Type 0} (out : Change S) (notes : Change N) (text report done : List ℕ)
+    (fault : EngineFault) → text ≡ report → IsWritten out text (Err fault) → IsUntouched notes
+    → IsDelivered out notes report done (Err fault)
+report_broken out notes text report done (Write sent) is part same =
+    inl (subst (λ t. HasGainedPart out t sent) is part, same)
+report_broken out notes text report done _ is part same = absurd part
+
+-- the note of the quote was not written whole
+pub note_broken : {S N : Type 0} (out : Change S) (notes : Change N) (IsQuote : List ℕ → Type 0)
+    (IsTold : Telling → Type 0) (IsDue : EngineFault → Type 0) (note : List ℕ)
+    (result : Result (Unit {0}) EngineFault)
+    → result ≡ Err (Write 0) → IsQuote note → IsPart notes note → IsUntouched out
+    → IsNoted out notes IsQuote IsTold IsDue result
+note_broken out notes IsQuote IsTold IsDue note result is quote part same =
+    rw is (BeforeTheReport note quote part.0 part.1 same refl)
+
+-- a note behind another
+gained_both : {N : Type 0} (contents : N → Option (List ℕ)) (is_failed : N → Bool) (old mid new : N)
+    (first second : List ℕ) → HasGained (change contents is_failed old mid) first
+    → HasGained (change contents is_failed mid new) second
+    → HasGained (change contents is_failed old new) (first ++ second)
+gained_both contents is_failed old mid new first second h k = record {
+  gained = Appends-trans (contents old) (contents mid) (contents new) first second h.gained k.gained;
+  not_failed = k.not_failed;
+}
+
+gained_part : {N : Type 0} (contents : N → Option (List ℕ)) (is_failed : N → Bool) (old mid new : N)
+    (first second : List ℕ) (noted : ℕ) → HasGained (change contents is_failed old mid) first
+    → HasGainedPart (change contents is_failed mid new) second noted
+    → HasGainedPart (change contents is_failed old new) (first ++ second) (length first + noted)
+gained_part contents is_failed old mid new first second noted h k = record {
+  part = omega (arith, length-append first second, k.part);
+  gained = rw (take-append-add first second noted)
+      (Appends-trans (contents old) (contents mid) (contents new) first (take noted second) h.gained k.gained);
+  failed = k.failed;
+}
+
+-- the report and the last note are written behind the note of the quote
+pub delivered : {S N : Type 0} (out : Change S) (contents : N → Option (List ℕ))
+    (is_failed : N → Bool) (old mid new : N) (IsQuote : List ℕ → Type 0) (IsTold : Telling → Type 0)
+    (IsDue : EngineFault → Type 0) (telling : Telling) (result : Result (Unit {0}) EngineFault)
+    → IsQuote telling.quoted → IsTold telling
+    → HasGained (change contents is_failed old mid) telling.quoted
+    → IsDelivered out (change contents is_failed mid new) telling.report telling.done result
+    → IsNoted out (change contents is_failed old new) IsQuote IsTold IsDue result
+delivered out contents is_failed old mid new IsQuote IsTold IsDue telling (Ok answer) quote told noted sent =
+    (telling, told, sent.0, gained_both contents is_failed old mid new telling.quoted telling.done noted sent.1)
+delivered out contents is_failed old mid new IsQuote IsTold IsDue telling (Err OutOfMemory) quote told noted sent =
+    (sent.0, inr (telling.quoted, quote, subst (λ n. HasGained (change contents is_failed old n) telling.quoted) (sym sent.1) noted))
+delivered out contents is_failed old mid new IsQuote IsTold IsDue telling (Err (Write count)) quote told noted sent =
+    elim sent [
+      | inl p ↦ InTheReport telling told
+          (subst (λ n. HasGained (change contents is_failed old n) telling.quoted) (sym p.1) noted) p.0
+      | inr p ↦ BehindTheReport telling told (length telling.quoted + p.2.0) (omega arith)
+          (gained_part contents is_failed old mid new telling.quoted telling.done p.2.0 noted p.2.1) p.0 p.1
+    ]
+delivered out contents is_failed old mid new IsQuote IsTold IsDue telling (Err _) quote told noted sent = absurd sent

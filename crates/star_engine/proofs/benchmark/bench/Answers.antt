@@ -1,0 +1,28 @@
+use Rattle.std.proofs.Common.{◌∙◌, ap, subst, sym}
+use Rattle.std.specs.Prelude.{Err}
+use Rattle.std.proofs.lemmas.Result.{err_from_is_err_and}
+use Rattle.star_catalogue.specs.Load.{text_of}
+use Rattle.star_engine.specs.Answered.{change}
+use Rattle.star_engine.specs.Bench.{IsBench, IsUnbenched}
+use Rattle.star_engine.proofs.BenchAnswers.{bench_some, unwritten}
+use Rattle.star_engine.proofs.benchmark.bench.Goals as goal
+
+pub write_text-requires : goal.write_text-requires
+write_text-requires g c =
+    rw c.as_slice.ensures.value
+    (bench_some c.args.limits.rows c.args.limits.visits (text_of c.args.texts.now)
+    c.in_ok-found.found.text.items c.in_ok-found.ensures.0)
+
+pub returns-in_err-write_text-clause-answered : goal.returns-in_err-write_text-clause-answered
+returns-in_err-write_text-clause-answered g c =
+    let from = c.from_residual-in_err-write_text in
+    let p = err_from_is_err_and from.result from.ensures.1 in
+    let rows = c.args.limits.rows in
+    let most = c.args.limits.visits in
+    let texts = text_of c.args.texts.now in
+    unwritten
+    (change g.S.Sink.contents g.S.Sink.is_failed c.args.out.now c.write_text.new.out)
+    c.as_slice.result.now (IsBench rows most texts) (IsUnbenched rows texts) from.result
+    c.in_err-write_text.field-0.0 (p.1 ∙ ap Err p.2)
+    (subst (IsBench rows most texts) (sym c.as_slice.ensures.value) c.in_ok-found.ensures.0)
+    c.in_err-write_text.ensures

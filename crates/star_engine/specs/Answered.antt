@@ -1,0 +1,48 @@
+-- What a call answers that writes a text: a whole text that is due, or why not.
+use Rattle.std.specs.Prelude.{◌≡◌, ◌<◌, ℕ, List, Option, Bool, true, false, Result, Ok, Err, length, take}
+use Rattle.std.specs.Io.KnownBytes.{Appends}
+use Rattle.star_engine.specs.declared.fault.EngineFault.{EngineFault}
+use Rattle.star_engine.specs.declared.fault.EngineFault.TheVariants.{OutOfMemory, Write}
+
+-- a sink before and after a call, with the bytes that such a sink holds, where they are known, and
+-- whether a write to it has failed
+pub record Change (S : Type 0) : Type 0 where
+  pub contents : S → Option (List ℕ)
+  pub is_failed : S → Bool
+  pub old : S
+  pub new : S
+
+abbrev pub change : {S : Type 0} → (S → Option (List ℕ)) → (S → Bool) → S → S → Change S
+change contents is_failed old new = record {
+  contents = contents;
+  is_failed = is_failed;
+  old = old;
+  new = new;
+}
+
+abbrev pub IsUntouched : {S : Type 0} → Change S → Type 0
+IsUntouched sink = sink.new ≡ sink.old
+
+-- the sink has gained a whole text, and is not failed
+pub record HasGained {S : Type 0} (sink : Change S) (text : List ℕ) : Type 0 where
+  pub gained : Appends (sink.contents sink.old) (sink.contents sink.new) text
+  pub not_failed : sink.is_failed sink.new ≡ false
+
+-- the sink has gained the first bytes of a text, so many and not all, and is failed
+pub record HasGainedPart {S : Type 0} (sink : Change S) (text : List ℕ) (sent : ℕ)
+    : Type 0 where
+  pub part : sent < length text
+  pub gained : Appends (sink.contents sink.old) (sink.contents sink.new) (take sent text)
+  pub failed : sink.is_failed sink.new ≡ true
+
+-- what a call answers that writes a text to a sink. Ok: the sink has gained the whole of a text that
+-- is due. Want of memory may be told at any time before anything is written. A failed write is told
+-- with how many bytes of such a text were sent. Any other fault is one that is due, and the sink is as
+-- it was
+abbrev pub IsAnswered : {S A : Type 0} → Change S → (List ℕ → Type 0) → (EngineFault → Type 0)
+    → Result A EngineFault → Type 0
+IsAnswered sink IsText IsDue (Ok answer) = (text : List ℕ) × IsText text × HasGained sink text
+IsAnswered sink IsText IsDue (Err OutOfMemory) = IsUntouched sink
+IsAnswered sink IsText IsDue (Err (Write sent)) =
+    (text : List ℕ) × IsText text × HasGainedPart sink text sent
+IsAnswered sink IsText IsDue (Err fault) = IsDue fault × IsUntouched sink

@@ -1,0 +1,85 @@
+-- What is told of a program that is checked and then run over five tables.
+use Rattle.std.specs.Prelude.{◌≡◌, ◌≤◌, ℕ, List, Some}
+use Rattle.star_schema.specs.declared.table.TableId.{TableId}
+use Rattle.star_schema.specs.Database.{Database}
+use Rattle.star_schema.specs.Loadable.{IsLoadable, database_of}
+use Rattle.star_program.specs.declared.outcome.Outcome.{Outcome}
+use Rattle.star_program.specs.declared.program.Parts.{Parts}
+use Rattle.star_program.specs.Run.{run_of}
+use Rattle.star_admission.specs.Admissible as admissible
+use Rattle.star_admission.specs.Admissible.{IsAdmissible, first_refusal}
+use Rattle.star_admission.specs.Quote.{quote}
+use Rattle.star_verify.specs.declared.refusal.Refusal.{Refusal}
+use Rattle.star_verify.specs.Shown.{refusal_shown}
+use Rattle.star_machine.specs.Trials.{Yields}
+use Rattle.star_report.specs.Report.{report_text}
+use Rattle.star_world.specs.WorldOf.{world_of}
+use Rattle.star_engine.specs.declared.fault.EngineFault.{EngineFault}
+use Rattle.star_engine.specs.declared.fault.EngineFault.TheVariants.{Refused}
+use Rattle.star_engine.specs.Loads.{IsProgramOf, IsUnread}
+use Rattle.star_engine.specs.Noted.{Telling}
+use Rattle.star_engine.specs.Notes.{counts_line, quote_line}
+
+-- how many visits of a program over these tables are quoted
+abbrev pub quote_over : Database → Parts → ℕ
+quote_over database program = quote (world_of database).size program
+
+-- the note of that
+abbrev pub IsQuote : Database → Parts → List ℕ → Type 0
+IsQuote database program text = text ≡ quote_line (quote_over database program)
+
+-- nothing refuses a program over these tables where so many visits are allowed
+pub record IsAccepted (database : Database) (most : ℕ) (program : Parts) : Type 0 where
+  pub admissible : IsAdmissible (world_of database) program
+  pub cheap : quote_over database program ≤ most
+
+-- what refuses it first
+pub record IsRefusal (database : Database) (most : ℕ) (program : Parts) (refusal : Refusal)
+    : Type 0 where
+  pub not_accepted : ¬ IsAccepted database most program
+  pub shown : admissible.Refusal
+  pub first : first_refusal (world_of database) most program ≡ Some shown
+  pub told : refusal_shown refusal ≡ Some shown
+
+-- what is told of an accepted program: its quote, the printed rows of its run, which visits no more
+-- than that, and what the run did
+pub record IsTold (database : Database) (most : ℕ) (program : Parts) (telling : Telling)
+    : Type 0 where
+  pub accepted : IsAccepted database most program
+  pub outcome : Outcome
+  pub yields : Yields (world_of database) program (run_of (world_of database) program) outcome
+  pub within : outcome.visits ≤ quote_over database program
+  pub quoted : IsQuote database program telling.quoted
+  pub reported : telling.report ≡ report_text outcome.names outcome.rows
+  pub done : telling.done ≡ counts_line outcome.visits outcome.lookups outcome.updates
+
+-- ---- the program of a file over five texts
+
+-- the note of its quote
+pub record IsQuoteOf (most : ℕ) (texts : TableId → List ℕ) (file : List ℕ) (text : List ℕ)
+    : Type 0 where
+  pub loadable : IsLoadable most texts
+  pub program : Parts
+  pub of_file : IsProgramOf file program
+  pub quoted : IsQuote (database_of texts) program text
+
+-- what is told of it
+pub record IsToldOf (most visits : ℕ) (texts : TableId → List ℕ) (file : List ℕ)
+    (telling : Telling) : Type 0 where
+  pub loadable : IsLoadable most texts
+  pub program : Parts
+  pub of_file : IsProgramOf file program
+  pub told : IsTold (database_of texts) visits program telling
+
+-- it is refused
+pub record IsRefusalOf (most visits : ℕ) (texts : TableId → List ℕ) (file : List ℕ)
+    (refusal : Refusal) : Type 0 where
+  pub loadable : IsLoadable most texts
+  pub program : Parts
+  pub of_file : IsProgramOf file program
+  pub refused : IsRefusal (database_of texts) visits program refusal
+
+-- why nothing is told of it: the file is read first, then the tables, and then it is checked
+abbrev pub IsUntold : ℕ → ℕ → (TableId → List ℕ) → List ℕ → EngineFault → Type 0
+IsUntold most visits texts file (Refused refusal) = IsRefusalOf most visits texts file refusal
+IsUntold most visits texts file fault = IsUnread most texts file fault

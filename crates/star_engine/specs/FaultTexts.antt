@@ -1,0 +1,20 @@
+-- The words of the faults of an answer.
+use Rattle.std.specs.Prelude.{◌++◌, ℕ, List, codes, decimal}
+use Rattle.star_query.specs.FaultTexts as query
+use Rattle.star_plan.specs.FaultTexts as plan
+use Rattle.star_program.specs.Text.FaultTexts as program
+use Rattle.star_catalogue.specs.FaultTexts as load
+use Rattle.star_verify.specs.RefusalTexts.{refusal_text}
+use Rattle.star_machine.specs.FaultTexts as trial
+use Rattle.star_engine.specs.declared.fault.EngineFault.{EngineFault}
+use Rattle.star_engine.specs.declared.fault.EngineFault.TheVariants.{OutOfMemory, Query, Plan, Program, Load, Refused, Trial, Write}
+
+unfoldable pub fault_text : EngineFault → List ℕ
+fault_text OutOfMemory = codes "memory"
+fault_text (Query fault) = codes "query " ++ query.fault_text fault
+fault_text (Plan fault) = codes "query " ++ plan.fault_text fault
+fault_text (Program fault) = codes "program " ++ program.fault_text fault
+fault_text (Load fault) = codes "load " ++ load.fault_text fault
+fault_text (Refused refusal) = refusal_text refusal
+fault_text (Trial fault) = trial.fault_text fault
+fault_text (Write sent) = codes "write " ++ decimal sent

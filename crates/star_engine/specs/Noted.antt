@@ -1,0 +1,48 @@
+-- What a call answers that runs a program: its report goes to one sink, and a note before it and one
+-- behind it to another.
+use Rattle.std.specs.Prelude.{◌≡◌, ◌≤◌, ◌++◌, ◌⊎◌, ℕ, List, Result, Ok, Err, length}
+use Rattle.star_engine.specs.declared.fault.EngineFault.{EngineFault}
+use Rattle.star_engine.specs.declared.fault.EngineFault.TheVariants.{OutOfMemory, Refused, Write}
+use Rattle.star_engine.specs.Answered.{Change, HasGained, HasGainedPart, IsUntouched}
+
+-- what is told of a run: a note of how many visits are quoted, the report, and a note of what was done
+pub record Telling : Type 0 where
+  pub quoted : List ℕ
+  pub report : List ℕ
+  pub done : List ℕ
+
+-- the note of the quote was written and no more
+abbrev pub IsQuoted : {N : Type 0} → Change N → (List ℕ → Type 0) → Type 0
+IsQuoted notes IsQuote = (quoted : List ℕ) × IsQuote quoted × HasGained notes quoted
+
+-- which write failed, and how many bytes of the report were sent
+pub data IsBroken {S N : Type 0} (out : Change S) (notes : Change N) (IsQuote : List ℕ → Type 0)
+    (IsTold : Telling → Type 0) (sent : ℕ) : Type 0 where
+  -- that of the note of the quote
+  BeforeTheReport : (quoted : List ℕ) → IsQuote quoted → (noted : ℕ)
+      → HasGainedPart notes quoted noted → IsUntouched out → sent ≡ 0
+      → IsBroken out notes IsQuote IsTold sent
+  InTheReport : (telling : Telling) → IsTold telling → HasGained notes telling.quoted
+      → HasGainedPart out telling.report sent → IsBroken out notes IsQuote IsTold sent
+  -- that of the last note
+  BehindTheReport : (telling : Telling) → IsTold telling → (noted : ℕ)
+      → length telling.quoted ≤ noted
+      → HasGainedPart notes (telling.quoted ++ telling.done) noted → HasGained out telling.report
+      → sent ≡ length telling.report → IsBroken out notes IsQuote IsTold sent
+
+-- Ok: both sinks have gained the whole of what is told of a run. Want of memory leaves the report's
+-- sink as it was. A refusal of the program is told behind the note of its quote, and any other fault
+-- that is due before all notes
+abbrev pub IsNoted : {S N : Type 0} → Change S → Change N → (List ℕ → Type 0)
+    → (Telling → Type 0) → (EngineFault → Type 0) → Result (Unit {0}) EngineFault → Type 0
+IsNoted out notes IsQuote IsTold IsDue (Ok answer) =
+    (telling : Telling) × IsTold telling × HasGained out telling.report
+    × HasGained notes (telling.quoted ++ telling.done)
+IsNoted out notes IsQuote IsTold IsDue (Err OutOfMemory) =
+    IsUntouched out × (IsUntouched notes ⊎ IsQuoted notes IsQuote)
+IsNoted out notes IsQuote IsTold IsDue (Err (Write sent)) =
+    IsBroken out notes IsQuote IsTold sent
+IsNoted out notes IsQuote IsTold IsDue (Err (Refused refusal)) =
+    IsDue (Refused refusal) × IsUntouched out × IsQuoted notes IsQuote
+IsNoted out notes IsQuote IsTold IsDue (Err fault) =
+    IsDue fault × IsUntouched out × IsUntouched notes

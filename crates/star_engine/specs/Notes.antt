@@ -1,0 +1,13 @@
+-- The notes of a run.
+use Rattle.std.specs.Prelude.{◌++◌, ℕ, List, codes, decimal}
+
+-- how many visits are quoted
+unfoldable pub quote_line : ℕ → List ℕ
+quote_line visits = codes "quote " ++ (decimal visits ++ codes "\n")
+
+-- how many turns of scans were begun, how many finds reached, and how many puts done
+unfoldable pub counts_line : (visits lookups updates : ℕ) → List ℕ
+counts_line visits lookups updates =
+    codes "visits "
+    ++ (decimal visits
+    ++ (codes " lookups " ++ (decimal lookups ++ (codes " updates " ++ (decimal updates ++ codes "\n")))))

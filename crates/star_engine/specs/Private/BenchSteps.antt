@@ -1,0 +1,57 @@
+-- What the steps of `bench` make.
+use Rattle.std.specs.Prelude.{◌≡◌, ◌++◌, ◌&&◌, ℕ, Bool, true, false, List, [], ◌∷◌, Contains}
+use Rattle.star_schema.specs.declared.table.TableId.{TableId}
+use Rattle.star_schema.specs.Database.{Database}
+use Rattle.star_program.specs.declared.outcome.Outcome.{Outcome}
+use Rattle.star_program.specs.declared.program.Parts.{Parts}
+use Rattle.star_report.specs.Report.{report_text}
+use Rattle.star_verify.specs.declared.refusal.Refusal.{Refusal}
+use Rattle.star_engine.specs.declared.benchmark.Prepared.{Prepared}
+use Rattle.star_engine.specs.declared.fault.EngineFault.{EngineFault}
+use Rattle.star_engine.specs.declared.thirteen.BenchmarkQuery.{BenchmarkQuery}
+use Rattle.star_engine.specs.declared.thirteen.TheConstants.{THIRTEEN}
+use Rattle.star_engine.specs.Bench.{AllFit, SomeIsUnfit, named_quote, refusal_line}
+use Rattle.star_engine.specs.Executions.{IsRefusal, quote_over}
+use Rattle.star_engine.specs.Queries.{IsNoQuery}
+use Rattle.star_engine.specs.Thirteen.{query_text}
+use Rattle.star_engine.specs.Private.QuerySteps.{IsProgramOfQuery}
+use Rattle.star_engine.specs.Private.Steps.{IsRun}
+
+-- some queries with their programs
+abbrev pub ArePrepared : List BenchmarkQuery → List Prepared → Type 0
+ArePrepared [] [] = Unit {0}
+ArePrepared (q ∷ qs) (x ∷ xs) =
+    (x.query ≡ q) × IsProgramOfQuery (query_text q) x.program × ArePrepared qs xs
+ArePrepared _ _ = ⊥
+
+-- one of the thirteen means no well named query
+abbrev pub IsNoBenchmark : EngineFault → Type 0
+IsNoBenchmark fault = (q : BenchmarkQuery) × Contains THIRTEEN q × IsNoQuery (query_text q) fault
+
+-- what is found of a program over loaded tables: the printed rows of its run, or what refuses it
+abbrev pub IsFound : Database → ℕ → Parts → (fits : Bool) → List ℕ → Type 0
+IsFound database most program true text =
+    (outcome : Outcome) × IsRun database most program outcome
+    × (text ≡ report_text outcome.names outcome.rows)
+IsFound database most program false text =
+    (refusal : Refusal) × IsRefusal database most program refusal × (text ≡ refusal_line refusal)
+
+-- what is printed of a query and its program
+pub record IsPartOver (database : Database) (most : ℕ) (x : Prepared) (fits : Bool)
+    (part : List ℕ) : Type 0 where
+  pub found : List ℕ
+  pub finding : IsFound database most x.program fits found
+  pub printed : part ≡ named_quote x.query (quote_over database x.program) ++ found
+
+-- the parts of some, one behind the other, and whether all fit
+abbrev pub ArePartsOver : Database → ℕ → List Prepared → (fit : Bool) → List ℕ → Type 0
+ArePartsOver database most [] fit text = (fit ≡ true) × (text ≡ [])
+ArePartsOver database most (x ∷ xs) fit text =
+    (one : Bool) × (others : Bool) × (part : List ℕ) × (rest : List ℕ)
+    × IsPartOver database most x one part × ArePartsOver database most xs others rest
+    × (fit ≡ one && others) × (text ≡ part ++ rest)
+
+-- what it means that all queries of the benchmark fit, or not
+abbrev pub IsVerdict : ℕ → (TableId → List ℕ) → (fit : Bool) → Type 0
+IsVerdict most texts true = AllFit most texts
+IsVerdict most texts false = SomeIsUnfit most texts

@@ -1,0 +1,128 @@
+-- What is answered to a query's text over the texts of five tables, and which faults are due. No
+-- program is named here but by the instruction that a refusal tells and by the counts of a run.
+use Rattle.std.specs.Prelude.{◌≡◌, ◌≢◌, ◌≤◌, ◌<◌, ℕ, List, Some, length}
+use Rattle.star_schema.specs.declared.table.TableId.{TableId}
+use Rattle.star_schema.specs.declared.table.TableId.TheVariants.{Lineorder}
+use Rattle.star_schema.specs.Database.{rows_in}
+use Rattle.star_schema.specs.Loadable.{IsLoadable, database_of}
+use Rattle.star_query.specs.declared.fault.QueryFault.{QueryFault}
+use Rattle.star_query.specs.declared.fault.QueryFault.TheVariants as parsing
+use Rattle.star_query.specs.declared.tree.Tree.{Tree}
+use Rattle.star_query.specs.Derives.{IsFirstFault, Means}
+use Rattle.star_query.specs.Views.{tree_view}
+use Rattle.star_plan.specs.declared.fault.PlanFault.{PlanFault}
+use Rattle.star_plan.specs.Faults.{plan_fault}
+use Rattle.star_plan.specs.Meaning.{Plan}
+use Rattle.star_plan.specs.Resolved.{IsResolved}
+use Rattle.star_plan.specs.WellNamed.{IsWellNamed}
+use Rattle.star_program.specs.Effects.{Store}
+use Rattle.star_program.specs.Run.{Ended, run_of}
+use Rattle.star_program.specs.Text.Spelling.{Spells}
+use Rattle.star_program.specs.Text.Written.{text_of}
+use Rattle.star_admission.specs.Admissible.{TooCostly, first_refusal}
+use Rattle.star_world.specs.WorldOf.{world_of}
+use Rattle.star_verify.specs.declared.refusal.Refusal.{Refusal}
+use Rattle.star_verify.specs.Shown.{refusal_shown}
+use Rattle.star_answers.specs.Fitting.{FitsTables}
+use Rattle.star_answers.specs.Reports.{IsReport}
+use Rattle.star_compiled.specs.Compiled.{compiled}
+use Rattle.star_compiled.specs.Judged.{IsOverflow}
+use Rattle.star_engine.specs.declared.fault.EngineFault.{EngineFault}
+use Rattle.star_engine.specs.declared.fault.EngineFault.TheVariants as engine
+use Rattle.star_engine.specs.Loads.{IsLoadFault}
+use Rattle.star_engine.specs.Noted.{Telling}
+use Rattle.star_engine.specs.Notes.{counts_line, quote_line}
+
+-- ---- queries
+
+-- the text means a well named query, and this is the query with its names resolved
+pub record IsPlanOf (query : List ℕ) (p : Plan) : Type 0 where
+  pub tree : Tree
+  pub means : Means query (tree_view tree)
+  pub named : IsWellNamed tree
+  pub resolved : IsResolved tree p
+
+-- a text that means a well named query
+abbrev pub IsQuery : List ℕ → Type 0
+IsQuery query = (p : Plan) × IsPlanOf query p
+
+-- how many rows five texts hold of lineorder, each of which a query visits once
+abbrev pub fact_rows : (TableId → List ℕ) → ℕ
+fact_rows texts = length (rows_in (database_of texts) Lineorder)
+
+-- the text means a well named query, which fits the rows that five texts hold, where so many may be
+-- visited at most
+pub record FitsTexts (most : ℕ) (texts : TableId → List ℕ) (query : List ℕ) : Type 0 where
+  pub p : Plan
+  pub meant : IsPlanOf query p
+  pub fits : FitsTables most (rows_in (database_of texts)) p
+
+-- ---- faults
+
+-- the first fault of a text that means no query
+pub record IsQueryFault (query : List ℕ) (fault : QueryFault) : Type 0 where
+  pub not_memory : fault ≢ parsing.OutOfMemory
+  pub first : IsFirstFault query fault
+
+-- the first fault of the names of a query that a text means
+pub record IsPlanFault (query : List ℕ) (fault : PlanFault) : Type 0 where
+  pub tree : Tree
+  pub means : Means query (tree_view tree)
+  pub first : plan_fault tree ≡ Some fault
+
+-- why a text is no well named query
+abbrev pub IsNoQuery : List ℕ → EngineFault → Type 0
+IsNoQuery query (engine.Query fault) = IsQueryFault query fault
+IsNoQuery query (engine.Plan fault) = IsPlanFault query fault
+IsNoQuery query _ = ⊥
+
+-- why there is no query over loaded tables: the query is read first
+abbrev pub IsUnasked : ℕ → (TableId → List ℕ) → (query : List ℕ) → EngineFault → Type 0
+IsUnasked rows texts query (engine.Load fault) = IsQuery query × IsLoadFault rows texts fault
+IsUnasked rows texts query fault = IsNoQuery query fault
+
+-- why a query that doesn't fit is refused: lineorder's rows are over the limit on visits; or else a
+-- range leaves 64 bits, and the first instruction of its program with such a range is told
+pub record IsUnfit (most : ℕ) (texts : TableId → List ℕ) (query : List ℕ)
+    (refusal : Refusal) : Type 0 where
+  pub p : Plan
+  pub meant : IsPlanOf query p
+  pub unfit : ¬ FitsTables most (rows_in (database_of texts)) p
+  pub costly : most < fact_rows texts
+      → refusal_shown refusal ≡ Some (TooCostly (fact_rows texts))
+  pub wide : fact_rows texts ≤ most → IsOverflow (refusal_shown refusal)
+  pub first : refusal_shown refusal ≡ first_refusal (world_of (database_of texts)) most (compiled p)
+
+-- why a query has no report: it is read first, then the tables, and then it is judged
+abbrev pub IsUnanswered : (rows visits : ℕ) → (TableId → List ℕ) → (query : List ℕ) → EngineFault
+    → Type 0
+IsUnanswered rows visits texts query (engine.Refused refusal) =
+    IsLoadable rows texts × IsUnfit visits texts query refusal
+IsUnanswered rows visits texts query fault = IsUnasked rows texts query fault
+
+-- ---- texts
+
+-- the line of a query's quote
+pub record IsQueryQuote (rows : ℕ) (texts : TableId → List ℕ) (query text : List ℕ) : Type 0 where
+  pub loadable : IsLoadable rows texts
+  pub is_query : IsQuery query
+  pub quoted : text ≡ quote_line (fact_rows texts)
+
+-- what is told of a query that fits: its quote, its report, and what the run of its program did
+pub record IsQueryTold (rows visits : ℕ) (texts : TableId → List ℕ) (query : List ℕ)
+    (telling : Telling) : Type 0 where
+  pub loadable : IsLoadable rows texts
+  pub fitting : FitsTexts visits texts query
+  pub quoted : telling.quoted ≡ quote_line (fact_rows texts)
+  pub reported : IsReport texts query telling.report
+  pub s : Store
+  pub ended : run_of (world_of (database_of texts)) (compiled fitting.p) ≡ Ended s
+  pub within : s.visits ≤ fact_rows texts
+  pub done : telling.done ≡ counts_line s.visits s.lookups s.updates
+
+-- the text of a query's program: it spells the program, as the program's own text
+pub record IsExplained (query text : List ℕ) : Type 0 where
+  pub p : Plan
+  pub meant : IsPlanOf query p
+  pub written : text ≡ text_of (compiled p)
+  pub spelled : Spells text (compiled p)

@@ -1,0 +1,203 @@
+// The thirteen queries of the benchmark, one after the other over one load.
+
+ghost use Rattle.std.specs.Prelude.{◌≡◌, true, false, IfOk, MatchResult, string_bytes};
+ghost use Rattle.star_report.specs.Report as printed;
+ghost use Rattle.star_catalogue.specs.Load.{text_of};
+ghost use Rattle.star_engine.specs.Answered.{IsAnswered, change};
+ghost use Rattle.star_engine.specs.Bench as spec;
+ghost use Rattle.star_engine.specs.Bench.{AllFit, IsBench, IsUnbenched, SomeIsUnfit};
+ghost use Rattle.star_engine.specs.Executions.{quote_over};
+ghost use Rattle.star_engine.specs.Private.BenchSteps.{ArePartsOver, ArePrepared, IsFound, IsNoBenchmark, IsPartOver, IsVerdict};
+ghost use Rattle.star_engine.specs.Queries.{IsNoQuery};
+ghost use Rattle.star_engine.specs.Private.QuerySteps.{IsProgramOfQuery};
+ghost use Rattle.star_engine.specs.Private.Steps.{OrMemory};
+ghost use Rattle.star_engine.specs.Thirteen.{query_text};
+ghost use Rattle.star_engine.specs.declared.thirteen.TheConstants.{THIRTEEN};
+
+use crate::executions::outcome_of;
+use crate::fault::EngineFault;
+use crate::loading::load;
+use crate::notes::quote_note;
+use crate::queries::compile_query;
+use crate::query_laws::{programs_of_queries_report_them, queries_that_fit_are_answered};
+use crate::thirteen::{BenchmarkQuery, THIRTEEN};
+use crate::writing::write_text;
+use star_catalogue::{Catalogue, Texts};
+use star_common::Items;
+use star_machine::Outcome;
+use star_program::Program;
+use star_report::report_text;
+use star_schema::{Limits, Sink};
+use star_verify::Refusal;
+use std::alloc::{AllocError, Global};
+
+// A query of the benchmark with its program.
+#[derive(Drop)]
+struct Prepared {
+    query: BenchmarkQuery,
+    program: Program,
+}
+
+// Some text of the benchmark, and whether each query in it fits.
+#[derive(Drop)]
+struct Finding {
+    text: Vec<u8>,
+    fits: bool,
+}
+
+fn prepare(alloc: Global, query: BenchmarkQuery) -> Result<Prepared, EngineFault>
+    ensures { MatchResult result
+        (λ prepared. (prepared.query ≡ query)
+        × IsProgramOfQuery (query_text query) prepared.program)
+        (OrMemory (IsNoQuery (query_text query))) }
+{
+    let program = compile_query(alloc, query.text().as_bytes())?;
+    Ok(Prepared { query, program })
+}
+
+// The thirteen queries with their programs.
+fn prepare_all(alloc: Global) -> Result<Items<Prepared>, EngineFault>
+    ensures { MatchResult result (ArePrepared THIRTEEN) (OrMemory IsNoBenchmark) }
+{
+    let mut all = Items::from_vec(Vec::new(alloc));
+    for query in &THIRTEEN {
+        let prepared = prepare(alloc, *query)?;
+        all.push(prepared)?;
+    }
+    Ok(all)
+}
+
+// The line of a refusal.
+fn refusal_line(alloc: Global, refusal: &Refusal) -> Result<String, AllocError>
+    ensures { IfOk result (λ line. string_bytes line ≡ spec.refusal_line refusal.now) }
+{
+    format!(in alloc; "{refusal}\n")
+}
+
+// What is found of a refused program.
+fn refused(alloc: Global, refusal: &Refusal) -> Result<Finding, AllocError>
+    ensures { IfOk result (λ finding. (finding.fits ≡ false)
+        × (finding.text.items ≡ spec.refusal_line refusal.now)) }
+{
+    let line = refusal_line(alloc, refusal)?;
+    let mut text = Vec::new(alloc);
+    text.extend_from_slice(line.as_bytes())?;
+    Ok(Finding { text, fits: false })
+}
+
+// What is found of a program that was run.
+fn reported(alloc: Global, outcome: &Outcome) -> Result<Finding, AllocError>
+    ensures { IfOk result (λ finding. (finding.fits ≡ true)
+        × (finding.text.items ≡ printed.report_text outcome.now.names outcome.now.rows)) }
+{
+    let text = report_text(alloc, outcome)?;
+    Ok(Finding { text, fits: true })
+}
+
+// What is found of a program over loaded tables. Its refusal is no fault here.
+fn find(
+    alloc: Global,
+    catalogue: &Catalogue,
+    program: Program,
+    limits: Limits,
+) -> Result<Finding, AllocError>
+    ensures { IfOk result
+        (λ finding. IsFound catalogue.now limits.visits program finding.fits finding.text.items) }
+{
+    match outcome_of(alloc, catalogue, program, limits) {
+        Ok(outcome) => reported(alloc, &outcome),
+        Err(EngineFault::Refused(refusal)) => refused(alloc, &refusal),
+        Err(_) => Err(AllocError),
+    }
+}
+
+// The quote of a query's program, under the query's name.
+fn named_quote(
+    alloc: Global,
+    catalogue: &Catalogue,
+    prepared: &Prepared,
+) -> Result<Vec<u8>, AllocError>
+    ensures { IfOk result (λ text. text.items
+        ≡ spec.named_quote prepared.now.query (quote_over catalogue.now prepared.now.program)) }
+{
+    let note = quote_note(alloc, catalogue, &prepared.program)?;
+    let mut text = Vec::new(alloc);
+    text.extend_from_slice(prepared.query.name().as_bytes())?;
+    text.push(b' ')?;
+    text.extend_from_slice(note.as_bytes())?;
+    Ok(text)
+}
+
+// What is printed of a query, and whether it fits.
+fn part_of(
+    alloc: Global,
+    catalogue: &Catalogue,
+    prepared: Prepared,
+    limits: Limits,
+) -> Result<Finding, AllocError>
+    ensures { IfOk result
+        (λ part. IsPartOver catalogue.now limits.visits prepared part.fits part.text.items) }
+{
+    let mut text = named_quote(alloc, catalogue, &prepared)?;
+    let found = find(alloc, catalogue, prepared.program, limits)?;
+    text.extend_from_slice(found.text.as_slice())?;
+    Ok(Finding {
+        text,
+        fits: found.fits,
+    })
+}
+
+// What is printed of some queries, and whether all of them fit.
+fn parts_of(
+    alloc: Global,
+    catalogue: &Catalogue,
+    all: Items<Prepared>,
+    limits: Limits,
+) -> Result<Finding, AllocError>
+    ensures { IfOk result
+        (λ parts. ArePartsOver catalogue.now limits.visits all parts.fits parts.text.items) }
+{
+    let mut text = Vec::new(alloc);
+    let mut fits = true;
+    for prepared in all.into_vec() {
+        let part = part_of(alloc, catalogue, prepared, limits)?;
+        text.extend_from_slice(part.text.as_slice())?;
+        fits = fits && part.fits;
+    }
+    Ok(Finding { text, fits })
+}
+
+// What is printed of the thirteen queries over the tables of five texts, and whether all fit.
+fn bench_of(alloc: Global, texts: &Texts<'_>, limits: Limits) -> Result<Finding, EngineFault>
+    ensures { MatchResult result
+        (λ found. IsBench limits.rows limits.visits (text_of texts.now) found.text.items
+        × IsVerdict limits.visits (text_of texts.now) found.fits)
+        (OrMemory (IsUnbenched limits.rows (text_of texts.now))) }
+{
+    queries_that_fit_are_answered();
+    programs_of_queries_report_them();
+    let all = prepare_all(alloc)?;
+    let catalogue = load(alloc, texts, limits)?;
+    Ok(parts_of(alloc, &catalogue, all, limits)?)
+}
+
+/// Answers the thirteen queries of the benchmark over one load of the tables of five texts: writes
+/// of each its quote under its name, and then its report or one line that says why it is refused.
+/// The whole text is made before any of it is written. The answer is whether no query was refused.
+pub fn bench<S: Sink>(
+    alloc: Global,
+    texts: &Texts<'_>,
+    limits: Limits,
+    out: &mut S,
+) -> Result<bool, EngineFault>
+    ensures answered { IsAnswered (change S.contents S.is_failed out.old out.new)
+        (IsBench limits.rows limits.visits (text_of texts.now))
+        (IsUnbenched limits.rows (text_of texts.now)) result }
+    ensures all_fit { IfOk result (λ fits. fits ≡ true → AllFit limits.visits (text_of texts.now)) }
+    ensures some_unfit { IfOk result
+        (λ fits. fits ≡ false → SomeIsUnfit limits.visits (text_of texts.now)) }
+{
+    let found = bench_of(alloc, texts, limits)?;
+    write_text(out, found.text.as_slice())?;
+    Ok(found.fits)
+}

@@ -1,0 +1,98 @@
+// Queries: from their texts to their answers.
+
+ghost use Rattle.std.specs.Prelude.{MatchResult};
+ghost use Rattle.star_catalogue.specs.Load.{text_of};
+ghost use Rattle.star_query.specs.Derives.{Means};
+ghost use Rattle.star_query.specs.Shown.{shown, tree_of};
+ghost use Rattle.star_plan.specs.PlanTrees.{plan_tree};
+ghost use Rattle.star_plan.specs.Shown as planned;
+ghost use Rattle.star_engine.specs.Answered.{IsAnswered, change};
+ghost use Rattle.star_engine.specs.Noted.{IsNoted};
+ghost use Rattle.star_engine.specs.Queries.{IsExplained, IsNoQuery, IsQueryQuote, IsQueryTold, IsUnanswered};
+ghost use Rattle.star_engine.specs.Private.QuerySteps.{IsPlanOfTree, IsProgramOfQuery, IsUnparsed, IsUnplanned};
+ghost use Rattle.star_engine.specs.Private.Steps.{OrMemory};
+
+use crate::executions::execute;
+use crate::fault::EngineFault;
+use crate::loading::load;
+use crate::query_laws::{programs_of_queries_report_them, queries_that_fit_are_answered};
+use crate::writing::write_text;
+use star_catalogue::Texts;
+use star_compile::compile;
+use star_plan::{Plan, plan};
+use star_program::Program;
+use star_query::Query;
+use star_schema::{Limits, Sink};
+use std::alloc::Global;
+
+// The query that a text means.
+fn parse_query(alloc: Global, text: &[u8]) -> Result<Query, EngineFault>
+    ensures { MatchResult result
+        (λ query. Means text.now (shown query)) (OrMemory (IsUnparsed text.now)) }
+{
+    Ok(Query::parse(alloc, text)?)
+}
+
+// A query with its names resolved.
+fn plan_query(alloc: Global, query: &Query) -> Result<Plan, EngineFault>
+    ensures { MatchResult result
+        (λ plan. IsPlanOfTree (tree_of query.now) (planned.shown (plan_tree plan)))
+        (OrMemory (IsUnplanned (tree_of query.now))) }
+{
+    Ok(plan(alloc, query)?)
+}
+
+// The program of the query that a text means.
+pub(crate) fn compile_query(alloc: Global, text: &[u8]) -> Result<Program, EngineFault>
+    ensures { MatchResult result (IsProgramOfQuery text.now) (OrMemory (IsNoQuery text.now)) }
+{
+    let query = parse_query(alloc, text)?;
+    let plan = plan_query(alloc, &query)?;
+    Ok(compile(alloc, &plan)?)
+}
+
+// The text of the program of a query.
+fn explanation(alloc: Global, query: &[u8]) -> Result<Vec<u8>, EngineFault>
+    ensures { MatchResult result
+        (λ text. IsExplained query.now text.items) (OrMemory (IsNoQuery query.now)) }
+{
+    programs_of_queries_report_them();
+    let program = compile_query(alloc, query)?;
+    Ok(program.to_text()?)
+}
+
+/// Writes the text of the program of a query, as `answer_program` and `trial_program` read it. No
+/// table is asked for.
+pub fn explain_query<S: Sink>(alloc: Global, query: &[u8], out: &mut S) -> Result<(), EngineFault>
+    ensures { IsAnswered (change S.contents S.is_failed out.old out.new)
+        (IsExplained query.now) (IsNoQuery query.now) result }
+{
+    let text = explanation(alloc, query)?;
+    write_text(out, text.as_slice())
+}
+
+/// Answers the query that a text means over the tables of five texts: writes its report on `out`.
+///
+/// A note of the quote, which is lineorder's row count, goes to `notes` before the query is judged,
+/// and one of what the run of its program did behind the report. A query that doesn't fit is refused.
+/// The query is read first, and then the tables.
+pub fn answer_query<S: Sink, N: Sink>(
+    alloc: Global,
+    texts: &Texts<'_>,
+    query: &[u8],
+    limits: Limits,
+    out: &mut S,
+    notes: &mut N,
+) -> Result<(), EngineFault>
+    ensures { IsNoted (change S.contents S.is_failed out.old out.new)
+        (change N.contents N.is_failed notes.old notes.new)
+        (IsQueryQuote limits.rows (text_of texts.now) query.now)
+        (IsQueryTold limits.rows limits.visits (text_of texts.now) query.now)
+        (IsUnanswered limits.rows limits.visits (text_of texts.now) query.now) result }
+{
+    queries_that_fit_are_answered();
+    programs_of_queries_report_them();
+    let program = compile_query(alloc, query)?;
+    let catalogue = load(alloc, texts, limits)?;
+    execute(alloc, &catalogue, program, limits, out, notes)
+}

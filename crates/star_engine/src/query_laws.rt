@@ -1,0 +1,76 @@
+//! Laws of what queries are answered: functions with no body, whose clauses are the laws.
+
+ghost use Rattle.std.specs.Prelude.{◌≡◌, ◌≢◌, ◌≤◌, ◌<◌, ◌^◌, ◌↔◌, ℕ, List, Some, None};
+ghost use Rattle.star_schema.specs.declared.table.TableId.{TableId};
+ghost use Rattle.star_schema.specs.Database.{rows_in};
+ghost use Rattle.star_schema.specs.Loadable.{IsLoadable, database_of};
+ghost use Rattle.star_plan.specs.Meaning.{Plan};
+ghost use Rattle.star_program.specs.Effects.{Store};
+ghost use Rattle.star_program.specs.Run.{Ended, EndsWith, run_of};
+ghost use Rattle.star_program.specs.Text.Spellable.{IsSpellable};
+ghost use Rattle.star_admission.specs.Admissible.{TooCostly, first_refusal};
+ghost use Rattle.star_world.specs.WorldOf.{world_of};
+ghost use Rattle.star_answers.specs.Fitting.{FitsTables};
+ghost use Rattle.star_compiled.specs.Compiled.{compiled};
+ghost use Rattle.star_compiled.specs.Judged.{IsOverflow};
+ghost use Rattle.star_engine.specs.Executions.{IsAccepted, quote_over};
+ghost use Rattle.star_engine.specs.Queries.{IsPlanOf, fact_rows};
+ghost use Rattle.star_engine.specs.QueryRuns.{HasReported, PrintsTheReport};
+
+use star_admission::law::{
+    admissible_programs_never_trap, admissible_programs_within_the_limit_are_not_refused,
+};
+use star_compiled::acceptance::compiled_programs_are_accepted_where_they_fit_the_tables;
+use star_compiled::answers::compiled_programs_report_their_queries;
+use star_compiled::law::{compiled_plans_are_programs, compiled_programs_visit_each_row_once};
+use star_world::law::sound_rows_are_loaded;
+
+/// Where a query fits the tables of five texts, nothing refuses its program. Its run comes to its
+/// end with no trap, visits no row of lineorder twice, and what is printed of it is the query's
+/// report.
+///
+/// Where it doesn't fit it is refused: for its visits where lineorder has more rows than may be
+/// visited, and else since a range leaves 64 bits.
+pub fn queries_that_fit_are_answered()
+    ensures accepted { (rows most : ℕ) (texts : TableId → List ℕ) (query : List ℕ) (p : Plan)
+        → IsLoadable rows texts → IsPlanOf query p
+        → FitsTables most (rows_in (database_of texts)) p
+        ↔ IsAccepted (database_of texts) most (compiled p) }
+    ensures answered { (rows most : ℕ) (texts : TableId → List ℕ) (query : List ℕ) (p : Plan)
+        → IsLoadable rows texts → IsPlanOf query p
+        → FitsTables most (rows_in (database_of texts)) p → most ≤ 10 ^ 15
+        → EndsWith (run_of (world_of (database_of texts)) (compiled p))
+        (HasReported texts query p) }
+    ensures costly { (most : ℕ) (texts : TableId → List ℕ) (p : Plan)
+        → most < fact_rows texts
+        → first_refusal (world_of (database_of texts)) most (compiled p)
+        ≡ Some (TooCostly (fact_rows texts)) }
+    ensures wide { (rows most : ℕ) (texts : TableId → List ℕ) (query : List ℕ) (p : Plan)
+        → IsLoadable rows texts → IsPlanOf query p → fact_rows texts ≤ most
+        → ¬ FitsTables most (rows_in (database_of texts)) p
+        → IsOverflow (first_refusal (world_of (database_of texts)) most (compiled p)) }
+{
+    compiled_plans_are_programs();
+    compiled_programs_visit_each_row_once();
+    compiled_programs_are_accepted_where_they_fit_the_tables();
+    compiled_programs_report_their_queries();
+    admissible_programs_never_trap();
+    admissible_programs_within_the_limit_are_not_refused();
+    sound_rows_are_loaded();
+}
+
+/// The program of a query is quoted lineorder's row count, some text spells it, and wherever its run
+/// comes to its end, what is printed of it is the query's report.
+pub fn programs_of_queries_report_them()
+    ensures quoted { (texts : TableId → List ℕ) (p : Plan)
+        → quote_over (database_of texts) (compiled p) ≡ fact_rows texts }
+    ensures spelled { (query : List ℕ) (p : Plan) → IsPlanOf query p → IsSpellable (compiled p) }
+    ensures printed { (rows : ℕ) (texts : TableId → List ℕ) (query : List ℕ) (p : Plan) (s : Store)
+        → IsLoadable rows texts → IsPlanOf query p
+        → run_of (world_of (database_of texts)) (compiled p) ≡ Ended s
+        → PrintsTheReport texts query p s }
+{
+    compiled_plans_are_programs();
+    compiled_programs_visit_each_row_once();
+    compiled_programs_report_their_queries();
+}

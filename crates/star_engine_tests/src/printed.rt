@@ -1,0 +1,196 @@
+// What the calls of the engine print, over writers with so much room.
+
+use star_engine::{
+    EngineFault, Texts, answer_program, answer_query, bench, explain_query, quote_text,
+};
+use star_schema::{Limits, MOST_ROWS, MOST_VISITS, Out};
+use std::alloc::{AllocError, Global};
+use std::io;
+use std::io::Write;
+use std::test::Fail;
+
+// More bytes than any text of these tests has.
+pub(crate) const AMPLE: usize = 4096;
+
+// A writer that takes so many bytes, three at once, and then fails. It takes no memory of its own.
+#[derive(Drop)]
+struct Short {
+    taken: Vec<u8>,
+    left: usize,
+}
+
+impl Short {
+    fn with_room(alloc: Global, room: usize) -> Result<Short, AllocError> {
+        Ok(Short {
+            taken: Vec::with_capacity(alloc, room.min(AMPLE))?,
+            left: room,
+        })
+    }
+}
+
+impl Write for Short {
+    fn write(&mut self, text: &[u8]) -> io::Result<usize> {
+        let count = text.len().min(self.left).min(3);
+        if count == 0 {
+            return Err(io::Error::from(io::ErrorKind::StorageFull));
+        }
+        self.taken.extend_from_slice(&text[..count])?;
+        self.left -= count;
+        Ok(count)
+    }
+
+    fn flush(&mut self) -> io::Result<()> {
+        Ok(())
+    }
+}
+
+// How many bytes of a report and of its notes are taken.
+#[derive(Clone, Copy)]
+pub(crate) struct Room {
+    pub(crate) report: usize,
+    pub(crate) notes: usize,
+}
+
+impl Room {
+    pub(crate) const AMPLE: Room = Room {
+        report: AMPLE,
+        notes: AMPLE,
+    };
+}
+
+// What a call wrote, and the line of its fault: none where it has no fault.
+#[derive(Drop)]
+pub(crate) struct Printed {
+    report: Vec<u8>,
+    notes: Vec<u8>,
+    fault: String,
+}
+
+impl Printed {
+    pub(crate) fn report(&self) -> &[u8] {
+        self.report.as_slice()
+    }
+
+    pub(crate) fn agree(&self, report: &[u8], notes: &[u8], fault: &str) -> Result<(), Fail> {
+        if self.report.as_slice() == report
+            && self.notes.as_slice() == notes
+            && self.fault.as_str() == fault
+        {
+            return Ok(());
+        }
+        let printed = str::from_utf8(self.report.as_slice())?;
+        let noted = str::from_utf8(self.notes.as_slice())?;
+        let told = self.fault.as_str();
+        let report = str::from_utf8(report)?;
+        let notes = str::from_utf8(notes)?;
+        Err(Fail::from(format_args!(
+            "{printed}{noted}{told} where {report}{notes}{fault} is expected"
+        )))
+    }
+}
+
+// The line of a fault. Want of memory is an error of the test.
+fn fault_line(alloc: Global, fault: Option<EngineFault>) -> Result<String, AllocError> {
+    match fault {
+        None => Ok(String::new(alloc)),
+        Some(EngineFault::OutOfMemory) => Err(AllocError),
+        Some(fault) => format!(in alloc; "{fault}"),
+    }
+}
+
+// The widest limits, but for so many visits.
+pub(crate) fn limits_of(visits: u64) -> Limits {
+    Limits::new(MOST_ROWS, visits.min(MOST_VISITS)).unwrap_or(Limits::widest())
+}
+
+pub(crate) fn answered(
+    alloc: Global,
+    texts: &Texts<'_>,
+    query: &[u8],
+    limits: Limits,
+    room: Room,
+) -> Result<Printed, AllocError> {
+    let mut report = Short::with_room(alloc, room.report)?;
+    let mut notes = Short::with_room(alloc, room.notes)?;
+    let mut out = Out::new(&mut report);
+    let answer = answer_query(
+        alloc,
+        texts,
+        query,
+        limits,
+        &mut out,
+        &mut Out::new(&mut notes),
+    );
+    Ok(Printed {
+        report: report.taken,
+        notes: notes.taken,
+        fault: fault_line(alloc, answer.err())?,
+    })
+}
+
+pub(crate) fn executed(
+    alloc: Global,
+    texts: &Texts<'_>,
+    program: &[u8],
+) -> Result<Printed, AllocError> {
+    let mut report = Short::with_room(alloc, AMPLE)?;
+    let mut notes = Short::with_room(alloc, AMPLE)?;
+    let mut out = Out::new(&mut report);
+    let limits = Limits::widest();
+    let answer = answer_program(
+        alloc,
+        texts,
+        program,
+        limits,
+        &mut out,
+        &mut Out::new(&mut notes),
+    );
+    Ok(Printed {
+        report: report.taken,
+        notes: notes.taken,
+        fault: fault_line(alloc, answer.err())?,
+    })
+}
+
+pub(crate) fn explained(alloc: Global, query: &[u8], room: usize) -> Result<Printed, AllocError> {
+    let mut report = Short::with_room(alloc, room)?;
+    let answer = explain_query(alloc, query, &mut Out::new(&mut report));
+    Ok(Printed {
+        report: report.taken,
+        notes: Vec::new(alloc),
+        fault: fault_line(alloc, answer.err())?,
+    })
+}
+
+pub(crate) fn quoted(
+    alloc: Global,
+    texts: &Texts<'_>,
+    file: &[u8],
+    room: usize,
+) -> Result<Printed, AllocError> {
+    let mut report = Short::with_room(alloc, room)?;
+    let answer = quote_text(alloc, texts, file, limits_of(0), &mut Out::new(&mut report));
+    Ok(Printed {
+        report: report.taken,
+        notes: Vec::new(alloc),
+        fault: fault_line(alloc, answer.err())?,
+    })
+}
+
+// What the benchmark prints, and whether it answers that no query was refused.
+pub(crate) fn benched(
+    alloc: Global,
+    texts: &Texts<'_>,
+    limits: Limits,
+    room: usize,
+) -> Result<(Printed, bool), AllocError> {
+    let mut report = Short::with_room(alloc, room)?;
+    let answer = bench(alloc, texts, limits, &mut Out::new(&mut report));
+    let fits = matches!(&answer, Ok(true));
+    let printed = Printed {
+        report: report.taken,
+        notes: Vec::new(alloc),
+        fault: fault_line(alloc, answer.err())?,
+    };
+    Ok((printed, fits))
+}

@@ -1,0 +1,134 @@
+// Sinks that fail after each number of bytes.
+
+use crate::printed::{AMPLE, Printed, Room, answered, explained, quoted};
+use star_engine::{BenchmarkQuery, sample};
+use star_schema::Limits;
+use std::alloc::{AllocError, Global};
+use std::test::Fail;
+
+const REPORT: &str = "revenue\n2000\n";
+
+const QUOTE: &str = "quote 5\n";
+
+const NOTES: &str = "quote 5\nvisits 5 lookups 5 updates 1\n";
+
+// What the first query of the benchmark prints over the sample, where so much is taken.
+fn cut(alloc: Global, room: Room) -> Result<Printed, AllocError> {
+    let query = BenchmarkQuery::Q11.text().as_bytes();
+    answered(alloc, &sample(), query, Limits::widest(), room)
+}
+
+fn first_bytes(text: &str, count: usize) -> Result<&[u8], Fail> {
+    Ok(text.as_bytes().get(..count).ok_or("so many bytes")?)
+}
+
+// Notes that fail at each of their bytes: at the first line nothing was sent, and at the last the
+// whole report.
+#[test]
+fn notes_that_fail_are_told(rt: HostRuntime) -> Result<(), Fail> {
+    for count in 0..NOTES.len() + 1 {
+        let (report, fault) = match count {
+            0..8 => ("", "write 0"),
+            8..37 => (REPORT, "write 13"),
+            _ => (REPORT, ""),
+        };
+        let room = Room {
+            report: AMPLE,
+            notes: count,
+        };
+        cut(rt.alloc(), room)?.agree(report.as_bytes(), first_bytes(NOTES, count)?, fault)?;
+    }
+    Ok(())
+}
+
+// A report that fails at each of its bytes: no last note is written.
+#[test]
+fn reports_that_fail_are_told(rt: HostRuntime) -> Result<(), Fail> {
+    for count in 0..REPORT.len() {
+        let fault = format!(in rt.alloc(); "write {count}")?;
+        let room = Room {
+            report: count,
+            notes: AMPLE,
+        };
+        cut(rt.alloc(), room)?.agree(
+            first_bytes(REPORT, count)?,
+            QUOTE.as_bytes(),
+            fault.as_str(),
+        )?;
+    }
+    Ok(())
+}
+
+#[test]
+fn ten_bytes_are_told(rt: HostRuntime) -> Result<(), Fail> {
+    let query = BenchmarkQuery::Q21.text().as_bytes();
+    let room = Room {
+        report: 10,
+        notes: AMPLE,
+    };
+    answered(rt.alloc(), &sample(), query, Limits::widest(), room)?.agree(
+        b"sum1|d_yea",
+        QUOTE.as_bytes(),
+        "write 10",
+    )
+}
+
+// The program of the first query of the benchmark.
+const PROGRAM: &str = concat!(
+    "star program 1\n",
+    "registers 15\n",
+    "group 0 plain : sum\n",
+    "scan lineorder r0\n",
+    "  r1 = load lo_orderdate r0\n",
+    "  r2 = find date r1\n",
+    "  r3 = load d_year r2\n",
+    "  r4 = const 1993\n",
+    "  r5 = eq r3 r4\n",
+    "  keep r5\n",
+    "  r6 = load lo_discount r0\n",
+    "  r7 = const 1\n",
+    "  r8 = const 4\n",
+    "  r9 = within r6 r7 r8\n",
+    "  keep r9\n",
+    "  r10 = load lo_quantity r0\n",
+    "  r11 = const 25\n",
+    "  r12 = lt r10 r11\n",
+    "  keep r12\n",
+    "  r13 = load lo_extendedprice r0\n",
+    "  r14 = mul r13 r6\n",
+    "  put 0 : r14\n",
+    "end\n",
+    "report 0\n",
+    "show revenue aggregate 0\n",
+);
+
+// The line of a fault after so many bytes: none, where these are all.
+fn write_fault(alloc: Global, count: usize, whole: &str) -> Result<String, AllocError> {
+    if count < whole.len() {
+        format!(in alloc; "write {count}")
+    } else {
+        Ok(String::new(alloc))
+    }
+}
+
+#[test]
+fn programs_and_quotes_are_written(rt: HostRuntime) -> Result<(), Fail> {
+    let query = BenchmarkQuery::Q11.text().as_bytes();
+    for count in 0..PROGRAM.len() + 1 {
+        let fault = write_fault(rt.alloc(), count, PROGRAM)?;
+        explained(rt.alloc(), query, count)?.agree(
+            first_bytes(PROGRAM, count)?,
+            b"",
+            fault.as_str(),
+        )?;
+    }
+    for count in 0..QUOTE.len() + 1 {
+        let fault = write_fault(rt.alloc(), count, QUOTE)?;
+        quoted(rt.alloc(), &sample(), query, count)?.agree(
+            first_bytes(QUOTE, count)?,
+            b"",
+            fault.as_str(),
+        )?;
+    }
+    Ok(())
+}

@@ -1,0 +1,54 @@
+// The sample with some of it changed.
+
+use star_engine::{Texts, sample};
+use std::alloc::{AllocError, Global};
+use std::fmt::Write;
+use std::test::Fail;
+
+// The texts of tables with no rows.
+pub(crate) const NO_TEXTS: Texts<'static> = Texts {
+    date: b"",
+    customer: b"",
+    supplier: b"",
+    part: b"",
+    lineorder: b"",
+};
+
+// The sample with other orders.
+pub(crate) fn with_orders(lineorder: &[u8]) -> Texts<'_> {
+    Texts {
+        lineorder,
+        ..sample()
+    }
+}
+
+// A text with the first OLD in it made NEW.
+pub(crate) fn replaced(alloc: Global, text: &[u8], old: &str, new: &str) -> Result<String, Fail> {
+    let (front, back) = str::from_utf8(text)?
+        .split_once(old)
+        .ok_or("nothing to replace")?;
+    Ok(format!(in alloc; "{front}{new}{back}")?)
+}
+
+// So many lines of one order, all dear.
+pub(crate) fn dear_lines(alloc: Global, count: u64) -> Result<String, AllocError> {
+    let mut lines = String::new(alloc);
+    for place in 0..count {
+        let number = place + 1;
+        writeln!(
+            lines,
+            "1|{number}|1|1|2|19930210|2-HIGH|0|10|900000000000000000|3000|2|980|600|2|19940105|MAIL|"
+        )?;
+    }
+    Ok(lines)
+}
+
+// The sample's orders, one of them with the greatest price.
+pub(crate) fn great_price(alloc: Global) -> Result<String, Fail> {
+    replaced(
+        alloc,
+        sample().lineorder,
+        "|50|3000|",
+        "|50|999999999999999999|",
+    )
+}

@@ -1,0 +1,85 @@
+// A list of numbers, in words as wide as they need.
+
+ghost use Rattle.std.specs.Prelude.{◌≡◌, ◌<◌, ◌++◌, ◌∷◌, [], OnErr, OnOk, Some, length, slice_get};
+ghost use Rattle.star_flat.specs.Words.{numbers_in};
+
+use crate::words::SignedWords;
+use std::alloc::{AllocError, Global};
+use std::marker::Model;
+
+/// A list of numbers of 64 bits, which a contract sees as the list of them. They are kept in words
+/// of the least of 8, 16, 32 and 64 bits in which each that was put fits, with its sign.
+#[derive(Drop)]
+pub struct FlatNumbers {
+    alloc: Global,
+    words: SignedWords,
+}
+
+impl Model for FlatNumbers {
+    ghost use Rattle.std.specs.Prelude.{ℤ, List};
+    ghost use Rattle.star_flat.specs.Words.{numbers_in};
+
+    ghost Value = { List ℤ };
+
+    ghost view = { λ numbers. numbers_in numbers.words };
+}
+
+impl FlatNumbers {
+    /// No numbers. Takes no memory.
+    pub fn new(alloc: Global) -> FlatNumbers
+        ensures { result ≡ [] }
+    {
+        FlatNumbers {
+            alloc,
+            words: SignedWords::Bits8(Vec::new(alloc)),
+        }
+    }
+
+    /// How many numbers there are.
+    pub fn len(&self) -> usize
+        ensures { result ≡ length self.now }
+    {
+        self.words.len()
+    }
+
+    /// The number at a place, from 0.
+    pub fn get(&self, place: usize) -> i64
+        requires { place < length self.now }
+        ensures { slice_get self.now place ≡ Some result }
+    {
+        self.words.at(place)
+    }
+
+    /// The words that the numbers are kept in.
+    pub fn words(&self) -> &SignedWords
+        ensures { numbers_in result.now ≡ self.now }
+    {
+        &self.words
+    }
+
+    /// Puts a number at the end, or changes nothing where memory is refused.
+    #[inline(always)]
+    pub fn push(&mut self, number: i64) -> Result<(), AllocError>
+        ensures ok { OnOk result (self.new ≡ self.old ++ number ∷ []) }
+        ensures err { OnErr result (self.new ≡ self.old) }
+    {
+        if self.words.push(number)? {
+            Ok(())
+        } else {
+            self.push_wide(number)
+        }
+    }
+
+    /// Puts a number at the end in words as wide as it needs, or changes nothing where memory is
+    /// refused. Apart from `push`, which stays short so.
+    #[cold]
+    fn push_wide(&mut self, number: i64) -> Result<(), AllocError>
+        ensures ok { OnOk result (self.new ≡ self.old ++ number ∷ []) }
+        ensures err { OnErr result (self.new ≡ self.old) }
+    {
+        while !self.words.push(number)? {
+            self.words = self.words.widened(self.alloc)?;
+        }
+        Ok(())
+    }
+}

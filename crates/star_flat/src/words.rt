@@ -1,0 +1,214 @@
+// Signed words of 8, 16, 32 and 64 bits.
+
+ghost use Rattle.std.specs.Prelude.{◌≡◌, ◌<◌, ◌++◌, ◌∷◌, [], ℤ, true, All, FitsSigned, IfOk, MatchBool, MatchOption, OnErr, OnOk, Some, length, map, refl, slice_get, vec_capacity, vec_len};
+ghost use Rattle.std.specs.Int.{w8, w16, w32, w64};
+ghost use Rattle.std.specs.Ordering.{int_cmp};
+ghost use Rattle.star_flat.specs.Words.{numbers_in};
+ghost use Rattle.star_flat.specs.Private.Widths.{widenings};
+
+use std::alloc::{AllocError, Global};
+
+/// A signed integer of some width.
+pub trait SignedWord: Copy + Ord + Drop {
+    // The numbers that it can be.
+    ghost holds: { ℤ → Type 0 };
+
+    ghost number: { Self → ℤ };
+
+    /// The word of a number, if it can be one.
+    fn of(value: i64) -> Option<Self>
+        ensures { MatchOption result (¬ holds value) (λ word. number word ≡ value) };
+
+    /// The number that it is.
+    fn value(self) -> i64
+        ensures value { result ≡ number self }
+        ensures held { holds result };
+
+    // Words compare as their numbers.
+    ghost in_order: { (a b : Self) → Self.cmp a b ≡ int_cmp (number a) (number b) };
+}
+
+impl SignedWord for i8 {
+    ghost holds = { FitsSigned w8 };
+
+    ghost number = { λ word. word };
+
+    ghost in_order = { λ a b. refl };
+
+    fn of(value: i64) -> Option<i8> {
+        i8::try_from(value).ok()
+    }
+
+    fn value(self) -> i64 {
+        i64::from(self)
+    }
+}
+
+impl SignedWord for i16 {
+    ghost holds = { FitsSigned w16 };
+
+    ghost number = { λ word. word };
+
+    ghost in_order = { λ a b. refl };
+
+    fn of(value: i64) -> Option<i16> {
+        i16::try_from(value).ok()
+    }
+
+    fn value(self) -> i64 {
+        i64::from(self)
+    }
+}
+
+impl SignedWord for i32 {
+    ghost holds = { FitsSigned w32 };
+
+    ghost number = { λ word. word };
+
+    ghost in_order = { λ a b. refl };
+
+    fn of(value: i64) -> Option<i32> {
+        i32::try_from(value).ok()
+    }
+
+    fn value(self) -> i64 {
+        i64::from(self)
+    }
+}
+
+impl SignedWord for i64 {
+    ghost holds = { FitsSigned w64 };
+
+    ghost number = { λ word. word };
+
+    ghost in_order = { λ a b. refl };
+
+    fn of(value: i64) -> Option<i64> {
+        Some(value)
+    }
+
+    fn value(self) -> i64 {
+        self
+    }
+}
+
+/// Numbers in signed words of one width.
+#[derive(Drop)]
+pub enum SignedWords {
+    Bits8(Vec<i8>),
+    Bits16(Vec<i16>),
+    Bits32(Vec<i32>),
+    Bits64(Vec<i64>),
+}
+
+/// Makes room for more. Apart from the pushes, so that these stay short.
+#[cold]
+fn make_room<W: SignedWord>(words: &mut Vec<W>) -> Result<(), AllocError>
+    ensures items { words.new.items ≡ words.old.items }
+    ensures room { OnOk result (vec_len words.new < vec_capacity words.new) }
+{
+    words.reserve(1)
+}
+
+/// Puts a number at the end, or changes nothing where it is too wide or memory is refused. Tells
+/// whether it did.
+#[inline(always)]
+fn push_to<W: SignedWord>(words: &mut Vec<W>, number: i64) -> Result<bool, AllocError>
+    ensures wide { OnOk result (W.holds number → result ≡ Ok true) }
+    ensures ok { IfOk result (λ pushed. MatchBool pushed
+        (map W.number words.new.items ≡ map W.number words.old.items ++ number ∷ [])
+        (words.new.items ≡ words.old.items)) }
+    ensures err { OnErr result (words.new.items ≡ words.old.items) }
+{
+    match W::of(number) {
+        Some(word) => {
+            if words.len() == words.capacity() {
+                make_room(words)?;
+            }
+            words.push_reserved(word);
+            Ok(true)
+        }
+        None => Ok(false),
+    }
+}
+
+/// The same numbers in words that can be every number that they could.
+fn rewritten<S: SignedWord, W: SignedWord>(alloc: Global, words: &[S]) -> Result<Vec<W>, AllocError>
+    requires { (number : ℤ) → S.holds number → W.holds number }
+    ensures { IfOk result (λ rewritten. map W.number rewritten.items ≡ map S.number words.now) }
+{
+    let mut rewritten = Vec::with_capacity(alloc, words.len())?;
+    for word in words {
+        match W::of(word.value()) {
+            Some(wide) => rewritten.push_reserved(wide),
+            None => unreachable!(),
+        }
+    }
+    Ok(rewritten)
+}
+
+impl SignedWords {
+    /// How many numbers there are.
+    pub(crate) fn len(&self) -> usize
+        ensures { result ≡ length (numbers_in self.now) }
+    {
+        match self {
+            SignedWords::Bits8(words) => words.len(),
+            SignedWords::Bits16(words) => words.len(),
+            SignedWords::Bits32(words) => words.len(),
+            SignedWords::Bits64(words) => words.len(),
+        }
+    }
+
+    /// The number at a place, from 0.
+    pub(crate) fn at(&self, place: usize) -> i64
+        requires { place < length (numbers_in self.now) }
+        ensures { slice_get (numbers_in self.now) place ≡ Some result }
+    {
+        match self {
+            SignedWords::Bits8(words) => i64::from(words[place]),
+            SignedWords::Bits16(words) => i64::from(words[place]),
+            SignedWords::Bits32(words) => i64::from(words[place]),
+            SignedWords::Bits64(words) => words[place],
+        }
+    }
+
+    /// Puts a number at the end, or changes nothing where it is too wide or memory is refused. Tells
+    /// whether it did: always where the words have 64 bits.
+    #[inline(always)]
+    pub(crate) fn push(&mut self, number: i64) -> Result<bool, AllocError>
+        ensures ok { IfOk result (λ pushed. MatchBool pushed
+            (numbers_in self.new ≡ numbers_in self.old ++ number ∷ [])
+            ((numbers_in self.new ≡ numbers_in self.old) × (widenings self.new ≡ widenings self.old)
+            × (0 < widenings self.old))) }
+        ensures err { OnErr result (numbers_in self.new ≡ numbers_in self.old) }
+    {
+        match self {
+            SignedWords::Bits8(words) => push_to(words, number),
+            SignedWords::Bits16(words) => push_to(words, number),
+            SignedWords::Bits32(words) => push_to(words, number),
+            SignedWords::Bits64(words) => push_to(words, number),
+        }
+    }
+
+    /// The same numbers in words twice as wide, up to 64 bits.
+    pub(crate) fn widened(&self, alloc: Global) -> Result<SignedWords, AllocError>
+        requires { 0 < widenings self.now }
+        ensures numbers { IfOk result (λ wide. numbers_in wide ≡ numbers_in self.now) }
+        ensures wider { IfOk result (λ wide. widenings wide < widenings self.now) }
+    {
+        match self {
+            SignedWords::Bits8(words) => Ok(SignedWords::Bits16(rewritten(
+                alloc,
+                words.as_slice(),
+            )?)),
+            SignedWords::Bits16(words) => {
+                Ok(SignedWords::Bits32(rewritten(alloc, words.as_slice())?))
+            }
+            SignedWords::Bits32(words) => {
+                Ok(SignedWords::Bits64(rewritten(alloc, words.as_slice())?))
+            }
+            SignedWords::Bits64(_) => unreachable!(),
+        }
+    }
+}

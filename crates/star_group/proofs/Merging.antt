@@ -1,0 +1,147 @@
+-- Aggregates over puts of which some pass one test and the others another.
+use Rattle.std.proofs.Common.{◌≡◌, ℕ, Bool, true, false, ◌&&◌, ◌||◌, ℤ, pos, List, [], ◌∷◌, Option, Some, None, cond, ap, sym, ◌∙◌, refl, subst, true≢false}
+use Rattle.std.specs.List.{list_any, filter, AllByRecursion}
+use Rattle.star_schema.specs.declared.group.Aggregate.{Aggregate}
+use Rattle.star_schema.specs.declared.group.Aggregate.TheVariants.{Sum, Count, Min, Max}
+use Rattle.star_schema.specs.Groups.{numbers_for}
+use Rattle.star_group.specs.Base.{HasAggregates, IsRowOver}
+use Rattle.star_group.specs.Cells.{held, step}
+use Rattle.star_group.specs.Held.{has_puts}
+use Rattle.star_group.specs.Private.Merged.{both, cell_of, merged, IsMerged, IsMergedInto, IsRowOf}
+use Rattle.star_group.specs.Stores.{Put, Group, aggregate_at, number_at}
+use Rattle.star_group.proofs.ContentByKeys.{plus_comm, plus_assoc, least_comm, least_assoc, greatest_comm, greatest_assoc}
+
+-- ---- the operations
+
+both_comm : (g : Aggregate) (x y : ℤ) → both g x y ≡ both g y x
+both_comm Sum = plus_comm
+both_comm Count = plus_comm
+both_comm Min = least_comm
+both_comm Max = greatest_comm
+
+both_assoc : (g : Aggregate) (x y z : ℤ) → both g (both g x y) z ≡ both g x (both g y z)
+both_assoc Sum = plus_assoc
+both_assoc Count = plus_assoc
+both_assoc Min = least_assoc
+both_assoc Max = greatest_assoc
+
+pub merged_comm : (g : Aggregate) (r s : Option ℤ) → merged g r s ≡ merged g s r
+merged_comm g None None = refl
+merged_comm g None (Some y) = refl
+merged_comm g (Some x) None = refl
+merged_comm g (Some x) (Some y) = ap Some (both_comm g x y)
+
+merged_assoc : (g : Aggregate) (r s t : Option ℤ) → merged g (merged g r s) t ≡ merged g r (merged g s t)
+merged_assoc g None s t = refl
+merged_assoc g (Some x) None t = refl
+merged_assoc g (Some x) (Some y) None = refl
+merged_assoc g (Some x) (Some y) (Some z) = ap Some (both_assoc g x y z)
+
+-- ---- one number more
+
+one_step : (g : Aggregate) (v : ℤ) (r : Option ℤ) → Some (step g v r) ≡ merged g (Some (cell_of g v)) r
+one_step Sum v None = refl
+one_step Sum v (Some z) = refl
+one_step Count v None = refl
+one_step Count v (Some z) = ap Some (plus_comm z (pos 1))
+one_step Min v None = refl
+one_step Min v (Some z) = refl
+one_step Max v None = refl
+one_step Max v (Some z) = refl
+
+pub held_one : (g : Aggregate) (v : ℤ) (vs : List ℤ) → held g (v ∷ vs) ≡ merged g (Some (cell_of g v)) (held g vs)
+unfolding held
+held_one g v vs = one_step g v (held g vs)
+
+pub held_none : (g : Aggregate) → held g [] ≡ None
+unfolding held
+held_none g = refl
+
+-- ---- puts that pass a test
+
+pub any_filter : (t : Put → Bool) (us : List Put) → has_puts (filter t us) ≡ list_any t us
+any_filter t [] = refl
+any_filter t (u ∷ us) = by (t u) (any_filter t us)
+  where
+    by : (b : Bool) → has_puts (filter t us) ≡ list_any t us → has_puts (cond b (u ∷ filter t us) (filter t us)) ≡ (b || list_any t us)
+    by true e = refl
+    by false e = e
+
+-- the puts that pass a test are those that pass one of two, and none passes both
+abbrev pub AreSplit : (Put → Bool) → (Put → Bool) → (Put → Bool) → List Put → Type 0
+AreSplit ta tb tc us = AllByRecursion (λ u. (tc u ≡ (ta u || tb u)) × ((ta u && tb u) ≡ false)) us
+
+pub held_parts : (g : Aggregate) (place : ℕ) (ta tb tc : Put → Bool) (us : List Put) → AreSplit ta tb tc us
+    → held g (numbers_for place (filter tc us)) ≡ merged g (held g (numbers_for place (filter ta us))) (held g (numbers_for place (filter tb us)))
+held_parts g place ta tb tc [] parts = held_none g ∙ (λ i. merged g (sym (held_none g) i) (sym (held_none g) i))
+held_parts g place ta tb tc (u ∷ us) parts =
+    ap (λ b. held g (numbers_for place (cond b (u ∷ filter tc us) (filter tc us)))) parts.0.0
+    ∙ by (ta u) (tb u) parts.0.1 (held_parts g place ta tb tc us parts.1)
+  where
+    one : Option ℤ
+    one = Some (cell_of g (number_at place u))
+
+    over : (Put → Bool) → Option ℤ
+    over t = held g (numbers_for place (filter t us))
+
+    more : (t : Put → Bool) → held g (numbers_for place (u ∷ filter t us)) ≡ merged g one (over t)
+    more t = held_one g (number_at place u) (numbers_for place (filter t us))
+
+    by : (x y : Bool) → (x && y) ≡ false → over tc ≡ merged g (over ta) (over tb)
+        → held g (numbers_for place (cond (x || y) (u ∷ filter tc us) (filter tc us)))
+        ≡ merged g (held g (numbers_for place (cond x (u ∷ filter ta us) (filter ta us)))) (held g (numbers_for place (cond y (u ∷ filter tb us) (filter tb us))))
+    by true true never e = absurd (true≢false never)
+    by true false never e = more tc ∙ ap (merged g one) e ∙ sym (merged_assoc g one (over ta) (over tb)) ∙ ap (λ r. merged g r (over tb)) (sym (more ta))
+    by false true never e =
+        more tc ∙ ap (merged g one) e ∙ sym (merged_assoc g one (over ta) (over tb)) ∙ ap (λ r. merged g r (over tb)) (merged_comm g one (over ta))
+        ∙ merged_assoc g (over ta) one (over tb) ∙ ap (merged g (over ta)) (sym (more tb))
+    by false false never e = e
+
+-- ---- rows
+
+-- the row of one put
+pub row_of_one : (d : Group) (u : Put) (row : List (Option ℤ)) → IsRowOf d.aggregates u.values row → HasAggregates d (u ∷ []) row
+row_of_one d u row is = λ place h. is place h ∙ sym (held_one (aggregate_at d place) (number_at place u) [] ∙ ap (merged (aggregate_at d place) (Some (cell_of (aggregate_at d place) (number_at place u)))) (held_none (aggregate_at d place)))
+
+-- one put more
+pub merged_more : (d : Group) (u : Put) (us : List Put) (held_row row new : List (Option ℤ)) → IsRowOf d.aggregates u.values row → HasAggregates d us held_row → IsMerged d.aggregates held_row row new → HasAggregates d (u ∷ us) new
+merged_more d u us held_row row new one so_far is = λ place h.
+    let g = aggregate_at d place in
+    is place h ∙ (λ i. merged g (so_far place h i) (one place h i)) ∙ merged_comm g (held g (numbers_for place us)) (Some (cell_of g (number_at place u))) ∙ sym (held_one g (number_at place u) (numbers_for place us))
+
+pub no_puts : (us : List Put) → has_puts us ≡ false → us ≡ []
+no_puts [] h = refl
+no_puts (u ∷ us) h = absurd (true≢false h)
+
+or_right : (a b : Bool) → b ≡ true → (a || b) ≡ true
+or_right true b h = refl
+or_right false b h = h
+
+any_parts : (ta tb tc : Put → Bool) (us : List Put) → AreSplit ta tb tc us → list_any tb us ≡ true → list_any tc us ≡ true
+any_parts ta tb tc [] parts h = h
+any_parts ta tb tc (u ∷ us) parts h = ap (λ b. b || list_any tc us) parts.0.0 ∙ by (ta u) (tb u) h (any_parts ta tb tc us parts.1)
+  where
+    by : (x y : Bool) → (y || list_any tb us) ≡ true → (list_any tb us ≡ true → list_any tc us ≡ true) → ((x || y) || list_any tc us) ≡ true
+    by true y h later = refl
+    by false true h later = refl
+    by false false h later = later h
+
+-- a row over some puts, with one over others merged into it
+pub over_parts : (d : Group) (us : List Put) (ta tb tc : Put → Bool) (found new : Option (List (Option ℤ))) (more : List (Option ℤ)) → AreSplit ta tb tc us
+    → IsRowOver d (filter ta us) found → IsRowOver d (filter tb us) (Some more) → IsMergedInto d.aggregates more found new → IsRowOver d (filter tc us) new
+over_parts d us ta tb tc found new more parts was adds merges = by found was merges
+  where
+    there : has_puts (filter tc us) ≡ true
+    there = any_filter tc us ∙ any_parts ta tb tc us parts (sym (any_filter tb us) ∙ adds.0)
+
+    by : (found : Option (List (Option ℤ))) → IsRowOver d (filter ta us) found → IsMergedInto d.aggregates more found new → IsRowOver d (filter tc us) new
+    by None was e = subst (IsRowOver d (filter tc us)) (sym e) (
+      there,
+      λ place h. adds.1 place h ∙ sym (held_parts (aggregate_at d place) place ta tb tc us parts
+          ∙ ap (λ ps. merged (aggregate_at d place) (held (aggregate_at d place) (numbers_for place ps)) (held (aggregate_at d place) (numbers_for place (filter tb us)))) (no_puts (filter ta us) was)
+          ∙ ap (λ r. merged (aggregate_at d place) r (held (aggregate_at d place) (numbers_for place (filter tb us)))) (held_none (aggregate_at d place))),
+    )
+    by (Some row) was m = subst (IsRowOver d (filter tc us)) (sym m.1) (
+      there,
+      λ place h. m.2 place h ∙ (λ i. merged (aggregate_at d place) (was.1 place h i) (adds.1 place h i)) ∙ sym (held_parts (aggregate_at d place) place ta tb tc us parts),
+    )

@@ -1,0 +1,51 @@
+-- The content of a deferred store: the rows of all keys alone, and the total.
+use Rattle.std.specs.Prelude.{◌≡◌, ℕ, ◌<◌, true, false, ℤ, List, Option, Some, None, filter, length, map, slice_index_or}
+use Rattle.std.specs.List.{AllByRecursion}
+use Rattle.std.specs.Map.{lookup}
+use Rattle.star_schema.specs.Groups.{numbers_for}
+use Rattle.star_program.specs.declared.key.KeyValue.{KeyValue}
+use Rattle.star_program.specs.declared.key.KeyValue.TheVariants.{Number as NumberKey, Code as CodeKey}
+use Rattle.star_group.specs.declared.deferred.key.KeyPart.{KeyPart}
+use Rattle.star_group.specs.declared.deferred.key.KeyPart.TheVariants.{All, Number, Code}
+use Rattle.star_group.specs.Cells.{held}
+use Rattle.star_group.specs.OwnKeys.{key_eq, padded}
+use Rattle.star_group.specs.Stores.{Put, Group, HasRoom, aggregate_at}
+use Rattle.star_group.specs.Held.{has_puts}
+
+-- what stands in a place of a key, None for ALL
+abbrev pub value_of : KeyPart → Option KeyValue
+value_of All = None
+value_of (Number x) = Some (NumberKey x)
+value_of (Code n) = Some (CodeKey n)
+
+abbrev pub key_of : List KeyPart → List (Option KeyValue)
+key_of parts = map value_of parts
+
+-- the row with a key
+abbrev pub row_at : List (List KeyPart × List (Option ℤ)) → List (Option KeyValue) → Option (List (Option ℤ))
+row_at entries q = lookup (λ parts. key_eq q (key_of parts)) entries
+
+-- the row has each aggregate over these puts
+abbrev pub HasAggregates : Group → List Put → List (Option ℤ) → Type 0
+HasAggregates d puts row = (place : ℕ) → place < length d.aggregates
+    → slice_index_or row place None ≡ held (aggregate_at d place) (numbers_for place puts)
+
+-- a row is there exactly where it has a put, and has the aggregates over its puts
+abbrev pub IsRowOver : Group → List Put → Option (List (Option ℤ)) → Type 0
+IsRowOver d puts None = has_puts puts ≡ false
+IsRowOver d puts (Some row) = (has_puts puts ≡ true) × HasAggregates d puts row
+
+-- the puts with these keys
+abbrev pub puts_with : List (Option KeyValue) → List Put → List Put
+puts_with q puts = filter (λ put. key_eq q (padded 6 put.keys)) puts
+
+-- a row for each key list that was put, and the total
+pub record IsBase (d : Group) (entries : List (List KeyPart × List (Option ℤ))) (all : List (Option ℤ)) (puts : List Put) : Type 0 where
+  pub fit : AllByRecursion (λ put. length put.keys ≡ d.count) puts
+  pub rows : (q : List (Option KeyValue)) → IsRowOver d (puts_with q puts) (row_at entries q)
+  pub total : HasAggregates d puts all
+
+-- they are those of some puts that have room: the positive sums of the rows add up within 64 bits, and so do
+-- the negative ones and the counts
+abbrev pub HasBaseWithRoom : Group → List (List KeyPart × List (Option ℤ)) → List (Option ℤ) → Type 0
+HasBaseWithRoom d entries all = ∥ ((puts : List Put) × IsBase d entries all puts × HasRoom d puts) ∥₁

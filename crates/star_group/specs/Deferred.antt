@@ -1,0 +1,12 @@
+-- What a contract sees of a deferred store.
+use Rattle.std.specs.Prelude.{List}
+use Rattle.star_group.specs.declared.deferred.DeferredStore.{DeferredStore}
+use Rattle.star_group.specs.Base.{IsBase}
+use Rattle.star_group.specs.Stores.{Put, Group}
+
+abbrev pub group_of : DeferredStore → Group
+group_of s = record { shape = s.shape; count = s.count; aggregates = s.aggregates.items }
+
+-- the store has the content of these puts
+abbrev pub Has : DeferredStore → List Put → Type 0
+Has s puts = IsBase (group_of s) s.rows.entries s.total puts

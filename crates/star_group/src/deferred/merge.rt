@@ -1,0 +1,100 @@
+// Rows of different puts merged into one.
+
+ghost use Rattle.std.specs.Prelude.{◌≡◌, ◌≤◌, ◌<◌, ℕ, false, length, Some, OnOk, OnErr, slice_index_or};
+ghost use Rattle.std.specs.Ordering.{is_eq};
+ghost use Rattle.std.specs.BTreeMap.{get};
+ghost use Rattle.star_program.specs.Puts.{leaves};
+ghost use Rattle.star_group.specs.Private.Merged as spec;
+ghost use Rattle.star_group.specs.Private.Merged.{IsMerged, IsMergedInto, IsRowOf, MergeStays, RowsStay, merged_at};
+
+use crate::cell::Row;
+use crate::rows::BLANK;
+use star_schema::Aggregate;
+use std::alloc::AllocError;
+use std::collections::BTreeMap;
+
+// An aggregate over some puts and over some others, as one over all of them.
+#[tactic(auto, unfolding(star_interval::specs::Range::is_i64))]
+fn merged(aggregate: Aggregate, held: Option<i64>, more: Option<i64>) -> Option<i64>
+    requires { leaves aggregate (spec.merged aggregate held more) ≡ false }
+    ensures { result ≡ spec.merged aggregate held more }
+{
+    match (held, more) {
+        (Some(held), Some(more)) => Some(match aggregate {
+            Aggregate::Sum | Aggregate::Count => held + more,
+            Aggregate::Min => held.min(more),
+            Aggregate::Max => held.max(more),
+        }),
+        (Some(held), None) => Some(held),
+        (None, more) => more,
+    }
+}
+
+// One place of two rows merged.
+fn merged_cell(aggregates: &[Aggregate], held: &Row, more: &Row, place: usize) -> Option<i64>
+    requires place { place < length aggregates.now }
+    requires few { length aggregates.now ≤ 8 }
+    requires stays { MergeStays aggregates.now held.now more.now }
+    ensures { result ≡ merged_at aggregates.now held.now more.now place }
+{
+    merged(aggregates[place], held[place], more[place])
+}
+
+// Two rows merged.
+pub(crate) fn merged_row(aggregates: &[Aggregate], held: &Row, more: &Row) -> Row
+    requires few { length aggregates.now ≤ 8 }
+    requires stays { MergeStays aggregates.now held.now more.now }
+    ensures { IsMerged aggregates.now held.now more.now result }
+{
+    let mut row = *held;
+    for place in 0..aggregates.len() {
+        row[place] = merged_cell(aggregates, held, more, place);
+    }
+    row
+}
+
+// One more row for this key, merged into the row that is there.
+pub(crate) fn merge_row<K: Ord + Copy + Drop>(
+    rows: &mut BTreeMap<K, Row>,
+    key: K,
+    aggregates: &[Aggregate],
+    more: &Row,
+) -> Result<(), AllocError>
+    requires few { length aggregates.now ≤ 8 }
+    requires stays { RowsStay aggregates.now (get K.cmp rows.old key) more.now }
+    ensures own { OnOk result (IsMergedInto aggregates.now more.now
+        (get K.cmp rows.old key) (get K.cmp rows.new key)) }
+    ensures others { OnOk result ((q : K) → is_eq (K.cmp key q) ≡ false
+        → get K.cmp rows.new q ≡ get K.cmp rows.old q) }
+    ensures refused { OnErr result (rows.new.entries ≡ rows.old.entries) }
+{
+    if let Some(held) = rows.get_mut(&key) {
+        *held = merged_row(aggregates, held, more);
+        return Ok(());
+    }
+    rows.insert(key, *more)?;
+    Ok(())
+}
+
+// What one put adds to an aggregate.
+fn cell_of(aggregate: Aggregate, value: i64) -> i64
+    ensures { result ≡ spec.cell_of aggregate value }
+{
+    match aggregate {
+        Aggregate::Count => 1,
+        _ => value,
+    }
+}
+
+// The row of one put alone.
+pub(crate) fn row_of(aggregates: &[Aggregate], values: &[i64]) -> Row
+    requires values { length values.now ≡ length aggregates.now }
+    requires few { length aggregates.now ≤ 8 }
+    ensures { IsRowOf aggregates.now values.now result }
+{
+    let mut row = BLANK;
+    for place in 0..aggregates.len() {
+        row[place] = Some(cell_of(aggregates[place], values[place]));
+    }
+    row
+}

@@ -1,0 +1,62 @@
+// A deferred store is a store of groups.
+
+ghost use Rattle.std.specs.Prelude.{◌≡◌, List, ◌∷◌, []};
+ghost use Rattle.star_group.specs.Deferred.{group_of, Has};
+
+use super::DeferredStore;
+use super::base::add_put;
+use super::coarser::all_rows;
+use super::given::rows_given;
+use crate::cell::shown;
+use crate::rows::BLANK;
+use crate::store::GroupStore;
+use crate::{GroupRow, KeyValue};
+use star_program::GroupDecl;
+use std::alloc::{AllocError, Global};
+use std::collections::BTreeMap;
+
+impl GroupStore for DeferredStore {
+    ghost group = { group_of };
+
+    ghost has = { Has };
+
+    fn new(alloc: Global, declared: &GroupDecl) -> Result<DeferredStore, AllocError> {
+        let aggregates = declared
+            .aggregates
+            .as_slice()
+            .iter()
+            .copied()
+            .collect(alloc)?;
+        Ok(DeferredStore {
+            alloc,
+            shape: declared.shape,
+            count: declared.keys.as_slice().len(),
+            aggregates,
+            rows: BTreeMap::new(alloc),
+            total: BLANK,
+        })
+    }
+
+    fn put(&mut self, keys: &[KeyValue], values: &[i64]) -> Result<(), AllocError> {
+        add_put(
+            &mut self.rows,
+            &mut self.total,
+            self.aggregates.as_slice(),
+            keys,
+            values,
+        )
+    }
+
+    fn total(&self, aggregate: usize) -> Option<i64> {
+        shown(self.aggregates[aggregate], self.total[aggregate])
+    }
+
+    fn into_rows(self) -> Result<Vec<GroupRow>, AllocError> {
+        let base = self.rows;
+        let aggregates = self.aggregates.as_slice();
+        let rows = all_rows(
+            self.alloc, base, self.total, self.shape, self.count, aggregates,
+        )?;
+        rows_given(self.alloc, &rows, self.shape, self.count, aggregates)
+    }
+}

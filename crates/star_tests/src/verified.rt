@@ -1,0 +1,100 @@
+// Programs that are verified and run by the library's own calls, or handed back.
+
+use crate::programs_at_hand::{
+    ABOVE_AVERAGE, ABSENT_KEY, DISCOUNTED_REVENUE, MISPLACED, NESTED, READ_INSIDE, counting,
+};
+use crate::samples::loaded;
+use star_catalogue::{Catalogue, sample};
+use star_program::{Program, TextFault};
+use star_run::run;
+use star_schema::{Limits, MOST_ROWS};
+use star_verify::{Refusal, Refused, Verified, quote, verify};
+use std::alloc::{AllocError, Global};
+use std::test::Fail;
+
+fn parsed(alloc: Global, text: &str) -> Result<Program, Fail> {
+    match Program::parse(alloc, text.as_bytes()) {
+        Ok(program) => Ok(program),
+        Err(TextFault::OutOfMemory) => Err(Fail::from(AllocError)),
+        Err(fault) => Err(Fail::from(format_args!("{fault}"))),
+    }
+}
+
+fn checked<'c>(
+    alloc: Global,
+    catalogue: &'c Catalogue,
+    text: &str,
+    visits: u64,
+) -> Result<Result<Verified<'c>, Refused>, Fail> {
+    let program = parsed(alloc, text)?;
+    let limits = Limits::new(MOST_ROWS, visits).unwrap_or(Limits::widest());
+    Ok(verify(alloc, catalogue, program, limits))
+}
+
+// Whether a program comes back as it was given, verified or refused, for want of memory too.
+fn comes_back(alloc: Global, catalogue: &Catalogue, text: &str, visits: u64) -> Result<bool, Fail> {
+    let program = match checked(alloc, catalogue, text, visits)? {
+        Ok(verified) => verified.into_program(),
+        Err(refused) => refused.program,
+    };
+    Ok(program.to_text()?.as_slice() == text.as_bytes())
+}
+
+#[test]
+fn hands_programs_back(rt: HostRuntime) -> Result<(), Fail> {
+    let catalogue = loaded(rt.alloc(), &sample())?;
+    for (text, visits) in [
+        (ABOVE_AVERAGE, 10),
+        (ABOVE_AVERAGE, 9),
+        (DISCOUNTED_REVENUE, 5),
+        (DISCOUNTED_REVENUE, 0),
+    ] {
+        assert!(rt;
+            comes_back(rt.alloc(), &catalogue, text, visits)?,
+            "{visits}"
+        );
+    }
+    for lines in [ABSENT_KEY, MISPLACED, NESTED, READ_INSIDE] {
+        let given = parsed(rt.alloc(), counting(rt.alloc(), lines)?.as_str())?.to_text()?;
+        let text = str::from_utf8(given.as_slice())?;
+        assert!(rt; comes_back(rt.alloc(), &catalogue, text, 9)?, "{lines}");
+    }
+    Ok(())
+}
+
+fn failed(refusal: Refusal) -> Fail {
+    match refusal {
+        Refusal::OutOfMemory => Fail::from(AllocError),
+        refusal => Fail::from(format_args!("{refusal}")),
+    }
+}
+
+// What is quoted of a verified program, and what its run visits, finds and puts.
+fn ran(alloc: Global, catalogue: &Catalogue, text: &str) -> Result<(u128, u64, u64, u64), Fail> {
+    match checked(alloc, catalogue, text, 10)? {
+        Ok(verified) => {
+            let outcome = run(alloc, &verified)?;
+            Ok((
+                verified.quote(),
+                outcome.visits,
+                outcome.lookups,
+                outcome.updates,
+            ))
+        }
+        Err(refused) => Err(failed(refused.refusal)),
+    }
+}
+
+#[test]
+fn runs_what_is_verified(rt: HostRuntime) -> Result<(), Fail> {
+    let catalogue = loaded(rt.alloc(), &sample())?;
+    for (text, expected) in [
+        (ABOVE_AVERAGE, (10, 10, 0, 7)),
+        (DISCOUNTED_REVENUE, (5, 5, 5, 1)),
+    ] {
+        let program = parsed(rt.alloc(), text)?;
+        assert_eq!(rt; quote(&program, &catalogue.sizes()), expected.0);
+        assert!(rt; ran(rt.alloc(), &catalogue, text)? == expected, "{text}");
+    }
+    Ok(())
+}

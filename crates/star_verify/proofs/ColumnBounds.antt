@@ -1,0 +1,59 @@
+-- The bounds of the columns, one column after another.
+use Rattle.std.proofs.Common.{◌≡◌, ◌≢◌, ◌<◌, ◌≤◌, ◌+◌, true≢false, ℕ, Bool, true, false, List, Some, length, get_or, arith, ap, sym, ◌∙◌, refl, get_or-set_other, get_or-set_same}
+use Rattle.std.specs.Prelude.{nat_eq, slice_get, slice_set}
+use Rattle.std.proofs.lemmas.Bool.Decides.{Decides-eqb}
+use Rattle.std.proofs.lemmas.Option.{get_or_from_slice_get, slice_get_within}
+use Rattle.star_schema.specs.Schema.{index_of}
+use Rattle.star_schema.specs.Sizes.{size_of}
+use Rattle.star_schema.specs.declared.column.ColumnId.{ColumnId}
+use Rattle.star_schema.specs.declared.column.ColumnId.TheVariants.{DDatekey}
+use Rattle.star_schema.specs.declared.column.TheConstants.{COLUMNS}
+use Rattle.star_schema.specs.declared.sizes.Sizes.{Sizes}
+use Rattle.star_schema.specs.declared.table.TableId.{TableId}
+use Rattle.star_schema.proofs.Same.{column_same}
+use Rattle.star_interval.specs.declared.Interval.{Interval}
+use Rattle.star_interval.specs.Interval.{range_of}
+use Rattle.star_program.specs.World.{World}
+use Rattle.star_verify.specs.Private.Facts.{AreBounds, AreFacts}
+
+at_index : (c : ColumnId) → slice_get COLUMNS (index_of c) ≡ Some c
+at_index DDatekey = refl
+at_index _ = refl
+
+index_within : (c : ColumnId) → index_of c < 58
+index_within c = slice_get_within COLUMNS (index_of c) c (at_index c)
+
+module _ (w : World) (bounds : List Interval) (k : ℕ) (d : ColumnId) (new : Interval) where
+  pub one_more : length bounds ≡ 58 → AreBounds w bounds k
+      → range_of new ≡ w.bounds (get_or COLUMNS k d)
+      → AreBounds w (slice_set bounds (index_of (get_or COLUMNS k d)) new) (k + 1)
+  one_more len are is c i before at =
+      go (nat_eq (index_of (get_or COLUMNS k d)) (index_of c)) refl
+    where
+      column : ColumnId
+      column = get_or COLUMNS k d
+
+      go : (b : Bool) → nat_eq (index_of column) (index_of c) ≡ b → range_of i ≡ w.bounds c
+      go true e =
+          let same : column ≡ c = column_same column c e in
+          let inside : index_of column < length bounds = omega (arith, index_within column, len) in
+          let one : i ≡ new = at
+          ∙ ap (λ n. get_or (slice_set bounds (index_of column) new) n i)
+          (sym ((Decides-eqb (index_of column) (index_of c)).0 e))
+          ∙ (rw get_or-set_same refl) in
+          ap range_of one ∙ is ∙ ap w.bounds same
+      go false e =
+          let apart : index_of c ≢ index_of column =
+          λ f. true≢false (sym ((Decides-eqb (index_of column) (index_of c)).1 (sym f)) ∙ e) in
+          let other : index_of c ≢ k =
+          λ f. apart (ap index_of (sym (ap (λ n. get_or COLUMNS n d) (sym f)
+          ∙ get_or_from_slice_get COLUMNS (index_of c) c d (at_index c)))) in
+          are c i (omega (arith, before, other)) (at ∙ (rw get_or-set_other refl))
+
+pub all_facts : (w : World) (sizes : Sizes) (bounds : List Interval) (k : ℕ)
+    → ((t : TableId) → size_of sizes t ≡ w.size t) → 58 ≤ k → AreBounds w bounds k
+    → AreFacts w (record { sizes = sizes; bounds = bounds })
+all_facts w sizes bounds k same past are = record {
+  sizes = same;
+  bounds = λ c i at. are c i (omega (arith, index_within c, past)) at;
+}

@@ -1,0 +1,68 @@
+-- A column of texts has no numbers, so that its bounds are 0 and 0.
+use Rattle.std.proofs.Common.{◌≡◌, ℤ, pos, List, [], ◌∷◌, Option, Some, None, refl, sym, ap, ◌∙◌, ⊎_elim}
+use Rattle.std.specs.List.{All}
+use Rattle.std.specs.Option.{option_map}
+use Rattle.std.specs.Prelude.{slice_get}
+use Rattle.std.proofs.lemmas.Int.{fold-int_min_reached, fold-int_max_reached}
+use Rattle.std.proofs.lemmas.List.Elements.{All-contains, All-head, All-map, All-tail}
+use Rattle.std.proofs.lemmas.Option.{slice_get-map}
+use Rattle.star_schema.specs.Bounds.{greatest, least, number_in, numbers_at}
+use Rattle.star_schema.specs.Database.{Database, rows_in}
+use Rattle.star_schema.specs.Schema.{columns_of, kind_of, place_of, table_of}
+use Rattle.star_schema.specs.Tables.{IsRowOf, Number, Text, Value, kind_of_value}
+use Rattle.star_schema.specs.declared.column.ColumnId.{ColumnId}
+use Rattle.star_schema.specs.declared.column.Kind.TheVariants as kind
+use Rattle.star_schema.proofs.Places.{at_place}
+use Rattle.star_interval.specs.Range.{only}
+use Rattle.star_world.specs.WorldOf.{column_numbers, world_of}
+
+abbrev IsZero : ℤ → Type 0
+IsZero n = n ≡ pos 0
+
+least_zero : (zs : List ℤ) → All IsZero zs → least zs ≡ pos 0
+unfolding least
+least_zero [] zero = refl
+least_zero (z ∷ zs) zero =
+    ⊎_elim {C = least (z ∷ zs) ≡ pos 0} (λ first. first ∙ All-head IsZero z zs zero)
+    (λ later. All-contains IsZero zs _ (All-tail IsZero z zs zero) later)
+    (fold-int_min_reached z zs _ refl)
+
+greatest_zero : (zs : List ℤ) → All IsZero zs → greatest zs ≡ pos 0
+unfolding greatest
+greatest_zero [] zero = refl
+greatest_zero (z ∷ zs) zero =
+    ⊎_elim {C = greatest (z ∷ zs) ≡ pos 0} (λ first. first ∙ All-head IsZero z zs zero)
+    (λ later. All-contains IsZero zs _ (All-tail IsZero z zs zero) later)
+    (fold-int_max_reached z zs _ refl)
+
+text_zero : (o : Option Value) → option_map kind_of_value o ≡ Some kind.Text → IsZero (number_in o)
+text_zero None e = absurd (cc)
+text_zero (Some (Number n)) e = absurd (cc)
+text_zero (Some (Text bytes)) e = refl
+
+row_zero : (c : ColumnId) → kind_of c ≡ kind.Text → (row : List Value) → IsRowOf (table_of c) row
+    → IsZero (number_in (slice_get row (place_of c)))
+row_zero c is row typed =
+    text_zero (slice_get row (place_of c))
+    (sym (slice_get-map kind_of_value row (place_of c))
+    ∙ ap (λ kinds. slice_get kinds (place_of c)) typed
+    ∙ slice_get-map kind_of (columns_of (table_of c)) (place_of c)
+    ∙ ap (option_map kind_of) (at_place c)
+    ∙ ap Some is)
+
+numbers_zero : (c : ColumnId) → kind_of c ≡ kind.Text → (rows : List (List Value))
+    → All (IsRowOf (table_of c)) rows → All IsZero (numbers_at (place_of c) rows)
+unfolding numbers_at
+numbers_zero c is rows typed =
+    All-map IsZero (λ row. number_in (slice_get row (place_of c))) rows
+    (λ i d within. row_zero c is _ (typed i d within))
+
+pub text_bounds : (database : Database) (c : ColumnId) → kind_of c ≡ kind.Text
+    → All (IsRowOf (table_of c)) (rows_in database (table_of c))
+    → only (pos 0) ≡ (world_of database).bounds c
+text_bounds database c is typed =
+    let zero = numbers_zero c is (rows_in database (table_of c)) typed in
+    λ i. record {
+      low = sym (least_zero (column_numbers database c) zero) i;
+      high = sym (greatest_zero (column_numbers database c) zero) i;
+    }

@@ -1,0 +1,77 @@
+-- A walk over the steps of a body: what it answers of one step, and how far it is.
+use Rattle.std.specs.Prelude.{◌≡◌, ◌+◌, ◌≤◌, ◌^◌, ℕ, Bool, List, length, Option}
+use Rattle.star_schema.specs.Sizes.{size_of}
+use Rattle.star_program.specs.declared.body.Step.{Step}
+use Rattle.star_program.specs.declared.body.Step.TheVariants.{Act, Scan}
+use Rattle.star_program.specs.declared.program.Parts.{Parts}
+use Rattle.star_program.specs.Code.{Code, Each, code_size}
+use Rattle.star_program.specs.CodeOfSteps.{code_of_steps}
+use Rattle.star_program.specs.World.{World}
+use Rattle.star_admission.specs.Contexts.{Context, after_op, after_scan, at_end, in_scan}
+use Rattle.star_admission.specs.Private.Forward.{first_reason, open_with}
+use Rattle.star_admission.specs.Quote.{turns_met}
+use Rattle.star_admission.specs.Refusals as refusals
+use Rattle.star_admission.specs.Refusals.{op_reason}
+use Rattle.star_admission.specs.Standing.{at_place}
+use Rattle.star_verify.specs.declared.facts.Facts.{Facts}
+use Rattle.star_verify.specs.declared.instructions.Noted.{Noted}
+use Rattle.star_verify.specs.declared.instructions.Place.{Place}
+use Rattle.star_verify.specs.declared.register.Register.{Register}
+use Rattle.star_verify.specs.Private.Facts.{AreFacts}
+use Rattle.star_verify.specs.Private.Judged.{AreFewAt, IsPlaced, IsSized, Keeps, scan_first}
+use Rattle.star_verify.specs.Private.Kept.{AreMarked}
+
+-- ---- a step
+
+-- what refuses it first, or what is in it, where such code follows
+abbrev pub step_first : World → Parts → (ℕ → Bool) → Context → ℕ → Step → Code
+    → Option (ℕ × refusals.Reason)
+step_first w parts pending x at (Act op) rest =
+    at_place at (op_reason w parts (open_with pending rest) x op)
+step_first w parts pending x at (Scan table r body) rest =
+    scan_first w parts (open_with pending (Each table r body rest)) x at table r body
+
+abbrev pub after_step : World → Parts → Context → Step → Context
+after_step w parts x (Act op) = after_op w parts x op
+after_step w parts x (Scan table r body) =
+    after_scan x (at_end w parts (in_scan w x table r) body)
+
+-- how many instructions it is
+abbrev pub step_size : Step → ℕ
+step_size (Act op) = 1
+step_size (Scan table r body) = 1 + code_size body
+
+-- ---- how far a walk is
+
+-- what is first of some code is what is first of this rest of it, in the context there
+pub record IsRest (w : World) (parts : Parts) (pending : ℕ → Bool) (x : Context) (at : ℕ) (all : Code)
+    (there : Context) (now : ℕ) (rest : Code) : Type 0 where
+  pub first : first_reason w parts pending x at all ≡ first_reason w parts pending there now rest
+  pub after : at_end w parts x all ≡ at_end w parts there rest
+
+-- what a walk was given
+pub record Walk : Type 0 where
+  pub parts : Parts
+  pub facts : Facts
+  pub place : Place
+  pub pending : List Bool
+  pub registers : List Register
+  pub noted : Noted
+  pub steps : List Step
+
+-- these steps are left, from the instruction of this number on, with what is kept there
+pub record IsLeft (walk : Walk) (registers : List Register) (noted : Noted) (at : ℕ) (left : List Step)
+    : Type 0 where
+  pub past : walk.place.at ≤ at
+  pub size : at + code_size (code_of_steps left)
+      ≡ walk.place.at + code_size (code_of_steps walk.steps)
+  pub turns : turns_met (size_of walk.facts.sizes) walk.place.met (code_of_steps left) ≤ 10 ^ 15
+  pub wide : length registers ≡ length walk.registers
+  pub sized : IsSized walk.parts noted
+  pub few : AreFewAt noted at
+  pub kept : (w : World) (x : Context) (pending : ℕ → Bool) → AreFacts w walk.facts
+      → Keeps walk.parts walk.registers walk.noted x → IsPlaced walk.place x
+      → AreMarked walk.parts walk.pending pending
+      → (there : Context) × Keeps walk.parts registers noted there × IsPlaced walk.place there
+      × IsRest w walk.parts pending x walk.place.at (code_of_steps walk.steps) there at
+      (code_of_steps left)

@@ -1,0 +1,97 @@
+// The check of a whole program: of its quote, then of its instructions, and then of its report.
+
+ghost use Rattle.std.specs.Prelude.{◌≡◌, ◌≤◌, ◌^◌, IfOk, MatchResult, None, length};
+ghost use Rattle.star_schema.specs.Sizes.{size_of};
+ghost use Rattle.star_program.specs.Limits.{IsWithinLimits};
+ghost use Rattle.star_program.specs.World.{World};
+ghost use Rattle.star_admission.specs.Contexts.{at_first};
+ghost use Rattle.star_admission.specs.Private.Forward.{first_reason, none_open};
+ghost use Rattle.star_admission.specs.Quote as spec;
+ghost use Rattle.star_verify.specs.Private.Facts.{AreFacts};
+ghost use Rattle.star_verify.specs.Private.Judged.{AreFewAt, AreNoted, IsChecked, IsFirst, IsSized};
+ghost use Rattle.star_verify.specs.Private.Shown.{known_in};
+
+use crate::facts::Facts;
+use crate::instructions::{Noted, Place};
+use crate::refusal::Refusal;
+use crate::register::Register;
+use crate::report::misnamed_line;
+use crate::tally::Tally;
+use crate::visits::quote;
+use crate::walk::walk;
+use star_program::{Parts, Program};
+use star_schema::Limits;
+use std::alloc::{AllocError, Global};
+
+// So many registers of which nothing is known.
+#[tactic(auto, using(crate::proofs::Starting::nothing_in))]
+fn unknown_registers(alloc: Global, count: u16) -> Result<Vec<Register>, AllocError>
+    ensures known { IfOk result (λ registers. known_in registers.items ≡ at_first.known) }
+    ensures len { IfOk result (λ registers. length registers.items ≡ count) }
+{
+    Ok(vec![in alloc; Register { known: None }; count as usize]?)
+}
+
+// Before the first instruction nothing is written and nothing put.
+fn nothing_noted(alloc: Global, parts: &Parts) -> Result<Noted, AllocError>
+    requires { IsWithinLimits parts.now }
+    ensures noted { IfOk result (λ noted. AreNoted parts.now noted at_first) }
+    ensures sized { IfOk result (λ noted. IsSized parts.now noted) }
+    ensures few { IfOk result (λ noted. AreFewAt noted 1) }
+{
+    Ok(Noted {
+        written: vec![in alloc; false; parts.registers as usize]?,
+        tallies: vec![in alloc; Tally::none(); 64]?,
+    })
+}
+
+// Refuses the first instruction that is to be refused.
+fn check_instructions(alloc: Global, parts: &Parts, facts: &Facts) -> Result<(), Refusal>
+    requires limits { IsWithinLimits parts.now }
+    requires quote { spec.quote (size_of facts.now.sizes) parts.now ≤ 10 ^ 15 }
+    ensures { (w : World) → AreFacts w facts.now
+        → MatchResult result
+        (λ _. first_reason w parts.now none_open at_first 1 parts.now.body ≡ None)
+        (λ refusal. IsFirst refusal
+        (first_reason w parts.now none_open at_first 1 parts.now.body)) }
+{
+    let mut noted = nothing_noted(alloc, parts)?;
+    let mut registers = unknown_registers(alloc, parts.registers)?;
+    let first = Place {
+        at: 1,
+        inside: false,
+        met: 1,
+    };
+    walk(
+        parts,
+        facts,
+        first,
+        [false; 8],
+        &mut registers,
+        &mut noted,
+        parts.body.as_slice(),
+    )?;
+    Ok(())
+}
+
+// What refuses a program first, or how many visits it is quoted.
+pub(crate) fn check(
+    alloc: Global,
+    program: &Program,
+    facts: &Facts,
+    limits: Limits,
+) -> Result<u128, Refusal>
+    ensures { (w : World) → AreFacts w facts.now
+        → IsChecked result w limits.visits program.now }
+{
+    let visits = quote(program, &facts.sizes);
+    if visits > u128::from(limits.visits) {
+        return Err(Refusal::TooCostly { visits });
+    }
+    let parts = program.parts();
+    check_instructions(alloc, parts, facts)?;
+    match misnamed_line(parts) {
+        None => Ok(visits),
+        Some(place) => Err(Refusal::BadShow { place }),
+    }
+}
