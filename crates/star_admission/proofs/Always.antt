@@ -1,7 +1,7 @@
 -- What is known before a run holds at every moment of it.
 use Rattle.std.proofs.Common.{◌≡◌, ℕ, zero, suc, ◌+◌, ◌*◌, ◌^◌, ◌≤◌, ◌<◌, Bool, true, false, List, [], ◌∷◌, refl, sym, subst, arith}
 use Rattle.std.specs.Prelude.{ℤ, nat_lt, not}
-use Rattle.std.proofs.lemmas.Bool.{ltb-true}
+use Rattle.std.proofs.lemmas.Bool.{ltb-true, or_parts}
 use Rattle.std.proofs.Math.Nat.{mul-le-mul_right}
 use Rattle.star_schema.specs.Groups.{members, numbers_for}
 use Rattle.star_schema.specs.declared.group.Aggregate.TheVariants.{Count}
@@ -35,7 +35,7 @@ use Rattle.star_admission.specs.Fitting.{Agrees}
 use Rattle.star_admission.proofs.Instructions.{unmapped_none, agrees_entry, AreTallied, IsGood, act_good}
 use Rattle.star_admission.proofs.Gains.{op_gain, gain, whole_gain}
 use Rattle.star_admission.proofs.Turns.{Safe, all_tallied_more, safe_more, safe_turns, at_start}
-use Rattle.star_admission.proofs.Sound.{quoted_each, or_false_left, at_place_none, IsReady, ready_then, ready_in, ready_after, op_room}
+use Rattle.star_admission.proofs.Sound.{quoted_each, at_place_none, IsReady, ready_then, ready_in, ready_after, op_room}
 use Rattle.star_admission.proofs.Runs.{AllFit, sound, not_refused, ready_first, all_fit, few_puts, nothing_tallied}
 use Rattle.star_admission.proofs.Room.{has_room}
 
@@ -159,7 +159,7 @@ module _ (w : World) (catalogue : IsLoaded w) (parts : Parts) (all : Shares)
           (at_place_none at _
           (or_none (at_place at (op_reason w parts (open_with pending rest) x op))
           _ ready.accepted).0)
-          (λ g a o. ready.closed g a (or_false_left (pending g) (code_puts_to g rest) o))
+          (λ g a o. ready.closed g a (or_parts (pending g) (code_puts_to g rest) o).0)
           (op_room w parts (tallies_of all) pending x y at op rest ready)
           fit.sums)
           (λ regs' s' agrees' tallied' same. always rest (at + 1) pending (after_op w parts x op)

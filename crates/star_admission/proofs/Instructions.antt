@@ -25,7 +25,7 @@ use Rattle.star_program.specs.declared.value.Value.{Value}
 use Rattle.star_program.specs.declared.value.Value.TheVariants.{Number, Text, Place, Row, Flag}
 use Rattle.star_program.specs.Values.{kind_of_value, Registers, with_entry, number_in, flag_in, row_in}
 use Rattle.star_program.specs.declared.fault.Fault.{Fault}
-use Rattle.star_program.specs.Faults.{unless, kind_fault, operand_fault, is_number, is_row, is_row_of, both_fault, binary_fault, numbers_fault, keys_fault, place_fault, target_fault, target_of, operands_fault, group_at, fault_of}
+use Rattle.star_program.specs.Faults.{kind_fault, operand_fault, is_number, is_row, is_row_of, both_fault, binary_fault, numbers_fault, keys_fault, place_fault, target_fault, target_of, operands_fault, group_at, fault_of}
 use Rattle.star_program.specs.Puts.{Update, aligned, overflows, total}
 use Rattle.star_program.specs.Effects.{Store, Effect, GoesOn, EndsTurn, Traps, sets, sets_answer, fitting, answer_of, loaded, sets_found, keeps, puts, update_of, puts_update, does, unless_fault, kinds_in, act}
 use Rattle.star_common.proofs.Firsts.{or_none}

@@ -10,7 +10,7 @@ mod Tally
 mod TallyOrder
 mod Tallied
 mod Gains
-mod Instructions
+pub mod Instructions
 mod Turns
 mod Sound
 mod Room
@@ -23,6 +23,9 @@ mod Told
 pub mod Forward
 mod Bounded
 mod TurnsMet
+pub mod Nested
+mod Quoted
 mod Sizes
 mod ToldBounds
+mod ToldColumns
 pub mod BeforePuts

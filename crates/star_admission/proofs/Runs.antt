@@ -2,6 +2,7 @@
 use Rattle.std.proofs.Common.{◌≡◌, ℕ, ◌+◌, ◌*◌, ◌^◌, ◌≤◌, ◌<◌, Bool, true, Option, Some, None, refl, sym, subst, arith, zero-add, ◌∙◌}
 use Rattle.std.specs.Prelude.{nat_lt, not}
 use Rattle.std.proofs.Math.Nat.{mul-le-mul_right, mul-le-mul_left}
+use Rattle.std.proofs.lemmas.Bool.{or_parts}
 use Rattle.star_program.specs.declared.program.Parts.{Parts}
 use Rattle.star_program.specs.Code.{Code, Stop, Then, Each, code_size}
 use Rattle.star_program.specs.World.{World, IsLoaded}
@@ -29,7 +30,7 @@ use Rattle.star_admission.proofs.Tallied.{tallies_fit, tallies_fit_few, nothing_
 use Rattle.star_admission.specs.Fitting.{Agrees}
 use Rattle.star_admission.proofs.Instructions.{unmapped_none, agrees_entry, AreTallied, act_good}
 use Rattle.star_admission.proofs.Turns.{Safe, all_tallied_more, safe_more, safe_follow, safe_scans, safe_each}
-use Rattle.star_admission.proofs.Sound.{quoted_each, in_time, or_false_left, at_place_none, ends_fitting, IsReady, ready_then, ready_in, ready_after, op_room}
+use Rattle.star_admission.proofs.Sound.{quoted_each, in_time, at_place_none, ends_fitting, IsReady, ready_then, ready_in, ready_after, op_room}
 
 abbrev pub AllFit : Parts → Tallies → Type 0
 AllFit parts m = (g : ℕ) → tallies_fit (group_at parts g).aggregates 0 (m g) ≡ true
@@ -56,7 +57,7 @@ module _ (w : World) (catalogue : IsLoaded w) (parts : Parts) (may : ℕ → Boo
       (at_place_none at _
       (or_none (at_place at (op_reason w parts (open_with pending rest) x op))
       _ ready.accepted).0)
-      (λ g a o. ready.closed g a (or_false_left (pending g) (code_puts_to g rest) o))
+      (λ g a o. ready.closed g a (or_parts (pending g) (code_puts_to g rest) o).0)
       (op_room w parts m pending x y at op rest ready)
       fit)
       (λ g a. at_most_both (y g a) (y g a) (add g a) (plus (add g a) (more g a))

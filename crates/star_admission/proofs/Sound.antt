@@ -1,7 +1,7 @@
 -- An admissible program never traps and makes no more turns than its quote.
 use Rattle.std.proofs.Common.{◌≡◌, ℕ, ◌+◌, ◌*◌, ◌≤◌, ◌<◌, Bool, true, false, List, [], ◌∷◌, ◌++◌, Option, Some, None, refl, sym, ap, subst, arith}
-use Rattle.std.specs.Prelude.{nat_eq, ◌||◌, if◌then◌else◌}
-use Rattle.std.proofs.lemmas.Bool.{eqb-true}
+use Rattle.std.specs.Prelude.{nat_eq, if◌then◌else◌}
+use Rattle.std.proofs.lemmas.Bool.{eqb-true, or_parts}
 use Rattle.std.proofs.Math.Nat.{mul-le-mul_right}
 use Rattle.star_schema.specs.declared.table.TableId.{TableId}
 use Rattle.star_program.specs.declared.op.Op.{Op}
@@ -49,14 +49,6 @@ quoted_each w table r body rest =
 
 -- ---- what is put
 
-pub or_false_left : (a b : Bool) → (a || b) ≡ false → a ≡ false
-or_false_left true b e = e
-or_false_left false b e = refl
-
-pub or_false_right : (a b : Bool) → (a || b) ≡ false → b ≡ false
-or_false_right true b e = absurd (cc)
-or_false_right false b e = e
-
 pub at_place_none : {A : Type 0} (n : ℕ) (o : Option A) → at_place n o ≡ None → o ≡ None
 at_place_none n None e = refl
 at_place_none n (Some x) e = absurd (cc)
@@ -77,16 +69,16 @@ adds_nothing : (w : World) (parts : Parts) (x : Context) (c : Code) (g a : ℕ)
 adds_nothing w parts x Stop g a e = at_most_refl no_tally
 adds_nothing w parts x (Then op rest) g a e =
     at_most_both _ no_tally _ no_tally
-    (op_adds_nothing parts x op g a (or_false_left (op_puts_to g op) (code_puts_to g rest) e))
-    (adds_nothing w parts _ rest g a (or_false_right (op_puts_to g op) (code_puts_to g rest) e))
+    (op_adds_nothing parts x op g a (or_parts (op_puts_to g op) (code_puts_to g rest) e).0)
+    (adds_nothing w parts _ rest g a (or_parts (op_puts_to g op) (code_puts_to g rest) e).1)
 adds_nothing w parts x (Each t r body rest) g a e =
     at_most_both _ no_tally _ no_tally
     (at_most_trans _ (times (w.size t) no_tally) no_tally
     (at_most_times_both (w.size t) _ no_tally
     (adds_nothing w parts (in_scan w x t r) body g a
-    (or_false_left (code_puts_to g body) (code_puts_to g rest) e)))
+    (or_parts (code_puts_to g body) (code_puts_to g rest) e).0))
     (record { above = omega arith; below = omega arith; many = omega arith; each = tt }))
-    (adds_nothing w parts _ rest g a (or_false_right (code_puts_to g body) (code_puts_to g rest) e))
+    (adds_nothing w parts _ rest g a (or_parts (code_puts_to g body) (code_puts_to g rest) e).1)
 
 -- ---- sums that fit at each put fit at the end
 
@@ -201,10 +193,10 @@ ready_in w parts m pending x y at table r body rest ready j lt =
           (at_most_refl (y g a))
           (at_most_times_both j (add g a) no_tally
           (adds_nothing w parts inner body g a
-          (or_false_left (code_puts_to g body) (code_puts_to g rest)
-          (or_false_right (pending g) _ o)))))
+          (or_parts (code_puts_to g body) (code_puts_to g rest)
+          (or_parts (pending g) _ o).1).0)))
           (at_most_trans (plus (y g a) (times j no_tally)) (y g a) (tally_of (x.so_far g a))
-          (at_most_nothing j (y g a)) (ready.closed g a (or_false_left (pending g) _ o)));
+          (at_most_nothing j (y g a)) (ready.closed g a (or_parts (pending g) _ o).0));
       room = λ g a. at_most_trans _ _ _ (at_most_turn j (y g a) (add g a))
           (at_most_trans _ _ _
           (at_most_both (y g a) (y g a) (times (j + 1) (add g a))

@@ -1,10 +1,10 @@
 -- Tallies hold what numbers add up to.
 use Rattle.std.proofs.Common.{◌≡◌, ℕ, zero, suc, ◌+◌, ◌^◌, ◌≤◌, ◌<◌, Bool, true, false, List, [], ◌∷◌, length, Option, Some, None, refl, sym, ap, subst, ◌∙◌, arith}
-use Rattle.std.specs.Prelude.{ℤ, pos, negsuc, neg_ℤ, ◌+ℤ◌, nat_lt, nat_le, ◌&&◌, ◌||◌, not, cond, unwrap_or}
+use Rattle.std.specs.Prelude.{ℤ, pos, negsuc, neg_ℤ, ◌+ℤ◌, nat_lt, nat_le, ◌&&◌, not, cond, unwrap_or}
 use Rattle.std.specs.List.{list_any}
 use Rattle.std.specs.Int.{int_min, int_max}
 use Rattle.std.proofs.lemmas.Int.{ints, clamps}
-use Rattle.std.proofs.lemmas.Bool.{ltb-true, lt-ltb, leb-true, le-leb, and_parts, and_from}
+use Rattle.std.proofs.lemmas.Bool.{ltb-true, lt-ltb, leb-true, le-leb, and_parts, and_from, or_from}
 use borrow.Author.Differences.{up, down, sum_is_lem}
 use Rattle.star_schema.specs.declared.group.Aggregate.{Aggregate}
 use Rattle.star_schema.specs.declared.group.Aggregate.TheVariants.{Sum, Count, Min, Max}
@@ -228,17 +228,13 @@ stays Count t vs w e =
 stays Min t vs w e = refl
 stays Max t vs w e = refl
 
-neither : (a b : Bool) → a ≡ false → b ≡ false → (a || b) ≡ false
-neither true b p q = p
-neither false b p q = q
-
 all_stay : (gs : List Aggregate) (a : ℕ) (t : ℕ → Tally) (us : List Update)
     → ((k : ℕ) → IsTallied (t k) (numbers_for k us)) → tallies_fit gs a t ≡ true
     → some_leaves gs a us ≡ false
 all_stay [] a t us w e = refl
 all_stay (g ∷ gs) a t us w e =
     let p = and_parts (counted_fits g (t a)) (tallies_fit gs (suc a) t) e in
-    neither (leaves g (aggregate g (numbers_for a us))) (some_leaves gs (suc a) us)
+    or_from (leaves g (aggregate g (numbers_for a us))) (some_leaves gs (suc a) us)
     (stays g (t a) (numbers_for a us) (w a) p.0) (all_stay gs (suc a) t us w p.1)
 
 -- ---- the members of a group are some of the updates
@@ -292,7 +288,7 @@ pub no_overflow : (gs : List Aggregate) (t : ℕ → Tally) (us : List Update)
     → list_any (λ keys. some_leaves gs 0 (members value_cmp keys us)) ms ≡ false
 no_overflow gs t us [] w e = refl
 no_overflow gs t us (m ∷ ms) w e =
-    neither (some_leaves gs 0 (members value_cmp m us))
+    or_from (some_leaves gs 0 (members value_cmp m us))
     (list_any (λ keys. some_leaves gs 0 (members value_cmp keys us)) ms)
     (all_stay gs 0 t (members value_cmp m us) (λ k. tallied_members (t k) k m us (w k)) e)
     (no_overflow gs t us ms w e)

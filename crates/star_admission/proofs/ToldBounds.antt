@@ -541,7 +541,7 @@ first_fits : (parts : Parts) → Fits parts at_first
 first_fits parts =
     record { known = λ r. zero_narrow; sums = λ g a same. zero_narrow; each = λ g a. tt }
 
-refused_instruction : (w : World) (most : ℕ) (parts : Parts) (refused : ℕ × Reason)
+pub refused_instruction : (w : World) (most : ℕ) (parts : Parts) (refused : ℕ × Reason)
     → first_refusal w most parts ≡ Some (Refused refused)
     → (quote w.size parts ≤ most)
     × (first_answer (reason_of w parts) (instructions_of w parts) ≡ Some refused)

@@ -2,9 +2,10 @@
 
 ghost use Rattle.std.specs.List.{last_or};
 ghost use Rattle.std.specs.Option.{option_map};
-ghost use Rattle.std.specs.Prelude.{◌≡◌, ◌↔◌, ◌≤◌, ◌^◌, ◌∷◌, ℕ, All, List, None, Some};
+ghost use Rattle.std.specs.Prelude.{◌≡◌, ◌↔◌, ◌≤◌, ◌<◌, ◌^◌, ◌∷◌, ℕ, All, List, None, Some};
 ghost use Rattle.star_common.specs.First.{first_answer};
 ghost use Rattle.star_schema.specs.declared.column.ColumnId.{ColumnId};
+ghost use Rattle.star_schema.specs.declared.table.TableId.{TableId};
 ghost use Rattle.star_interval.specs.Range.{Range};
 ghost use Rattle.star_program.specs.declared.op.Op.TheVariants.{Put};
 ghost use Rattle.star_program.specs.declared.program.Parts.{Parts};
@@ -16,7 +17,7 @@ ghost use Rattle.star_program.specs.Run.{EndsWith, bounded_run_of, run_of};
 ghost use Rattle.star_program.specs.Values.{Registers};
 ghost use Rattle.star_program.specs.World.{World};
 ghost use Rattle.star_group.specs.Stores.{HasRoom, group_declared};
-ghost use Rattle.star_admission.specs.Admissible.{IsAdmissible, Refused, first_refusal};
+ghost use Rattle.star_admission.specs.Admissible.{IsAdmissible, Refused, TooCostly, first_refusal};
 ghost use Rattle.star_admission.specs.Bounds.{AreI64, FitsI128};
 ghost use Rattle.star_admission.specs.Contexts.{Context, at_end, at_first};
 ghost use Rattle.star_admission.specs.Laws.{EndsWithin, IsAccepted, SumsFit, TotalsLie};
@@ -73,15 +74,24 @@ pub fn instructions_are_met_within_the_quote()
         → All (IsMetWithinQuote w parts) (instructions_of w parts) }
 {}
 
-/// Each bound that a refusal tells of a range fits 128 bits, of a program within its limits where no
-/// more visits are allowed than any run may make: its numbers are of 64 bits, and so are the bounds
-/// of the columns.
+/// Each bound that a refusal tells fits 128 bits, of a program within its limits: of a range, where no
+/// more visits are allowed than any run may make; of the columns that it is computed from; and the
+/// visits that are quoted, where no table has 2^32 rows. The program's numbers are of 64 bits, and so
+/// are the bounds of the columns.
 pub fn told_bounds_fit_128_bits()
-    ensures { (w : World) (most : ℕ) (parts : Parts) (at : ℕ) (range : Range)
+    ensures range { (w : World) (most : ℕ) (parts : Parts) (at : ℕ) (range : Range)
         (columns : List (ColumnId × Range))
         → IsWithinLimits parts → most ≤ 10 ^ 15 → AreI64 w parts
         → first_refusal w most parts ≡ Some (Refused (at, Overflow range columns))
         → FitsI128 range }
+    ensures columns { (w : World) (most : ℕ) (parts : Parts) (at : ℕ) (range : Range)
+        (columns : List (ColumnId × Range))
+        → AreI64 w parts
+        → first_refusal w most parts ≡ Some (Refused (at, Overflow range columns))
+        → All (λ column. FitsI128 column.1) columns }
+    ensures visits { (w : World) (most : ℕ) (parts : Parts) (visits : ℕ)
+        → IsWithinLimits parts → ((t : TableId) → w.size t < 2 ^ 32)
+        → first_refusal w most parts ≡ Some (TooCostly visits) → visits < 2 ^ 128 }
 {}
 
 /// Nothing refuses a program exactly where it is admissible and its quote is within the limit on

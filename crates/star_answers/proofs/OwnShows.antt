@@ -23,10 +23,6 @@ use Rattle.star_query.specs.declared.tree.Measure as of_measure
 use Rattle.star_query.specs.declared.tree.Measure.TheVariants as measure
 use Rattle.star_query.specs.declared.tree.Item.{Item}
 use Rattle.star_query.specs.declared.tree.Item.TheVariants as item
-use Rattle.star_query.specs.declared.tree.Shape as of_shape
-use Rattle.star_query.specs.declared.tree.Shape.TheVariants as shape
-use Rattle.star_query.specs.declared.tree.Direction as of_direction
-use Rattle.star_query.specs.declared.tree.Direction.TheVariants as direction
 use Rattle.star_query.specs.declared.tree.SortKey.{SortKey}
 use Rattle.star_query.specs.declared.tree.Tree.{Tree}
 use Rattle.star_query.specs.Views.{aggregate_view, expression_view, item_view, key_view, measure_view, name_view, tree_view}
@@ -35,12 +31,12 @@ use Rattle.star_plan.specs.Meaning.{Joined, Plan, add, column, constant, mul, su
 use Rattle.star_plan.specs.Names.{column_at, column_called}
 use Rattle.star_plan.specs.Naming as naming
 use Rattle.star_plan.specs.Resolved as resolved
-use Rattle.star_plan.specs.Resolved.{aggregate_column, item_column, items_from, key_column, option_all, option_both, resolved_direction, resolved_expression, resolved_key, resolved_measure, resolved_shape}
+use Rattle.star_plan.specs.Resolved.{aggregate_column, item_column, items_from, key_column, option_all, option_both, resolved_expression, resolved_key, resolved_measure}
 use Rattle.star_plan.specs.Shown.{folded}
 use Rattle.star_plan.proofs.Options.{both_gave, mapped_gave}
 use Rattle.star_answers.specs.Answers.{shown_name}
 use Rattle.star_answers.specs.Rows.{measured, measures_of, number_at, value_named}
-use Rattle.star_answers.specs.Shows.{aggregate_name, aggregate_names_from, columns_from, direction_of, function_of, function_word, key_named, names_from, shape_of, sort_of}
+use Rattle.star_answers.specs.Shows.{aggregate_name, aggregate_names_from, columns_from, function_of, function_word, key_named, names_from, sort_of}
 use Rattle.star_answers.proofs.OwnConditions.{named}
 
 -- ---- the values of a row
@@ -99,10 +95,6 @@ functions_same (item.Column n ∷ items) ms e = functions_same items ms e
 functions_same (item.Aggregate a ∷ items) ms e =
     let g = both_gave (λ x xs. x ∷ xs) (resolved_measure a.measure) (resolved.measures_of items) ms e in
     (λ i. function_same a.measure g.left g.first i ∷ functions_same items g.right g.second i) ∙ ap (map plan.aggregate_of) g.made
-
-pub shape_same : (s : of_shape.Shape) → resolved_shape s ≡ shape_of s
-shape_same shape.Plain = refl
-shape_same shape.Cube = refl
 
 -- ---- the columns that are shown
 
@@ -184,13 +176,9 @@ names_same groups p before (item.Aggregate a ∷ items) cs keys e names =
 
 -- ---- the order
 
-direction_same : (d : of_direction.Direction) → direction_of d ≡ resolved_direction d
-direction_same direction.Ascending = refl
-direction_same direction.Descending = refl
-
 sort_same : (t : Tree) (k : SortKey) → sort_of (tree_view t) (key_view k) ≡ resolved_key t.grouping.columns.items (naming.aggregate_names t.items.items) k
 sort_same t k =
-    λ i. option_map (λ c. record { column = c; direction = direction_same k.direction i })
+    λ i. option_map (λ c. record { column = c; direction = k.direction })
     (option_or (key_same t.grouping.columns.items k.name.text.items i) (aggregate_column (aggregate_names_same 1 t.items.items i) k.name.text.items))
 
 pub sorts_same : (t : Tree) (ks : List SortKey) (ss : List sorted.SortKey) → option_all (resolved_key t.grouping.columns.items (naming.aggregate_names t.items.items)) ks ≡ Some ss

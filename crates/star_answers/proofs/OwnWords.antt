@@ -28,11 +28,11 @@ use Rattle.star_program.specs.declared.outcome.Cell.{Cell}
 use Rattle.star_program.specs.Outcome.{cell_of}
 use Rattle.star_answers.specs.Answers.{IsAnswer, IsPlanAnswer, shown_name}
 use Rattle.star_answers.specs.Rows.{entry_of, measures_of, product, selected, tables_of}
-use Rattle.star_answers.specs.Shows.{function_of, item_columns, item_names, shape_of, sorts_of}
+use Rattle.star_answers.specs.Shows.{function_of, item_columns, item_names, sorts_of}
 use Rattle.star_answers.proofs.Choices.{IsStar, all_joined, dimensions_apart, dimensions_of, filter_both, is_star, joined_product, no_fact_among, product_reordered}
 use Rattle.star_answers.proofs.GroupOrders.{groups_reordered}
 use Rattle.star_answers.proofs.OwnConditions.{where_same}
-use Rattle.star_answers.proofs.OwnShows.{columns_same, functions_same, keys_same, names_same, shape_same, sorts_same, values_same}
+use Rattle.star_answers.proofs.OwnShows.{columns_same, functions_same, keys_same, names_same, sorts_same, values_same}
 use Rattle.star_answers.proofs.OwnTables.{from_tables, named_apart, where_named}
 use Rattle.star_answers.proofs.Reorderings.{filter_reordered}
 
@@ -85,10 +85,10 @@ module _ (ts : Tables) (t : Tree) (p : Plan) (named : IsWellNamed t) (resolved :
 
   -- groups by the query's own words, and by the plan
   own_groups : (entries : List (Entry Value)) (groups : List (GroupRow Value))
-      → AreGroups value_cmp (shape_of t.grouping.shape) (length (map name_view t.grouping.columns.items)) (map function_of (measures_of (tree_view t).items)) entries groups
+      → AreGroups value_cmp t.grouping.shape (length (map name_view t.grouping.columns.items)) (map function_of (measures_of (tree_view t).items)) entries groups
       ≡ AreGroups value_cmp p.shape (length p.keys) (map plan.aggregate_of p.measures) entries groups
   own_groups entries groups =
-      λ i. AreGroups value_cmp (sym (resolved.shape ∙ shape_same t.grouping.shape) i) (count_same i) (functions_same t.items.items p.measures resolved.measures i) entries groups
+      λ i. AreGroups value_cmp (sym resolved.shape i) (count_same i) (functions_same t.items.items p.measures resolved.measures i) entries groups
 
   heads : item_names (tree_view t).items ≡ map (shown_name p) p.items
   heads = names_same t.grouping.columns.items p 0 t.items.items p.items resolved.keys resolved.items (λ k. let here : 0 + k ≡ k = omega arith in ap (λ j. get_or p.names j []) here ∙ ap (λ names. get_or names k []) resolved.names)

@@ -7,16 +7,8 @@ use Rattle.star_schema.specs.declared.group.Aggregate as of_group
 use Rattle.star_schema.specs.declared.group.Aggregate.TheVariants as function
 use Rattle.star_schema.specs.declared.group.GroupColumn.{GroupColumn}
 use Rattle.star_schema.specs.declared.group.GroupColumn.TheVariants.{Key, Aggregate}
-use Rattle.star_schema.specs.declared.group.Direction as of_sort
-use Rattle.star_schema.specs.declared.group.Direction.TheVariants as sorted
-use Rattle.star_schema.specs.declared.group.Shape as of_grouping
-use Rattle.star_schema.specs.declared.group.Shape.TheVariants as grouped
 use Rattle.star_schema.specs.declared.group.SortKey as of_group_sort
 use Rattle.star_query.specs.declared.token.Fold.TheVariants.{Sum, Min, Max}
-use Rattle.star_query.specs.declared.tree.Direction.{Direction}
-use Rattle.star_query.specs.declared.tree.Direction.TheVariants.{Ascending, Descending}
-use Rattle.star_query.specs.declared.tree.Shape.{Shape}
-use Rattle.star_query.specs.declared.tree.Shape.TheVariants.{Plain, Cube}
 use Rattle.star_query.specs.Tree as tree
 use Rattle.star_query.specs.Tree.{Name, Measure, count, fold, Item, plain, aggregate, SortKey, Tree}
 
@@ -83,19 +75,11 @@ item_columns q = columns_from q.grouping.columns 0 q.items
 
 -- ---- groups and their order
 
-abbrev pub shape_of : Shape → of_grouping.Shape
-shape_of Plain = grouped.Plain
-shape_of Cube = grouped.Cube
-
 abbrev pub function_of : Measure → of_group.Aggregate
 function_of count = function.Count
 function_of (fold Sum e) = function.Sum
 function_of (fold Min e) = function.Min
 function_of (fold Max e) = function.Max
-
-abbrev pub direction_of : Direction → of_sort.Direction
-direction_of Ascending = sorted.Ascending
-direction_of Descending = sorted.Descending
 
 -- a name of ORDER BY is a group column's or else an aggregate's
 abbrev pub sort_column : Tree → List ℕ → Option GroupColumn
@@ -104,7 +88,7 @@ sort_column q name =
 
 abbrev pub sort_of : Tree → SortKey → Option of_group_sort.SortKey
 sort_of q k =
-    option_map (λ c. record { column = c; direction = direction_of k.direction })
+    option_map (λ c. record { column = c; direction = k.direction })
     (sort_column q k.name.text)
 
 abbrev pub sorts_of : Tree → List of_group_sort.SortKey

@@ -1,12 +1,11 @@
 -- The columns of a table at their places.
-use Rattle.std.proofs.Common.{◌≡◌, ◌<◌, ◌≤◌, ◌∷◌, [], ◌∙◌, ℕ, zero, suc, List, Some, All, length, map, pos, take, get_or, refl, sym, ap, arith}
+use Rattle.std.proofs.Common.{◌≡◌, ◌≤◌, ◌∷◌, [], ◌∙◌, ℕ, zero, suc, List, Some, length, map, pos, take, get_or, refl, sym, ap, arith}
 use Rattle.std.specs.List.{slice_get}
 use Rattle.std.specs.Option.{option_map}
 use Rattle.std.proofs.Math.ListN.{get_or-map}
 use Rattle.std.proofs.Math.Seq.{take-suc, take-length}
 use Rattle.std.proofs.lemmas.List.{get_or_default, length-map, map-append}
-use Rattle.std.proofs.lemmas.List.Elements.{All-get_or, All-map}
-use Rattle.std.proofs.lemmas.Option.{slice_get-map, slice_get_read, slice_get_within}
+use Rattle.std.proofs.lemmas.Option.{slice_get-map}
 use Rattle.star_schema.specs.declared.column.ColumnId.{ColumnId}
 use Rattle.star_schema.specs.declared.column.Kind.{Kind}
 use Rattle.star_schema.specs.declared.table.TableId.{TableId}
@@ -14,45 +13,24 @@ use Rattle.star_schema.specs.Schema.{kind_of as kind_in_schema, kinds_of, place_
 use Rattle.star_schema.specs.Tables.{Value, Number, Text}
 use Rattle.star_schema.specs.Texts.{text_in, texts_at}
 use Rattle.star_schema.proofs.KeyColumns.{kind_at_place}
-use Rattle.star_reader.specs.declared.column.RawColumn.{RawColumn}
-use Rattle.star_reader.specs.Columns.{AreColumnsOf as AreRawColumnsOf, first_rows, kind_of as raw_kind, row_at, values as raw_values}
+use Rattle.star_reader.specs.Columns.{AreColumnsOf, first_rows, row_at}
+use Rattle.star_reader.proofs.ColumnLemmas.{IsColumnAt, column_at as column_read_at}
 use Rattle.star_catalogue.specs.declared.columns.Column.{Column}
-use Rattle.star_catalogue.specs.Private.Columns.{AreColumnsOf, kind_of, values}
-
--- a column at its place
-pub record IsColumnAt (rows : ℕ) (columns : List Column) (place : ℕ) (k : Kind)
-    (column : Column) : Type 0 where
-  pub kind : kind_of column ≡ k
-  pub full : length (values column) ≡ rows
-  pub there : slice_get (map values columns) place ≡ Some (values column)
+use Rattle.star_catalogue.specs.Private.Columns.{as_read}
 
 pub kind_at : (table : TableId) (c : ColumnId) (k : Kind) → table_of c ≡ table
     → kind_in_schema c ≡ k → slice_get (kinds_of table) (place_of c) ≡ Some k
 kind_at table c k of_table kind = rw (← of_table) (kind_at_place c ∙ ap (λ (l : Kind). Some l) kind)
 
-pub place_within : (table : TableId) (rows : ℕ) (columns : List Column) (place : ℕ) (k : Kind)
-    → AreColumnsOf table rows columns → slice_get (kinds_of table) place ≡ Some k
-    → place < length columns
-place_within table rows columns place k h at =
-    let here : slice_get (map kind_of columns) place ≡ Some k = rw h.kinds at in
-    omega (arith, slice_get_within (map kind_of columns) place k here, length-map columns kind_of)
-
+-- a column at its place is the one that was read there
 pub column_at : (table : TableId) (rows : ℕ) (columns : List Column) (place : ℕ) (k : Kind)
-    (column : Column) → AreColumnsOf table rows columns → slice_get (kinds_of table) place ≡ Some k
-    → column ≡ get_or columns place column → IsColumnAt rows columns place k column
+    (column : Column) → AreColumnsOf table rows (map as_read columns)
+    → slice_get (kinds_of table) place ≡ Some k
+    → column ≡ get_or columns place column
+    → IsColumnAt rows (map as_read columns) place k (as_read column)
 column_at table rows columns place k column h at is =
-    let within = place_within table rows columns place k h at in
-    let there = slice_get_read columns (length columns) place column refl within is in
-    let kinds : slice_get (map kind_of columns) place ≡ Some (kind_of column) =
-    slice_get-map kind_of columns place ∙ ap (option_map kind_of) there in
-    let same : Some (kind_of column) ≡ Some k = sym kinds ∙ rw h.kinds at in
-    record {
-      kind = cc;
-      full = ap (λ (c : Column). length (values c)) is
-          ∙ All-get_or (λ (c : Column). length (values c) ≡ rows) columns place column within
-          h.full;
-      there = slice_get-map values columns place ∙ ap (option_map values) there;
-    }
+    column_read_at table rows (map as_read columns) place k (as_read column) h at
+    (ap as_read is ∙ sym (get_or-map as_read columns place column))
 
 -- the texts at a place are those of its column
 texts_there : (n : ℕ) (columns : List (List Value)) (place : ℕ) (texts : List (List ℕ))
@@ -79,20 +57,3 @@ pub texts_are : (n : ℕ) (columns : List (List Value)) (place : ℕ) (texts : L
 texts_are n columns place texts all at =
     texts_there n columns place texts (omega arith) at ∙ ap (λ m. take m texts) (sym all)
     ∙ take-length texts
-
--- columns that hold what was read are those of the table
-pub columns_kept : (table : TableId) (rows : ℕ) (raw : List RawColumn) (columns : List Column)
-    → AreRawColumnsOf table rows raw → map kind_of columns ≡ map raw_kind raw
-    → map values columns ≡ map raw_values raw
-    → AreColumnsOf table rows columns
-columns_kept table rows raw columns h kinds same =
-    let lengths = All-map (λ (column : List Value). length column ≡ rows) raw_values raw h.full in
-    let kept : All (λ (column : List Value). length column ≡ rows) (map values columns) =
-    rw same lengths in
-    record {
-      kinds = kinds ∙ h.kinds;
-      full = λ k d within.
-          let here : length (get_or (map values columns) k (values d)) ≡ rows =
-          kept k (values d) (omega (arith, within, length-map columns values)) in
-          ap length (sym (get_or-map values columns k d)) ∙ here;
-    }

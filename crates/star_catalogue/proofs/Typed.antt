@@ -1,58 +1,32 @@
--- The rows of a table have a value for each column, of the column's kind.
-use Rattle.std.proofs.Common.{◌≡◌, ◌<◌, ◌≤◌, ◌∷◌, [], ◌∙◌, ℕ, zero, suc, List, All, length, map, pos, get_or, refl, ap, arith}
-use Rattle.std.proofs.Math.ListN.{get_or-map}
-use Rattle.std.proofs.lemmas.List.{get_or_default}
-use Rattle.std.proofs.lemmas.List.Elements.{All-append, All-cons, All-head, All-nil, All-tail}
+-- The rows of tables have a value for each column, of the column's kind.
+use Rattle.std.proofs.Common.{◌≡◌, ◌∷◌, [], List, ℕ, All, true, false, map, refl}
+use Rattle.std.proofs.lemmas.Bool.{and_parts}
+use Rattle.std.proofs.lemmas.List.Elements.{All-map}
 use Rattle.star_schema.specs.declared.table.TableId.{TableId}
-use Rattle.star_schema.specs.declared.table.TableId.TheVariants.{Date, Customer, Supplier, Part, Lineorder}
-use Rattle.star_schema.specs.Tables.{IsRowOf, Number, Text, kind_of_value}
-use Rattle.star_reader.specs.Columns.{first_rows, row_at}
-use Rattle.star_catalogue.specs.declared.columns.Column.{Column}
-use Rattle.star_catalogue.specs.declared.columns.Column.TheVariants.{Numbers, Texts}
-use Rattle.star_catalogue.specs.Private.Columns.{AreColumnsOf, kind_of, values}
+use Rattle.star_schema.specs.declared.column.Kind.{Kind}
+use Rattle.star_schema.specs.declared.column.Kind.TheVariants.{Number, Text}
+use Rattle.star_schema.specs.Database.{AreTables, rows_in}
+use Rattle.star_schema.specs.Loadable.{database_of}
+use Rattle.star_schema.specs.Records.{records_of}
+use Rattle.star_schema.specs.Schema.{kinds_of}
+use Rattle.star_schema.specs.Tables.{IsRowOf, are_cells, is_cell, kind_of_value, row_of, value_of, values_of}
+use Rattle.star_catalogue.proofs.Loading.{rows_in-database_of}
 
--- a value of a column is of its kind
-kind_in : (column : Column) (i : ℕ) → i < length (values column)
-    → kind_of_value (get_or (values column) i (Number (pos 0))) ≡ kind_of column
-kind_in (Numbers numbers) i within = ap kind_of_value (get_or-map Number numbers i (pos 0))
-kind_in (Texts texts) i within =
-    ap kind_of_value
-    (get_or_default (map Text texts) i (Number (pos 0)) (Text []) within
-    ∙ get_or-map Text texts i [])
+value_typed : (k : Kind) (cell : List ℕ) → kind_of_value (value_of k cell) ≡ k
+value_typed Number cell = refl
+value_typed Text cell = refl
 
-kinds_in : (columns : List Column) (rows i : ℕ)
-    → All (λ column. length (values column) ≡ rows) columns → i < rows
-    → map kind_of_value (row_at (map values columns) i) ≡ map kind_of columns
-kinds_in [] rows i full within = refl
-kinds_in (column ∷ columns) rows i full within =
-    let here : length (values column) ≡ rows =
-    All-head (λ (c : Column). length (values c) ≡ rows) column columns full in
-    let first = kind_in column i (omega (arith, here, within)) in
-    let rest = kinds_in columns rows i
-    (All-tail (λ (c : Column). length (values c) ≡ rows) column columns full) within in
-    λ j. first j ∷ rest j
+values_typed : (ks : List Kind) (cells : List (List ℕ)) → are_cells ks cells ≡ true
+    → map kind_of_value (values_of ks cells) ≡ ks
+values_typed [] cells h = refl
+values_typed (k ∷ ks) [] h = let bad : false ≡ true = h in cc bad
+values_typed (k ∷ ks) (cell ∷ cells) h =
+    let rest = values_typed ks cells (and_parts (is_cell k cell) (are_cells ks cells) h).1 in
+    λ j. value_typed k cell j ∷ rest j
 
-rows_from : (table : TableId) (rows : ℕ) (columns : List Column) (n : ℕ)
-    → AreColumnsOf table rows columns → n ≤ rows
-    → All (IsRowOf table) (first_rows n (map values columns))
-unfolding first_rows
-rows_from table rows columns zero h few = All-nil (IsRowOf table)
-rows_from table rows columns (suc n) h few =
-    let row : IsRowOf table (row_at (map values columns) n) =
-    kinds_in columns rows n h.full (omega arith) ∙ h.kinds in
-    All-append (IsRowOf table) (first_rows n (map values columns))
-    (row_at (map values columns) n ∷ []) (rows_from table rows columns n h (omega arith))
-    (All-cons (IsRowOf table) (row_at (map values columns) n) [] row (All-nil (IsRowOf table)))
-
-pub rows_typed : (table : TableId) (rows : ℕ) (columns : List Column)
-    → AreColumnsOf table rows columns → All (IsRowOf table) (first_rows rows (map values columns))
-rows_typed table rows columns h = rows_from table rows columns rows h (omega arith)
-
--- what holds of each of the five tables
-pub of_each : (P : TableId → Type 0) → P Date → P Customer → P Supplier → P Part → P Lineorder
-    → (t : TableId) → P t
-of_each P date customer supplier part lineorder Date = date
-of_each P date customer supplier part lineorder Customer = customer
-of_each P date customer supplier part lineorder Supplier = supplier
-of_each P date customer supplier part lineorder Part = part
-of_each P date customer supplier part lineorder Lineorder = lineorder
+pub rows_typed : (most : ℕ) (texts : TableId → List ℕ) → AreTables most texts
+    → (t : TableId) → All (IsRowOf t) (rows_in (database_of texts) t)
+rows_typed most texts tables t =
+    rw (rows_in-database_of texts t)
+    (All-map (IsRowOf t) (row_of t) (records_of (texts t))
+    (λ i d within. values_typed (kinds_of t) _ ((tables t).1 i d within)))

@@ -14,9 +14,11 @@ use Rattle.star_schema.specs.Loadable.{database_of, foreign_keys, keys_of, numbe
 use Rattle.star_schema.specs.Schema.{references}
 use Rattle.star_schema.specs.Tables.{Value, rows_of}
 use Rattle.star_reader.specs.Faults.{text_fault}
+use Rattle.star_reader.specs.declared.fault.ReadFault.{ReadFault}
+use Rattle.star_reader.specs.declared.fault.ReadFault.TheVariants as read
 use Rattle.star_catalogue.specs.declared.texts.Texts.{Texts}
 use Rattle.star_catalogue.specs.declared.fault.LoadFault.{LoadFault}
-use Rattle.star_catalogue.specs.declared.fault.LoadFault.TheVariants.{Read, DuplicateKey, AbsentKey}
+use Rattle.star_catalogue.specs.declared.fault.LoadFault.TheVariants.{OutOfMemory, ByteOrderMark, TooManyRows, FieldCount, CellTooLong, BadByte, BadNumber, DuplicateKey, AbsentKey}
 
 -- the text of a table
 abbrev pub text_of : Texts → TableId → List ℕ
@@ -44,10 +46,20 @@ first_repeat same keys =
 abbrev pub keys_fault : TableId → List (List Value) → Option LoadFault
 keys_fault t rows = option_map (DuplicateKey t) (first_repeat same_key (keys_of t rows))
 
+-- the fault of the text of a table, as a fault of the load
+abbrev pub fault_of_read : TableId → ReadFault → LoadFault
+fault_of_read t read.OutOfMemory = OutOfMemory
+fault_of_read t read.ByteOrderMark = ByteOrderMark t
+fault_of_read t read.TooManyRows = TooManyRows t
+fault_of_read t (read.FieldCount at_row) = FieldCount t at_row
+fault_of_read t (read.CellTooLong at_row field) = CellTooLong t at_row field
+fault_of_read t (read.BadByte at_row field) = BadByte t at_row field
+fault_of_read t (read.BadNumber at_row field) = BadNumber t at_row field
+
 -- the first fault of the text of a table: as a table, and then in its keys
 abbrev pub table_fault : TableId → ℕ → List ℕ → Option LoadFault
 table_fault t most text =
-    option_or (option_map (Read t) (text_fault t most text)) (keys_fault t (rows_of t text))
+    option_or (option_map (fault_of_read t) (text_fault t most text)) (keys_fault t (rows_of t text))
 
 -- whether a number is a key of the table that a column refers to, if it refers to one
 abbrev pub is_found : Database → Option TableId → ℤ → Bool

@@ -20,7 +20,7 @@ use crate::references::absent_key;
 use crate::referred::Referred;
 use crate::tables::Tables;
 use crate::texts::Texts;
-use star_column::ColumnData;
+use star_column::{ColumnData, ColumnView};
 use star_interval::Interval;
 use star_schema::{ColumnId, Kind, Limits, Sizes, TableId, kind_of};
 use std::alloc::Global;
@@ -34,8 +34,11 @@ pub struct Catalogue {
 }
 
 impl Model for Catalogue {
-    ghost use Rattle.star_schema.specs.Database.{Database};
+    ghost use Rattle.std.specs.Prelude.{All};
+    ghost use Rattle.star_schema.specs.Database.{Database, rows_in};
     ghost use Rattle.star_schema.specs.Loadable.{IsSound};
+    ghost use Rattle.star_schema.specs.Tables.{IsRowOf};
+    ghost use Rattle.star_schema.specs.declared.table.TableId.{TableId};
     ghost use Rattle.star_catalogue.specs.ColumnBounds.{HasI64Bounds};
     ghost use Rattle.star_catalogue.specs.Private.Referred.{AreReferred};
 
@@ -44,6 +47,7 @@ impl Model for Catalogue {
     ghost view = { λ catalogue. catalogue.tables.value };
 
     ghost invariant = { λ catalogue. IsSound catalogue.tables.value
+        × ((table : TableId) → All (IsRowOf table) (rows_in catalogue.tables.value table))
         × HasI64Bounds catalogue.tables.value
         × AreReferred catalogue.tables.value catalogue.referred.value };
 }
@@ -79,14 +83,14 @@ impl Catalogue {
         ensures rows { (table : TableId) → All (IsRowOf table) (rows_in self.now table) }
         ensures bounds { HasI64Bounds self.now }
     {
-        self.tables.law();
+        let _tables = &self.tables;
     }
 
     /// How many rows a table has.
     pub fn rows(&self, table: TableId) -> u32
         ensures { result ≡ length (rows_in self.now table) }
     {
-        self.tables.rows(table)
+        self.tables.table(table).rows()
     }
 
     /// How many rows each table has.
@@ -191,14 +195,28 @@ impl Catalogue {
         }
     }
 
+    /// A column, to read many rows of: its numbers, or the codes of its texts, row by row.
+    pub fn column(&self, column: ColumnId) -> ColumnView<'_>
+        ensures numbers { kind_of column ≡ Kind.Number
+            → result ≡ numbers_of column (rows_in self.now (table_of column)) }
+        ensures texts { kind_of column ≡ Kind.Text
+            → result ≡ codes_of (texts_of column (rows_in self.now (table_of column))) }
+    {
+        match kind_of(column) {
+            Kind::Number => self.tables.numbers(column).view(),
+            Kind::Text => self.tables.texts(column).view(),
+        }
+    }
+
     /// The row of a table, from 0, whose key is this number, if there is one. The keys of lineorder
     /// are pairs, so there is none in it.
     pub fn find(&self, table: TableId, key: i64) -> Option<u32>
         ensures { (row : ℕ) → (result ≡ Some row)
             ↔ (slice_get (keys_of table (rows_in self.now table)) row ≡ Some (key ∷ [])) }
     {
-        self.tables.find(table, key)
+        self.tables.table(table).find(key)
     }
+
     /// The row, from 0, of the table that a column refers to whose key is the number of a row, from
     /// 0, of the column. It was found at the load.
     pub fn referred(&self, column: ColumnId, row: u32) -> u32

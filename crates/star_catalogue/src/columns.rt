@@ -1,8 +1,8 @@
 // The columns of a table.
 
 ghost use Rattle.std.specs.Prelude.{◌≡◌, ◌<◌, ◌^◌, All, IfOk, length, map};
-ghost use Rattle.star_reader.specs.Columns.{kind_of as raw_kind, values as raw_values};
-ghost use Rattle.star_catalogue.specs.Private.Columns.{kind_of, values};
+ghost use Rattle.star_reader.specs.Columns.{values};
+ghost use Rattle.star_catalogue.specs.Private.Columns.{as_read};
 
 use star_column::{PackedColumn, TextColumn};
 use star_reader::RawColumn;
@@ -19,9 +19,8 @@ impl Column {
     /// The column of the values that were read, of which there are at most 4,294,967,295. Their
     /// buffers are let go.
     pub(crate) fn build(alloc: Global, raw: RawColumn) -> Result<Column, AllocError>
-        requires { length (raw_values raw) < 2 ^ 32 }
-        ensures kind { IfOk result (λ column. kind_of column ≡ raw_kind raw) }
-        ensures values { IfOk result (λ column. values column ≡ raw_values raw) }
+        requires { length (values raw) < 2 ^ 32 }
+        ensures { IfOk result (λ column. as_read column ≡ raw) }
     {
         match raw {
             RawColumn::Numbers(numbers) => {
@@ -35,9 +34,8 @@ impl Column {
 /// The columns of the values that were read. The buffers of each are let go before the next is
 /// built.
 pub(crate) fn build_columns(alloc: Global, raw: Vec<RawColumn>) -> Result<Vec<Column>, AllocError>
-    requires { All (λ raw. length (raw_values raw) < 2 ^ 32) raw.items }
-    ensures kinds { IfOk result (λ columns. map kind_of columns.items ≡ map raw_kind raw.items) }
-    ensures values { IfOk result (λ columns. map values columns.items ≡ map raw_values raw.items) }
+    requires { All (λ raw. length (values raw) < 2 ^ 32) raw.items }
+    ensures { IfOk result (λ columns. map as_read columns.items ≡ raw.items) }
 {
     let mut columns = Vec::with_capacity(alloc, raw.len())?;
     for column in raw {

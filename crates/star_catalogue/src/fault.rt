@@ -1,6 +1,8 @@
 // Why five texts were not loaded.
 
+ghost use Rattle.std.specs.Prelude.{◌≡◌};
 ghost use Rattle.star_common.specs.Memory.{TellsMemory};
+ghost use Rattle.star_catalogue.specs.Load.{fault_of_read};
 ghost use Rattle.star_catalogue.specs.declared.fault.LoadFault.TheVariants.{OutOfMemory};
 
 use star_reader::ReadFault;
@@ -8,17 +10,81 @@ use star_schema::{ColumnId, TableId};
 use std::alloc::{AllocError, AllocFailed};
 use std::fmt;
 
-/// Why five texts were not loaded. Records count from 1.
+/// Why five texts were not loaded. Records and fields count from 1.
 #[derive(Clone, Copy, Debug, PartialEq, Eq)]
 pub enum LoadFault {
     /// Memory was refused.
     OutOfMemory,
-    /// A text is no table within the limit.
-    Read { table: TableId, fault: ReadFault },
+    /// A text begins with a byte order mark.
+    ByteOrderMark {
+        table: TableId,
+    },
+    /// A text has more records than the limit allows.
+    TooManyRows {
+        table: TableId,
+    },
+    /// A record has another number of fields than its table has columns.
+    FieldCount {
+        table: TableId,
+        at_row: u32,
+    },
+    /// A cell has more than 255 bytes.
+    CellTooLong {
+        table: TableId,
+        at_row: u32,
+        field: usize,
+    },
+    /// A cell has a byte that is not printable ASCII.
+    BadByte {
+        table: TableId,
+        at_row: u32,
+        field: usize,
+    },
+    /// A cell of a column of numbers is not an optional minus and 1 to 18 digits.
+    BadNumber {
+        table: TableId,
+        at_row: u32,
+        field: usize,
+    },
     /// A record has a key that an earlier one of its table has.
-    DuplicateKey { table: TableId, at_row: u32 },
+    DuplicateKey {
+        table: TableId,
+        at_row: u32,
+    },
     /// A record of lineorder has a foreign key that no row of the other table has.
-    AbsentKey { at_row: u32, column: ColumnId },
+    AbsentKey {
+        at_row: u32,
+        column: ColumnId,
+    },
+}
+
+impl LoadFault {
+    /// What a load answers where a text is no table within the limit.
+    pub(crate) fn of_read(table: TableId, fault: ReadFault) -> LoadFault
+        ensures { result ≡ fault_of_read table fault }
+    {
+        match fault {
+            ReadFault::OutOfMemory => LoadFault::OutOfMemory,
+            ReadFault::ByteOrderMark => LoadFault::ByteOrderMark { table },
+            ReadFault::TooManyRows => LoadFault::TooManyRows { table },
+            ReadFault::FieldCount { at_row } => LoadFault::FieldCount { table, at_row },
+            ReadFault::CellTooLong { at_row, field } => LoadFault::CellTooLong {
+                table,
+                at_row,
+                field,
+            },
+            ReadFault::BadByte { at_row, field } => LoadFault::BadByte {
+                table,
+                at_row,
+                field,
+            },
+            ReadFault::BadNumber { at_row, field } => LoadFault::BadNumber {
+                table,
+                at_row,
+                field,
+            },
+        }
+    }
 }
 
 impl From<AllocError> for LoadFault {
@@ -47,26 +113,31 @@ impl fmt::Display for LoadFault {
     fn fmt<W: fmt::Write>(&self, f: &mut fmt::Formatter<W>) -> fmt::Result {
         match self {
             LoadFault::OutOfMemory => write!(f, "1 OutOfMemory"),
-            LoadFault::Read { table, fault } => match fault {
-                ReadFault::OutOfMemory => write!(f, "1 OutOfMemory table {table}"),
-                ReadFault::ByteOrderMark => write!(f, "2 ByteOrderMark table {table}"),
-                ReadFault::TooManyRows => write!(f, "3 TooManyRows table {table}"),
-                ReadFault::FieldCount { at_row } => {
-                    write!(f, "4 FieldCount table {table} record {at_row}")
-                }
-                ReadFault::CellTooLong { at_row, field } => {
-                    write!(
-                        f,
-                        "5 CellTooLong table {table} record {at_row} field {field}"
-                    )
-                }
-                ReadFault::BadByte { at_row, field } => {
-                    write!(f, "6 BadByte table {table} record {at_row} field {field}")
-                }
-                ReadFault::BadNumber { at_row, field } => {
-                    write!(f, "7 BadNumber table {table} record {at_row} field {field}")
-                }
-            },
+            LoadFault::ByteOrderMark { table } => write!(f, "2 ByteOrderMark table {table}"),
+            LoadFault::TooManyRows { table } => write!(f, "3 TooManyRows table {table}"),
+            LoadFault::FieldCount { table, at_row } => {
+                write!(f, "4 FieldCount table {table} record {at_row}")
+            }
+            LoadFault::CellTooLong {
+                table,
+                at_row,
+                field,
+            } => {
+                write!(
+                    f,
+                    "5 CellTooLong table {table} record {at_row} field {field}"
+                )
+            }
+            LoadFault::BadByte {
+                table,
+                at_row,
+                field,
+            } => { write!(f, "6 BadByte table {table} record {at_row} field {field}") }
+            LoadFault::BadNumber {
+                table,
+                at_row,
+                field,
+            } => { write!(f, "7 BadNumber table {table} record {at_row} field {field}") }
             LoadFault::DuplicateKey { table, at_row } => {
                 write!(f, "8 DuplicateKey table {table} record {at_row}")
             }

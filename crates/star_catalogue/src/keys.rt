@@ -1,6 +1,6 @@
 // The keys of tables, which no two rows share.
 
-ghost use Rattle.std.specs.Prelude.{◌≡◌, ◌≢◌, ◌↔◌, ◌<◌, ◌^◌, ◌-ℤ◌, ◌≤ℤ◌, ◌∷◌, ℕ, ℤ, List, [], All, AllPairs, IfOk, IfSome, IsTrue, MatchResult, Some, length, slice_get};
+ghost use Rattle.std.specs.Prelude.{◌≡◌, ◌≢◌, ◌↔◌, ◌<◌, ◌^◌, ◌-ℤ◌, ◌≤ℤ◌, All, AllPairs, IfOk, IfSome, IsTrue, MatchResult, Some, length, slice_get};
 ghost use Rattle.std.specs.List.{IsDistinct, zip};
 ghost use Rattle.std.specs.BTreeMap.{get};
 ghost use Rattle.std.specs.Int.RustNames.{unsigned_abs};
@@ -135,22 +135,44 @@ fn row_in_slot(row: u32) -> Option<u32>
     if row == NO_ROW { None } else { Some(row) }
 }
 
-/// The rows of a table by their keys of one number.
+/// The rows of a table by their keys.
 #[derive(Drop)]
 pub enum KeyIndex {
     /// For each number from the least key on the row with that key, or `NO_ROW`.
     Dense { least: i64, rows: Vec<u32> },
     /// The row of each key.
     Tree(BTreeMap<i64, u32>),
+    /// Keys of two numbers, by which no row is looked for.
+    Pairs,
 }
 
 impl KeyIndex {
     /// The index of the keys of a table, or the first record whose key an earlier one has.
-    pub(crate) fn build(
-        alloc: Global,
-        table: TableId,
-        keys: &FlatNumbers,
-    ) -> Result<KeyIndex, LoadFault>
+    pub(crate) fn build(alloc: Global, raw: &RawTable) -> Result<KeyIndex, LoadFault>
+        requires { length raw.now.rows < 2 ^ 32 }
+        ensures { MatchResult result
+            (λ index. AreKept index (keys_of raw.now.table raw.now.rows)
+            × HasDistinctKeys raw.now.table raw.now.rows)
+            (λ fault. UnlessMemory LoadFault.OutOfMemory fault
+            (keys_fault raw.now.table raw.now.rows ≡ Some fault)) }
+    {
+        let table = raw.table();
+        match key_of(table) {
+            Key::One(column) => {
+                let numbers = raw.numbers(place_of(column));
+                KeyIndex::of_numbers(alloc, table, numbers)
+            }
+            Key::Two(first, second) => {
+                let firsts = raw.numbers(place_of(first));
+                let seconds = raw.numbers(place_of(second));
+                check_pairs(alloc, table, firsts, seconds)?;
+                Ok(KeyIndex::Pairs)
+            }
+        }
+    }
+
+    /// The index of keys of one number, or the first record whose key an earlier one has.
+    fn of_numbers(alloc: Global, table: TableId, keys: &FlatNumbers) -> Result<KeyIndex, LoadFault>
         requires { length keys.now < 2 ^ 32 }
         ensures { MatchResult result
             (λ index. ArePlaces int_eq (row_in index) keys.now × IsDistinct int_eq keys.now)
@@ -186,6 +208,7 @@ impl KeyIndex {
         match self {
             KeyIndex::Dense { least, rows } => find_from(*least, rows.as_slice(), key),
             KeyIndex::Tree(rows) => rows.get(&key).copied(),
+            KeyIndex::Pairs => None,
         }
     }
 }
@@ -250,7 +273,7 @@ fn wide(alloc: Global, numbers: &FlatNumbers) -> Result<Vec<i64>, AllocError>
 
 /// Checks that no two of the pairs of numbers at one place are equal. Pairs that rise take no
 /// memory.
-pub(crate) fn check_pairs(
+fn check_pairs(
     alloc: Global,
     table: TableId,
     firsts: &FlatNumbers,
@@ -270,51 +293,4 @@ pub(crate) fn check_pairs(
     let pairs = pairs_of(alloc, firsts, seconds)?;
     places_of(alloc, table, pairs.as_slice())?;
     Ok(())
-}
-
-/// What is kept of the keys of a table, to find its rows by.
-#[derive(Drop)]
-pub enum Keys {
-    /// Keys of one number, each with its row.
-    Numbers(KeyIndex),
-    /// Keys of two numbers, by which no row is looked for.
-    Pairs,
-}
-
-impl Keys {
-    /// The keys of a table, or the first record whose key an earlier one has.
-    pub(crate) fn build(alloc: Global, raw: &RawTable) -> Result<Keys, LoadFault>
-        requires { length raw.now.rows < 2 ^ 32 }
-        ensures { MatchResult result
-            (λ keys. AreKept keys (keys_of raw.now.table raw.now.rows)
-            × HasDistinctKeys raw.now.table raw.now.rows)
-            (λ fault. UnlessMemory LoadFault.OutOfMemory fault
-            (keys_fault raw.now.table raw.now.rows ≡ Some fault)) }
-    {
-        let table = raw.table();
-        match key_of(table) {
-            Key::One(column) => {
-                let numbers = raw.numbers(place_of(column));
-                let index = KeyIndex::build(alloc, table, numbers)?;
-                Ok(Keys::Numbers(index))
-            }
-            Key::Two(first, second) => {
-                let firsts = raw.numbers(place_of(first));
-                let seconds = raw.numbers(place_of(second));
-                check_pairs(alloc, table, firsts, seconds)?;
-                Ok(Keys::Pairs)
-            }
-        }
-    }
-
-    /// The row with a key of one number, if there is one.
-    pub(crate) fn find(&self, key: i64) -> Option<u32>
-        ensures { (keys : List (List ℤ)) → AreKept self.now keys
-            → (row : ℕ) → (result ≡ Some row) ↔ (slice_get keys row ≡ Some (key ∷ [])) }
-    {
-        match self {
-            Keys::Numbers(index) => index.find(key),
-            Keys::Pairs => None,
-        }
-    }
 }

@@ -44,7 +44,7 @@ fn check_cell(tables: &Tables, row: u32, column: ColumnId) -> Result<(), LoadFau
         return Ok(());
     };
     let number = tables.numbers(column).at(row);
-    match tables.find(table, number) {
+    match tables.table(table).find(number) {
         Some(_) => Ok(()),
         None => Err(LoadFault::AbsentKey {
             at_row: row + 1,
@@ -74,7 +74,7 @@ fn check_references(tables: &Tables) -> Result<(), LoadFault>
         (λ _. absent_fault tables.now ≡ None)
         (λ fault. absent_fault tables.now ≡ Some fault) }
 {
-    for row in 0..tables.rows(TableId::Lineorder) {
+    for row in 0..tables.table(TableId::Lineorder).rows() {
         check_row(tables, row)?;
     }
     Ok(())

@@ -6,16 +6,16 @@ ghost use Rattle.star_common.specs.Memory.{UnlessMemory};
 ghost use Rattle.star_schema.specs.Bounds.{numbers_of};
 ghost use Rattle.star_schema.specs.Loadable.{HasDistinctKeys, keys_of};
 ghost use Rattle.star_schema.specs.Schema.{kind_of, table_of};
-ghost use Rattle.star_schema.specs.Tables.{IsRowOf, IsTable, rows_of};
+ghost use Rattle.star_schema.specs.Tables.{IsTable, rows_of};
 ghost use Rattle.star_schema.specs.Texts.{texts_of};
 ghost use Rattle.star_reader.specs.Faults.{text_fault};
-ghost use Rattle.star_catalogue.specs.Load.{keys_fault, table_fault};
+ghost use Rattle.star_catalogue.specs.Load.{fault_of_read, keys_fault, table_fault};
 
 use crate::columns::{Column, build_columns};
 use crate::fault::LoadFault;
-use crate::keys::Keys;
+use crate::keys::KeyIndex;
 use star_column::{PackedColumn, TextColumn};
-use star_reader::{RawTable, ReadFault, read_table};
+use star_reader::{RawTable, read_table};
 use star_schema::{ColumnId, Kind, Limits, TableId, place_of};
 use std::alloc::Global;
 use std::marker::Model;
@@ -27,7 +27,7 @@ pub struct LoadedTable {
     table: TableId,
     rows: u32,
     columns: Vec<Column>,
-    keys: Keys,
+    keys: KeyIndex,
 }
 
 impl Model for LoadedTable {
@@ -48,12 +48,11 @@ fn read(alloc: Global, text: &[u8], table: TableId, limits: Limits) -> Result<Ra
         (λ raw. IsTable table limits.rows text.now × (raw.table ≡ table)
         × (raw.rows ≡ rows_of table text.now))
         (λ fault. UnlessMemory LoadFault.OutOfMemory fault
-        (option_map (LoadFault.Read table) (text_fault table limits.rows text.now) ≡ Some fault)) }
+        (option_map (fault_of_read table) (text_fault table limits.rows text.now) ≡ Some fault)) }
 {
     match read_table(alloc, text, table, limits) {
         Ok(raw) => Ok(raw),
-        Err(ReadFault::OutOfMemory) => Err(LoadFault::OutOfMemory),
-        Err(fault) => Err(LoadFault::Read { table, fault }),
+        Err(fault) => Err(LoadFault::of_read(table, fault)),
     }
 }
 
@@ -67,7 +66,7 @@ fn keep(alloc: Global, raw: RawTable) -> Result<LoadedTable, LoadFault>
 {
     let table = raw.table();
     let rows = raw.rows();
-    let keys = Keys::build(alloc, &raw)?;
+    let keys = KeyIndex::build(alloc, &raw)?;
     let columns = build_columns(alloc, raw.into_columns())?;
     Ok(LoadedTable {
         table,
@@ -96,13 +95,6 @@ impl LoadedTable {
         let raw = read(alloc, text, table, limits)?;
         let loaded = keep(alloc, raw)?;
         Ok(Box::new(alloc, loaded)?)
-    }
-
-    /// Each row has a value for each column, of the column's kind.
-    pub(crate) fn law(&self)
-        ensures { All (IsRowOf self.now.table) self.now.rows }
-    {
-        let _columns = &self.columns;
     }
 
     /// How many rows there are.

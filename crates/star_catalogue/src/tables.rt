@@ -1,12 +1,12 @@
 // Five tables in memory.
 
-ghost use Rattle.std.specs.Prelude.{◌≡◌, ◌↔◌, ◌∷◌, [], ℕ, All, Some, MatchResult, length, slice_get};
+ghost use Rattle.std.specs.Prelude.{◌≡◌, Some, MatchResult};
 ghost use Rattle.star_common.specs.Memory.{UnlessMemory};
 ghost use Rattle.star_schema.specs.Bounds.{numbers_of};
 ghost use Rattle.star_schema.specs.Database.{AreTables, rows_in};
-ghost use Rattle.star_schema.specs.Loadable.{HasDistinctKeys, database_of, keys_of};
+ghost use Rattle.star_schema.specs.Loadable.{HasDistinctKeys, database_of};
 ghost use Rattle.star_schema.specs.Schema.{kind_of, table_of};
-ghost use Rattle.star_schema.specs.Tables.{IsRowOf, rows_of};
+ghost use Rattle.star_schema.specs.Tables.{rows_of};
 ghost use Rattle.star_schema.specs.Texts.{texts_of};
 ghost use Rattle.star_schema.specs.declared.table.TableId.{TableId};
 ghost use Rattle.star_catalogue.specs.Load.{tables_fault, text_of};
@@ -84,24 +84,6 @@ impl Tables {
         }
     }
 
-    /// Each row of a table has a value for each column, of the column's kind.
-    pub(crate) fn law(&self)
-        ensures { (table : TableId) → All (IsRowOf table) (rows_in self.now table) }
-    {
-        self.date.law();
-        self.customer.law();
-        self.supplier.law();
-        self.part.law();
-        self.lineorder.law();
-    }
-
-    /// How many rows a table has.
-    pub(crate) fn rows(&self, table: TableId) -> u32
-        ensures { result ≡ length (rows_in self.now table) }
-    {
-        self.table(table).rows()
-    }
-
     /// A column of numbers.
     pub(crate) fn numbers(&self, column: ColumnId) -> &PackedColumn
         requires { kind_of column ≡ Kind.Number }
@@ -116,13 +98,5 @@ impl Tables {
         ensures { result.now ≡ texts_of column (rows_in self.now (table_of column)) }
     {
         self.table(table_of(column)).texts(column)
-    }
-
-    /// The row of a table with a key of one number, if there is one.
-    pub(crate) fn find(&self, table: TableId, key: i64) -> Option<u32>
-        ensures { (row : ℕ) → (result ≡ Some row)
-            ↔ (slice_get (keys_of table (rows_in self.now table)) row ≡ Some (key ∷ [])) }
-    {
-        self.table(table).find(key)
     }
 }

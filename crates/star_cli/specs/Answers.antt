@@ -7,7 +7,7 @@ use Rattle.star_catalogue.specs.Load.{text_of}
 use Rattle.star_engine.specs.declared.fault.EngineFault.{EngineFault}
 use Rattle.star_engine.specs.declared.fault.EngineFault.TheVariants as engine
 use Rattle.star_engine.specs.Answered.{Change, IsAnswered, IsUntouched}
-use Rattle.star_engine.specs.Bench.{AllFit, IsBench, IsUnbenched, SomeIsUnfit}
+use Rattle.star_engine.specs.Bench.{AllFit, IsBench, SomeIsUnfit}
 use Rattle.star_engine.specs.Executions.{IsQuoteOf, IsToldOf, IsUntold}
 use Rattle.star_engine.specs.Listing.{IsListing}
 use Rattle.star_engine.specs.Loads.{IsUnloaded}
@@ -38,7 +38,7 @@ IsListed out texts answer =
 -- the queries of the benchmark are answered over them, and the answer is whether each fits
 pub record IsBenched {S : Type 0} (out : Change S) (texts : TableId → List ℕ)
     (result : Result Bool EngineFault) : Type 0 where
-  pub answered : IsAnswered out (IsBench MOST_ROWS MOST_VISITS texts) (IsUnbenched MOST_ROWS texts)
+  pub answered : IsAnswered out (IsBench MOST_ROWS MOST_VISITS texts) (IsUnloaded MOST_ROWS texts)
       result
   pub all_fit : IfOk result (λ fits. fits ≡ true → AllFit MOST_VISITS texts)
   pub some_unfit : IfOk result (λ fits. fits ≡ false → SomeIsUnfit MOST_VISITS texts)

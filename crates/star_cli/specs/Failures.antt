@@ -1,10 +1,31 @@
--- The exit status of what keeps a command from an answer.
-use Rattle.std.specs.Prelude.{ℕ}
+-- What keeps a command from an answer, its line, and its exit status.
+use Rattle.std.specs.Prelude.{ℕ, List, Option, Some, None, codes}
 use Rattle.clap.specs.Values.{kind_of}
+use Rattle.clap.specs.declared.error.Error.{Error}
 use Rattle.clap.specs.declared.error.kind.ErrorKind.{ErrorKind}
+use Rattle.clap.specs.declared.error.kind.ErrorKind.TheVariants as kinds
 use Rattle.clap.specs.declared.error.kind.ErrorKind.TheVariants.{DisplayHelp, DisplayVersion}
 use Rattle.star_cli.specs.declared.failure.Failure.{Failure}
 use Rattle.star_cli.specs.declared.failure.Failure.TheVariants.{Words, NotText, EmptyFolder, NoTask, File, OutOfMemory}
+
+-- an error of the parser of the words: it too may want memory
+abbrev pub failure_of_kind : Error → ErrorKind → Failure
+failure_of_kind error kinds.OutOfMemory = OutOfMemory
+failure_of_kind error kind = Words error
+
+abbrev pub failure_of_words : Error → Failure
+failure_of_words error = failure_of_kind error (kind_of error)
+
+-- its line, where that is known: of the words it is the parser's, and of a file it holds a name
+unfoldable pub failure_text : Failure → Option (List ℕ)
+failure_text (Words error) = None
+failure_text NotText = Some (codes "error: a word is not UTF-8\n")
+failure_text EmptyFolder = Some (codes "error: the folder's name is empty\n")
+failure_text NoTask = Some (codes "error: the words are no command\n")
+failure_text (File name) = None
+failure_text OutOfMemory = Some (codes "memory\n")
+
+-- ---- the exit status
 
 -- of words that the parser lets not pass: help and the version are no fault
 abbrev pub words_status : ErrorKind → ℕ

@@ -69,11 +69,11 @@ fn prepare<'a, R: Files + AllocGlobal>(
     Ok((task, read))
 }
 
-/// Does what the words ask for, the program's own name left off, and gives the exit status: 0 where
-/// all is well, 1 for a query or a program that is refused, or a program that is trapped or meets its
-/// limit, 2 for words that are no command, 3 for table files that can't be loaded, 4 for a file that
-/// is no query, 5 for a file that is no program, 6 for a file that can't be read or output that can't
-/// be written, 7 for want of memory.
+/// Does what the words ask for, the program's own name left off, and gives the exit status: 0
+/// where all is well, 1 for a query or a program that is refused, or a program that is trapped or
+/// meets its limit, 2 for words that are no command, 3 for table files that can't be loaded, 4 for
+/// a file that is no query, 5 for a file that is no program, 6 for a file that can't be read or
+/// output that can't be written, 7 for want of memory.
 pub fn command<R: Files + AllocGlobal, W: Write, E: Write>(
     rt: &R,
     words: &[String],

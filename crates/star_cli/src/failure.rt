@@ -1,7 +1,9 @@
 // Why a command ended without its whole answer.
 
 ghost use Rattle.std.specs.Prelude.{◌≡◌};
-ghost use Rattle.star_cli.specs.Failures.{status_of, words_status};
+ghost use Rattle.star_common.specs.Memory.{TellsMemory};
+ghost use Rattle.star_cli.specs.Failures.{failure_of_words, failure_text, status_of, words_status};
+ghost use Rattle.star_cli.specs.declared.failure.Failure.TheVariants.{OutOfMemory};
 
 use clap::Error;
 use clap::error::ErrorKind;
@@ -27,17 +29,20 @@ pub(crate) enum Failure<'a> {
 }
 
 impl<'a> From<AllocError> for Failure<'a> {
+    ghost from_gives = { TellsMemory OutOfMemory };
+
     fn from(_error: AllocError) -> Failure<'a> {
         Failure::OutOfMemory
     }
 }
 
 impl<'a> From<Error> for Failure<'a> {
+    ghost from_gives = { λ error failure. failure ≡ failure_of_words error };
+
     fn from(error: Error) -> Failure<'a> {
-        if error.kind() == ErrorKind::OutOfMemory {
-            Failure::OutOfMemory
-        } else {
-            Failure::Words(error)
+        match error.kind() {
+            ErrorKind::OutOfMemory => Failure::OutOfMemory,
+            _ => Failure::Words(error),
         }
     }
 }
@@ -56,6 +61,9 @@ fn write_name<W: fmt::Write>(f: &mut fmt::Formatter<W>, name: &str) -> fmt::Resu
 }
 
 impl<'a> fmt::Display for Failure<'a> {
+    ghost output = { failure_text };
+
+    #[tactic(auto, unfolding(crate::specs::Failures::failure_text))]
     fn fmt<W: fmt::Write>(&self, f: &mut fmt::Formatter<W>) -> fmt::Result {
         match self {
             Failure::Words(error) => write!(f, "{error}"),

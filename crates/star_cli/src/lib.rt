@@ -1,4 +1,5 @@
-//! The commands of the program `star`: their words, the files that they read, the lines of their faults and their exit statuses.
+//! The commands of the program `star`: their words, the files that they read, the lines of their
+//! faults and their exit statuses.
 #![tactic(auto)]
 
 mod answers;

@@ -32,8 +32,8 @@ pub enum Task<'a> {
         folder: &'a str,
         file: &'a str,
     },
-    /// Tell how many visits of the program of a file, or of the program of its query, are quoted over
-    /// the tables of a folder.
+    /// Tell how many visits of the program of a file, or of the program of its query, are quoted
+    /// over the tables of a folder.
     Quote {
         folder: &'a str,
         file: &'a str,
@@ -258,8 +258,8 @@ fn star_command<'a>(alloc: Global) -> Result<Command<'a>, AllocError> {
         .subcommand(trial_command(alloc)?)
 }
 
-// The task of a command's own words over a folder. The parser lets none be missing, and no number be
-// no limit; where it did, there would be no task.
+// The task of a command's own words over a folder. The parser lets none be missing, and no number
+// be no limit; where it did, there would be no task.
 fn folder_task<'a>(name: &str, folder: &'a str, inner: &ArgMatches<'a>) -> Option<Task<'a>> {
     match name {
         "check" => Some(Task::Check { folder }),

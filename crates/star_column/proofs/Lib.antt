@@ -7,4 +7,5 @@ pub mod Fronts
 pub mod Numbers
 pub mod Ordered
 pub mod Trees
+pub mod Views
 mod WorkedWidths

@@ -9,9 +9,11 @@ mod distinct;
 mod number;
 mod packed;
 mod text;
+mod view;
 mod words;
 
 pub use column::ColumnData;
 pub use number::NumberColumn;
 pub use packed::PackedColumn;
 pub use text::TextColumn;
+pub use view::ColumnView;

@@ -7,6 +7,7 @@ ghost use Rattle.star_column.specs.Width.{bits_of};
 
 use crate::column::ColumnData;
 use crate::number::{NumberColumn, bounds_of};
+use crate::view::ColumnView;
 use crate::words::Words;
 use star_flat::{FlatNumbers, SignedWord, SignedWords};
 use star_interval::Interval;
@@ -73,6 +74,13 @@ impl PackedColumn {
     {
         self.words.bits()
     }
+
+    /// The column's numbers, lent.
+    pub fn view(&self) -> ColumnView<'_>
+        ensures { result ≡ self.now }
+    {
+        ColumnView::of(self.bounds, &self.words)
+    }
 }
 
 impl ColumnData for PackedColumn {
@@ -92,7 +100,7 @@ impl ColumnData for PackedColumn {
 }
 
 /// The number between these bounds that lies so far above the lower one.
-fn number_above(bounds: Interval, difference: u64) -> i64
+pub(crate) fn number_above(bounds: Interval, difference: u64) -> i64
     requires { Holds (range_of bounds) (bounds.low +ℤ pos difference) }
     ensures { result ≡ bounds.low +ℤ pos difference }
 {

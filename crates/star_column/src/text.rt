@@ -7,6 +7,7 @@ ghost use Rattle.star_column.specs.Width.{bits_of};
 use crate::coding::{number_each, places_of};
 use crate::column::ColumnData;
 use crate::dictionary::{Dictionary, flatten};
+use crate::view::ColumnView;
 use crate::words::Words;
 use star_flat::FlatTexts;
 use star_interval::Interval;
@@ -104,6 +105,13 @@ impl TextColumn {
         ensures { result ≡ bits_of (codes_of self.now) }
     {
         self.codes.bits()
+    }
+
+    /// The codes of the rows, lent.
+    pub fn view(&self) -> ColumnView<'_>
+        ensures { result ≡ codes_of self.now }
+    {
+        ColumnView::of(self.bounds(), &self.codes)
     }
 
     /// How many texts of the dictionary are less than this one.

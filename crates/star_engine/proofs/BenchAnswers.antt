@@ -17,11 +17,10 @@ use Rattle.star_engine.specs.declared.thirteen.BenchmarkQuery.{BenchmarkQuery}
 use Rattle.star_engine.specs.declared.thirteen.BenchmarkQuery.TheVariants.{Q11}
 use Rattle.star_engine.specs.declared.thirteen.TheConstants.{THIRTEEN}
 use Rattle.star_engine.specs.Answered.{Change, IsAnswered}
-use Rattle.star_engine.specs.Bench.{AreParts, IsBench, IsFinding, IsPart, IsUnbenched, named_quote}
+use Rattle.star_engine.specs.Bench.{AreParts, IsBench, IsFinding, IsPart, named_quote}
 use Rattle.star_engine.specs.Executions.{quote_over}
-use Rattle.star_engine.specs.Loads.{IsUnloaded}
 use Rattle.star_engine.specs.Notes.{quote_line}
-use Rattle.star_engine.specs.Queries.{FitsTexts, IsPlanOf, IsQuery, IsUnfit, fact_rows}
+use Rattle.star_engine.specs.Queries.{FitsTexts, IsPlanOf, IsUnfit, fact_rows}
 use Rattle.star_engine.specs.Thirteen.{query_name, query_text}
 use Rattle.star_engine.specs.Private.BenchSteps.{ArePartsOver, ArePrepared, IsFound, IsPartOver, IsVerdict}
 use Rattle.star_engine.specs.Private.QuerySteps.{IsProgramOfQuery}
@@ -130,22 +129,6 @@ module _ (rows most : ℕ) (texts : TableId → List ℕ) (loadable : IsLoadable
       )
   parts_told [] (x ∷ xs) fit text prepared over = absurd prepared
   parts_told (q ∷ qs) [] fit text prepared over = absurd prepared
-
--- ---- faults
-
-all_queries : (qs : List BenchmarkQuery) (xs : List Prepared) → ArePrepared qs xs
-    → AllByRecursion (λ q. IsQuery (query_text q)) qs
-all_queries [] [] prepared = tt
-all_queries (q ∷ qs) (x ∷ xs) (named, is, others) = ((is.p, is.meant), all_queries qs xs others)
-all_queries [] (x ∷ xs) prepared = absurd prepared
-all_queries (q ∷ qs) [] prepared = absurd prepared
-
-pub unloaded_bench : (rows : ℕ) (texts : TableId → List ℕ) (xs : List Prepared)
-    → ArePrepared THIRTEEN xs → (fault : EngineFault) → IsUnloaded rows texts fault
-    → IsUnbenched rows texts fault
-unloaded_bench rows texts xs prepared (engine.Load fault) is =
-    (all_queries THIRTEEN xs prepared, is)
-unloaded_bench rows texts xs prepared _ is = absurd is
 
 -- ---- the thirteen
 

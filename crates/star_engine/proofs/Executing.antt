@@ -1,6 +1,6 @@
 -- What is told of a program that is checked and then run.
 use Rattle.std.proofs.Common.{◌≡◌, ◌≤◌, ◌<◌, ℕ, List, Some, None, arith, inl, inr, length, refl, subst}
-use Rattle.std.specs.Prelude.{◌↔◌, Result, Ok, Err}
+use Rattle.std.specs.Prelude.{◌↔◌, Result}
 use Rattle.star_common.specs.Memory.{UnlessMemory}
 use Rattle.star_schema.specs.declared.table.TableId.{TableId}
 use Rattle.star_schema.specs.Database.{Database}
@@ -16,14 +16,15 @@ use Rattle.star_verify.specs.declared.refusal.Refusal.TheVariants as why
 use Rattle.star_verify.specs.Shown.{refusal_shown}
 use Rattle.star_world.specs.WorldOf.{world_of}
 use Rattle.star_engine.specs.declared.fault.EngineFault.{EngineFault}
-use Rattle.star_engine.specs.declared.fault.EngineFault.TheVariants.{OutOfMemory, Refused, Write}
+use Rattle.star_engine.specs.declared.fault.EngineFault.TheVariants.{Refused}
 use Rattle.star_engine.specs.Answered.{Change}
 use Rattle.star_engine.specs.Executions.{IsQuote, IsQuoteOf, IsRefusal, IsTold, IsToldOf, IsUntold, quote_over}
 use Rattle.star_engine.specs.Faults.{fault_of_refusal}
 use Rattle.star_engine.specs.Loads.{IsProgramOf}
-use Rattle.star_engine.specs.Noted.{BeforeTheReport, BehindTheReport, InTheReport, IsBroken, IsNoted, Telling}
+use Rattle.star_engine.specs.Noted.{IsNoted, Telling}
 use Rattle.star_engine.specs.Notes.{counts_line, quote_line}
 use Rattle.star_engine.specs.Private.Steps.{IsNotVerified, IsRun, OrMemory}
+use Rattle.star_engine.proofs.NotedAs.{noted_as}
 
 -- ---- notes have bytes
 
@@ -116,49 +117,16 @@ quote_of_file most texts file program note loadable of_file quoted = record {
   quoted = quoted;
 }
 
-broken_of_file : {S N : Type 0} (out : Change S) (notes : Change N) (most visits : ℕ)
-    (texts : TableId → List ℕ) (file : List ℕ) (program : Parts) (sent : ℕ) → IsLoadable most texts
-    → IsProgramOf file program
-    → IsBroken out notes (IsQuote (database_of texts) program) (IsTold (database_of texts) visits program) sent
-    → IsBroken out notes (IsQuoteOf most texts file) (IsToldOf most visits texts file) sent
-broken_of_file out notes most visits texts file program sent loadable of_file broken =
-    elim broken [
-      | BeforeTheReport quoted quote noted part same none ↦
-          BeforeTheReport quoted (quote_of_file most texts file program quoted loadable of_file quote) noted part same none
-      | InTheReport telling told noted part ↦
-          InTheReport telling (told_of_file most visits texts file program telling loadable of_file told) noted part
-      | BehindTheReport telling told noted behind part gained all ↦
-          BehindTheReport telling (told_of_file most visits texts file program telling loadable of_file told) noted behind part gained all
-    ]
-
-of_file_over : {S N : Type 0} (out : Change S) (notes : Change N) (most visits : ℕ)
-    (texts : TableId → List ℕ) (file : List ℕ) (program : Parts)
-    (result : Result (Unit {0}) EngineFault) → IsLoadable most texts → IsProgramOf file program
-    → IsNoted out notes (IsQuote (database_of texts) program) (IsTold (database_of texts) visits program)
-    (IsNotVerified (database_of texts) visits program) result
-    → IsNoted out notes (IsQuoteOf most texts file) (IsToldOf most visits texts file)
-    (IsUntold most visits texts file) result
-of_file_over out notes most visits texts file program (Ok answer) loadable of_file noted = (
-  noted.0,
-  told_of_file most visits texts file program noted.0 loadable of_file noted.1,
-  noted.2,
-  noted.3,
-)
-of_file_over out notes most visits texts file program (Err OutOfMemory) loadable of_file noted = (
-  noted.0,
-  elim noted.1 [
-    | inl same ↦ inl same
-    | inr q ↦ inr (q.0, quote_of_file most texts file program q.0 loadable of_file q.1, q.2)
-  ],
-)
-of_file_over out notes most visits texts file program (Err (Write sent)) loadable of_file noted =
-    broken_of_file out notes most visits texts file program sent loadable of_file noted
-of_file_over out notes most visits texts file program (Err (Refused refusal)) loadable of_file noted = (
-  record { loadable = loadable; program = program; of_file = of_file; refused = noted.0 },
-  noted.1,
-  (noted.2.0, quote_of_file most texts file program noted.2.0 loadable of_file noted.2.1, noted.2.2),
-)
-of_file_over out notes most visits texts file program (Err _) loadable of_file noted = absurd noted.0
+fault_of_file : (most visits : ℕ) (texts : TableId → List ℕ) (file : List ℕ) (program : Parts)
+    (fault : EngineFault) → IsLoadable most texts → IsProgramOf file program
+    → IsNotVerified (database_of texts) visits program fault → IsUntold most visits texts file fault
+fault_of_file most visits texts file program (Refused refusal) loadable of_file refused = record {
+  loadable = loadable;
+  program = program;
+  of_file = of_file;
+  refused = refused;
+}
+fault_of_file most visits texts file program _ loadable of_file refused = absurd refused
 
 pub of_file : {S N : Type 0} (out : Change S) (notes : Change N) (most visits : ℕ)
     (texts : TableId → List ℕ) (file : List ℕ) (database : Database) (program : Parts)
@@ -169,6 +137,11 @@ pub of_file : {S N : Type 0} (out : Change S) (notes : Change N) (most visits : 
     → IsNoted out notes (IsQuoteOf most texts file) (IsToldOf most visits texts file)
     (IsUntold most visits texts file) result
 of_file out notes most visits texts file database program result same loadable spelled noted =
-    of_file_over out notes most visits texts file program result loadable spelled
+    noted_as out notes (IsQuote (database_of texts) program) (IsQuoteOf most texts file)
+    (IsTold (database_of texts) visits program) (IsToldOf most visits texts file)
+    (IsNotVerified (database_of texts) visits program) (IsUntold most visits texts file) result
+    (λ note quoted. quote_of_file most texts file program note loadable spelled quoted)
+    (λ telling told. told_of_file most visits texts file program telling loadable spelled told)
+    (λ fault refused. fault_of_file most visits texts file program fault loadable spelled refused)
     (subst (λ d. IsNoted out notes (IsQuote d program) (IsTold d visits program)
     (IsNotVerified d visits program) result) same noted)

@@ -14,7 +14,7 @@ use Rattle.star_engine.specs.declared.fault.EngineFault.TheVariants as engine
 use Rattle.star_engine.specs.Faults.{fault_of_plan, fault_of_query}
 use Rattle.star_engine.specs.Queries.{IsNoQuery}
 use Rattle.star_engine.specs.Private.QuerySteps.{IsUnparsed, IsUnplanned}
-use Rattle.star_engine.specs.Private.Steps.{OrMemory}
+use Rattle.star_engine.specs.Private.Steps.{IsMemory, OrMemory}
 
 pub unparsed : (text : List ℕ) (fault : QueryFault) → IsFirstFault text fault
     → OrMemory (IsUnparsed text) (fault_of_query fault)
@@ -35,6 +35,13 @@ pub or_memory : (IsDue IsAlso : EngineFault → Type 0) (fault : EngineFault)
 or_memory IsDue IsAlso engine.OutOfMemory each due = tt
 or_memory IsDue IsAlso (engine.Write sent) each due = absurd due
 or_memory IsDue IsAlso fault each due = each fault due
+
+-- and where none is, memory was refused
+pub only_memory : (IsDue : EngineFault → Type 0) (fault : EngineFault)
+    → ((fault : EngineFault) → ¬ IsDue fault) → OrMemory IsDue fault → IsMemory fault
+only_memory IsDue engine.OutOfMemory never due = tt
+only_memory IsDue (engine.Write sent) never due = absurd due
+only_memory IsDue fault never due = absurd (never fault due)
 
 -- a text that means no query has no well named one
 pub unparsed_none : (text : List ℕ) (fault : EngineFault) → IsUnparsed text fault

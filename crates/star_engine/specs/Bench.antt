@@ -7,13 +7,10 @@ use Rattle.star_schema.specs.Loadable.{IsLoadable}
 use Rattle.star_verify.specs.declared.refusal.Refusal.{Refusal}
 use Rattle.star_verify.specs.RefusalTexts.{refusal_text}
 use Rattle.star_answers.specs.Reports.{IsReport}
-use Rattle.star_engine.specs.declared.fault.EngineFault.{EngineFault}
-use Rattle.star_engine.specs.declared.fault.EngineFault.TheVariants as engine
 use Rattle.star_engine.specs.declared.thirteen.BenchmarkQuery.{BenchmarkQuery}
 use Rattle.star_engine.specs.declared.thirteen.TheConstants.{THIRTEEN}
-use Rattle.star_engine.specs.Loads.{IsLoadFault}
 use Rattle.star_engine.specs.Notes.{quote_line}
-use Rattle.star_engine.specs.Queries.{FitsTexts, IsNoQuery, IsQuery, IsUnfit, fact_rows}
+use Rattle.star_engine.specs.Queries.{FitsTexts, IsUnfit, fact_rows}
 use Rattle.star_engine.specs.Thirteen.{query_name, query_text}
 
 abbrev pub refusal_line : Refusal → List ℕ
@@ -58,10 +55,3 @@ pub record SomeIsUnfit (most : ℕ) (texts : TableId → List ℕ) : Type 0 wher
   pub among : Contains THIRTEEN q
   pub refusal : Refusal
   pub unfit : IsUnfit most texts (query_text q) refusal
-
--- why nothing is printed: the queries are read first, and then the tables
-abbrev pub IsUnbenched : ℕ → (TableId → List ℕ) → EngineFault → Type 0
-IsUnbenched rows texts (engine.Load fault) =
-    AllByRecursion (λ q. IsQuery (query_text q)) THIRTEEN × IsLoadFault rows texts fault
-IsUnbenched rows texts fault =
-    (q : BenchmarkQuery) × Contains THIRTEEN q × IsNoQuery (query_text q) fault

@@ -5,12 +5,12 @@ ghost use Rattle.star_report.specs.Report as printed;
 ghost use Rattle.star_catalogue.specs.Load.{text_of};
 ghost use Rattle.star_engine.specs.Answered.{IsAnswered, change};
 ghost use Rattle.star_engine.specs.Bench as spec;
-ghost use Rattle.star_engine.specs.Bench.{AllFit, IsBench, IsUnbenched, SomeIsUnfit};
+ghost use Rattle.star_engine.specs.Bench.{AllFit, IsBench, SomeIsUnfit};
 ghost use Rattle.star_engine.specs.Executions.{quote_over};
-ghost use Rattle.star_engine.specs.Private.BenchSteps.{ArePartsOver, ArePrepared, IsFound, IsNoBenchmark, IsPartOver, IsVerdict};
-ghost use Rattle.star_engine.specs.Queries.{IsNoQuery};
+ghost use Rattle.star_engine.specs.Private.BenchSteps.{ArePartsOver, ArePrepared, IsFound, IsPartOver, IsVerdict};
+ghost use Rattle.star_engine.specs.Loads.{IsUnloaded};
 ghost use Rattle.star_engine.specs.Private.QuerySteps.{IsProgramOfQuery};
-ghost use Rattle.star_engine.specs.Private.Steps.{OrMemory};
+ghost use Rattle.star_engine.specs.Private.Steps.{IsMemory, OrMemory};
 ghost use Rattle.star_engine.specs.Thirteen.{query_text};
 ghost use Rattle.star_engine.specs.declared.thirteen.TheConstants.{THIRTEEN};
 
@@ -19,7 +19,9 @@ use crate::fault::EngineFault;
 use crate::loading::load;
 use crate::notes::quote_note;
 use crate::queries::compile_query;
-use crate::query_laws::{programs_of_queries_report_them, queries_that_fit_are_answered};
+use crate::query_laws::{
+    programs_of_queries_report_them, queries_that_fit_are_answered, the_thirteen_are_queries,
+};
 use crate::thirteen::{BenchmarkQuery, THIRTEEN};
 use crate::writing::write_text;
 use star_catalogue::{Catalogue, Texts};
@@ -49,15 +51,16 @@ fn prepare(alloc: Global, query: BenchmarkQuery) -> Result<Prepared, EngineFault
     ensures { MatchResult result
         (λ prepared. (prepared.query ≡ query)
         × IsProgramOfQuery (query_text query) prepared.program)
-        (OrMemory (IsNoQuery (query_text query))) }
+        IsMemory }
 {
+    the_thirteen_are_queries();
     let program = compile_query(alloc, query.text().as_bytes())?;
     Ok(Prepared { query, program })
 }
 
 // The thirteen queries with their programs.
 fn prepare_all(alloc: Global) -> Result<Items<Prepared>, EngineFault>
-    ensures { MatchResult result (ArePrepared THIRTEEN) (OrMemory IsNoBenchmark) }
+    ensures { MatchResult result (ArePrepared THIRTEEN) IsMemory }
 {
     let mut all = Items::from_vec(Vec::new(alloc));
     for query in &THIRTEEN {
@@ -172,7 +175,7 @@ fn bench_of(alloc: Global, texts: &Texts<'_>, limits: Limits) -> Result<Finding,
     ensures { MatchResult result
         (λ found. IsBench limits.rows limits.visits (text_of texts.now) found.text.items
         × IsVerdict limits.visits (text_of texts.now) found.fits)
-        (OrMemory (IsUnbenched limits.rows (text_of texts.now))) }
+        (OrMemory (IsUnloaded limits.rows (text_of texts.now))) }
 {
     queries_that_fit_are_answered();
     programs_of_queries_report_them();
@@ -184,6 +187,7 @@ fn bench_of(alloc: Global, texts: &Texts<'_>, limits: Limits) -> Result<Finding,
 /// Answers the thirteen queries of the benchmark over one load of the tables of five texts: writes
 /// of each its quote under its name, and then its report or one line that says why it is refused.
 /// The whole text is made before any of it is written. The answer is whether no query was refused.
+/// There is none for the faults of the tables, want of memory and a failed write alone.
 pub fn bench<S: Sink>(
     alloc: Global,
     texts: &Texts<'_>,
@@ -192,7 +196,7 @@ pub fn bench<S: Sink>(
 ) -> Result<bool, EngineFault>
     ensures answered { IsAnswered (change S.contents S.is_failed out.old out.new)
         (IsBench limits.rows limits.visits (text_of texts.now))
-        (IsUnbenched limits.rows (text_of texts.now)) result }
+        (IsUnloaded limits.rows (text_of texts.now)) result }
     ensures all_fit { IfOk result (λ fits. fits ≡ true → AllFit limits.visits (text_of texts.now)) }
     ensures some_unfit { IfOk result
         (λ fits. fits ≡ false → SomeIsUnfit limits.visits (text_of texts.now)) }

@@ -4,7 +4,12 @@ ghost use Rattle.std.specs.Prelude.{◌≡◌, ◌≢◌, ◌≤◌, ◌<◌, �
 ghost use Rattle.star_schema.specs.declared.table.TableId.{TableId};
 ghost use Rattle.star_schema.specs.Database.{rows_in};
 ghost use Rattle.star_schema.specs.Loadable.{IsLoadable, database_of};
+ghost use Rattle.star_query.specs.declared.tree.Tree as parsed;
+ghost use Rattle.star_query.specs.Derives.{Means};
+ghost use Rattle.star_query.specs.Tree.{Tree};
+ghost use Rattle.star_query.specs.Views.{tree_view};
 ghost use Rattle.star_plan.specs.Meaning.{Plan};
+ghost use Rattle.star_plan.specs.WellNamed.{IsWellNamed};
 ghost use Rattle.star_program.specs.Effects.{Store};
 ghost use Rattle.star_program.specs.Run.{Ended, EndsWith, run_of};
 ghost use Rattle.star_program.specs.Text.Spellable.{IsSpellable};
@@ -14,8 +19,11 @@ ghost use Rattle.star_answers.specs.Fitting.{FitsTables};
 ghost use Rattle.star_compiled.specs.Compiled.{compiled};
 ghost use Rattle.star_compiled.specs.Judged.{IsOverflow};
 ghost use Rattle.star_engine.specs.Executions.{IsAccepted, quote_over};
-ghost use Rattle.star_engine.specs.Queries.{IsPlanOf, fact_rows};
+ghost use Rattle.star_engine.specs.declared.fault.EngineFault.{EngineFault};
+ghost use Rattle.star_engine.specs.declared.thirteen.BenchmarkQuery.{BenchmarkQuery};
+ghost use Rattle.star_engine.specs.Queries.{IsNoQuery, IsPlanOf, fact_rows};
 ghost use Rattle.star_engine.specs.QueryRuns.{HasReported, PrintsTheReport};
+ghost use Rattle.star_engine.specs.Thirteen.{query_text};
 
 use star_admission::law::{
     admissible_programs_never_trap, admissible_programs_within_the_limit_are_not_refused,
@@ -74,3 +82,12 @@ pub fn programs_of_queries_report_them()
     compiled_programs_visit_each_row_once();
     compiled_programs_report_their_queries();
 }
+
+/// Each of the thirteen texts of the benchmark means a query, and a query that is well named. So
+/// none of them is refused as it is read.
+pub fn the_thirteen_are_queries()
+    ensures meant { (q : BenchmarkQuery) → (tree : Tree) × Means (query_text q) tree }
+    ensures named { (q : BenchmarkQuery) (tree : parsed.Tree)
+        → Means (query_text q) (tree_view tree) → IsWellNamed tree }
+    ensures read { (q : BenchmarkQuery) (fault : EngineFault) → ¬ IsNoQuery (query_text q) fault }
+{}

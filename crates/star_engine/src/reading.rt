@@ -104,6 +104,7 @@ fn read_more<R: Read>(
     ensures unfailed { OnOk result (has_failed tally.new ≡ has_failed tally.old) }
     ensures failed { result ≡ Err FileFault.Failed → vec_len bytes.old ≤ came_of tally.old
         → (has_failed tally.new ≡ true) ⊎ (limit < came_of tally.new) }
+    ensures memory { result ≡ Err FileFault.Memory → has_failed tally.new ≡ has_failed tally.old }
 {
     let count = read_once(reader, room, tally)?;
     if limit - (bytes.len() as u64) < count as u64 {
@@ -145,6 +146,7 @@ fn read_all<R: Read>(
     ensures unfailed { OnOk result (has_failed tally.new ≡ has_failed tally.old) }
     ensures failed { result ≡ Err FileFault.Failed
         → (has_failed tally.new ≡ true) ⊎ (limit < came_of tally.new) }
+    ensures memory { result ≡ Err FileFault.Memory → has_failed tally.new ≡ has_failed tally.old }
     ensures reads { reads_of tally.new ≤ reads_of tally.old + (limit + 1) }
 {
     for _ in 0..u64::MAX {
@@ -171,10 +173,11 @@ pub fn read_expected<R: Read>(
     ensures end { OnOk result (IsAtEnd (R.remaining reader.new)) }
     ensures within { IfOk result (λ bytes. vec_len bytes ≤ limit) }
 
-    // No read failed before an answer, and `Failed` comes for nothing else than it says.
+    // Where a read failed, the answer is `Failed`; and it comes for nothing else than it says.
     ensures unfailed { OnOk result (has_failed tally.new ≡ false) }
     ensures failed { result ≡ Err FileFault.Failed
         → (has_failed tally.new ≡ true) ⊎ (limit < came_of tally.new) }
+    ensures memory { result ≡ Err FileFault.Memory → has_failed tally.new ≡ false }
     ensures reads { reads_of tally.new ≤ limit + 1 }
 {
     let mut bytes = reserve(alloc, limit, expected)?;

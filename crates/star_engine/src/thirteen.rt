@@ -67,45 +67,94 @@ impl BenchmarkQuery {
         ensures { result.now ≡ spec.query_text self }
     {
         match self {
-            BenchmarkQuery::Q11 => {
-                "select sum(lo_extendedprice*lo_discount) as revenue from lineorder, date where lo_orderdate = d_datekey and d_year = 1993 and lo_discount between 1 and 3 and lo_quantity < 25;"
-            }
-            BenchmarkQuery::Q12 => {
-                "select sum(lo_extendedprice*lo_discount) as revenue from lineorder, date where lo_orderdate = d_datekey and d_yearmonthnum = 199401 and lo_discount between 4 and 6 and lo_quantity between 26 and 35;"
-            }
-            BenchmarkQuery::Q13 => {
-                "select sum(lo_extendedprice*lo_discount) as revenue from lineorder, date where lo_orderdate = d_datekey and d_weeknuminyear = 6 and d_year = 1994 and lo_discount between 5 and 7 and lo_quantity between 26 and 35;"
-            }
-            BenchmarkQuery::Q21 => {
-                "select sum(lo_revenue), d_year, p_brand1 from lineorder, date, part, supplier where lo_orderdate = d_datekey and lo_partkey = p_partkey and lo_suppkey = s_suppkey and p_category = 'MFGR#12' and s_region = 'AMERICA' group by d_year, p_brand1 order by d_year, p_brand1;"
-            }
-            BenchmarkQuery::Q22 => {
-                "select sum(lo_revenue), d_year, p_brand1 from lineorder, date, part, supplier where lo_orderdate = d_datekey and lo_partkey = p_partkey and lo_suppkey = s_suppkey and p_brand1 between 'MFGR#2221' and 'MFGR#2228' and s_region = 'ASIA' group by d_year, p_brand1 order by d_year, p_brand1;"
-            }
-            BenchmarkQuery::Q23 => {
-                "select sum(lo_revenue), d_year, p_brand1 from lineorder, date, part, supplier where lo_orderdate = d_datekey and lo_partkey = p_partkey and lo_suppkey = s_suppkey and p_brand1 = 'MFGR#2221' and s_region = 'EUROPE' group by d_year, p_brand1 order by d_year, p_brand1;"
-            }
-            BenchmarkQuery::Q31 => {
-                "select c_nation, s_nation, d_year, sum(lo_revenue) as revenue from customer, lineorder, supplier, date where lo_custkey = c_custkey and lo_suppkey = s_suppkey and lo_orderdate = d_datekey and c_region = 'ASIA' and s_region = 'ASIA' and d_year >= 1992 and d_year <= 1997 group by c_nation, s_nation, d_year order by d_year asc, revenue desc;"
-            }
-            BenchmarkQuery::Q32 => {
-                "select c_city, s_city, d_year, sum(lo_revenue) as revenue from customer, lineorder, supplier, date where lo_custkey = c_custkey and lo_suppkey = s_suppkey and lo_orderdate = d_datekey and c_nation = 'UNITED STATES' and s_nation = 'UNITED STATES' and d_year >= 1992 and d_year <= 1997 group by c_city, s_city, d_year order by d_year asc, revenue desc;"
-            }
-            BenchmarkQuery::Q33 => {
-                "select c_city, s_city, d_year, sum(lo_revenue) as revenue from customer, lineorder, supplier, date where lo_custkey = c_custkey and lo_suppkey = s_suppkey and lo_orderdate = d_datekey and (c_city = 'UNITED KI1' or c_city = 'UNITED KI5') and (s_city = 'UNITED KI1' or s_city = 'UNITED KI5') and d_year >= 1992 and d_year <= 1997 group by c_city, s_city, d_year order by d_year asc, revenue desc;"
-            }
-            BenchmarkQuery::Q34 => {
-                "select c_city, s_city, d_year, sum(lo_revenue) as revenue from customer, lineorder, supplier, date where lo_custkey = c_custkey and lo_suppkey = s_suppkey and lo_orderdate = d_datekey and (c_city = 'UNITED KI1' or c_city = 'UNITED KI5') and (s_city = 'UNITED KI1' or s_city = 'UNITED KI5') and d_yearmonth = 'Dec1997' group by c_city, s_city, d_year order by d_year asc, revenue desc;"
-            }
-            BenchmarkQuery::Q41 => {
-                "select d_year, c_nation, sum(lo_revenue - lo_supplycost) as profit from date, customer, supplier, part, lineorder where lo_custkey = c_custkey and lo_suppkey = s_suppkey and lo_partkey = p_partkey and lo_orderdate = d_datekey and c_region = 'AMERICA' and s_region = 'AMERICA' and (p_mfgr = 'MFGR#1' or p_mfgr = 'MFGR#2') group by d_year, c_nation order by d_year, c_nation;"
-            }
-            BenchmarkQuery::Q42 => {
-                "select d_year, s_nation, p_category, sum(lo_revenue - lo_supplycost) as profit from date, customer, supplier, part, lineorder where lo_custkey = c_custkey and lo_suppkey = s_suppkey and lo_partkey = p_partkey and lo_orderdate = d_datekey and c_region = 'AMERICA' and s_region = 'AMERICA' and (d_year = 1997 or d_year = 1998) and (p_mfgr = 'MFGR#1' or p_mfgr = 'MFGR#2') group by d_year, s_nation, p_category order by d_year, s_nation, p_category;"
-            }
-            BenchmarkQuery::Q43 => {
-                "select d_year, s_city, p_brand1, sum(lo_revenue - lo_supplycost) as profit from date, customer, supplier, part, lineorder where lo_custkey = c_custkey and lo_suppkey = s_suppkey and lo_partkey = p_partkey and lo_orderdate = d_datekey and c_region = 'AMERICA' and s_nation = 'UNITED STATES' and (d_year = 1997 or d_year = 1998) and p_category = 'MFGR#14' group by d_year, s_city, p_brand1 order by d_year, s_city, p_brand1;"
-            }
+            BenchmarkQuery::Q11 => concat!(
+                "select sum(lo_extendedprice*lo_discount) as revenue from lineorder, date ",
+                "where lo_orderdate = d_datekey and d_year = 1993 and lo_discount between 1 ",
+                "and 3 and lo_quantity < 25;",
+            ),
+            BenchmarkQuery::Q12 => concat!(
+                "select sum(lo_extendedprice*lo_discount) as revenue from lineorder, date ",
+                "where lo_orderdate = d_datekey and d_yearmonthnum = 199401 and lo_discount ",
+                "between 4 and 6 and lo_quantity between 26 and 35;",
+            ),
+            BenchmarkQuery::Q13 => concat!(
+                "select sum(lo_extendedprice*lo_discount) as revenue from lineorder, date ",
+                "where lo_orderdate = d_datekey and d_weeknuminyear = 6 and d_year = 1994 ",
+                "and lo_discount between 5 and 7 and lo_quantity between 26 and 35;",
+            ),
+            BenchmarkQuery::Q21 => concat!(
+                "select sum(lo_revenue), d_year, p_brand1 from lineorder, date, part, ",
+                "supplier where lo_orderdate = d_datekey and lo_partkey = p_partkey and ",
+                "lo_suppkey = s_suppkey and p_category = 'MFGR#12' and s_region = 'AMERICA' ",
+                "group by d_year, p_brand1 order by d_year, p_brand1;",
+            ),
+            BenchmarkQuery::Q22 => concat!(
+                "select sum(lo_revenue), d_year, p_brand1 from lineorder, date, part, ",
+                "supplier where lo_orderdate = d_datekey and lo_partkey = p_partkey and ",
+                "lo_suppkey = s_suppkey and p_brand1 between 'MFGR#2221' and 'MFGR#2228' and ",
+                "s_region = 'ASIA' group by d_year, p_brand1 order by d_year, p_brand1;",
+            ),
+            BenchmarkQuery::Q23 => concat!(
+                "select sum(lo_revenue), d_year, p_brand1 from lineorder, date, part, ",
+                "supplier where lo_orderdate = d_datekey and lo_partkey = p_partkey and ",
+                "lo_suppkey = s_suppkey and p_brand1 = 'MFGR#2221' and s_region = 'EUROPE' ",
+                "group by d_year, p_brand1 order by d_year, p_brand1;",
+            ),
+            BenchmarkQuery::Q31 => concat!(
+                "select c_nation, s_nation, d_year, sum(lo_revenue) as revenue from ",
+                "customer, lineorder, supplier, date where lo_custkey = c_custkey and ",
+                "lo_suppkey = s_suppkey and lo_orderdate = d_datekey and c_region = 'ASIA' ",
+                "and s_region = 'ASIA' and d_year >= 1992 and d_year <= 1997 group by ",
+                "c_nation, s_nation, d_year order by d_year asc, revenue desc;",
+            ),
+            BenchmarkQuery::Q32 => concat!(
+                "select c_city, s_city, d_year, sum(lo_revenue) as revenue from customer, ",
+                "lineorder, supplier, date where lo_custkey = c_custkey and lo_suppkey = ",
+                "s_suppkey and lo_orderdate = d_datekey and c_nation = 'UNITED STATES' and ",
+                "s_nation = 'UNITED STATES' and d_year >= 1992 and d_year <= 1997 group by ",
+                "c_city, s_city, d_year order by d_year asc, revenue desc;",
+            ),
+            BenchmarkQuery::Q33 => concat!(
+                "select c_city, s_city, d_year, sum(lo_revenue) as revenue from customer, ",
+                "lineorder, supplier, date where lo_custkey = c_custkey and lo_suppkey = ",
+                "s_suppkey and lo_orderdate = d_datekey and (c_city = 'UNITED KI1' or c_city ",
+                "= 'UNITED KI5') and (s_city = 'UNITED KI1' or s_city = 'UNITED KI5') and ",
+                "d_year >= 1992 and d_year <= 1997 group by c_city, s_city, d_year order by ",
+                "d_year asc, revenue desc;",
+            ),
+            BenchmarkQuery::Q34 => concat!(
+                "select c_city, s_city, d_year, sum(lo_revenue) as revenue from customer, ",
+                "lineorder, supplier, date where lo_custkey = c_custkey and lo_suppkey = ",
+                "s_suppkey and lo_orderdate = d_datekey and (c_city = 'UNITED KI1' or c_city ",
+                "= 'UNITED KI5') and (s_city = 'UNITED KI1' or s_city = 'UNITED KI5') and ",
+                "d_yearmonth = 'Dec1997' group by c_city, s_city, d_year order by d_year ",
+                "asc, revenue desc;",
+            ),
+            BenchmarkQuery::Q41 => concat!(
+                "select d_year, c_nation, sum(lo_revenue - lo_supplycost) as profit from ",
+                "date, customer, supplier, part, lineorder where lo_custkey = c_custkey and ",
+                "lo_suppkey = s_suppkey and lo_partkey = p_partkey and lo_orderdate = ",
+                "d_datekey and c_region = 'AMERICA' and s_region = 'AMERICA' and (p_mfgr = ",
+                "'MFGR#1' or p_mfgr = 'MFGR#2') group by d_year, c_nation order by d_year, ",
+                "c_nation;",
+            ),
+            BenchmarkQuery::Q42 => concat!(
+                "select d_year, s_nation, p_category, sum(lo_revenue - lo_supplycost) as ",
+                "profit from date, customer, supplier, part, lineorder where lo_custkey = ",
+                "c_custkey and lo_suppkey = s_suppkey and lo_partkey = p_partkey and ",
+                "lo_orderdate = d_datekey and c_region = 'AMERICA' and s_region = 'AMERICA' ",
+                "and (d_year = 1997 or d_year = 1998) and (p_mfgr = 'MFGR#1' or p_mfgr = ",
+                "'MFGR#2') group by d_year, s_nation, p_category order by d_year, s_nation, ",
+                "p_category;",
+            ),
+            BenchmarkQuery::Q43 => concat!(
+                "select d_year, s_city, p_brand1, sum(lo_revenue - lo_supplycost) as profit ",
+                "from date, customer, supplier, part, lineorder where lo_custkey = c_custkey ",
+                "and lo_suppkey = s_suppkey and lo_partkey = p_partkey and lo_orderdate = ",
+                "d_datekey and c_region = 'AMERICA' and s_nation = 'UNITED STATES' and ",
+                "(d_year = 1997 or d_year = 1998) and p_category = 'MFGR#14' group by ",
+                "d_year, s_city, p_brand1 order by d_year, s_city, p_brand1;",
+            ),
         }
     }
 }

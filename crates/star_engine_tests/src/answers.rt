@@ -1,8 +1,10 @@
 // Reports of queries with their notes, over the sample and over what is made of it.
 
 use crate::printed::{Room, answered};
-use crate::tables::{NO_TEXTS, replaced, with_orders};
+use crate::tables::with_orders;
 use star_engine::{BenchmarkQuery, Texts, sample};
+use star_fixtures::programs::NO_TEXTS;
+use star_fixtures::samples::replaced;
 use star_schema::Limits;
 use std::alloc::Global;
 use std::test::Fail;

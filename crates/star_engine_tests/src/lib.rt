@@ -1,13 +1,19 @@
-//! Tests of the calls of `star_engine` that answer queries, by their public items alone: worked
-//! reports with their notes, each fault with what comes before it, and sinks that fail.
+//! Tests of the calls of `star_engine` by their public items alone: worked listings and reports
+//! with their notes, each fault with what comes before it, and sinks that fail.
 #![tactic(auto)]
 
 #[cfg(test)]
 mod answers;
 #[cfg(test)]
+mod checks;
+#[cfg(test)]
+mod executions;
+#[cfg(test)]
 mod faults;
 #[cfg(test)]
 mod printed;
+#[cfg(test)]
+mod reading;
 #[cfg(test)]
 mod sinks;
 #[cfg(test)]

@@ -1,18 +1,10 @@
 // The sample with some of it changed.
 
 use star_engine::{Texts, sample};
+use star_fixtures::samples::replaced;
 use std::alloc::{AllocError, Global};
 use std::fmt::Write;
 use std::test::Fail;
-
-// The texts of tables with no rows.
-pub(crate) const NO_TEXTS: Texts<'static> = Texts {
-    date: b"",
-    customer: b"",
-    supplier: b"",
-    part: b"",
-    lineorder: b"",
-};
 
 // The sample with other orders.
 pub(crate) fn with_orders(lineorder: &[u8]) -> Texts<'_> {
@@ -20,14 +12,6 @@ pub(crate) fn with_orders(lineorder: &[u8]) -> Texts<'_> {
         lineorder,
         ..sample()
     }
-}
-
-// A text with the first OLD in it made NEW.
-pub(crate) fn replaced(alloc: Global, text: &[u8], old: &str, new: &str) -> Result<String, Fail> {
-    let (front, back) = str::from_utf8(text)?
-        .split_once(old)
-        .ok_or("nothing to replace")?;
-    Ok(format!(in alloc; "{front}{new}{back}")?)
 }
 
 // So many lines of one order, all dear.

@@ -1,13 +1,14 @@
 -- The turns of the loops over the aggregates of rows that are merged.
-use Rattle.std.specs.Prelude.{◌≡◌, ℕ, ◌<◌, ℤ, pos, List, Option, Some, None, length, slice_index_or}
+use Rattle.std.specs.Prelude.{◌≡◌, ℕ, ◌<◌, ◌≤◌, ℤ, pos, List, Option, Some, None, length, slice_index_or}
 use Rattle.star_schema.specs.declared.group.Aggregate.{Aggregate}
 use Rattle.star_schema.specs.declared.group.Aggregate.TheVariants.{Count}
 use Rattle.star_group.specs.Private.Merged.{cell_of, merged_at}
 
--- the places below i of a row are merged
+-- the places below i of a row are merged, and the others are as they were
 pub record MergedBelow (gs : List Aggregate) (held more row : List (Option ℤ)) (i : ℕ) : Type 0 where
   pub wide : length row ≡ 8
   pub cells : (place : ℕ) → place < i → slice_index_or row place None ≡ merged_at gs held more place
+  pub later : (place : ℕ) → i ≤ place → slice_index_or row place None ≡ slice_index_or held place None
 
 -- the places below i are those of one put
 pub record RowOfBelow (gs : List Aggregate) (vs : List ℤ) (row : List (Option ℤ)) (i : ℕ) : Type 0 where

@@ -1,4 +1,4 @@
-//! Tests of `star_group` over its public items: worked rows of a deferred store.
+//! Tests of `star_group` over its public items: worked rows of both stores.
 #![tactic(auto)]
 
 #[cfg(test)]

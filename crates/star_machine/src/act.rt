@@ -49,7 +49,8 @@ fn keeps(flag: bool) -> Flow
 
 // An operator's answer, unless it leaves 64 bits.
 fn answered(answer: Option<Value>) -> Result<Value, Stop>
-    ensures { MatchOption answer (result ≡ Err (Stop.Trap TrapKind.Overflow)) (λ value. result ≡ Ok value) }
+    ensures { MatchOption answer (result ≡ Err (Stop.Trap TrapKind.Overflow))
+        (λ value. result ≡ Ok value) }
 {
     match answer {
         Some(value) => Ok(value),
@@ -66,7 +67,10 @@ fn look_up(
     key: u16,
 ) -> Result<Value, Stop>
     requires { run.old.lookups < 2 ^ 63 }
-    ensures does { (parts : Parts) (s : Store) (target : ℕ) → HasDone catalogue.now parts run.old s → IsMade catalogue.now parts (held registers.now) run.new target (assigns (world_of catalogue.now) parts (held registers.now) s target (operation.Find table key)) result }
+    ensures does { (parts : Parts) (s : Store) (target : ℕ) → HasDone catalogue.now parts run.old s
+        → IsMade catalogue.now parts (held registers.now) run.new target
+        (assigns (world_of catalogue.now) parts (held registers.now) s target
+        (operation.Find table key)) result }
     ensures work { run.new.lookups + run.new.updates ≤ run.old.lookups + run.old.updates + 1 }
     ensures visits { run.new.visits ≡ run.old.visits }
 {
@@ -91,9 +95,14 @@ fn update(
     requires few { run.old.updates < 2 ^ 63 }
     requires small { IsSmall (faults.group_at parts.now group) }
     requires placed { IsPlaced parts.now group keys.now values.now }
-    requires keys { faults.keys_fault (length registers.now) (kinds_in (held registers.now)) (faults.group_at parts.now group).keys keys.now ≡ None }
-    requires stores { (updates_of : ℕ → List Update) × AreStores parts.now run.old.stores.items updates_of }
-    ensures does { (w : World) (database : Database) (s : Store) → AreSound database (held registers.now) → HasDone database parts.now run.old s → IsAnswer database parts.now (held registers.now) run.new (does w parts.now (held registers.now) s (op.Put group keys.now values.now)) result }
+    requires keys { faults.keys_fault (length registers.now) (kinds_in (held registers.now))
+        (faults.group_at parts.now group).keys keys.now ≡ None }
+    requires stores { (updates_of : ℕ → List Update)
+        × AreStores parts.now run.old.stores.items updates_of }
+    ensures does { (w : World) (database : Database) (s : Store)
+        → AreSound database (held registers.now) → HasDone database parts.now run.old s
+        → IsAnswer database parts.now (held registers.now) run.new
+        (does w parts.now (held registers.now) s (op.Put group keys.now values.now)) result }
     ensures work { run.new.lookups + run.new.updates ≤ run.old.lookups + run.old.updates + 1 }
     ensures visits { run.new.visits ≡ run.old.visits }
 {
@@ -109,9 +118,12 @@ fn update(
 // Reads the total of an aggregate, or a default where it is NULL.
 fn read(run: &Run, group: u16, aggregate: u16, default: i64) -> Value
     requires there { group < length run.now.stores.items }
-    requires declared { (store : EagerStore) → slice_get run.now.stores.items group ≡ Some store → aggregate < length (group_of store).aggregates }
-    ensures { (parts : Parts) (updates_of : ℕ → List Update) → AreStores parts run.now.stores.items updates_of
-        → result ≡ Value.Number (unwrap_or (puts.total (faults.group_at parts group) aggregate (updates_of group)) default) }
+    requires declared { (store : EagerStore) → slice_get run.now.stores.items group ≡ Some store
+        → aggregate < length (group_of store).aggregates }
+    ensures { (parts : Parts) (updates_of : ℕ → List Update)
+        → AreStores parts run.now.stores.items updates_of
+        → result ≡ Value.Number (unwrap_or (puts.total (faults.group_at parts group) aggregate
+        (updates_of group)) default) }
 {
     Value::Number(run.total(group, aggregate).unwrap_or(default))
 }
@@ -124,10 +136,16 @@ fn operate(
     operation: &Operation,
 ) -> Result<Value, Stop>
     requires few { run.old.lookups < 2 ^ 63 }
-    requires placed { (parts : Parts) × (inside : Bool) × (target : ℕ) × (s : Store) × HasDone catalogue.now parts run.old s × (faults.place_fault parts inside (op.Assign target operation.now) ≡ None) }
-    requires operands { faults.operation_fault (length registers.now) (kinds_in (held registers.now)) operation.now ≡ None }
+    requires placed { (parts : Parts) × (inside : Bool) × (target : ℕ) × (s : Store)
+        × HasDone catalogue.now parts run.old s
+        × (faults.place_fault parts inside (op.Assign target operation.now) ≡ None) }
+    requires operands { faults.operation_fault (length registers.now)
+        (kinds_in (held registers.now)) operation.now ≡ None }
     requires sound { AreSound catalogue.now (held registers.now) }
-    ensures does { (parts : Parts) (s : Store) (target : ℕ) → HasDone catalogue.now parts run.old s → IsMade catalogue.now parts (held registers.now) run.new target (assigns (world_of catalogue.now) parts (held registers.now) s target operation.now) result }
+    ensures does { (parts : Parts) (s : Store) (target : ℕ) → HasDone catalogue.now parts run.old s
+        → IsMade catalogue.now parts (held registers.now) run.new target
+        (assigns (world_of catalogue.now) parts
+        (held registers.now) s target operation.now) result }
     ensures work { run.new.lookups + run.new.updates ≤ run.old.lookups + run.old.updates + 1 }
     ensures visits { run.new.visits ≡ run.old.visits }
 {
@@ -162,11 +180,17 @@ fn assign(
     operation: &Operation,
 ) -> Result<Flow, Stop>
     requires few { run.old.lookups < 2 ^ 63 }
-    requires placed { (parts : Parts) × (inside : Bool) × (s : Store) × HasDone catalogue.now parts run.old s × (faults.place_fault parts inside (op.Assign target operation.now) ≡ None) }
+    requires placed { (parts : Parts) × (inside : Bool) × (s : Store)
+        × HasDone catalogue.now parts run.old s
+        × (faults.place_fault parts inside (op.Assign target operation.now) ≡ None) }
     requires declared { target < length registers.old }
-    requires operands { faults.operation_fault (length registers.old) (kinds_in (held registers.old)) operation.now ≡ None }
+    requires operands { faults.operation_fault (length registers.old)
+        (kinds_in (held registers.old)) operation.now ≡ None }
     requires sound { AreSound catalogue.now (held registers.old) }
-    ensures does { (parts : Parts) (s : Store) → HasDone catalogue.now parts run.old s → IsAnswer catalogue.now parts (held registers.new) run.new (assigns (world_of catalogue.now) parts (held registers.old) s target operation.now) result }
+    ensures does { (parts : Parts) (s : Store) → HasDone catalogue.now parts run.old s
+        → IsAnswer catalogue.now parts (held registers.new) run.new
+        (assigns (world_of catalogue.now) parts
+        (held registers.old) s target operation.now) result }
     ensures sound { OnOk result (AreSound catalogue.now (held registers.new)) }
     ensures len { length registers.new ≡ length registers.old }
     ensures work { run.new.lookups + run.new.updates ≤ run.old.lookups + run.old.updates + 1 }
@@ -190,10 +214,13 @@ fn perform(
     requires wide { length registers.old ≡ parts.now.registers }
     requires placed { (inside : Bool) × (faults.place_fault parts.now inside op.now ≡ None) }
     requires target { faults.target_fault (length registers.old) (faults.target_of op.now) ≡ None }
-    requires operands { faults.operands_fault parts.now (kinds_in (held registers.old)) op.now ≡ None }
+    requires operands { faults.operands_fault parts.now (kinds_in (held registers.old)) op.now
+        ≡ None }
     requires sound { AreSound catalogue.now (held registers.old) }
     requires done { (s : Store) × HasDone catalogue.now parts.now run.old s }
-    ensures does { (s : Store) → HasDone catalogue.now parts.now run.old s → IsAnswer catalogue.now parts.now (held registers.new) run.new (does (world_of catalogue.now) parts.now (held registers.old) s op.now) result }
+    ensures does { (s : Store) → HasDone catalogue.now parts.now run.old s
+        → IsAnswer catalogue.now parts.now (held registers.new) run.new
+        (does (world_of catalogue.now) parts.now (held registers.old) s op.now) result }
     ensures sound { OnOk result (AreSound catalogue.now (held registers.new)) }
     ensures len { length registers.new ≡ length registers.old }
     ensures work { run.new.lookups + run.new.updates ≤ run.old.lookups + run.old.updates + 1 }
@@ -224,7 +251,10 @@ pub(crate) fn act(
     requires wide { length registers.old ≡ parts.now.registers }
     requires sound { AreSound catalogue.now (held registers.old) }
     requires done { (s : Store) × HasDone catalogue.now parts.now run.old s }
-    ensures does { (s : Store) → HasDone catalogue.now parts.now run.old s → IsAnswer catalogue.now parts.now (held registers.new) run.new (effects.act (world_of catalogue.now) parts.now inside (held registers.old) s op.now) result }
+    ensures does { (s : Store) → HasDone catalogue.now parts.now run.old s
+        → IsAnswer catalogue.now parts.now (held registers.new) run.new
+        (effects.act (world_of catalogue.now) parts.now inside
+        (held registers.old) s op.now) result }
     ensures sound { OnOk result (AreSound catalogue.now (held registers.new)) }
     ensures len { length registers.new ≡ length registers.old }
     ensures work { run.new.lookups + run.new.updates ≤ run.old.lookups + run.old.updates + 1 }

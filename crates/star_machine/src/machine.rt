@@ -1,8 +1,10 @@
 // What walks over a program read and never change.
 
-ghost use Rattle.std.specs.Prelude.{◌≤◌, ◌^◌, All};
+ghost use Rattle.std.specs.Prelude.{◌≤◌, ◌<◌, ◌+◌, ◌^◌, All};
+ghost use Rattle.star_program.specs.Code.{code_size};
 ghost use Rattle.star_program.specs.Limits.{IsSmall};
 
+use crate::value::Register;
 use star_catalogue::Catalogue;
 use star_program::{Body, Parts};
 use star_schema::TableId;
@@ -17,11 +19,14 @@ pub(crate) struct Machine<'a> {
     ghost bounded: { most ≤ 10 ^ 15 },
 }
 
-// A scan: of a table, into a register; its body, and its number.
+// A scan: of a table, into a register; its body, its number, and the registers before it.
 #[derive(Clone, Copy)]
 pub(crate) struct Scanned<'a> {
     pub(crate) table: TableId,
     pub(crate) target: u16,
     pub(crate) body: &'a Body,
     pub(crate) at: u16,
+    pub(crate) before: &'a [Register],
+    ghost size: { code_size body.now < 4096 },
+    ghost numbered: { at + 1 + code_size body.now < 2 ^ 16 },
 }

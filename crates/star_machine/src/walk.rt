@@ -3,8 +3,8 @@
 ghost use Rattle.std.specs.Prelude.{◌≡◌, ◌≤◌, ◌<◌, ◌+◌, ◌*◌, ◌^◌, OnOk, length};
 ghost use Rattle.star_program.specs.Code.{code_size, scan_depth};
 ghost use Rattle.star_machine.specs.Private.Shown.{held};
-ghost use Rattle.star_machine.specs.Sound.{AreSound, IsSoundValue};
-ghost use Rattle.star_machine.specs.Private.Walks.{Does, HasRun, HasWorked, IsFew, fault_at, means, means_scan, means_turn, means_turns};
+ghost use Rattle.star_machine.specs.Sound.{IsSoundValue};
+ghost use Rattle.star_machine.specs.Private.Walks.{Does, HasWorked, IsReady, fault_at, means, means_scan, means_turn, means_turns};
 
 use crate::act::{Flow, act};
 use crate::compute::set;
@@ -45,24 +45,19 @@ fn turn(
     machine: &Machine<'_>,
     scanned: &Scanned<'_>,
     row: Value,
-    before: &[Register],
     registers: &mut [Register],
     frames: &mut [Register],
     run: &mut Run,
 ) -> Result<(), TrialFault>
-    requires size { code_size scanned.now.body.now ≤ 4096 }
-    requires at { scanned.now.at + 1 + code_size scanned.now.body.now < 2 ^ 16 }
     requires target { scanned.now.target < machine.now.parts.now.registers }
-    requires before { length before.now ≡ machine.now.parts.now.registers }
+    requires before { length scanned.now.before.now ≡ machine.now.parts.now.registers }
     requires wide { length registers.old ≡ machine.now.parts.now.registers }
     requires deep { scan_depth scanned.now.body.now * machine.now.parts.now.registers
         ≤ length frames.old }
-    requires few { IsFew machine.now.most run.old 0 }
-    requires sound { AreSound machine.now.catalogue.now (held before.now) }
-    requires done { HasRun machine.now run.old }
+    requires ready { IsReady machine.now (held scanned.now.before.now) run.old 0 }
     requires row { IsSoundValue machine.now.catalogue.now row }
     ensures ends { Does machine.now run.old run.new
-        (means_turn machine.now scanned.now (held before.now) row) result }
+        (means_turn machine.now scanned.now (held scanned.now.before.now) row) result }
     ensures worked { OnOk result (HasWorked machine.now.most run.old run.new 0) }
     ensures len { length registers.new ≡ length registers.old }
     ensures frames { length frames.new ≡ length frames.old }
@@ -71,7 +66,7 @@ fn turn(
         return Err(TrialFault::Limit);
     }
     run.visits += 1;
-    registers.copy_from_slice(before);
+    registers.copy_from_slice(scanned.before);
     set(registers, scanned.target, row);
     walk(
         machine,
@@ -89,28 +84,23 @@ fn turn(
 fn turns(
     machine: &Machine<'_>,
     scanned: &Scanned<'_>,
-    before: &[Register],
     registers: &mut [Register],
     frames: &mut [Register],
     run: &mut Run,
 ) -> Result<(), TrialFault>
-    requires size { code_size scanned.now.body.now ≤ 4096 }
-    requires at { scanned.now.at + 1 + code_size scanned.now.body.now < 2 ^ 16 }
     requires target { scanned.now.target < machine.now.parts.now.registers }
-    requires before { length before.now ≡ machine.now.parts.now.registers }
+    requires before { length scanned.now.before.now ≡ machine.now.parts.now.registers }
     requires wide { length registers.old ≡ machine.now.parts.now.registers }
     requires deep { scan_depth scanned.now.body.now * machine.now.parts.now.registers
         ≤ length frames.old }
-    requires few { IsFew machine.now.most run.old 0 }
-    requires sound { AreSound machine.now.catalogue.now (held before.now) }
-    requires done { HasRun machine.now run.old }
+    requires ready { IsReady machine.now (held scanned.now.before.now) run.old 0 }
     ensures ends { Does machine.now run.old run.new
-        (means_turns machine.now scanned.now (held before.now)) result }
+        (means_turns machine.now scanned.now (held scanned.now.before.now)) result }
     ensures worked { OnOk result (HasWorked machine.now.most run.old run.new 0) }
 {
     for row in 0..machine.catalogue.rows(scanned.table) {
         let value = Value::Row(scanned.table, row);
-        turn(machine, scanned, value, before, registers, frames, run)?;
+        turn(machine, scanned, value, registers, frames, run)?;
     }
     Ok(())
 }
@@ -120,31 +110,26 @@ fn turns(
 fn scan(
     machine: &Machine<'_>,
     scanned: &Scanned<'_>,
-    before: &[Register],
     frames: &mut [Register],
     run: &mut Run,
 ) -> Result<(), TrialFault>
-    requires size { code_size scanned.now.body.now < 4096 }
-    requires at { scanned.now.at + 1 + code_size scanned.now.body.now < 2 ^ 16 }
-    requires before { length before.now ≡ machine.now.parts.now.registers }
+    requires before { length scanned.now.before.now ≡ machine.now.parts.now.registers }
     requires deep { (1 + scan_depth scanned.now.body.now) * machine.now.parts.now.registers
         ≤ length frames.old }
-    requires few { IsFew machine.now.most run.old 0 }
-    requires sound { AreSound machine.now.catalogue.now (held before.now) }
-    requires done { HasRun machine.now run.old }
+    requires ready { IsReady machine.now (held scanned.now.before.now) run.old 0 }
     ensures ends { Does machine.now run.old run.new
-        (means_scan machine.now scanned.now (held before.now)) result }
+        (means_scan machine.now scanned.now (held scanned.now.before.now)) result }
     ensures worked { OnOk result (HasWorked machine.now.most run.old run.new 0) }
     ensures frames { length frames.new ≡ length frames.old }
 {
-    if scanned.target as usize >= before.len() {
+    if scanned.target as usize >= scanned.before.len() {
         return Err(TrialFault::Trap {
             at: scanned.at,
             kind: TrapKind::Wrong(Fault::BadRegister),
         });
     }
-    let (registers, deeper) = frames.split_at_mut(before.len());
-    turns(machine, scanned, before, registers, deeper, run)
+    let (registers, deeper) = frames.split_at_mut(scanned.before.len());
+    turns(machine, scanned, registers, deeper, run)
 }
 
 // A walk over a body from an instruction on, inside scans or not: to its end or to the end of the
@@ -163,9 +148,7 @@ pub(crate) fn walk(
     requires at { at + code_size body.now < 2 ^ 16 }
     requires wide { length registers.old ≡ machine.now.parts.now.registers }
     requires deep { scan_depth body.now * machine.now.parts.now.registers ≤ length frames.old }
-    requires few { IsFew machine.now.most run.old (code_size body.now) }
-    requires sound { AreSound machine.now.catalogue.now (held registers.old) }
-    requires done { HasRun machine.now run.old }
+    requires ready { IsReady machine.now (held registers.old) run.old (code_size body.now) }
     ensures ends { Does machine.now run.old run.new
         (means machine.now body.now at inside (held registers.old)) result }
     ensures worked { OnOk result (HasWorked machine.now.most run.old run.new (code_size body.now)) }
@@ -192,8 +175,9 @@ pub(crate) fn walk(
                     target: *target,
                     body,
                     at: place,
+                    before: registers,
                 };
-                scan(machine, &scanned, registers, frames, run)?;
+                scan(machine, &scanned, frames, run)?;
                 place += 1 + size(body);
             }
         }

@@ -27,13 +27,13 @@ use Rattle.star_plan.specs.Meaning.{Condition, either, both, negation, compare, 
 use Rattle.star_plan.specs.Names.{column_at}
 use Rattle.star_plan.specs.Naming.{names_from}
 use Rattle.star_plan.specs.Shown.{folded, literal_value}
-use Rattle.star_plan.specs.Resolved.{aggregate_column, conjuncts_of, item_column, items_from, key_column, measures_of, option_all, resolved_condition, resolved_direction, resolved_expression, resolved_key, resolved_measure, where_conjuncts}
+use Rattle.star_plan.specs.Resolved.{aggregate_column, conjuncts_of, item_column, items_from, key_column, measures_of, option_all, resolved_condition, resolved_expression, resolved_key, resolved_measure, where_conjuncts}
 use Rattle.star_plan.specs.Limits.{comparisons_of, measure_operands, operands_of}
 use Rattle.star_plan.specs.Sound.{is_column}
 use Rattle.star_plan.proofs.Options.{both_gave, first_or_second, mapped_gave}
 
 abbrev sorted_by : GroupColumn → SortKey → sorted.SortKey
-sorted_by c k = record { column = c; direction = resolved_direction k.direction }
+sorted_by c k = record { column = c; direction = k.direction }
 
 -- ---- expressions and conditions
 

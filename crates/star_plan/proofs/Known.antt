@@ -40,7 +40,7 @@ use Rattle.star_plan.specs.Uses.{condition_uses, expression_uses, groups_uses, i
 use Rattle.star_plan.specs.Joins.{is_joined, joins_of, pairs_of, where_pairs}
 use Rattle.star_plan.specs.Naming.{has_text}
 use Rattle.star_plan.specs.Faults.{item_fault, key_fault, kind_fault, missing_fault, pair_fault, scope_fault, of_column, of_missing}
-use Rattle.star_plan.specs.Resolved.{aggregate_column, conjuncts_of, resolved_direction, where_conjuncts, items_from, key_column, measures_of, option_all, option_both, resolved_condition, resolved_expression, resolved_key, resolved_measure}
+use Rattle.star_plan.specs.Resolved.{aggregate_column, conjuncts_of, where_conjuncts, items_from, key_column, measures_of, option_all, option_both, resolved_condition, resolved_expression, resolved_key, resolved_measure}
 use Rattle.star_plan.specs.Shown.{folded, literal_value}
 use Rattle.star_plan.specs.Sound.{condition_is_sound, expression_is_sound, in_scope, joins_table, measure_is_sound}
 
@@ -284,8 +284,8 @@ order_known groups names (k ∷ ks) all =
     let b = or_cases (has_name groups k.name.text.items) (has_text names k.name.text.items) (named_of _ _ all.0) in
     let c = order_column groups names k.name.text.items b in
     let ss = order_known groups names ks all.1 in (
-      record { column = c.0; direction = resolved_direction k.direction } ∷ ss.0,
-      λ i. option_both (λ x xs. x ∷ xs) (option_map (λ d. record { column = d; direction = resolved_direction k.direction }) (c.1 i)) (ss.1 i),
+      record { column = c.0; direction = k.direction } ∷ ss.0,
+      λ i. option_both (λ x xs. x ∷ xs) (option_map (λ d. record { column = d; direction = k.direction }) (c.1 i)) (ss.1 i),
     )
 
 -- ---- joins

@@ -1,7 +1,7 @@
 -- How much a plan holds at most: what the size of a compiled program follows from.
 use Rattle.std.specs.Prelude.{ℕ, ◌+◌, ◌≤◌, length}
 use Rattle.std.specs.List.{sum_by}
-use Rattle.star_query.specs.Limits.{most_aggregates, most_columns, most_comparisons, most_items, most_keys, most_operands}
+use Rattle.star_query.specs.Maxima.{most_aggregates, most_columns, most_comparisons, most_items, most_keys, most_operands}
 use Rattle.star_plan.specs.Meaning.{Condition, either, both, negation, compare, between, Expression, column, constant, add, sub, mul, Measure, counted, summed, least, greatest, Plan}
 
 -- the comparisons and negations of a condition

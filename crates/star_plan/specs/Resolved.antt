@@ -6,10 +6,6 @@ use Rattle.std.specs.Option.{option_or}
 use Rattle.star_schema.specs.declared.group.GroupColumn.{GroupColumn}
 use Rattle.star_schema.specs.declared.group.GroupColumn.TheVariants as group
 use Rattle.star_schema.specs.declared.group.SortKey.{SortKey}
-use Rattle.star_schema.specs.declared.group.Shape as shapes
-use Rattle.star_schema.specs.declared.group.Shape.TheVariants as shape
-use Rattle.star_schema.specs.declared.group.Direction as directions
-use Rattle.star_schema.specs.declared.group.Direction.TheVariants as direction
 use Rattle.star_query.specs.declared.tree.Name.{Name}
 use Rattle.star_query.specs.declared.token.Relation.{Relation}
 use Rattle.star_query.specs.declared.tree.Literal.{Literal}
@@ -21,10 +17,6 @@ use Rattle.star_query.specs.declared.tree.Measure as of_measure
 use Rattle.star_query.specs.declared.tree.Measure.TheVariants as measure
 use Rattle.star_query.specs.declared.tree.Item.{Item}
 use Rattle.star_query.specs.declared.tree.Item.TheVariants as item
-use Rattle.star_query.specs.declared.tree.Shape as of_shape
-use Rattle.star_query.specs.declared.tree.Shape.TheVariants as asked_shape
-use Rattle.star_query.specs.declared.tree.Direction as of_direction
-use Rattle.star_query.specs.declared.tree.Direction.TheVariants as asked_direction
 use Rattle.star_query.specs.declared.tree.SortKey as of_key
 use Rattle.star_query.specs.declared.tree.Tree.{Tree}
 use Rattle.star_plan.specs.Meaning.{Condition, either, both, negation, compare, between, Expression, column, constant, add, sub, mul, Measure, counted, Plan}
@@ -83,10 +75,6 @@ where_conjuncts (Some c) = conjuncts_of c
 
 -- ---- groups, aggregates, items and the order
 
-abbrev pub resolved_shape : of_shape.Shape → shapes.Shape
-resolved_shape asked_shape.Plain = shape.Plain
-resolved_shape asked_shape.Cube = shape.Cube
-
 abbrev pub measures_of : List Item → Option (List Measure)
 measures_of [] = Some []
 measures_of (item.Column n ∷ is') = measures_of is'
@@ -113,13 +101,9 @@ abbrev pub items_from : List Name → ℕ → List Item → Option (List GroupCo
 items_from groups before [] = Some []
 items_from groups before (i ∷ is') = option_both (λ c cs. c ∷ cs) (item_column groups before i) (items_from groups (before + aggregates_in i) is')
 
-abbrev pub resolved_direction : of_direction.Direction → directions.Direction
-resolved_direction asked_direction.Ascending = direction.Ascending
-resolved_direction asked_direction.Descending = direction.Descending
-
 abbrev pub resolved_key : List Name → List (List ℕ) → of_key.SortKey → Option SortKey
 resolved_key groups names k =
-    option_map (λ c. record { column = c; direction = resolved_direction k.direction })
+    option_map (λ c. record { column = c; direction = k.direction })
     (option_or (key_column groups k.name.text.items) (aggregate_column names k.name.text.items))
 
 -- ---- a query
@@ -128,7 +112,7 @@ resolved_key groups names k =
 pub record IsResolved (t : Tree) (p : Plan) : Type 0 where
   pub joins : p.joins ≡ joins_of (where_pairs t.condition)
   pub conjuncts : where_conjuncts t.condition ≡ Some p.conjuncts
-  pub shape : p.shape ≡ resolved_shape t.grouping.shape
+  pub shape : p.shape ≡ t.grouping.shape
   pub keys : option_all column_at t.grouping.columns.items ≡ Some p.keys
   pub measures : measures_of t.items.items ≡ Some p.measures
   pub names : p.names ≡ aggregate_names t.items.items

@@ -5,6 +5,7 @@
 //! which queries fit into 64 bits, in `specs/Fits.antt`.
 #![tactic(auto)]
 
+mod display;
 mod fault;
 mod joins;
 pub mod law;

@@ -2,6 +2,7 @@
 
 ghost use Rattle.std.specs.Prelude.{◌≡◌, ◌≤◌, None, Some, IfErr, IfOk, length};
 ghost use Rattle.star_common.specs.Memory.{UnlessMemory};
+ghost use Rattle.star_query.specs.Maxima.{most_columns, most_items};
 ghost use Rattle.star_query.specs.Shown.{tree_of};
 ghost use Rattle.star_plan.specs.declared.fault.PlanFault.TheVariants.{OutOfMemory};
 ghost use Rattle.star_plan.specs.Private.Answers.{Tells};
@@ -15,7 +16,7 @@ use crate::fault::PlanFault;
 use crate::joins::{Pair, check_joins, joins_of, pairs_of};
 use crate::plans::Plan;
 use crate::resolve::{
-    resolve_aggregates, resolve_groups, resolve_items, resolve_order, resolve_where, shape_of,
+    resolve_aggregates, resolve_groups, resolve_items, resolve_order, resolve_where,
 };
 use crate::select::{check_from, check_groups, check_order, check_select};
 use crate::tree::PlanTree;
@@ -38,7 +39,7 @@ fn check_grouping(
     items: &[Item],
     keys: &[SortKey],
 ) -> Result<(), PlanFault>
-    requires { length items.now ≤ 16 }
+    requires { length items.now ≤ most_items }
     ensures { Tells (grouping_fault groups.now items.now keys.now) result }
 {
     check_groups(groups)?;
@@ -48,7 +49,7 @@ fn check_grouping(
 
 // Whether the query is well named.
 fn check(alloc: Global, tree: &Tree) -> Result<(), PlanFault>
-    requires { length tree.now.items.items ≤ 16 }
+    requires { length tree.now.items.items ≤ most_items }
     ensures { Tells (plan_fault tree.now) result }
 {
     let uses = uses_of(alloc, tree)?;
@@ -59,8 +60,8 @@ fn check(alloc: Global, tree: &Tree) -> Result<(), PlanFault>
 
 // The query with its names resolved: each stands for something.
 fn resolve(alloc: Global, tree: &Tree) -> Result<PlanTree, AllocError>
-    requires items { length tree.now.items.items ≤ 16 }
-    requires groups { length tree.now.grouping.columns.items ≤ 6 }
+    requires items { length tree.now.items.items ≤ most_items }
+    requires groups { length tree.now.grouping.columns.items ≤ most_columns }
     requires named { plan_fault tree.now ≡ None }
     ensures { IfOk result (λ plan. IsResolved tree.now (shown plan)) }
 {
@@ -84,7 +85,7 @@ fn resolve(alloc: Global, tree: &Tree) -> Result<PlanTree, AllocError>
     Ok(PlanTree {
         joins: joins_of(alloc, &pairs)?,
         conjuncts,
-        shape: shape_of(tree.grouping.shape),
+        shape: tree.grouping.shape,
         keys,
         aggregates,
         items,

@@ -6,6 +6,7 @@ ghost use Rattle.star_plan.specs.Naming as naming;
 ghost use Rattle.std.specs.Cmp.Lexicographic.{pointwise};
 ghost use Rattle.std.specs.List.{position};
 ghost use Rattle.star_schema.specs.declared.group.GroupColumn.TheVariants as group;
+ghost use Rattle.star_query.specs.Maxima.{most_columns, most_items};
 ghost use Rattle.star_plan.specs.Meaning as meaning;
 ghost use Rattle.star_plan.specs.Names.{column_at};
 ghost use Rattle.star_plan.specs.Resolved as spec;
@@ -17,7 +18,7 @@ use crate::select::aggregate_name;
 use crate::tree::{Aggregate, Condition, Expression, Measure};
 use star_query as query;
 use star_query::{Item, Literal, Name};
-use star_schema::{ColumnId, Direction, GroupColumn, Shape, SortKey};
+use star_schema::{ColumnId, GroupColumn, SortKey};
 use std::alloc::{AllocError, Global};
 
 impl Expression {
@@ -288,7 +289,7 @@ fn aggregate_place(aggregates: &[Aggregate], text: &[u8]) -> Option<usize>
 
 // The group column that reads so.
 fn key_column(groups: &[Name], text: &[u8]) -> Option<GroupColumn>
-    requires { length groups.now ≤ 6 }
+    requires { length groups.now ≤ most_columns }
     ensures { result ≡ spec.key_column groups.now text.now }
 {
     match name_place(groups, text) {
@@ -299,7 +300,7 @@ fn key_column(groups: &[Name], text: &[u8]) -> Option<GroupColumn>
 
 // The aggregate that is named so.
 fn aggregate_column(aggregates: &[Aggregate], text: &[u8]) -> Option<GroupColumn>
-    requires { length aggregates.now ≤ 16 }
+    requires { length aggregates.now ≤ most_items }
     ensures { result ≡ spec.aggregate_column (shown.names_shown aggregates.now) text.now }
 {
     match aggregate_place(aggregates, text) {
@@ -310,7 +311,7 @@ fn aggregate_column(aggregates: &[Aggregate], text: &[u8]) -> Option<GroupColumn
 
 // What an item shows, where so many aggregates come before it.
 fn item_column(groups: &[Name], before: u16, item: &Item) -> Option<GroupColumn>
-    requires { length groups.now ≤ 6 }
+    requires { length groups.now ≤ most_columns }
     ensures { result ≡ spec.item_column groups.now before item.now }
 {
     match item {
@@ -335,8 +336,8 @@ pub(crate) fn resolve_items(
     groups: &[Name],
     items: &[Item],
 ) -> Result<Option<Vec<GroupColumn>>, AllocError>
-    requires groups { length groups.now ≤ 6 }
-    requires items { length items.now ≤ 16 }
+    requires groups { length groups.now ≤ most_columns }
+    requires items { length items.now ≤ most_items }
     ensures { IfOk result (λ found. option_map (λ columns. columns.items) found ≡ spec.items_from groups.now 0 items.now) }
 {
     let mut columns = Vec::new(alloc);
@@ -351,28 +352,9 @@ pub(crate) fn resolve_items(
     Ok(Some(columns))
 }
 
-fn direction_of(direction: query::Direction) -> Direction
-    ensures { result ≡ spec.resolved_direction direction }
-{
-    match direction {
-        query::Direction::Ascending => Direction::Ascending,
-        query::Direction::Descending => Direction::Descending,
-    }
-}
-
-/// The shape of the groups.
-pub(crate) fn shape_of(shape: query::Shape) -> Shape
-    ensures { result ≡ spec.resolved_shape shape }
-{
-    match shape {
-        query::Shape::Plain => Shape::Plain,
-        query::Shape::Cube => Shape::Cube,
-    }
-}
-
 fn group_column(groups: &[Name], aggregates: &[Aggregate], text: &[u8]) -> Option<GroupColumn>
-    requires groups { length groups.now ≤ 6 }
-    requires aggregates { length aggregates.now ≤ 16 }
+    requires groups { length groups.now ≤ most_columns }
+    requires aggregates { length aggregates.now ≤ most_items }
     ensures { result ≡ option_or (spec.key_column groups.now text.now) (spec.aggregate_column (shown.names_shown aggregates.now) text.now) }
 {
     match key_column(groups, text) {
@@ -382,15 +364,15 @@ fn group_column(groups: &[Name], aggregates: &[Aggregate], text: &[u8]) -> Optio
 }
 
 fn sort_key(groups: &[Name], aggregates: &[Aggregate], key: &query::SortKey) -> Option<SortKey>
-    requires groups { length groups.now ≤ 6 }
-    requires aggregates { length aggregates.now ≤ 16 }
+    requires groups { length groups.now ≤ most_columns }
+    requires aggregates { length aggregates.now ≤ most_items }
     ensures { result ≡ spec.resolved_key groups.now (shown.names_shown aggregates.now) key.now }
 {
     match group_column(groups, aggregates, &key.name.text) {
         None => None,
         Some(column) => Some(SortKey {
             column,
-            direction: direction_of(key.direction),
+            direction: key.direction,
         }),
     }
 }
@@ -403,8 +385,8 @@ pub(crate) fn resolve_order(
     aggregates: &[Aggregate],
     keys: &[query::SortKey],
 ) -> Result<Option<Vec<SortKey>>, AllocError>
-    requires groups { length groups.now ≤ 6 }
-    requires aggregates { length aggregates.now ≤ 16 }
+    requires groups { length groups.now ≤ most_columns }
+    requires aggregates { length aggregates.now ≤ most_items }
     ensures { IfOk result (λ found. option_map (λ sorts. sorts.items) found ≡ spec.option_all (spec.resolved_key groups.now (shown.names_shown aggregates.now)) keys.now) }
 {
     let mut sorts = Vec::new(alloc);
@@ -438,7 +420,7 @@ pub(crate) fn resolve_aggregates(
     alloc: Global,
     items: &[Item],
 ) -> Result<Option<Vec<Aggregate>>, AllocError>
-    requires { length items.now ≤ 16 }
+    requires { length items.now ≤ most_items }
     ensures measures { IfOk result (λ found. option_map (λ aggregates. shown.measures_shown aggregates.items) found ≡ spec.measures_of items.now) }
     ensures names { IfOk result (λ found. IfSome found (λ aggregates. shown.names_shown aggregates.items ≡ naming.aggregate_names items.now)) }
     ensures few { IfOk result (λ found. IfSome found (λ aggregates. length aggregates.items ≤ length items.now)) }

@@ -5,6 +5,7 @@ ghost use Rattle.std.specs.List.{list_any};
 ghost use Rattle.std.specs.Cmp.Lexicographic.{pointwise};
 ghost use Rattle.std.specs.Result.{result_err};
 ghost use Rattle.star_common.specs.First.{first_answer};
+ghost use Rattle.star_query.specs.Maxima.{most_items};
 ghost use Rattle.star_plan.specs.First.{first_beside};
 ghost use Rattle.star_plan.specs.Naming as spec;
 ghost use Rattle.star_plan.specs.Faults as faults;
@@ -178,7 +179,7 @@ fn check_item(
 
 // The names of the aggregates, if each item is grouped or has a new name.
 fn check_items(alloc: Global, groups: &[Name], items: &[Item]) -> Result<Vec<Vec<u8>>, PlanFault>
-    requires { length items.now ≤ 16 }
+    requires { length items.now ≤ most_items }
     ensures told { Tells (first_beside (faults.item_fault groups.now) items.now) result }
     ensures named { IfOk result (λ names. map (λ n. n.items) names.items ≡ spec.aggregate_names items.now) }
 {
@@ -195,7 +196,7 @@ pub(crate) fn check_select(
     groups: &[Name],
     items: &[Item],
 ) -> Result<Vec<Vec<u8>>, PlanFault>
-    requires { length items.now ≤ 16 }
+    requires { length items.now ≤ most_items }
     ensures told { Tells (faults.select_fault groups.now items.now) result }
     ensures named { IfOk result (λ names. map (λ n. n.items) names.items ≡ spec.aggregate_names items.now) }
 {

@@ -1,5 +1,6 @@
 pub mod Sample
 pub mod Unless
+pub mod Steps
 mod WorkedRuns
 mod WorkedCubes
 mod OwnGroups

@@ -2,9 +2,10 @@
 use Rattle.std.proofs.Common.{◌≡◌, ℕ, zero, suc, ◌+◌, ◌<◌, Bool, true, false, List, [], ◌∷◌, ◌++◌, length, Option, Some, None, refl, sym, subst, inl, inr, arith}
 use Rattle.std.specs.Prelude.{◌&&◌, ℤ, All, Contains, map, nat_eq, nat_lt, replicate, slice_index_or, if◌then◌else◌}
 use Rattle.std.specs.List.{AllByRecursion, AllZip}
-use Rattle.std.specs.Option.{option_map, option_or}
+use Rattle.std.specs.Option.{option_map}
 use Rattle.std.proofs.lemmas.Bool.{ltb-true, and_parts, eqb-true}
 use Rattle.std.proofs.lemmas.List.Elements.{All-map, All-same, All-weaker, All-contains, All-contains_itself, All-from_recursion}
+use Rattle.star_common.proofs.Firsts.{or_none}
 use Rattle.star_schema.specs.declared.table.TableId.{TableId}
 use Rattle.star_schema.specs.declared.group.Aggregate.{Aggregate}
 use Rattle.star_schema.specs.declared.group.Aggregate.TheVariants.{Sum, Count, Min, Max}
@@ -30,7 +31,8 @@ use Rattle.star_program.specs.Code.{Code, Stop, Then, Each, code_size}
 use Rattle.star_program.specs.Effects.{Store, empty_store, Effect, GoesOn, EndsTurn, Traps, sets_answer, sets_found, answer_of, keeps, puts, update_of, assigns, does, unless_fault, kinds_in, act}
 use Rattle.star_program.specs.declared.fault.Fault.{Fault}
 use Rattle.star_program.specs.declared.fault.Fault.TheVariants.{BadGroup}
-use Rattle.star_program.specs.Faults.{group_at, value_count, fits_key, kind_fault, keys_fault, numbers_fault, operand_fault, operands_fault, place_fault, fault_of, unless}
+use Rattle.star_program.specs.Faults.{group_at, value_count, fits_key, kind_fault, keys_fault, numbers_fault, operand_fault, operands_fault, place_fault, fault_of}
+use Rattle.star_program.proofs.Unless.{unless_none}
 use Rattle.star_program.specs.Keys.{value_cmp}
 use Rattle.star_program.specs.Outcome.{decoded, decoded_keys, decoded_row, key_cell, total_cell, cell_of, shown_cells, IsOutcome}
 use Rattle.star_program.specs.Puts.{Update, overflows}
@@ -63,10 +65,6 @@ AllShownFit [] [] = Unit {0}
 AllShownFit (d ∷ ds) (m ∷ ms) = ShownFits d m × AllShownFit ds ms
 AllShownFit _ _ = ⊥
 
-none_of_two : {A : Type 0} (a b : Option A) → option_or a b ≡ None → (a ≡ None) × (b ≡ None)
-none_of_two None b e = (refl, e)
-none_of_two (Some x) b e = absurd (cc)
-
 key_fits : (d : GroupKey) (v : Option Value)
     → kind_fault (fits_key d) (option_map kind_of_value v) ≡ None → KeyFits d (key_in v)
 key_fits d None e = absurd (cc)
@@ -88,9 +86,9 @@ keys_fit registers regs [] [] same e = tt
 keys_fit registers regs [] (k ∷ ks) same e = absurd (omega (arith, same))
 keys_fit registers regs (d ∷ ds) [] same e = absurd (omega (arith, same))
 keys_fit registers regs (d ∷ ds) (k ∷ ks) same e =
-    let p = none_of_two (operand_fault registers (kinds_in regs) (fits_key d) k)
+    let p = or_none (operand_fault registers (kinds_in regs) (fits_key d) k)
     (keys_fault registers (kinds_in regs) ds ks) e in
-    let q = none_of_two _ (kind_fault (fits_key d) (kinds_in regs k)) p.0 in
+    let q = or_none _ (kind_fault (fits_key d) (kinds_in regs k)) p.0 in
     (key_fits d (regs k) q.1, keys_fit registers regs ds ks (omega (arith, same)) p.1)
 
 -- ---- the updates of a run
@@ -150,10 +148,6 @@ put_fits parts regs s g u false fit here = λ h. entry h (nat_eq h g) refl
     )
     entry h false e = fit h
 
-unless_none : (b : Bool) (x : Fault) → unless b x ≡ None → b ≡ true
-unless_none true x e = refl
-unless_none false x e = absurd (cc)
-
 -- a put of a group has as many keys as it
 as_many : (parts : Parts) (g : ℕ) (ks vs : List ℕ) (inside : Bool)
     → place_fault parts inside (Put g ks vs) ≡ None → length ks ≡ length (group_at parts g).keys
@@ -174,9 +168,9 @@ act_fits w parts inside regs s op fit =
     done (Assign t o) e = assigned_fits w parts regs s t o fit
     done (Keep f) e = kept_fits parts regs s (flag_in (regs f)) fit
     done (Put g ks vs) e =
-        let p = none_of_two (place_fault parts inside (Put g ks vs)) _ e in
+        let p = or_none (place_fault parts inside (Put g ks vs)) _ e in
         let operands : operands_fault parts (kinds_in regs) (Put g ks vs) ≡ None = p.1 in
-        let q = none_of_two (keys_fault parts.registers (kinds_in regs) (group_at parts g).keys ks)
+        let q = or_none (keys_fault parts.registers (kinds_in regs) (group_at parts g).keys ks)
         (numbers_fault parts.registers (kinds_in regs) vs) operands in
         put_fits parts regs s g (update_of (group_at parts g) regs ks vs)
         (overflows (group_at parts g) (s.updates_of g) (update_of (group_at parts g) regs ks vs))

@@ -1,5 +1,5 @@
 -- Which cells stand in a column, and which don't, by computation.
-use Rattle.std.proofs.Common.{◌≡◌, [], ◌∷◌, codes, pos, refl, arith}
+use Rattle.std.proofs.Common.{[], ◌∷◌, codes, pos, refl, arith}
 use Rattle.star_schema.specs.declared.column.ColumnId.TheVariants.{CRegion}
 use Rattle.star_schema.specs.declared.group.Aggregate.TheVariants.{Sum, Count}
 use Rattle.star_schema.specs.declared.group.GroupColumn.TheVariants as column

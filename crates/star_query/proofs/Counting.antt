@@ -8,7 +8,8 @@ use Rattle.star_query.specs.declared.counts.Counts.{Counts}
 use Rattle.std.specs.Char.{to_ascii_lowercase}
 use Rattle.std.proofs.lemmas.List.{length-map}
 use Rattle.star_query.specs.Symbols.{Symbol, name, lowered}
-use Rattle.star_query.specs.Derives.{limit, same_part, among, IsShort, IsLong}
+use Rattle.star_query.specs.Maxima.{limit}
+use Rattle.star_query.specs.Derives.{same_part, among, IsShort, IsLong}
 use Rattle.star_query.specs.Private.Machine.{number_of, bump, plus, is_over, is_long}
 
 pub not_below : (a b : ℕ) → b ≤ a → nat_lt a b ≡ false

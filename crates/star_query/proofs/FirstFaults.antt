@@ -16,7 +16,8 @@ use Rattle.star_query.specs.Symbols.{Symbol, Placed, name, symbols}
 use Rattle.star_query.specs.Cut.{cut_of}
 use Rattle.star_query.specs.Tree.{Tree}
 use Rattle.star_query.specs.Grammar.{Query, Mark, query_marks}
-use Rattle.star_query.specs.Derives.{limit, count_of, IsShort, IsLong, IsWithin, symbols_at, Begins, IsDead, Breaks, IsTooDeep, IsTooMany, FirstFault, StopsAt, IsFirstFault, Means, place_of}
+use Rattle.star_query.specs.Maxima.{limit}
+use Rattle.star_query.specs.Derives.{count_of, IsShort, IsLong, IsWithin, symbols_at, Begins, IsDead, Breaks, IsTooDeep, IsTooMany, FirstFault, StopsAt, IsFirstFault, Means, place_of}
 use Rattle.star_query.specs.Private.Machine.{State, begin, Step, to, step, at_end, Verdict, Whole, Bad, number_of, plus, is_over, is_long, checked, after, ends, run, nothing_counted}
 use Rattle.star_query.specs.Private.TokenFaults.{refusal_of}
 use Rattle.star_query.proofs.Counting.{by_bool, not_below, number-plus, not_over, fits_after, short_name, not_long}

@@ -7,7 +7,7 @@ pub mod WorkedRows
 pub mod WorkedQuery
 pub mod Tokens
 pub mod Descent
-pub mod Conditions
+pub mod Filtering
 pub mod Queries
 pub mod Places
 pub mod Parsing

@@ -12,7 +12,7 @@ use Rattle.star_query.specs.declared.counts.Part.TheVariants as part
 use Rattle.star_query.specs.declared.fault.Fault.TheVariants.{Unexpected}
 use Rattle.star_query.specs.declared.fault.ParseError.{ParseError}
 use Rattle.star_query.specs.declared.fault.ParseError.TheVariants as errors
-use Rattle.star_query.specs.declared.parser.Function.{Function}
+use Rattle.star_query.specs.declared.clauses.Function.{Function}
 use Rattle.star_query.specs.declared.parser.Parser.{Parser}
 use Rattle.star_query.specs.declared.token.Token.{Token}
 use Rattle.star_query.specs.Private.Lexed.{symbol_of}
@@ -25,9 +25,9 @@ use Rattle.star_query.specs.declared.tree.Aggregate.{Aggregate}
 use Rattle.star_query.specs.declared.tree.Item.{Item}
 use Rattle.star_query.specs.declared.tree.Item.TheVariants as items
 use Rattle.star_query.specs.declared.tree.Grouping.{Grouping}
-use Rattle.star_query.specs.declared.tree.Shape.TheVariants.{Plain, Cube}
+use Rattle.star_schema.specs.declared.group.Shape.TheVariants.{Plain, Cube}
 use Rattle.star_query.specs.declared.tree.SortKey.{SortKey}
-use Rattle.star_query.specs.declared.tree.Direction.TheVariants.{Ascending, Descending}
+use Rattle.star_schema.specs.declared.group.Direction.TheVariants.{Ascending, Descending}
 use Rattle.star_query.specs.declared.tree.Tree.{Tree}
 use Rattle.star_query.specs.Symbols.{Symbol, keyword, sign, name}
 use Rattle.star_query.specs.Tree as tree

@@ -12,7 +12,7 @@ use Rattle.star_query.specs.declared.fault.Fault.TheVariants.{Unexpected, TooDee
 use Rattle.star_query.specs.declared.token.Digits.{Digits}
 use Rattle.star_query.specs.declared.tree.Name.{Name}
 use Rattle.star_query.specs.Symbols.{Symbol, name, number, unquoted, unquoted_after}
-use Rattle.star_query.specs.Derives.{limit}
+use Rattle.star_query.specs.Maxima.{limit}
 use Rattle.star_query.specs.Private.Machine.{number_of, bump}
 use Rattle.star_query.specs.Private.Reads.{Spot, spot_of, Takes, IsName, IsNumber, NoName, NoNumber, IsBeyond, ReadsName, ReadsNumber}
 use Rattle.star_query.proofs.Counting.{one_too_many, one_allowed}

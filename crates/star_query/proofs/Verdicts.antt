@@ -12,7 +12,8 @@ use Rattle.star_query.specs.declared.fault.QueryFault.{QueryFault}
 use Rattle.star_query.specs.Symbols.{Symbol, Placed, symbols}
 use Rattle.star_query.specs.Tree.{Tree}
 use Rattle.star_query.specs.Grammar.{Query, Mark, query_marks, query_tree}
-use Rattle.star_query.specs.Derives.{limit, count_of, IsShort, IsLong, IsWithin, symbols_at, Derives, Begins, IsDead, Breaks, IsTooDeep, IsTooMany, Fails, FirstFault, Means}
+use Rattle.star_query.specs.Maxima.{limit}
+use Rattle.star_query.specs.Derives.{count_of, IsShort, IsLong, IsWithin, symbols_at, Derives, Begins, IsDead, Breaks, IsTooDeep, IsTooMany, Fails, FirstFault, Means}
 use Rattle.star_query.specs.Private.Machine.{State, begin, Step, to, step, at_end, Verdict, Whole, Bad, number_of, plus, is_over, is_long, checked, after, ends, run, nothing_counted}
 use Rattle.star_query.proofs.Counting.{not_below, number-plus, not_over, over_some, fits_after, short_name, long_name, not_long}
 use Rattle.star_query.proofs.Accepting.{Accepts, query_goes}

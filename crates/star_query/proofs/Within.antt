@@ -13,7 +13,8 @@ use Rattle.star_query.specs.Symbols.{Symbol, keyword, additive, sign}
 use Rattle.star_query.specs.Tree as tree
 use Rattle.star_query.specs.Tree.{Name}
 use Rattle.star_query.specs.Grammar.{Several, one, more, Expr, lone_term, joined, Term, lone_factor, times, Factor, column, constant, negative, parens, Lit, whole, negated, quoted, Cond, lone_conj, or_conj, Conj, lone_unit, and_unit, Unary, not_unit, group, pair, compare, between, Agg, folded, counted, Item, plain, aggregate, Key, unmarked, ascending, descending, Groups, ungrouped, grouped, cubed, Query, Mark, at, expr_marks, term_marks, factor_marks, lit_marks, cond_marks, conj_marks, unit_marks, agg_marks, item_marks, table_marks, column_marks, key_marks, several_marks, where_marks, groups_marks, keys_marks, end_marks, query_marks, combined, expr_tree, term_tree, factor_tree, cond_tree, conj_tree, unit_tree, item_tree, key_tree, ident, agg_tree, listed, names, groups_tree, keys_tree, query_tree}
-use Rattle.star_query.specs.Derives.{limit, count_of, Derives}
+use Rattle.star_query.specs.Maxima.{limit}
+use Rattle.star_query.specs.Derives.{count_of, Derives}
 use Rattle.star_query.specs.Limits.{operands_of, measure_operands, item_operands, aggregates_in, comparisons_of, where_comparisons, IsWithinLimits}
 
 -- ---- a phrase takes nothing from the count of what comes behind it

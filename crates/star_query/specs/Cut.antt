@@ -10,6 +10,7 @@ use Rattle.star_query.specs.declared.token.Sign.TheVariants as s
 use Rattle.star_query.specs.declared.token.Additive.TheVariants as signs
 use Rattle.star_query.specs.declared.fault.QueryFault.{QueryFault}
 use Rattle.star_query.specs.declared.fault.QueryFault.TheVariants.{BadCharacter, BadNumber, OpenText}
+use Rattle.star_query.specs.Maxima.{most_digits}
 use Rattle.star_query.specs.Symbols.{Symbol, Placed, relation, sign, additive, name, number, text, spelling, reserved_words, word_symbol, lowered, unquoted}
 
 -- space, tab, carriage return and line feed part tokens
@@ -62,11 +63,11 @@ abbrev pub begins_with_letter : List ℕ → Bool
 begins_with_letter [] = false
 begins_with_letter (b ∷ bs) = is_letter b
 
--- the longest run of digits: at most 18, and no letter behind it
+-- the longest run of digits: not too many, and no letter behind it
 abbrev pub number_piece : ℕ → List ℕ → Piece
 number_piece place bytes =
     let width = prefix_len is_ascii_digit bytes in
-    if nat_lt 18 width || begins_with_letter (drop width bytes) then bad (BadNumber place) else token (number (value_after 0 (take width bytes))) width
+    if nat_lt most_digits width || begins_with_letter (drop width bytes) then bad (BadNumber place) else token (number (value_after 0 (take width bytes))) width
 
 -- how a text ends: by its closing quote, behind this many bytes; at a byte that may not stand in it; or not at all
 pub data Ending : Type 0 where

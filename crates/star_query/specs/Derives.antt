@@ -8,18 +8,10 @@ use Rattle.star_query.specs.declared.fault.Fault.TheVariants.{Unexpected, TooDee
 use Rattle.star_query.specs.declared.fault.QueryFault.{QueryFault}
 use Rattle.star_query.specs.declared.fault.QueryFault.TheVariants as faults
 use Rattle.star_query.specs.Symbols.{Symbol, name, Placed, symbols}
+use Rattle.star_query.specs.Maxima.{limit, most_bytes, most_name_bytes, most_nestings}
 use Rattle.star_query.specs.Cut.{cut_of}
 use Rattle.star_query.specs.Grammar.{Query, Mark, query_marks, query_tree}
 use Rattle.star_query.specs.Tree.{Tree}
-
--- the most of a part that a query may have
-abbrev pub limit : Part → ℕ
-limit Item = 16
-limit Aggregate = 8
-limit GroupColumn = 6
-limit SortKey = 16
-limit Comparison = 256
-limit Operand = 512
 
 abbrev pub same_part : Part → Part → Bool
 same_part Item Item = true
@@ -41,16 +33,16 @@ count_of p [] = 0
 count_of p (m ∷ ms) = among p m.parts + count_of p ms
 
 abbrev pub IsShort : Symbol → Type 0
-IsShort (name text place) = length text ≤ 64
+IsShort (name text place) = length text ≤ most_name_bytes
 IsShort x = Unit {0}
 
 abbrev pub IsLong : Symbol → Type 0
-IsLong (name text place) = 64 < length text
+IsLong (name text place) = most_name_bytes < length text
 IsLong x = ⊥
 
--- at most 32 nestings, at most so many of each part, and no name of more than 64 bytes
+-- not too many nestings, not too many of any part, and no name that is too long
 pub record IsWithin (ms : List Mark) : Type 0 where
-  pub depth : AllByRecursion (λ m. m.depth ≤ 32) ms
+  pub depth : AllByRecursion (λ m. m.depth ≤ most_nestings) ms
   pub counts : (p : Part) → count_of p ms ≤ limit p
   pub names : AllByRecursion (λ m. IsShort m.symbol) ms
 
@@ -84,10 +76,10 @@ pub record Breaks (IsOver : List Mark → Mark → Type 0) (front : List Mark) (
   pub over : IsOver front at
 
 abbrev pub IsTooDeep : List Mark → Mark → Type 0
-IsTooDeep front at = 32 < at.depth
+IsTooDeep front at = most_nestings < at.depth
 
 abbrev pub IsTooMany : List Mark → Mark → Type 0
-IsTooMany front at = (at.depth ≤ 32) × (((p : Part) × (limit p < count_of p (front ++ at ∷ []))) ⊎ IsLong at.symbol)
+IsTooMany front at = (at.depth ≤ most_nestings) × (((p : Part) × (limit p < count_of p (front ++ at ∷ []))) ⊎ IsLong at.symbol)
 
 abbrev pub Fails : Fault → List Mark → List Symbol → Type 0
 Fails Unexpected front left = IsDead (symbols_at front) left
@@ -102,9 +94,9 @@ pub record FirstFault (xs : List Symbol) (fault : Fault) (left : List Symbol) : 
   pub within : IsWithin front
   pub fails : Fails fault front left
 
--- a text of at most 65,536 bytes, its tokens, and what they are
+-- a text that is not too long, its tokens, and what they are
 pub record Means (bytes : List ℕ) (tree : Tree) : Type 0 where
-  pub short : length bytes ≤ 65536
+  pub short : length bytes ≤ most_bytes
   pub tokens : List Placed
   pub cut : cut_of bytes ≡ Ok tokens
   pub derives : Derives (symbols tokens) tree
@@ -116,7 +108,7 @@ place_of (t ∷ ts) end = t.place
 
 -- a text whose tokens have this first fault, before these that are left
 pub record StopsAt (bytes : List ℕ) (fault : Fault) (left : List Placed) : Type 0 where
-  pub short : length bytes ≤ 65536
+  pub short : length bytes ≤ most_bytes
   pub front : List Placed
   pub cut : cut_of bytes ≡ Ok (front ++ left)
   pub first : FirstFault (symbols (front ++ left)) fault (symbols left)
@@ -124,8 +116,8 @@ pub record StopsAt (bytes : List ℕ) (fault : Fault) (left : List Placed) : Typ
 -- the first fault of a text; want of memory may come before it
 abbrev pub IsFirstFault : List ℕ → QueryFault → Type 0
 IsFirstFault bytes faults.OutOfMemory = Unit {0}
-IsFirstFault bytes faults.TooLong = 65536 < length bytes
+IsFirstFault bytes faults.TooLong = most_bytes < length bytes
 IsFirstFault bytes (faults.Unexpected place) = (left : List Placed) × StopsAt bytes Unexpected left × (place ≡ place_of left (length bytes))
 IsFirstFault bytes faults.TooDeep = (left : List Placed) × StopsAt bytes TooDeep left
 IsFirstFault bytes faults.TooMany = (left : List Placed) × StopsAt bytes TooMany left
-IsFirstFault bytes fault = (length bytes ≤ 65536) × (cut_of bytes ≡ Err fault)
+IsFirstFault bytes fault = (length bytes ≤ most_bytes) × (cut_of bytes ≡ Err fault)

@@ -7,8 +7,8 @@ use Rattle.star_query.specs.declared.token.Additive.TheVariants.{Plus, Minus}
 use Rattle.star_query.specs.declared.token.Fold.{Fold}
 use Rattle.star_query.specs.declared.token.Relation.{Relation}
 use Rattle.star_query.specs.declared.token.Relation.TheVariants as r
-use Rattle.star_query.specs.declared.tree.Shape.TheVariants.{Plain, Cube}
-use Rattle.star_query.specs.declared.tree.Direction.TheVariants.{Ascending, Descending}
+use Rattle.star_schema.specs.declared.group.Shape.TheVariants.{Plain, Cube}
+use Rattle.star_schema.specs.declared.group.Direction.TheVariants.{Ascending, Descending}
 use Rattle.star_query.specs.declared.counts.Part.{Part}
 use Rattle.star_query.specs.declared.counts.Part.TheVariants as part
 use Rattle.star_query.specs.Symbols.{Symbol, keyword, fold, count, relation, sign, additive, name, number, text}

@@ -1,4 +1,5 @@
 pub mod Symbols
+pub mod Maxima
 pub mod Cut
 pub mod Tree
 pub mod Grammar

@@ -1,31 +1,8 @@
 -- How much the tree of a query holds at most.
 use Rattle.std.specs.Prelude.{ℕ, ◌+◌, ◌≤◌, length, Option, Some, None}
 use Rattle.std.specs.List.{sum_by}
-use Rattle.star_query.specs.declared.counts.Part.TheVariants as part
-use Rattle.star_query.specs.Derives.{limit}
+use Rattle.star_query.specs.Maxima.{most_aggregates, most_columns, most_comparisons, most_items, most_keys, most_operands}
 use Rattle.star_query.specs.Tree.{Expression, column, constant, add, sub, mul, Condition, either, both, negation, pair, compare, between, Measure, fold, count, Item, plain, aggregate, Tree}
-
--- ---- the limits
-
-abbrev pub most_items : ℕ
-most_items = limit part.Item
-
-abbrev pub most_aggregates : ℕ
-most_aggregates = limit part.Aggregate
-
-abbrev pub most_operands : ℕ
-most_operands = limit part.Operand
-
-abbrev pub most_comparisons : ℕ
-most_comparisons = limit part.Comparison
-
-abbrev pub most_columns : ℕ
-most_columns = limit part.GroupColumn
-
-abbrev pub most_keys : ℕ
-most_keys = limit part.SortKey
-
--- ---- what they are of
 
 -- the columns and numbers of an expression
 abbrev pub operands_of : Expression → ℕ

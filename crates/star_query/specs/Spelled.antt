@@ -2,15 +2,16 @@
 use Rattle.std.specs.Prelude.{◌≡◌, ℕ, ℤ, ◌^◌, unsigned_abs, Bool, true, ◌&&◌, nat_le, nat_lt, List, length, Option, Some, None}
 use Rattle.std.specs.List.{list_all}
 use Rattle.star_query.specs.Cut.{begins_with_letter, is_printed, is_word_byte}
+use Rattle.star_query.specs.Maxima.{most_digits, most_name_bytes}
 use Rattle.star_query.specs.Tree.{Name, Literal, number, text, Expression, column, constant, add, sub, mul, Condition, either, both, negation, pair, compare, between, Measure, fold, count, Item, plain, aggregate, Tree}
 
 -- 1 to 64 letters, digits and _, of which the first is no digit
 unfoldable pub is_name : List ℕ → Bool
-is_name word = begins_with_letter word && (list_all is_word_byte word && nat_le (length word) 64)
+is_name word = begins_with_letter word && (list_all is_word_byte word && nat_le (length word) most_name_bytes)
 
 -- at most 18 digits
 unfoldable pub is_number : ℤ → Bool
-is_number z = nat_lt (unsigned_abs z) (10 ^ 18)
+is_number z = nat_lt (unsigned_abs z) (10 ^ most_digits)
 
 -- bytes from the space to the tilde
 unfoldable pub is_text : List ℕ → Bool

@@ -2,8 +2,8 @@
 use Rattle.std.specs.Prelude.{ℕ, ℤ, List, Option}
 use Rattle.star_query.specs.declared.token.Fold.{Fold}
 use Rattle.star_query.specs.declared.token.Relation.{Relation}
-use Rattle.star_query.specs.declared.tree.Shape.{Shape}
-use Rattle.star_query.specs.declared.tree.Direction.{Direction}
+use Rattle.star_schema.specs.declared.group.Shape.{Shape}
+use Rattle.star_schema.specs.declared.group.Direction.{Direction}
 
 pub record Name : Type 0 where
   pub text : List ℕ

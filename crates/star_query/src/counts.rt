@@ -1,8 +1,20 @@
-// What a query may have only so many of.
+// The limits of a query: how long it and its tokens may be, how deep it may nest, and how many of each part it may have.
 
 ghost use Rattle.std.specs.Prelude.{◌≡◌, ◌≤◌, ◌<◌};
-ghost use Rattle.star_query.specs.Derives.{limit};
+ghost use Rattle.star_query.specs.Maxima.{limit};
 ghost use Rattle.star_query.specs.Private.Machine.{number_of, bump, nothing_counted};
+
+/// The most bytes of a query text.
+pub const MAX_TEXT: usize = 65_536;
+
+// The most bytes of a name.
+pub(crate) const MAX_NAME: usize = 64;
+
+// The most digits of a number.
+pub(crate) const MAX_DIGITS: usize = 18;
+
+// How many `not`s and parentheses may lie in one another.
+pub(crate) const MAX_DEPTH: u32 = 32;
 
 /// What is counted, each at its first token. An aggregate is an item too.
 #[derive(Clone, Copy, PartialEq, Eq)]

@@ -3,15 +3,14 @@
 ghost use Rattle.std.specs.Prelude.{◌≡◌, ◌≤◌, ◌<◌, ◌+◌, ◌-◌, ◌*◌, ◌^◌, ◌&&◌, drop, length, slice_get, IfOk, Ok, Some, None, Option, IsTrue, false, true, ℕ, slice_index, IfErr, option_to_list, max, map, Err};
 ghost use Rattle.std.specs.List.{prefix_len, take_while, list_all};
 ghost use Rattle.std.specs.Char.{is_ascii_digit};
+ghost use Rattle.star_query.specs.Maxima.{most_digits};
 ghost use Rattle.star_query.specs.Cut as spec;
 ghost use Rattle.star_query.specs.Private.Lexed as lexed;
 
+use crate::counts::MAX_DIGITS;
 use crate::fault::QueryFault;
 use crate::token::{Additive, Digits, Kind, Relation, Sign, Token, WORDS, Word};
 use std::alloc::Global;
-
-// The most digits of a number.
-const MAX_DIGITS: usize = 18;
 
 // What begins at a place.
 #[derive(Clone, Copy)]
@@ -98,10 +97,10 @@ fn digit_value(digit: u8) -> u64
 
 // The value of digits.
 fn value_of(digits: &[u8]) -> u64
-    requires few { length digits.now ≤ 18 }
+    requires few { length digits.now ≤ most_digits }
     requires digits { (k : ℕ) → k < length digits.now → is_ascii_digit (slice_index digits.now k) ≡ true }
     ensures value { result ≡ spec.value_after 0 digits.now }
-    ensures few { result < 10 ^ 18 }
+    ensures few { result < 10 ^ most_digits }
 {
     let mut value = 0;
     for digit in digits {

@@ -3,7 +3,11 @@
 //! What the tokens of a text are, which tokens are a query and what else is the first fault stands in `specs/`.
 #![tactic(auto)]
 
+mod clauses;
+mod conditions;
 mod counts;
+mod display;
+mod expressions;
 mod fault;
 pub mod law;
 mod lexer;
@@ -12,10 +16,10 @@ mod query;
 mod token;
 mod tree;
 
+pub use counts::MAX_TEXT;
 pub use fault::QueryFault;
-pub use query::{MAX_TEXT, Query};
+pub use query::Query;
 pub use token::{Fold, Relation};
 pub use tree::{
-    Aggregate, Condition, Direction, Expression, Grouping, Item, Literal, Measure, Name, Shape,
-    SortKey, Tree,
+    Aggregate, Condition, Expression, Grouping, Item, Literal, Measure, Name, SortKey, Tree,
 };

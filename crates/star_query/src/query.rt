@@ -5,14 +5,12 @@ ghost use Rattle.star_query.specs.Meant.{IsMeant};
 ghost use Rattle.star_query.specs.Limits.{IsWithinLimits};
 ghost use Rattle.star_query.specs.Spelled.{IsSpelled};
 
+use crate::counts::MAX_TEXT;
 use crate::fault::QueryFault;
 use crate::lexer::tokens_of;
 use crate::parser::parse_tokens;
 use crate::tree::Tree;
 use std::alloc::Global;
-
-/// The most bytes of a query text.
-pub const MAX_TEXT: usize = 65_536;
 
 /// A query: its tree is what some text means, so it is within all limits. It is made by parsing a text alone.
 #[derive(Drop)]

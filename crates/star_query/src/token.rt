@@ -1,6 +1,7 @@
 // The tokens of a query text.
 
 ghost use Rattle.std.specs.Prelude.{◌≡◌, ◌<◌, ◌^◌};
+ghost use Rattle.star_query.specs.Maxima.{most_digits};
 ghost use Rattle.star_query.specs.Symbols as spec;
 
 /// What folds the values of an expression over a group of rows.
@@ -124,7 +125,7 @@ impl Word {
 #[derive(Clone, Copy)]
 pub(crate) struct Digits {
     pub(crate) value: u64,
-    ghost few: { value < 10 ^ 18 },
+    ghost few: { value < 10 ^ most_digits },
 }
 
 /// What a token is. Names and texts are as the text has them: in any case, and with doubled quotes.

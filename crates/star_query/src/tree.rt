@@ -1,6 +1,7 @@
 // What a query text means. Parentheses leave no trace.
 
 use crate::token::{Fold, Relation};
+use star_schema::{Direction, Shape};
 
 /// A name in lower case, and the place where it stands.
 #[derive(Drop)]
@@ -64,24 +65,11 @@ pub enum Item {
     Aggregate(Aggregate),
 }
 
-/// Whether rows are grouped by all columns alone, or by each subset of them.
-#[derive(Clone, Copy, PartialEq, Eq)]
-pub enum Shape {
-    Plain,
-    Cube,
-}
-
 /// How rows are grouped; by no column where nothing is said.
 #[derive(Drop)]
 pub struct Grouping {
     pub shape: Shape,
     pub columns: Vec<Name>,
-}
-
-#[derive(Clone, Copy, PartialEq, Eq)]
-pub enum Direction {
-    Ascending,
-    Descending,
 }
 
 /// One key of ORDER BY.

@@ -6,14 +6,10 @@
 #[cfg(test)]
 mod benchmark;
 #[cfg(test)]
-mod plan_tree;
+mod places;
 #[cfg(test)]
 mod plans;
 #[cfg(test)]
 mod programs;
 #[cfg(test)]
 mod queries;
-#[cfg(test)]
-mod query_tree;
-#[cfg(test)]
-mod words;

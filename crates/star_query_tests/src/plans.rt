@@ -1,20 +1,14 @@
 // Plans of small queries, and the first fault of each kind.
 
-use crate::plan_tree::write_plan;
-use star_plan::{PlanFault, PlanTree, plan};
+use star_plan::{PlanFault, plan};
 use star_query::Query;
 use std::alloc::{AllocError, Global};
 use std::test::Fail;
 
-fn plan_text(alloc: Global, tree: &PlanTree) -> Result<String, Fail> {
-    let mut out = String::new(alloc);
-    write_plan(&mut out, tree)?;
-    Ok(out)
-}
-
 fn printed_plan(alloc: Global, query: &Query) -> Result<String, Fail> {
     let plan = plan(alloc, query)?;
-    plan_text(alloc, plan.tree())
+    let tree = plan.tree();
+    Ok(format!(in alloc; "{tree}")?)
 }
 
 // The printed plan of a text, which has one.
@@ -42,31 +36,11 @@ fn names_are_resolved(rt: HostRuntime) -> Result<(), Fail> {
     for (text, plan) in [
         (
             "select count(*), Sum(LO_Tax), min(lo_tax) as n, max(lo_tax * -2) from LineOrder order by count1, N desc",
-            concat!(
-                "plain\n",
-                "count1 = count\n",
-                "sum2 = sum lo_tax\n",
-                "n = min lo_tax\n",
-                "max4 = max (lo_tax * -2)\n",
-                "show aggregate 0\n",
-                "show aggregate 1\n",
-                "show aggregate 2\n",
-                "show aggregate 3\n",
-                "sort aggregate 0 ascending\n",
-                "sort aggregate 2 descending\n",
-            ),
+            "select count(*) as count1, sum(lo_tax) as sum2, min(lo_tax) as n, max(lo_tax * -2) as max4 from lineorder order by count1 asc, n desc",
         ),
         (
             "select lo_tax, lo_tax, sum(lo_tax) as lo_discount from lineorder group by cube(lo_quantity, lo_tax) order by lo_quantity desc, lo_quantity",
-            concat!(
-                "cube lo_quantity lo_tax\n",
-                "lo_discount = sum lo_tax\n",
-                "show key 1\n",
-                "show key 1\n",
-                "show aggregate 0\n",
-                "sort key 0 descending\n",
-                "sort key 0 ascending\n",
-            ),
+            "select lo_tax, lo_tax, sum(lo_tax) as lo_discount from lineorder group by cube(lo_quantity, lo_tax) order by lo_quantity desc, lo_quantity asc",
         ),
     ] {
         let found = printed(rt.alloc(), text)?;
@@ -80,25 +54,11 @@ fn joins_stand_apart_from_the_other_conjuncts(rt: HostRuntime) -> Result<(), Fai
     for (text, plan) in [
         (
             "select count(*) from date, lineorder where (d_datekey = lo_commitdate and not lo_tax = 1) and lo_tax < 5",
-            concat!(
-                "join lo_commitdate = d_datekey\n",
-                "keep not lo_tax = 1\n",
-                "keep lo_tax < 5\n",
-                "plain\n",
-                "count1 = count\n",
-                "show aggregate 0\n",
-            ),
+            "select count(*) as count1 from lineorder, date where lo_commitdate = d_datekey and not lo_tax = 1 and lo_tax < 5",
         ),
         (
             "select count(*) as n from lineorder, part where lo_tax = 1 and (lo_tax = 2 or lo_tax > 3 and p_name <> 'it''s') and lo_partkey = p_partkey",
-            concat!(
-                "join lo_partkey = p_partkey\n",
-                "keep lo_tax = 1\n",
-                "keep (lo_tax = 2 or (lo_tax > 3 and p_name <> \"it's\"))\n",
-                "plain\n",
-                "n = count\n",
-                "show aggregate 0\n",
-            ),
+            "select count(*) as n from lineorder, part where lo_partkey = p_partkey and lo_tax = 1 and (lo_tax = 2 or lo_tax > 3 and p_name <> 'it''s')",
         ),
     ] {
         let found = printed(rt.alloc(), text)?;

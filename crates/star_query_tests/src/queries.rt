@@ -1,21 +1,26 @@
 // Texts: their trees as the grammar groups them, their first fault, and each limit at and one past
 // it.
 
-use crate::query_tree::write_tree;
-use star_query::{Query, QueryFault, Tree};
+use crate::places::places_of;
+use star_query::{Query, QueryFault};
 use std::alloc::{AllocError, Global};
 use std::test::Fail;
 
-fn tree_text(alloc: Global, tree: &Tree) -> Result<String, Fail> {
-    let mut out = String::new(alloc);
-    write_tree(&mut out, tree)?;
-    Ok(out)
+// A query that was read, in print, and the places of its names and functions.
+#[derive(Drop)]
+struct Parsed {
+    text: String,
+    places: Vec<usize>,
 }
 
-// The printed tree of a text, which is a query.
-fn printed(alloc: Global, text: &str) -> Result<String, Fail> {
+// The printed query of a text, which is one.
+fn printed(alloc: Global, text: &str) -> Result<Parsed, Fail> {
     let query = Query::parse(alloc, text.as_bytes())?;
-    tree_text(alloc, query.tree())
+    let tree = query.tree();
+    Ok(Parsed {
+        text: format!(in alloc; "{tree}")?,
+        places: places_of(alloc, tree)?,
+    })
 }
 
 // The first fault of a text; none where it is a query.
@@ -63,54 +68,80 @@ fn fault_of_repeated(
     fault_of(alloc, text.as_str())
 }
 
+// Texts beside their trees in print, and the places of their names and functions.
+const GROUPED: [(&str, &str, &[usize]); 7] = [
+    (
+        "select sum(a - b - 2 * c + -3) from t",
+        "select sum(a - b - 2 * c + -3) from t",
+        &[7, 11, 15, 23, 36],
+    ),
+    (
+        "select min((a - (b - c)) * d * 4) as low from t",
+        "select min((a - (b - c)) * d * 4) as low from t",
+        &[7, 12, 17, 21, 27, 37, 46],
+    ),
+    (
+        "select d, count(*) from t where a = 1 or b <> 2 and not c < 3 or d = 'x'",
+        "select d, count(*) from t where a = 1 or b <> 2 and not c < 3 or d = 'x'",
+        &[7, 10, 24, 32, 41, 56, 65],
+    ),
+    (
+        "select count(*) from t where not (a <= -1 or b > 5) and (c >= 6 and a = b)",
+        "select count(*) from t where not (a <= -1 or b > 5) and (c >= 6 and a = b)",
+        &[7, 21, 34, 45, 57, 68, 72],
+    ),
+    (
+        "select max(a) from t where a between -1 and 2 and b between 'a''b' and '' and not not a = 1",
+        "select max(a) from t where a between -1 and 2 and b between 'a''b' and '' and not not a = 1",
+        &[7, 11, 19, 27, 50, 86],
+    ),
+    (
+        "select sum((a - b) - (2 * c)) from t",
+        "select sum(a - b - 2 * c) from t",
+        &[7, 12, 16, 26, 35],
+    ),
+    (
+        "select count(*) from t where (a = 1 and (not (b = 2))) or ((c = 3))",
+        "select count(*) from t where a = 1 and not b = 2 or c = 3",
+        &[7, 21, 30, 46, 60],
+    ),
+];
+
 #[test]
 fn operators_group_as_the_grammar_says(rt: HostRuntime) -> Result<(), Fail> {
-    for (text, tree) in [
-        (
-            "select sum(a - b - 2 * c + -3) from t",
-            "select sum@7 (((a@11 - b@15) - (2 * c@23)) + -3) from t@36 group by ",
-        ),
-        (
-            "select min((a - (b - c)) * d * 4) as low from t",
-            "select min@7 (((a@12 - (b@17 - c@21)) * d@27) * 4) as low@37 from t@46 group by ",
-        ),
-        (
-            "select d, count(*) from t where a = 1 or b <> 2 and not c < 3 or d = 'x'",
-            "select d@7, count@10 from t@24 where ((a@32 = 1 or (b@41 <> 2 and not c@56 < 3)) or d@65 = \"x\") group by ",
-        ),
-        (
-            "select count(*) from t where not (a <= -1 or b > 5) and (c >= 6 and a = b)",
-            "select count@7 from t@21 where (not (a@34 <= -1 or b@45 > 5) and (c@57 >= 6 and a@68 = b@72)) group by ",
-        ),
-        (
-            "select max(a) from t where a between -1 and 2 and b between 'a''b' and '' and not not a = 1",
-            "select max@7 a@11 from t@19 where ((a@27 between -1 and 2 and b@50 between \"a'b\" and \"\") and not not a@86 = 1) group by ",
-        ),
-    ] {
+    for (text, tree, places) in GROUPED {
         let found = printed(rt.alloc(), text)?;
-        assert_eq!(rt; found.as_str(), tree, "{text}");
+        assert_eq!(rt; found.text.as_str(), tree, "{text}");
+        assert_eq!(rt; found.places.as_slice(), places, "{text}");
     }
     Ok(())
 }
 
+// The same, of texts in other cases and with other white space.
+const SPACED: [(&str, &str, &[usize]); 3] = [
+    (
+        "SELECT D_Year,\tsum( A )\r\nAs Rev FROM T , u group By CUBE( d_year, e ) Order by rev DESC, d_year asc, e ;",
+        "select d_year, sum(a) as rev from t, u group by cube(d_year, e) order by rev desc, d_year asc, e asc",
+        &[7, 15, 20, 28, 37, 41, 58, 66, 79, 89, 101],
+    ),
+    (
+        "select _a from t group by _a,b order by b",
+        "select _a from t group by _a, b order by b asc",
+        &[7, 15, 26, 29, 40],
+    ),
+    (
+        "select\t_a\nfrom\rt\n group  by\n\n_a,b\torder\rby b\n",
+        "select _a from t group by _a, b order by b asc",
+        &[7, 15, 29, 32, 43],
+    ),
+];
+
 #[test]
 fn case_and_white_space_make_no_difference(rt: HostRuntime) -> Result<(), Fail> {
-    for (text, tree) in [
-        (
-            "SELECT D_Year,\tsum( A )\r\nAs Rev FROM T , u group By CUBE( d_year, e ) Order by rev DESC, d_year asc, e ;",
-            "select d_year@7, sum@15 a@20 as rev@28 from t@37, u@41 group by cube d_year@58, e@66 order by rev@79 desc, d_year@89 asc, e@101 asc",
-        ),
-        (
-            "select _a from t group by _a,b order by b",
-            "select _a@7 from t@15 group by _a@26, b@29 order by b@40 asc",
-        ),
-        (
-            "select\t_a\nfrom\rt\n group  by\n\n_a,b\torder\rby b\n",
-            "select _a@7 from t@15 group by _a@29, b@32 order by b@43 asc",
-        ),
-    ] {
+    for (text, tree, places) in SPACED {
         let found = printed(rt.alloc(), text)?;
-        assert_eq!(rt; found.as_str(), tree, "{text}");
+        assert_eq!(rt; found.text.as_str(), tree, "{text}");
+        assert_eq!(rt; found.places.as_slice(), places, "{text}");
     }
     Ok(())
 }
@@ -119,8 +150,9 @@ fn case_and_white_space_make_no_difference(rt: HostRuntime) -> Result<(), Fail> 
 fn a_number_has_at_most_18_digits(rt: HostRuntime) -> Result<(), Fail> {
     let most = "select sum(999999999999999999) from t where a = -000000000000000001";
     let found = printed(rt.alloc(), most)?;
-    let tree = "select sum@7 999999999999999999 from t@36 where a@44 = -1 group by ";
-    assert_eq!(rt; found.as_str(), tree);
+    let tree = "select sum(999999999999999999) from t where a = -1";
+    assert_eq!(rt; found.text.as_str(), tree);
+    assert_eq!(rt; found.places.as_slice(), [7, 36, 44].as_slice());
     let past = fault_of(rt.alloc(), "select sum(0000000000000000001) from t")?;
     assert!(rt; past == Some(QueryFault::BadNumber { at: 11 }));
     Ok(())

@@ -24,7 +24,7 @@ or_none None b e = (refl, e)
 or_none (Some f) b e = cc
 
 -- a cell has no fault exactly where it is one of its kind
-cell_sound : (at_row field : ℕ) (k : Kind) (cell : List ℕ) → cell_fault at_row field k cell ≡ None
+pub cell_sound : (at_row field : ℕ) (k : Kind) (cell : List ℕ) → cell_fault at_row field k cell ≡ None
     → is_cell k cell ≡ true
 cell_sound at_row field k cell e =
     go (is_short cell) (list_all is_printable cell) (is_of_kind k cell) refl refl refl e
@@ -36,7 +36,7 @@ cell_sound at_row field k cell e =
     go true false d ea eb ed e = cc (rw (ea, eb) at e)
     go false b d ea eb ed e = cc (rw ea at e)
 
-cell_complete : (at_row field : ℕ) (k : Kind) (cell : List ℕ) → is_cell k cell ≡ true
+pub cell_complete : (at_row field : ℕ) (k : Kind) (cell : List ℕ) → is_cell k cell ≡ true
     → cell_fault at_row field k cell ≡ None
 cell_complete at_row field k cell e =
     let parts : (is_short cell && list_all is_printable cell ≡ true) × (is_of_kind k cell ≡ true) =

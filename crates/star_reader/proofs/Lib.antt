@@ -8,3 +8,8 @@ pub mod RowLemmas
 pub mod ColumnLemmas
 pub mod Law
 pub mod TableSteps
+pub mod Fronts
+pub mod FrontNumbers
+pub mod FrontTexts
+pub mod LineSteps
+pub mod Parts

@@ -21,7 +21,7 @@ use Rattle.star_reader.specs.Columns.{AreColumnsOf, first_rows, kind_of, values}
 use Rattle.star_reader.specs.Private.Extended.{extended}
 use Rattle.star_reader.specs.Faults.{byte_order_mark, record_fault, records_fault}
 use Rattle.star_reader.specs.Private.Lines.{HasLeft, TakesFirst}
-use Rattle.star_reader.specs.Private.Steps.{HasRead, HasRows}
+use Rattle.star_reader.specs.Private.Steps.{AddsRecord, HasRead, HasRows}
 use Rattle.star_reader.proofs.Law.{width_kinds}
 use Rattle.star_reader.proofs.RowLemmas.{extended_full, first_rows-extended}
 
@@ -54,42 +54,33 @@ start table most all columns reader empty left =
 
 -- the next record's fault is the first
 pub faulty : (table : TableId) (most : ℕ) (all : List (List ℕ)) (count : ℕ)
-    (columns : List RawColumn) (old new : Reader (Bor (List ℕ))) (fields : List (List ℕ))
+    (columns : List RawColumn) (old new : Reader (Bor (List ℕ))) (parts : List (List ℕ))
     (f : ReadFault)
-    → (h : HasRead table most all count columns old) → TakesFirst h.lines fields new → count < most
-    → record_fault (map kind_of columns) (count + 1) fields ≡ Some f
+    → (h : HasRead table most all count columns old) → (next : TakesFirst h.lines parts new)
+    → count < most
+    → record_fault (map kind_of columns) (count + 1) (fields_of next.line) ≡ Some f
     → records_fault table most 1 all ≡ Some f
 unfolding first_answer
-faulty table most all count columns old new fields f h next within e =
+faulty table most all count columns old new parts f h next within e =
     let room = le-ltb most (count + 1) (omega arith) in
     let here : record_fault (kinds_of table) (count + 1) (fields_of next.line) ≡ Some f =
-    rw (next.fields_are, h.of_table.kinds) at e in
+    rw h.of_table.kinds at e in
     h.no_fault ∙ rw (next.was, room, here) refl
-
--- what a record adds to the columns of its table
-pub record AddsRecord (at_row : ℕ) (fields : List (List ℕ))
-    (old new : List RawColumn) : Type 0 where
-  pub no_fault : record_fault (map kind_of old) at_row fields ≡ None
-  pub columns : map values new
-      ≡ extended (map values old)
-      (values_of (map kind_of old) (cells_of (length (map kind_of old)) fields))
-  pub width : length (values_of (map kind_of old) (cells_of (length (map kind_of old)) fields))
-      ≡ length old
-  pub kinds : map kind_of new ≡ map kind_of old
 
 -- the next record has no fault
 pub more : (table : TableId) (most : ℕ) (all : List (List ℕ)) (count : ℕ)
-    (columns later : List RawColumn) (old new : Reader (Bor (List ℕ))) (fields : List (List ℕ))
-    → (h : HasRead table most all count columns old) → TakesFirst h.lines fields new → count < most
-    → AddsRecord (count + 1) fields columns later
+    (columns later : List RawColumn) (old new : Reader (Bor (List ℕ))) (parts : List (List ℕ))
+    → (h : HasRead table most all count columns old) → (next : TakesFirst h.lines parts new)
+    → count < most → AddsRecord (count + 1) (fields_of next.line) columns later
     → HasRead table most all (count + 1) later new
 unfolding first_answer
-more table most all count columns later old new fields h next within adds =
+more table most all count columns later old new parts h next within adds =
     let room = le-ltb most (count + 1) (omega arith) in
     let here : record_fault (kinds_of table) (count + 1) (fields_of next.line) ≡ None =
-    rw (next.fields_are, h.of_table.kinds) at adds.no_fault in
-    let row : values_of (map kind_of columns) (cells_of (length (map kind_of columns)) fields)
-    ≡ row_of table next.line = rw (next.fields_are, h.of_table.kinds, width_kinds table) refl in
+    rw h.of_table.kinds at adds.no_fault in
+    let row : values_of (map kind_of columns)
+    (cells_of (length (map kind_of columns)) (fields_of next.line))
+    ≡ row_of table next.line = rw (h.of_table.kinds, width_kinds table) refl in
     let holds : map values later ≡ extended (map values columns) (row_of table next.line) =
     rw row at adds.columns in
     let width : length (row_of table next.line) ≡ length (map values columns) =
@@ -131,11 +122,11 @@ whole table most all count columns reader h none =
 
 -- one record is too many
 pub too_many : (table : TableId) (most : ℕ) (all : List (List ℕ)) (count : ℕ)
-    (columns : List RawColumn) (old new : Reader (Bor (List ℕ))) (fields : List (List ℕ))
-    → (h : HasRead table most all count columns old) → TakesFirst h.lines fields new → most ≤ count
+    (columns : List RawColumn) (old new : Reader (Bor (List ℕ))) (parts : List (List ℕ))
+    → (h : HasRead table most all count columns old) → TakesFirst h.lines parts new → most ≤ count
     → records_fault table most 1 all ≡ Some fault.TooManyRows
 unfolding first_answer
-too_many table most all count columns old new fields h next full =
+too_many table most all count columns old new parts h next full =
     let over = lt-ltb most (count + 1) (omega arith) in
     h.no_fault ∙ rw (next.was, over) refl
 

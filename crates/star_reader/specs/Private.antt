@@ -1,4 +1,5 @@
-pub mod Bars
+pub mod Fronts
+pub mod Parts
 pub mod Extended
 pub mod Lines
 pub mod Steps

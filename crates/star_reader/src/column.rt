@@ -1,16 +1,18 @@
 // A column as it was read.
 
-ghost use Rattle.std.specs.Prelude.{◌≡◌, ◌++◌, ◌∷◌, [], None, Some, MatchResult, false};
+ghost use Rattle.std.specs.Prelude.{◌≡◌, ◌++◌, ◌∷◌, [], ℕ, None, Some, IfOk, MatchOption, MatchResult, false, true, take};
 ghost use Rattle.star_common.specs.Memory.{UnlessMemory};
 ghost use Rattle.star_schema.specs.Tables as spec;
 ghost use Rattle.star_reader.specs.Columns.{kind_of, values};
 ghost use Rattle.star_reader.specs.Faults.{cell_fault};
+ghost use Rattle.star_reader.specs.Private.Fronts.{IsFront};
 
 use crate::cell::{is_printable, parse_number};
 use crate::fault::ReadFault;
+use crate::front::{number_front, text_front};
 use star_flat::{FlatNumbers, FlatTexts};
 use star_schema::Kind;
-use std::alloc::Global;
+use std::alloc::{AllocError, Global};
 
 /// The values of a column, in the order of the rows.
 #[derive(Drop)]
@@ -82,5 +84,36 @@ impl RawColumn {
             }
         }
         Ok(())
+    }
+
+    /// Adds the value of the first field of a text, and gives how many bytes that field has; none
+    /// where it is no cell of the column.
+    #[inline(always)]
+    pub(crate) fn push_front(&mut self, text: &[u8]) -> Result<Option<usize>, AllocError>
+        ensures pushed { IfOk result (λ found. MatchOption found
+            ((count : ℕ) → IsFront text.now count
+            → spec.is_cell (kind_of self.old) (take count text.now) ≡ false)
+            (λ count. IsFront text.now count
+            × (spec.is_cell (kind_of self.old) (take count text.now) ≡ true)
+            × (values self.new
+            ≡ values self.old ++ spec.value_of (kind_of self.old) (take count text.now) ∷ []))) }
+        ensures kind { kind_of self.new ≡ kind_of self.old }
+    {
+        match self {
+            RawColumn::Numbers(numbers) => match number_front(text) {
+                Some(number) => {
+                    numbers.push(number.value)?;
+                    Ok(Some(number.count))
+                }
+                None => Ok(None),
+            },
+            RawColumn::Texts(texts) => match text_front(text) {
+                Some(count) => {
+                    texts.push(&text[..count])?;
+                    Ok(Some(count))
+                }
+                None => Ok(None),
+            },
+        }
     }
 }

@@ -4,6 +4,8 @@
 mod cell;
 mod column;
 mod fault;
+mod front;
+mod line;
 mod lines;
 mod raw_table;
 mod record;

@@ -15,8 +15,8 @@ ghost use Rattle.star_reader.specs.Private.Steps.{HasRows};
 
 use crate::column::RawColumn;
 use crate::fault::ReadFault;
+use crate::line::add_record;
 use crate::lines::{read_next, records_reader};
-use crate::record::push_record;
 use csv::{ByteRecord, Reader};
 use star_flat::FlatNumbers;
 use star_schema::{Kind, Limits, TableId, column_at, kind_of, width};
@@ -122,6 +122,7 @@ fn empty_columns(alloc: Global, table: TableId) -> Result<Vec<RawColumn>, AllocE
 // Adds the values of all records that are left to the columns of a table without rows, and says how
 // many records there were. After a fault the columns may differ in length.
 fn read_records(
+    alloc: Global,
     reader: &mut Reader<&[u8]>,
     line: &mut ByteRecord,
     columns: &mut [RawColumn],
@@ -138,7 +139,7 @@ fn read_records(
         if !read_next(reader, line)? {
             return Ok(rows);
         }
-        push_record(columns, rows + 1, line)?;
+        add_record(alloc, columns, rows + 1, line)?;
     }
     if read_next(reader, line)? {
         return Err(ReadFault::TooManyRows);
@@ -164,7 +165,7 @@ fn read_columns(
 {
     let mut reader = records_reader(alloc, text);
     let mut line = ByteRecord::new(alloc);
-    read_records(&mut reader, &mut line, columns, most)
+    read_records(alloc, &mut reader, &mut line, columns, most)
 }
 
 /// The table that a text is, with a row for each record, or the first fault: 2 before all, then by

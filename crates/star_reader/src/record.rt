@@ -13,7 +13,8 @@ use crate::column::RawColumn;
 use crate::fault::ReadFault;
 use csv::ByteRecord;
 
-fn field_at(line: &ByteRecord, place: usize) -> Option<&[u8]>
+/// The field at a place, from 0, if there is one.
+pub(crate) fn field_at(line: &ByteRecord, place: usize) -> Option<&[u8]>
     ensures { option_copied result ≡ slice_get (fields_read line.now) place }
 {
     line.get(place)

@@ -1,8 +1,8 @@
 -- Tables and columns that the tests find to be one.
-use Rattle.std.specs.Prelude.{◌≡◌, true, nat_eq, Some, slice_get, refl}
+use Rattle.std.specs.Prelude.{◌≡◌, ◌<◌, true, nat_eq, Some, slice_get, refl}
 use Rattle.std.proofs.Common.{ap, sym, ◌∙◌}
 use Rattle.std.proofs.lemmas.Bool.Decides.{Decides-eqb}
-use Rattle.std.proofs.lemmas.Option.{same_Some}
+use Rattle.std.proofs.lemmas.Option.{same_Some, slice_get_within}
 use Rattle.star_schema.specs.declared.table.TableId.{TableId}
 use Rattle.star_schema.specs.declared.table.TableId.TheVariants.{Date, Customer, Supplier, Part, Lineorder}
 use Rattle.star_schema.specs.declared.column.ColumnId.{ColumnId}
@@ -25,9 +25,12 @@ table_itself Supplier = refl
 table_itself Part = refl
 table_itself Lineorder = refl
 
-at_index : (c : ColumnId) → slice_get COLUMNS (index_of c) ≡ Some c
+pub at_index : (c : ColumnId) → slice_get COLUMNS (index_of c) ≡ Some c
 at_index DDatekey = refl
 at_index _ = refl
+
+pub index_within : (c : ColumnId) → index_of c < 58
+index_within c = slice_get_within COLUMNS (index_of c) c (at_index c)
 
 pub column_same : (c d : ColumnId) → nat_eq (index_of c) (index_of d) ≡ true → c ≡ d
 column_same c d e =

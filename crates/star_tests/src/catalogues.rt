@@ -1,39 +1,14 @@
-// The worked look-ups of the sample, each fault at its first and last record, and tables of 0, 1
-// and 100,000 rows.
+// The worked look-ups of the sample, each fault at its first and last record, and empty tables.
 
-ghost use Rattle.std.specs.Prelude.{◌≡◌, ◌<◌, ◌^◌};
+ghost use Rattle.std.specs.Prelude.{◌≡◌};
 ghost use Rattle.star_schema.specs.Schema.{kind_of};
 
-use crate::samples::loaded;
 use star_catalogue::{Catalogue, LoadFault, Texts, sample};
-use star_reader::ReadFault;
-use star_schema::{ColumnId, Kind, Limits, Sizes, TableId, table_of};
+use star_fixtures::samples::{loaded, outcome, outcome_within, replaced};
+use star_schema::{ColumnId, Kind, Sizes, TableId, table_of};
 use std::alloc::{AllocError, Global};
-use std::fmt::Write;
 use std::process::Abort;
 use std::test::Fail;
-
-const MANY: u32 = 100_000;
-
-// How many rows lineorder has, or why the tables were not loaded, where a table may have so many
-// rows.
-fn outcome_within(
-    alloc: Global,
-    texts: &Texts<'_>,
-    rows: u32,
-) -> Result<Result<u32, LoadFault>, AllocError> {
-    let limits = Limits::new(rows, 0).unwrap_or_else(|| Limits::widest());
-    match Catalogue::load(alloc, texts, limits) {
-        Ok(catalogue) => Ok(Ok(Box::new(alloc, catalogue)?.rows(TableId::Lineorder))),
-        Err(LoadFault::OutOfMemory) => Err(AllocError),
-        Err(fault) => Ok(Err(fault)),
-    }
-}
-
-// How many rows lineorder has, or why the tables were not loaded.
-fn outcome(alloc: Global, texts: &Texts<'_>) -> Result<Result<u32, LoadFault>, AllocError> {
-    outcome_within(alloc, texts, 2 * MANY)
-}
 
 // The number of a row in a column of numbers, if there is such a row.
 fn number(catalogue: &Catalogue, column: ColumnId, row: u32) -> Option<i64>
@@ -151,36 +126,12 @@ fn check_numbers(rt: &impl Abort, catalogue: &Catalogue) {
     }
 }
 
-fn check_keys(rt: &impl Abort, catalogue: &Catalogue) {
-    for (table, key, row) in [
-        (TableId::Date, 19930210, Some(0)),
-        (TableId::Date, 19971215, Some(2)),
-        (TableId::Date, 1, None),
-        (TableId::Customer, 2, Some(1)),
-        (TableId::Supplier, 2, Some(1)),
-        (TableId::Supplier, 3, None),
-        (TableId::Part, 3, Some(2)),
-        (TableId::Lineorder, 1, None),
-    ] {
-        assert_eq!(rt; catalogue.find(table, key), row, "{table} {key}");
-    }
-}
-
 #[test]
-fn numbers_and_keys_of_the_sample_are_found(rt: HostRuntime) -> Result<(), Fail> {
+fn numbers_of_the_sample_are_read_back(rt: HostRuntime) -> Result<(), Fail> {
     let catalogue = loaded(rt.alloc(), &sample())?;
     catalogue.law();
     check_numbers(&rt, &catalogue);
-    check_keys(&rt, &catalogue);
     Ok(())
-}
-
-// A text with the first OLD in it made NEW.
-fn replaced(alloc: Global, text: &[u8], old: &str, new: &str) -> Result<String, Fail> {
-    match str::from_utf8(text)?.split_once(old) {
-        Some((front, back)) => Ok(format!(in alloc; "{front}{new}{back}")?),
-        None => Err(Fail::from("nothing to replace")),
-    }
 }
 
 // What the sample's load answers where the first OLD in the lines of orders is made NEW.
@@ -206,6 +157,25 @@ fn changed_lines_of_orders_are_loaded(rt: HostRuntime) -> Result<(), Fail> {
     for (old, new) in [("|MAIL|", "||"), ("3|2|1|2", "3|-2|1|2")] {
         check_changed(&rt, rt.alloc(), old, new, Ok(5))?;
     }
+    Ok(())
+}
+
+#[tactic(auto, unfolding(star_schema::specs::Schema::column_of))]
+fn bits_of_price(catalogue: &Catalogue) -> u32 {
+    catalogue.bits(ColumnId::LoExtendedprice)
+}
+
+#[test]
+fn a_great_price_is_kept_in_64_bits(rt: HostRuntime) -> Result<(), Fail> {
+    let alloc = rt.alloc();
+    let texts = sample();
+    let lineorder = replaced(alloc, texts.lineorder, "50|3000", "50|999999999999999999")?;
+    let changed = Texts {
+        lineorder: lineorder.as_bytes(),
+        ..texts
+    };
+    let catalogue = loaded(alloc, &changed)?;
+    assert_eq!(rt; bits_of_price(&catalogue), 64);
     Ok(())
 }
 
@@ -260,12 +230,15 @@ fn check_order<'a>(
     sound: &Texts<'a>,
 ) -> Result<(), AllocError> {
     let duplicate = |table, at_row| LoadFault::DuplicateKey { table, at_row };
-    let unread = |table, fault| LoadFault::Read { table, fault };
-    let bad_number = ReadFault::BadNumber {
+    let bad_number = LoadFault::BadNumber {
+        table: TableId::Customer,
         at_row: 2,
         field: 1,
     };
-    let field_count = ReadFault::FieldCount { at_row: 1 };
+    let field_count = LoadFault::FieldCount {
+        table: TableId::Lineorder,
+        at_row: 1,
+    };
     for (date, customer, supplier, part, fault) in [
         (
             faulty.date,
@@ -286,7 +259,7 @@ fn check_order<'a>(
             faulty.customer,
             faulty.supplier,
             faulty.part,
-            unread(TableId::Customer, bad_number),
+            bad_number,
         ),
         (
             sound.date,
@@ -307,7 +280,7 @@ fn check_order<'a>(
             sound.customer,
             sound.supplier,
             sound.part,
-            unread(TableId::Lineorder, field_count),
+            field_count,
         ),
     ] {
         let texts = Texts {
@@ -344,9 +317,8 @@ fn tables_are_checked_in_their_order(rt: HostRuntime) -> Result<(), Fail> {
 
 #[test]
 fn a_full_table_is_loaded_and_one_row_more_is_not(rt: HostRuntime) -> Result<(), Fail> {
-    let fault = LoadFault::Read {
+    let fault = LoadFault::TooManyRows {
         table: TableId::Lineorder,
-        fault: ReadFault::TooManyRows,
     };
     for (rows, expected) in [(5, Ok(5)), (4, Err(fault))] {
         let got = outcome_within(rt.alloc(), &sample(), rows)?;
@@ -375,89 +347,5 @@ fn empty_tables_are_loaded(rt: HostRuntime) -> Result<(), Fail> {
     };
     let catalogue = loaded(rt.alloc(), &empty)?;
     check_empty(&rt, &catalogue);
-    Ok(())
-}
-
-// Texts with one row each, but for lineorder.
-fn one_row_each(lineorder: &[u8]) -> Texts<'_> {
-    Texts {
-        date: b"1|a|b|c|1|1|d|1|1|1|1|1|e|1|1|1|1",
-        customer: b"1|a|b|c|d|e|f|g",
-        supplier: b"1|a|b|c|d|e|f",
-        part: b"1|a|b|c|d|e|f|1|g",
-        lineorder,
-    }
-}
-
-// Lines of orders whose keys go by a step round a prime number, and after 100,000 of them begin
-// again.
-fn lines_of(alloc: Global, step: u64, rows: u32) -> Result<String, AllocError>
-    requires { step < 2 ^ 32 }
-{
-    let mut text = String::new(alloc);
-    for row in 0..rows {
-        let key = u64::from(row % MANY) * step % 100_003;
-        writeln!(
-            text,
-            "{}|{}|1|1|1|1|a|b|1|1|1|1|1|1|1|1|c|",
-            key / 2,
-            key % 2
-        )?;
-    }
-    Ok(text)
-}
-
-#[test]
-fn lines_of_orders_come_in_any_order(rt: HostRuntime) -> Result<(), Fail> {
-    let alloc = rt.alloc();
-    let again = LoadFault::DuplicateKey {
-        table: TableId::Lineorder,
-        at_row: MANY + 1,
-    };
-    for (step, order) in [(1, "rising"), (100_002, "falling"), (40_503, "shuffled")] {
-        for (rows, expected) in [(MANY, Ok(MANY)), (MANY + 1, Err(again))] {
-            let lines = lines_of(alloc, step, rows)?;
-            let texts = one_row_each(lines.as_bytes());
-            assert_eq!(rt; outcome(alloc, &texts)?, expected, "{order}");
-        }
-    }
-    Ok(())
-}
-
-// The key of a row of many customers.
-fn key_of_customer(row: u32) -> i64
-    requires { row < 2 ^ 17 }
-{
-    7 * i64::from(row) - 350_000
-}
-
-fn many_customers(alloc: Global) -> Result<String, AllocError> {
-    let mut text = String::new(alloc);
-    for row in 0..MANY {
-        let key = key_of_customer(row);
-        writeln!(text, "{key}|a|b|c|d|e|f|g")?;
-    }
-    Ok(text)
-}
-
-fn check_many_customers(rt: &impl Abort, catalogue: &Catalogue) {
-    for row in 0..MANY {
-        let key = key_of_customer(row);
-        assert_eq!(rt; catalogue.find(TableId::Customer, key), Some(row));
-    }
-    for key in [-350_001, -349_999, 1, 349_994] {
-        assert_eq!(rt; catalogue.find(TableId::Customer, key), None);
-    }
-}
-
-#[test]
-fn many_keys_are_found(rt: HostRuntime) -> Result<(), Fail> {
-    let customers = many_customers(rt.alloc())?;
-    let texts = Texts {
-        customer: customers.as_bytes(),
-        ..one_row_each(b"")
-    };
-    let catalogue = loaded(rt.alloc(), &texts)?;
-    check_many_customers(&rt, &catalogue);
     Ok(())
 }

@@ -2,7 +2,7 @@
 // call.
 
 use star_column::{ColumnData, NumberColumn, PackedColumn, TextColumn};
-use star_flat::FlatTexts;
+use star_flat::{FlatNumbers, FlatTexts};
 use star_schema::law;
 use std::alloc::{AllocError, Global};
 use std::process::Abort;
@@ -75,6 +75,20 @@ fn falling(alloc: Global, rows: i64) -> Result<Vec<i64>, AllocError> {
     Ok(numbers)
 }
 
+// The column of these fewer than a million numbers, packed without a column of them in between.
+fn packed_at_once(
+    rt: &impl Abort,
+    alloc: Global,
+    numbers: &[i64],
+) -> Result<PackedColumn, AllocError> {
+    let mut flat = FlatNumbers::new(alloc);
+    for number in numbers {
+        flat.push(*number)?;
+    }
+    assert!(rt; flat.len() < 1_000_000);
+    PackedColumn::from_flat(alloc, flat)
+}
+
 // The column of these numbers has them, and these bounds, plain and packed.
 fn check_numbers(
     rt: &impl Abort,
@@ -88,6 +102,8 @@ fn check_numbers(
     check_column(rt, &column, numbers, low, high);
     let packed = PackedColumn::build(alloc, &column)?;
     check_column(rt, &packed, numbers, low, high);
+    let at_once = packed_at_once(rt, alloc, numbers)?;
+    check_column(rt, &at_once, numbers, low, high);
     Ok(())
 }
 
@@ -118,7 +134,12 @@ fn check_width(
     assert!(rt; numbers.len() < 1_000_000);
     let column = NumberColumn::build(numbers.to_vec(alloc)?)?;
     let packed = PackedColumn::build(alloc, &column)?;
-    assert_eq!(rt; packed.bits(), bits, "of {numbers:?}");
+    let at_once = packed_at_once(rt, alloc, numbers)?;
+    assert_eq!(rt;
+        (packed.bits(), at_once.bits()),
+        (bits, bits),
+        "of {numbers:?}"
+    );
     Ok(())
 }
 

@@ -3,15 +3,11 @@
 #![tactic(auto)]
 
 #[cfg(test)]
-mod answers;
-#[cfg(test)]
 mod catalogues;
 #[cfg(test)]
 mod columns;
 #[cfg(test)]
-mod commands;
-#[cfg(test)]
-mod executions;
+mod flat_numbers;
 #[cfg(test)]
 mod flat_texts;
 #[cfg(test)]
@@ -19,21 +15,13 @@ mod groups;
 #[cfg(test)]
 mod intervals;
 #[cfg(test)]
+mod keys;
+#[cfg(test)]
 mod programs;
-#[cfg(test)]
-mod programs_at_hand;
-#[cfg(test)]
-mod reading;
 #[cfg(test)]
 mod reports;
 #[cfg(test)]
-mod samples;
-#[cfg(test)]
 mod spelling;
-#[cfg(test)]
-mod streams;
-#[cfg(test)]
-mod surroundings;
 #[cfg(test)]
 mod tables;
 #[cfg(test)]

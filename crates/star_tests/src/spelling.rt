@@ -1,6 +1,6 @@
 // Texts of programs: two written byte for byte, each line read back, and the first fault of a text.
 
-use crate::programs_at_hand::{ABOVE_AVERAGE, DISCOUNTED_REVENUE, read};
+use star_fixtures::programs::{ABOVE_AVERAGE, DISCOUNTED_REVENUE, read};
 use star_program::{
     Body, GroupDecl, Items, Op, Operation, Operator, Parts, Program, Show, Shows, Step, TextFault,
 };

@@ -50,9 +50,10 @@ fn reads_prefixes(rt: HostRuntime) -> Result<(), Fail> {
 #[test]
 fn tells_the_first_fault(rt: HostRuntime) -> Result<(), Fail> {
     let field = |field| ReadFault::BadByte { at_row: 1, field };
+    let second = |field| ReadFault::BadByte { at_row: 2, field };
     let number = |at_row| ReadFault::BadNumber { at_row, field: 1 };
     let count = |at_row| ReadFault::FieldCount { at_row };
-    let cases: [(&[u8], Result<u32, ReadFault>); 14] = [
+    let cases: [(&[u8], Result<u32, ReadFault>); 19] = [
         (b"", Ok(0)),
         (b"\r\n\n\r", Ok(0)),
         (b"1|a|b|c|d|e|f", Ok(1)),
@@ -70,6 +71,11 @@ fn tells_the_first_fault(rt: HostRuntime) -> Result<(), Fail> {
         ),
         (b"\xef\xbb\xbf1|a|b|c|d|e|f", Err(ReadFault::ByteOrderMark)),
         (b"1|a|b|c|d|e|\xef\xbb\xbf", Err(field(7))),
+        (b"\0", Err(count(1))),
+        (b"1|a\0|b|c|d|e", Err(count(1))),
+        (b"1|a|\0|c|d|e|\0|", Err(field(3))),
+        (b"x|a\0|b|c|d|e|f", Err(number(1))),
+        (b"1|a|b|c|d|e|f\n2\0|a|b|c|d|e|f", Err(second(1))),
     ];
     for (text, expected) in cases {
         let got = read_suppliers(rt.alloc(), text, Limits::widest())?;

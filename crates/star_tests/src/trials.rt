@@ -1,11 +1,11 @@
 // Programs with worked answers, each kind of trap, and bounds at and one below what is needed.
 
-use crate::programs_at_hand::{
+use star_catalogue::{Catalogue, Texts, sample};
+use star_fixtures::programs::{
     ABOVE_AVERAGE, ABSENT_KEY, DISCOUNTED_REVENUE, MISPLACED, NESTED, NO_TEXTS, READ_INSIDE, UNSET,
     counting, read,
 };
-use crate::samples::loaded;
-use star_catalogue::{Catalogue, Texts, sample};
+use star_fixtures::samples::loaded;
 use star_machine::{Cell, Outcome, TrialFault, trial};
 use star_schema::MOST_VISITS;
 use std::alloc::{AllocError, Global};

@@ -1,10 +1,10 @@
 // Programs that are verified and run by the library's own calls, or handed back.
 
-use crate::programs_at_hand::{
+use star_catalogue::{Catalogue, sample};
+use star_fixtures::programs::{
     ABOVE_AVERAGE, ABSENT_KEY, DISCOUNTED_REVENUE, MISPLACED, NESTED, READ_INSIDE, counting,
 };
-use crate::samples::loaded;
-use star_catalogue::{Catalogue, sample};
+use star_fixtures::samples::loaded;
 use star_program::{Program, TextFault};
 use star_run::run;
 use star_schema::{Limits, MOST_ROWS};

@@ -1,27 +1,19 @@
 -- The bounds of the columns, one column after another.
-use Rattle.std.proofs.Common.{◌≡◌, ◌≢◌, ◌<◌, ◌≤◌, ◌+◌, true≢false, ℕ, Bool, true, false, List, Some, length, get_or, arith, ap, sym, ◌∙◌, refl, get_or-set_other, get_or-set_same}
-use Rattle.std.specs.Prelude.{nat_eq, slice_get, slice_set}
+use Rattle.std.proofs.Common.{◌≡◌, ◌≢◌, ◌<◌, ◌≤◌, ◌+◌, true≢false, ℕ, Bool, true, false, List, length, get_or, arith, ap, sym, ◌∙◌, refl, get_or-set_other, get_or-set_same}
+use Rattle.std.specs.Prelude.{nat_eq, slice_set}
 use Rattle.std.proofs.lemmas.Bool.Decides.{Decides-eqb}
-use Rattle.std.proofs.lemmas.Option.{get_or_from_slice_get, slice_get_within}
+use Rattle.std.proofs.lemmas.Option.{get_or_from_slice_get}
 use Rattle.star_schema.specs.Schema.{index_of}
 use Rattle.star_schema.specs.Sizes.{size_of}
 use Rattle.star_schema.specs.declared.column.ColumnId.{ColumnId}
-use Rattle.star_schema.specs.declared.column.ColumnId.TheVariants.{DDatekey}
 use Rattle.star_schema.specs.declared.column.TheConstants.{COLUMNS}
 use Rattle.star_schema.specs.declared.sizes.Sizes.{Sizes}
 use Rattle.star_schema.specs.declared.table.TableId.{TableId}
-use Rattle.star_schema.proofs.Same.{column_same}
+use Rattle.star_schema.proofs.Same.{at_index, column_same, index_within}
 use Rattle.star_interval.specs.declared.Interval.{Interval}
 use Rattle.star_interval.specs.Interval.{range_of}
 use Rattle.star_program.specs.World.{World}
 use Rattle.star_verify.specs.Private.Facts.{AreBounds, AreFacts}
-
-at_index : (c : ColumnId) → slice_get COLUMNS (index_of c) ≡ Some c
-at_index DDatekey = refl
-at_index _ = refl
-
-index_within : (c : ColumnId) → index_of c < 58
-index_within c = slice_get_within COLUMNS (index_of c) c (at_index c)
 
 module _ (w : World) (bounds : List Interval) (k : ℕ) (d : ColumnId) (new : Interval) where
   pub one_more : length bounds ≡ 58 → AreBounds w bounds k

@@ -32,10 +32,6 @@ pub second_found : (at : ℕ) (found rest : Option Reason) (r : Reason) → foun
     → rest ≡ Some r → at_place at (option_or found rest) ≡ Some (at, r)
 second_found at found rest r e f = λ i. at_place at (option_or (e i) (f i))
 
-pub neither : (found rest : Option Reason) → found ≡ None → rest ≡ None
-    → option_or found rest ≡ None
-neither found rest e f = λ i. option_or (e i) (f i)
-
 -- ---- the tallies after a put
 
 apart : (h g a n : ℕ) → ((h ≡ g) → ⊥) → a < 8 → n ≤ 8

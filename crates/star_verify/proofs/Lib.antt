@@ -1,6 +1,4 @@
 mod WorkedTexts
-mod Steps
-mod Nested
 mod Turns
 mod Lines
 mod Bits
@@ -18,7 +16,6 @@ mod Writing
 mod Judging
 mod Placing
 mod Walking
-mod TextBounds
 mod ColumnBounds
 mod Starting
 mod Refusing

@@ -10,7 +10,7 @@ use Rattle.star_program.specs.declared.group.GroupDecl.{GroupDecl}
 use Rattle.star_program.specs.declared.program.Parts.{Parts}
 use Rattle.star_program.specs.Faults.{group_at}
 use Rattle.star_program.specs.Shown.{has_column, first_unshown, named_columns, shown_fault}
-use Rattle.star_verify.proofs.Steps.{drop_past}
+use Rattle.std.proofs.lemmas.List.{drop_all}
 
 module _ {X : Type 0} (col : X → GroupColumn) (d : GroupDecl) (line : ℕ) (xs : List X) (i : ℕ)
   where
@@ -36,7 +36,7 @@ module _ {X : Type 0} (col : X → GroupColumn) (d : GroupDecl) (line : ℕ) (xs
         ∙ ap (λ b. if b then first_unshown d (line + 1) (map col (drop (i + 1) xs)) else Some line) has
 
     pub unshown_end : length xs ≤ i → first_unshown d line (map col (drop i xs)) ≡ None
-    unshown_end past = ap (λ ys. first_unshown d line (map col ys)) (drop_past xs i past)
+    unshown_end past = ap (λ ys. first_unshown d line (map col ys)) (drop_all i xs past)
 
 either : {A : Type 0} (b : Bool) (x y : Option A) (z : A)
     → (if b then option_or x y else Some z) ≡ option_or (if b then x else Some z) y

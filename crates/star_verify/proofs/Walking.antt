@@ -138,8 +138,8 @@ opened_in g pending table r body rest body_as old inner outer e f is same =
 
 -- ---- how far a walk is
 
-pub none_walked : (walk : Walk) → turns_met (size_of walk.facts.sizes) walk.place.met (code_of_steps walk.steps) ≤ 10 ^ 15
-    → IsSized walk.parts walk.noted → AreFewAt walk.noted walk.place.at
+pub none_walked : (walk : Walk) → turns_met (size_of walk.subject.facts.now.sizes) walk.place.met (code_of_steps walk.steps) ≤ 10 ^ 15
+    → IsSized walk.subject.parts.now walk.noted → AreFewAt walk.noted walk.place.at
     → IsLeft walk walk.registers walk.noted walk.place.at walk.steps
 none_walked walk turns sized few = record {
   past = omega arith;
@@ -155,11 +155,11 @@ none_walked walk turns sized few = record {
 -- what the walk of a step answers where nothing refuses it
 abbrev IsStepped : Walk → List Register → Noted → ℕ → Step → Code → List Register → Noted → Type 0
 IsStepped walk registers noted at step rest registers_then noted_then =
-    (w : World) (x : Context) (pending : ℕ → Bool) → AreFacts w walk.facts
-    → Keeps walk.parts registers noted x → IsPlaced (record walk.place { at = at }) x
-    → AreMarked walk.parts walk.pending pending
-    → (step_first w walk.parts pending x at step rest ≡ None)
-    × Keeps walk.parts registers_then noted_then (after_step w walk.parts x step)
+    (w : World) (x : Context) (pending : ℕ → Bool) → AreFacts w walk.subject.facts.now
+    → Keeps walk.subject.parts.now registers noted x → IsPlaced (record walk.place { at = at }) x
+    → AreMarked walk.subject.parts.now walk.place.pending pending
+    → (step_first w walk.subject.parts.now pending x at step rest ≡ None)
+    × Keeps walk.subject.parts.now registers_then noted_then (after_step w walk.subject.parts.now x step)
 
 module _ (walk : Walk) (registers : List Register) (noted : Noted) (at : ℕ) (left : List Step)
     (step : Step) (some : 1 ≤ length left) (is : step ≡ get_or left 0 step)
@@ -170,7 +170,7 @@ module _ (walk : Walk) (registers : List Register) (noted : Noted) (at : ℕ) (l
   pub one_walked : (registers_then : List Register) (noted_then : Noted) (next : ℕ)
       → IsStepped walk registers noted at step rest registers_then noted_then
       → next ≡ at + step_size step → length registers_then ≡ length registers
-      → IsSized walk.parts noted_then → AreFewAt noted_then next
+      → IsSized walk.subject.parts.now noted_then → AreFewAt noted_then next
       → IsLeft walk registers_then noted_then next (others left)
   one_walked registers_then noted_then next stepped number wide sized few =
       let code = code_first left step some is in
@@ -180,8 +180,8 @@ module _ (walk : Walk) (registers : List Register) (noted : Noted) (at : ℕ) (l
         turns = omega (
           arith,
           so_far.turns,
-          ap (turns_met (size_of walk.facts.sizes) walk.place.met) code,
-          turns_after (size_of walk.facts.sizes) walk.place.met step rest,
+          ap (turns_met (size_of walk.subject.facts.now.sizes) walk.place.met) code,
+          turns_after (size_of walk.subject.facts.now.sizes) walk.place.met step rest,
         );
         wide = wide ∙ so_far.wide;
         sized = sized;
@@ -190,36 +190,36 @@ module _ (walk : Walk) (registers : List Register) (noted : Noted) (at : ℕ) (l
             let here = so_far.kept w x pending facts keeps placed marked in
             let there = here.0 in
             let done = stepped w there pending facts here.1 (record { inside = here.2.inside; met = here.2.met }) marked in
-            let next_there = after_step w walk.parts there step in (
+            let next_there = after_step w walk.subject.parts.now there step in (
               next_there,
               done.1,
-              still_placed w walk.parts walk.place there step here.2,
+              still_placed w walk.subject.parts.now walk.place there step here.2,
               record {
                 first = here.3.first
-                    ∙ ap (first_reason w walk.parts pending there at) code
-                    ∙ first_step w walk.parts pending there at step rest
-                    ∙ ap (λ o. option_or o (first_reason w walk.parts pending next_there (at + step_size step) rest)) done.0
-                    ∙ ap (λ n. first_reason w walk.parts pending next_there n rest) (sym number);
-                after = here.3.after ∙ ap (at_end w walk.parts there) code ∙ end_first w walk.parts pending there at step rest;
+                    ∙ ap (first_reason w walk.subject.parts.now pending there at) code
+                    ∙ first_step w walk.subject.parts.now pending there at step rest
+                    ∙ ap (λ o. option_or o (first_reason w walk.subject.parts.now pending next_there (at + step_size step) rest)) done.0
+                    ∙ ap (λ n. first_reason w walk.subject.parts.now pending next_there n rest) (sym number);
+                after = here.3.after ∙ ap (at_end w walk.subject.parts.now there) code ∙ end_first w walk.subject.parts.now pending there at step rest;
               },
             );
       }
 
   -- what refuses the step is first
   pub step_refused : (w : World) (x : Context) (pending : ℕ → Bool) (refusal : Refusal)
-      → ((there : Context) → Keeps walk.parts registers noted there
+      → ((there : Context) → Keeps walk.subject.parts.now registers noted there
       → IsPlaced (record walk.place { at = at }) there
-      → IsFirst refusal (step_first w walk.parts pending there at step rest))
-      → AreFacts w walk.facts → Keeps walk.parts walk.registers walk.noted x → IsPlaced walk.place x
-      → AreMarked walk.parts walk.pending pending
-      → IsFirst refusal (first_reason w walk.parts pending x walk.place.at (code_of_steps walk.steps))
+      → IsFirst refusal (step_first w walk.subject.parts.now pending there at step rest))
+      → AreFacts w walk.subject.facts.now → Keeps walk.subject.parts.now walk.registers walk.noted x → IsPlaced walk.place x
+      → AreMarked walk.subject.parts.now walk.place.pending pending
+      → IsFirst refusal (first_reason w walk.subject.parts.now pending x walk.place.at (code_of_steps walk.steps))
   step_refused w x pending refusal stops facts keeps placed marked =
       let here = so_far.kept w x pending facts keeps placed marked in
       let there = here.0 in
       subst (IsFirst refusal)
-      (sym (here.3.first ∙ ap (first_reason w walk.parts pending there at) (code_first left step some is)
-      ∙ first_step w walk.parts pending there at step rest))
-      (first_of refusal (step_first w walk.parts pending there at step rest) _
+      (sym (here.3.first ∙ ap (first_reason w walk.subject.parts.now pending there at) (code_first left step some is)
+      ∙ first_step w walk.subject.parts.now pending there at step rest))
+      (first_of refusal (step_first w walk.subject.parts.now pending there at step rest) _
       (stops there here.1 (record { inside = here.2.inside; met = here.2.met })))
 
 none_left : (left : List Step) → length left < 1 → code_of_steps left ≡ Stop
@@ -228,17 +228,17 @@ none_left (step ∷ rest) h = absurd (omega (arith, h))
 
 pub all_walked : (walk : Walk) (registers : List Register) (noted : Noted) (at : ℕ) (left : List Step)
     → length left < 1 → IsLeft walk registers noted at left
-    → (w : World) (x : Context) (pending : ℕ → Bool) → AreFacts w walk.facts
-    → Keeps walk.parts walk.registers walk.noted x → IsPlaced walk.place x
-    → AreMarked walk.parts walk.pending pending
-    → (first_reason w walk.parts pending x walk.place.at (code_of_steps walk.steps) ≡ None)
-    × AreNoted walk.parts noted (at_end w walk.parts x (code_of_steps walk.steps))
+    → (w : World) (x : Context) (pending : ℕ → Bool) → AreFacts w walk.subject.facts.now
+    → Keeps walk.subject.parts.now walk.registers walk.noted x → IsPlaced walk.place x
+    → AreMarked walk.subject.parts.now walk.place.pending pending
+    → (first_reason w walk.subject.parts.now pending x walk.place.at (code_of_steps walk.steps) ≡ None)
+    × AreNoted walk.subject.parts.now noted (at_end w walk.subject.parts.now x (code_of_steps walk.steps))
 all_walked walk registers noted at left none so_far w x pending facts keeps placed marked =
     let here = so_far.kept w x pending facts keeps placed marked in
     let there = here.0 in
     let code = none_left left none in (
-      here.3.first ∙ ap (first_reason w walk.parts pending there at) code,
-      subst (AreNoted walk.parts noted) (sym (here.3.after ∙ ap (at_end w walk.parts there) code))
+      here.3.first ∙ ap (first_reason w walk.subject.parts.now pending there at) code,
+      subst (AreNoted walk.subject.parts.now noted) (sym (here.3.after ∙ ap (at_end w walk.subject.parts.now there) code))
           here.1.earlier,
     )
 

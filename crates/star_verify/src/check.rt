@@ -16,6 +16,7 @@ use crate::instructions::{Noted, Place};
 use crate::refusal::Refusal;
 use crate::register::Register;
 use crate::report::misnamed_line;
+use crate::subject::Subject;
 use crate::tally::Tally;
 use crate::visits::quote;
 use crate::walk::walk;
@@ -57,16 +58,16 @@ fn check_instructions(alloc: Global, parts: &Parts, facts: &Facts) -> Result<(),
 {
     let mut noted = nothing_noted(alloc, parts)?;
     let mut registers = unknown_registers(alloc, parts.registers)?;
+    let pending = [false; 8];
     let first = Place {
         at: 1,
         inside: false,
         met: 1,
+        pending,
     };
     walk(
-        parts,
-        facts,
+        &Subject { parts, facts },
         first,
-        [false; 8],
         &mut registers,
         &mut noted,
         parts.body.as_slice(),

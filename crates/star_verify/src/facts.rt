@@ -66,7 +66,8 @@ impl Facts {
     pub(crate) fn loaded(&self, column: ColumnId) -> Known
         ensures { (w : World) → AreFacts w self.now
             → (known_shown result ≡ ranges.loaded_known w column (world.is_text column))
-            × (refusals.overflow_of w (ranges.loaded_known w column (world.is_text column)) ≡ None) }
+            × (refusals.overflow_of w (ranges.loaded_known w column (world.is_text column))
+            ≡ None) }
     {
         if is_text(column) {
             return Known::Text(column);

@@ -6,7 +6,6 @@ ghost use Rattle.star_program.specs.CodeOfSteps.{code_of_steps};
 ghost use Rattle.star_program.specs.declared.fault.Fault.{Fault as Wrong};
 ghost use Rattle.star_program.specs.declared.op.Op.TheVariants as op;
 ghost use Rattle.star_program.specs.Faults.{fault_of, group_at, place_fault, target_of, value_count};
-ghost use Rattle.star_program.specs.Limits.{IsWithinLimits};
 ghost use Rattle.star_program.specs.World.{World};
 ghost use Rattle.star_admission.specs.Contexts.{Context, after_op};
 ghost use Rattle.star_admission.specs.Private.Forward.{open_with};
@@ -19,12 +18,12 @@ ghost use Rattle.star_verify.specs.Private.Made.{beyond_shown};
 ghost use Rattle.star_verify.specs.Private.Shown.{known_in};
 ghost use Rattle.star_verify.specs.Shown.{IsReason};
 
-use crate::facts::Facts;
 use crate::gifts::give;
 use crate::known::Beyond;
 use crate::operations::{check_source, make};
 use crate::refusal::{Reason, Refusal};
 use crate::register::{Register, check_kinds, learn};
+use crate::subject::Subject;
 use crate::tally::Tally;
 use crate::totals::check_sums;
 use star_program::{Fault, Op, Operation, Parts, RegisterList, Step};
@@ -36,21 +35,25 @@ pub(crate) struct Noted {
     pub(crate) tallies: Vec<Tally>,
 }
 
-// Where an instruction stands: its number, whether scans stand round it, and how often it is met at
-// most.
+// Where an instruction stands: its number, whether scans stand round it, how often it is met at
+// most, and which groups are put to in a scan round it or after such a scan.
 #[derive(Clone, Copy)]
 pub(crate) struct Place {
     pub(crate) at: u16,
     pub(crate) inside: bool,
     pub(crate) met: u64,
+    pub(crate) pending: [bool; 8],
 }
 
 // The refusal by numbers that leave 64 bits.
-fn overflow(parts: &Parts, facts: &Facts, at: u16, beyond: Beyond) -> Refusal
-    ensures { (w : World) → AreFacts w facts.now
+fn overflow(subject: &Subject<'_>, at: u16, beyond: Beyond) -> Refusal
+    ensures { (w : World) → AreFacts w subject.now.facts.now
         → IsFirst result (Some (at, beyond_shown w beyond)) }
 {
-    match facts.reached(parts.groups.allocator(), beyond.reach) {
+    match subject
+        .facts
+        .reached(subject.parts.groups.allocator(), beyond.reach)
+    {
         Ok(columns) => Refusal::Refused {
             at,
             reason: Reason::Overflow {
@@ -112,73 +115,76 @@ fn check_op(
 
 // Judges what an operation makes, and writes it.
 fn assign(
-    parts: &Parts,
-    facts: &Facts,
-    at: u16,
-    pending: [bool; 8],
+    subject: &Subject<'_>,
+    place: Place,
     rest: &[Step],
     registers: &mut [Register],
     noted: &mut Noted,
     target: u16,
     operation: &Operation,
 ) -> Result<(), Refusal>
-    requires limits { IsWithinLimits parts.now }
     requires placed { (inside : Bool)
-        × (place_fault parts.now inside (op.Assign target operation.now) ≡ None) }
-    requires declared { target < parts.now.registers }
-    requires wide { length registers.old ≡ parts.now.registers }
-    requires sized { IsSized parts.now noted.old }
-    ensures judged { (w : World) (x : Context) (pending_now : ℕ → Bool) → AreFacts w facts.now
-        → Keeps parts.now registers.old noted.old x → AreMarked parts.now pending pending_now
-        → IsJudged result at
+        × (place_fault subject.now.parts.now inside (op.Assign target operation.now) ≡ None) }
+    requires declared { target < subject.now.parts.now.registers }
+    requires wide { length registers.old ≡ subject.now.parts.now.registers }
+    requires sized { IsSized subject.now.parts.now noted.old }
+    ensures judged { (w : World) (x : Context) (pending_now : ℕ → Bool)
+        → AreFacts w subject.now.facts.now → Keeps subject.now.parts.now registers.old noted.old x
+        → AreMarked subject.now.parts.now place.pending pending_now
+        → IsJudged result place.at
         (option_or (source_reason (open_with pending_now (code_of_steps rest.now)) x
         (op.Assign target operation.now))
-        (range_reason w parts.now x (op.Assign target operation.now)))
-        (Keeps parts.now registers.new noted.new
-        (after_op w parts.now x (op.Assign target operation.now))) }
+        (range_reason w subject.now.parts.now x (op.Assign target operation.now)))
+        (Keeps subject.now.parts.now registers.new noted.new
+        (after_op w subject.now.parts.now x (op.Assign target operation.now))) }
     ensures wide { length registers.new ≡ length registers.old }
-    ensures sized { IsSized parts.now noted.new }
+    ensures sized { IsSized subject.now.parts.now noted.new }
     ensures tallies { noted.new.tallies ≡ noted.old.tallies }
 {
-    match check_source(parts, registers, pending, rest, operation) {
-        Ok(()) => match make(parts, facts, registers, &noted.tallies, operation) {
+    let parts = subject.parts;
+    match check_source(parts, registers, place.pending, rest, operation) {
+        Ok(()) => match make(parts, subject.facts, registers, &noted.tallies, operation) {
             Ok(known) => {
                 learn(registers, target, known);
                 note(&mut noted.written, target);
                 Ok(())
             }
-            Err(beyond) => Err(overflow(parts, facts, at, beyond)),
+            Err(beyond) => Err(overflow(subject, place.at, beyond)),
         },
-        Err(reason) => Err(Refusal::Refused { at, reason }),
+        Err(reason) => Err(Refusal::Refused {
+            at: place.at,
+            reason,
+        }),
     }
 }
 
 // Judges the sums that a put adds to.
 fn put(
-    parts: &Parts,
-    facts: &Facts,
+    subject: &Subject<'_>,
     place: Place,
     registers: &[Register],
     tallies: &mut [Tally],
     group: u16,
     values: &RegisterList,
 ) -> Result<(), Refusal>
-    requires limits { IsWithinLimits parts.now }
-    requires there { group < length parts.now.groups }
-    requires values { length values.now ≡ value_count (group_at parts.now group).aggregates }
+    requires there { group < length subject.now.parts.now.groups }
+    requires values { length values.now
+        ≡ value_count (group_at subject.now.parts.now group).aggregates }
     requires at { place.at ≤ 4096 }
     requires met { place.met ≤ 10 ^ 15 }
     requires tallies { length tallies.old ≡ 64 }
     requires few { AreFew tallies.old (place.at * 10 ^ 15) }
-    ensures judged { (w : World) (x : Context) (keys : List ℕ) → AreFacts w facts.now
+    ensures judged { (w : World) (x : Context) (keys : List ℕ) → AreFacts w subject.now.facts.now
         → known_in registers.now ≡ x.known → x.met ≡ place.met
-        → HasShares parts.now tallies.old x
-        → IsJudged result place.at (range_reason w parts.now x (op.Put group keys values.now))
-        (HasShares parts.now tallies.new (after_op w parts.now x (op.Put group keys values.now))) }
+        → HasShares subject.now.parts.now tallies.old x
+        → IsJudged result place.at
+        (range_reason w subject.now.parts.now x (op.Put group keys values.now))
+        (HasShares subject.now.parts.now tallies.new
+        (after_op w subject.now.parts.now x (op.Put group keys values.now))) }
     ensures few { AreFew tallies.new ((place.at + 1) * 10 ^ 15) }
     ensures len { length tallies.new ≡ length tallies.old }
 {
-    match parts.group(group) {
+    match subject.parts.group(group) {
         Some(declared) => {
             let first = 8 * group as usize;
             let aggregates = declared.aggregates.as_slice();
@@ -192,7 +198,7 @@ fn put(
             );
             match check_sums(tallies, first, aggregates) {
                 Ok(()) => Ok(()),
-                Err(beyond) => Err(overflow(parts, facts, place.at, beyond)),
+                Err(beyond) => Err(overflow(subject, place.at, beyond)),
             }
         }
         None => Ok(()),
@@ -201,42 +207,41 @@ fn put(
 
 // Judges an instruction with which nothing is wrong by its kinds, and does what it does.
 fn perform(
-    parts: &Parts,
-    facts: &Facts,
+    subject: &Subject<'_>,
     place: Place,
-    pending: [bool; 8],
     rest: &[Step],
     registers: &mut [Register],
     noted: &mut Noted,
     op: &Op,
 ) -> Result<(), Refusal>
-    requires limits { IsWithinLimits parts.now }
-    requires fine { (inside : Bool) × (twice : Option Wrong) × (fault_of parts.now inside twice
+    requires fine { (inside : Bool) × (twice : Option Wrong)
+        × (fault_of subject.now.parts.now inside twice
         (kinds_known (known_in registers.old)) op.now ≡ None) }
     requires at { place.at ≤ 4096 }
     requires met { place.met ≤ 10 ^ 15 }
-    requires wide { length registers.old ≡ parts.now.registers }
-    requires sized { IsSized parts.now noted.old }
+    requires wide { length registers.old ≡ subject.now.parts.now.registers }
+    requires sized { IsSized subject.now.parts.now noted.old }
     requires few { AreFewAt noted.old place.at }
-    ensures judged { (w : World) (x : Context) (pending_now : ℕ → Bool) → AreFacts w facts.now
-        → Keeps parts.now registers.old noted.old x → IsPlaced place x
-        → AreMarked parts.now pending pending_now
+    ensures judged { (w : World) (x : Context) (pending_now : ℕ → Bool)
+        → AreFacts w subject.now.facts.now → Keeps subject.now.parts.now registers.old noted.old x
+        → IsPlaced place x
+        → AreMarked subject.now.parts.now place.pending pending_now
         → IsJudged result place.at
         (option_or (source_reason (open_with pending_now (code_of_steps rest.now)) x op.now)
-        (range_reason w parts.now x op.now))
-        (Keeps parts.now registers.new noted.new (after_op w parts.now x op.now)) }
+        (range_reason w subject.now.parts.now x op.now))
+        (Keeps subject.now.parts.now registers.new noted.new
+        (after_op w subject.now.parts.now x op.now)) }
     ensures wide { length registers.new ≡ length registers.old }
-    ensures sized { IsSized parts.now noted.new }
+    ensures sized { IsSized subject.now.parts.now noted.new }
     ensures few { AreFewAt noted.new (place.at + 1) }
 {
     match op {
         Op::Assign { target, operation } => assign(
-            parts, facts, place.at, pending, rest, registers, noted, *target, operation,
+            subject, place, rest, registers, noted, *target, operation,
         ),
         Op::Keep { .. } => Ok(()),
         Op::Put { group, values, .. } => put(
-            parts,
-            facts,
+            subject,
             place,
             registers,
             &mut noted.tallies,
@@ -249,33 +254,33 @@ fn perform(
 // Judges an instruction: it stands before these steps, and so many groups are put to after those or
 // in a scan round it.
 pub(crate) fn judge(
-    parts: &Parts,
-    facts: &Facts,
+    subject: &Subject<'_>,
     place: Place,
-    pending: [bool; 8],
     rest: &[Step],
     registers: &mut [Register],
     noted: &mut Noted,
     op: &Op,
 ) -> Result<(), Refusal>
-    requires limits { IsWithinLimits parts.now }
     requires at { place.at ≤ 4096 }
     requires met { place.met ≤ 10 ^ 15 }
-    requires wide { length registers.old ≡ parts.now.registers }
-    requires sized { IsSized parts.now noted.old }
+    requires wide { length registers.old ≡ subject.now.parts.now.registers }
+    requires sized { IsSized subject.now.parts.now noted.old }
     requires few { AreFewAt noted.old place.at }
-    ensures judged { (w : World) (x : Context) (pending_now : ℕ → Bool) → AreFacts w facts.now
-        → Keeps parts.now registers.old noted.old x → IsPlaced place x
-        → AreMarked parts.now pending pending_now
+    ensures judged { (w : World) (x : Context) (pending_now : ℕ → Bool)
+        → AreFacts w subject.now.facts.now → Keeps subject.now.parts.now registers.old noted.old x
+        → IsPlaced place x
+        → AreMarked subject.now.parts.now place.pending pending_now
         → IsJudged result place.at
-        (op_reason w parts.now (open_with pending_now (code_of_steps rest.now)) x op.now)
-        (Keeps parts.now registers.new noted.new (after_op w parts.now x op.now)) }
+        (op_reason w subject.now.parts.now
+        (open_with pending_now (code_of_steps rest.now)) x op.now)
+        (Keeps subject.now.parts.now registers.new noted.new
+        (after_op w subject.now.parts.now x op.now)) }
     ensures wide { length registers.new ≡ length registers.old }
-    ensures sized { IsSized parts.now noted.new }
+    ensures sized { IsSized subject.now.parts.now noted.new }
     ensures few { IfOk result (λ _. AreFewAt noted.new (place.at + 1)) }
 {
-    match check_op(parts, place.inside, registers, &noted.written, op) {
-        Ok(()) => perform(parts, facts, place, pending, rest, registers, noted, op),
+    match check_op(subject.parts, place.inside, registers, &noted.written, op) {
+        Ok(()) => perform(subject, place, rest, registers, noted, op),
         Err(reason) => Err(Refusal::Refused {
             at: place.at,
             reason,

@@ -105,7 +105,8 @@ pub(crate) fn answer(
     right: Option<Known>,
 ) -> Result<Known, Beyond>
     ensures made { IfOk result (λ known. known_shown known
-        ≡ ranges.answer_known operator (option_map known_shown left) (option_map known_shown right)) }
+        ≡ ranges.answer_known operator (option_map known_shown left)
+        (option_map known_shown right)) }
     ensures overflow { (w : World) → MatchResult result
         (λ _. refusals.overflow_of w
         (ranges.answer_known operator (option_map known_shown left) (option_map known_shown right))

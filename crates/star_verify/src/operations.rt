@@ -55,7 +55,8 @@ fn read_total(
     requires there { 8 * group + aggregate < length tallies.now }
     ensures { (w : World) (x : Context) → HasShares parts.now tallies.now x
         → IsMade w result (ranges.given (read_range
-        (contexts.aggregate_at parts.now group aggregate) (x.so_far group aggregate) (only default))) }
+        (contexts.aggregate_at parts.now group aggregate) (x.so_far group aggregate)
+        (only default))) }
 {
     let place = 8 * group as usize + aggregate as usize;
     read(

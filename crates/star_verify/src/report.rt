@@ -35,7 +35,8 @@ fn bad_show(declared: &GroupDecl, shows: &[Show]) -> Option<u8>
 fn bad_sort(declared: &GroupDecl, first: u8, sorts: &[SortKey]) -> Option<u8>
     requires few { length sorts.now ≤ 16 }
     requires first { first ≤ 17 }
-    ensures { result ≡ shown.first_unshown declared.now first (map (λ sort. sort.column) sorts.now) }
+    ensures { result
+        ≡ shown.first_unshown declared.now first (map (λ sort. sort.column) sorts.now) }
 {
     let mut line = first;
     for sort in sorts {

@@ -9,8 +9,8 @@ use Rattle.star_schema.specs.Tables.{Value}
 use Rattle.star_query.specs.declared.fault.QueryFault.{QueryFault}
 use Rattle.star_query.specs.declared.token.Fold.TheVariants.{Sum}
 use Rattle.star_query.specs.declared.token.Relation.TheVariants.{AtLeast, AtMost, Equal, Less}
-use Rattle.star_query.specs.declared.tree.Shape.TheVariants.{Plain, Cube}
-use Rattle.star_query.specs.declared.tree.Direction.TheVariants.{Ascending, Descending}
+use Rattle.star_schema.specs.declared.group.Shape.TheVariants.{Plain, Cube}
+use Rattle.star_schema.specs.declared.group.Direction.TheVariants.{Ascending, Descending}
 use Rattle.star_query.specs.Symbols.{Placed, spelling, reserved_words}
 use Rattle.star_query.specs.Cut.{cut_of, cut_from, reserved}
 use Rattle.star_query.specs.Tree as tree

@@ -8,7 +8,7 @@ use Rattle.star_schema.specs.Records.{pieces}
 use Rattle.star_schema.specs.Schema.{column_of, columns_of, place_of, table_name}
 use Rattle.star_schema.specs.Tables.{Value}
 use Rattle.star_query.specs.declared.token.Relation.TheVariants.{Greater}
-use Rattle.star_query.specs.declared.tree.Shape.TheVariants.{Plain}
+use Rattle.star_schema.specs.declared.group.Shape.TheVariants.{Plain}
 use Rattle.star_query.specs.Tree as tree
 use Rattle.star_query.specs.Tree.{Name, Condition, both, either, negation, pair, compare, Tree}
 use Rattle.star_plan.specs.Meaning.{Joined, value_of}

@@ -3,8 +3,8 @@ use Rattle.std.proofs.Common.{◌≡◌, ℕ, zero, suc, ◌≤◌, true, false,
 use Rattle.std.specs.Prelude.{pos, codes, map, replicate}
 use Rattle.star_query.specs.declared.token.Fold.TheVariants.{Sum}
 use Rattle.star_query.specs.declared.token.Relation.TheVariants.{Equal}
-use Rattle.star_query.specs.declared.tree.Shape.TheVariants.{Plain}
-use Rattle.star_query.specs.declared.tree.Direction.TheVariants.{Ascending}
+use Rattle.star_schema.specs.declared.group.Shape.TheVariants.{Plain}
+use Rattle.star_schema.specs.declared.group.Direction.TheVariants.{Ascending}
 use Rattle.star_query.specs.Tree.{Name, number, text, Expression, column, constant, add, sub, mul, Condition, either, both, negation, pair, compare, between, Measure, fold, count, Item, plain, aggregate, Tree}
 use Rattle.star_query.specs.Limits.{IsWithinLimits, operands_of, comparisons_of}
 use Rattle.star_query.specs.Spelled.{IsSpelled, is_name, is_number, is_text, expression_is_spelled, condition_is_spelled, item_is_spelled}

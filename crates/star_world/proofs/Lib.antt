@@ -1,4 +1,5 @@
 pub mod Found
 pub mod Loaded
+pub mod TextBounds
 mod Shown
 mod Worked

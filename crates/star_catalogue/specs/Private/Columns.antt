@@ -1,22 +1,10 @@
--- What the columns of a table hold.
-use Rattle.std.specs.Prelude.{◌≡◌, ℕ, List, All, length, map}
-use Rattle.star_schema.specs.declared.table.TableId.{TableId}
-use Rattle.star_schema.specs.declared.column.Kind.{Kind}
-use Rattle.star_schema.specs.declared.column.Kind.TheVariants as kind
-use Rattle.star_schema.specs.Schema.{kinds_of}
-use Rattle.star_schema.specs.Tables.{Value, Number, Text}
+-- A column in memory, as the column that was read.
+use Rattle.star_reader.specs.declared.column.RawColumn.{RawColumn}
+use Rattle.star_reader.specs.declared.column.RawColumn.TheVariants as read
 use Rattle.star_catalogue.specs.declared.columns.Column.{Column}
 use Rattle.star_catalogue.specs.declared.columns.Column.TheVariants.{Numbers, Texts}
 
-abbrev pub kind_of : Column → Kind
-kind_of (Numbers numbers) = kind.Number
-kind_of (Texts texts) = kind.Text
-
-abbrev pub values : Column → List Value
-values (Numbers numbers) = map Number numbers
-values (Texts texts) = map Text texts
-
--- these columns are those of a table with so many rows
-pub record AreColumnsOf (table : TableId) (rows : ℕ) (columns : List Column) : Type 0 where
-  pub kinds : map kind_of columns ≡ kinds_of table
-  pub full : All (λ column. length (values column) ≡ rows) columns
+-- the column that was read with these values
+abbrev pub as_read : Column → RawColumn
+as_read (Numbers numbers) = read.Numbers numbers
+as_read (Texts texts) = read.Texts texts

@@ -1,17 +1,20 @@
 -- What is kept of a table.
 use Rattle.std.specs.Prelude.{map}
 use Rattle.star_schema.specs.Loadable.{keys_of}
-use Rattle.star_reader.specs.Columns.{Table, first_rows}
+use Rattle.star_reader.specs.Columns.{AreColumnsOf, Table, first_rows, values}
 use Rattle.star_catalogue.specs.declared.table.LoadedTable.TheInside.{Inside}
-use Rattle.star_catalogue.specs.Private.Columns.{AreColumnsOf, values}
+use Rattle.star_catalogue.specs.Private.Columns.{as_read}
 use Rattle.star_catalogue.specs.Private.Keys.{AreKept}
 
 abbrev pub table_kept : Inside → Table
 table_kept kept =
-    record { table = kept.table; rows = first_rows kept.rows (map values kept.columns.items) }
+    record {
+      table = kept.table;
+      rows = first_rows kept.rows (map values (map as_read kept.columns.items));
+    }
 
 -- its columns, all of one length, and what is kept of its keys
 pub record IsKept (kept : Inside) : Type 0 where
-  pub columns : AreColumnsOf kept.table kept.rows kept.columns.items
+  pub columns : AreColumnsOf kept.table kept.rows (map as_read kept.columns.items)
   pub keys : AreKept kept.keys
-      (keys_of kept.table (first_rows kept.rows (map values kept.columns.items)))
+      (keys_of kept.table (first_rows kept.rows (map values (map as_read kept.columns.items))))

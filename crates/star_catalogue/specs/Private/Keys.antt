@@ -1,13 +1,11 @@
 -- What is kept of the keys of a table.
-use Rattle.std.specs.Prelude.{◌≡◌, ◌↔◌, ◌&&◌, ◌-ℤ◌, if◌then◌else◌, ℕ, ℤ, Bool, true, List, [], ◌∷◌, All, Option, Some, None, length, nat_eq, slice_get}
+use Rattle.std.specs.Prelude.{◌≡◌, ◌↔◌, ◌&&◌, ◌-ℤ◌, if◌then◌else◌, ℕ, ℤ, Bool, true, List, [], ◌∷◌, Option, Some, None, nat_eq, slice_get}
 use Rattle.std.specs.BTreeMap.{get}
 use Rattle.std.specs.Int.RustNames.{int_lt, unsigned_abs}
 use Rattle.std.specs.Ordering.{int_cmp, int_eq, ordering_then}
 use Rattle.std.specs.declared.cmp.Ordering.{Ordering}
 use Rattle.star_catalogue.specs.declared.keys.KeyIndex.{KeyIndex}
-use Rattle.star_catalogue.specs.declared.keys.KeyIndex.TheVariants.{Dense, Tree}
-use Rattle.star_catalogue.specs.declared.keys.Keys.{Keys}
-use Rattle.star_catalogue.specs.declared.keys.Keys.TheVariants.{Numbers, Pairs}
+use Rattle.star_catalogue.specs.declared.keys.KeyIndex.TheVariants.{Dense, Tree, Pairs}
 
 -- a key stands at a place of some keys
 pub record StandsAt {K : Type 0} (same : K → K → Bool) (keys : List K) (place : ℕ)
@@ -34,12 +32,12 @@ dense_at least rows key =
 abbrev pub row_in : KeyIndex → ℤ → Option ℕ
 row_in (Dense least rows) key = dense_at least rows.items key
 row_in (Tree rows) key = get int_cmp rows key
+row_in Pairs key = None
 
--- an index of keys of one number each, and nothing of keys of two numbers
-abbrev pub AreKept : Keys → List (List ℤ) → Type 0
-AreKept (Numbers index) keys =
+-- each number leads to the row whose key it is alone
+abbrev pub AreKept : KeyIndex → List (List ℤ) → Type 0
+AreKept index keys =
     (key : ℤ) (row : ℕ) → (row_in index key ≡ Some row) ↔ (slice_get keys row ≡ Some (key ∷ []))
-AreKept Pairs keys = All (λ key. length key ≡ 2) keys
 
 -- whether two pairs are one
 abbrev pub same_pair : ℤ × ℤ → ℤ × ℤ → Bool

@@ -1,5 +1,5 @@
 -- What the steps of `bench` make.
-use Rattle.std.specs.Prelude.{◌≡◌, ◌++◌, ◌&&◌, ℕ, Bool, true, false, List, [], ◌∷◌, Contains}
+use Rattle.std.specs.Prelude.{◌≡◌, ◌++◌, ◌&&◌, ℕ, Bool, true, false, List, [], ◌∷◌}
 use Rattle.star_schema.specs.declared.table.TableId.{TableId}
 use Rattle.star_schema.specs.Database.{Database}
 use Rattle.star_program.specs.declared.outcome.Outcome.{Outcome}
@@ -7,12 +7,9 @@ use Rattle.star_program.specs.declared.program.Parts.{Parts}
 use Rattle.star_report.specs.Report.{report_text}
 use Rattle.star_verify.specs.declared.refusal.Refusal.{Refusal}
 use Rattle.star_engine.specs.declared.benchmark.Prepared.{Prepared}
-use Rattle.star_engine.specs.declared.fault.EngineFault.{EngineFault}
 use Rattle.star_engine.specs.declared.thirteen.BenchmarkQuery.{BenchmarkQuery}
-use Rattle.star_engine.specs.declared.thirteen.TheConstants.{THIRTEEN}
 use Rattle.star_engine.specs.Bench.{AllFit, SomeIsUnfit, named_quote, refusal_line}
 use Rattle.star_engine.specs.Executions.{IsRefusal, quote_over}
-use Rattle.star_engine.specs.Queries.{IsNoQuery}
 use Rattle.star_engine.specs.Thirteen.{query_text}
 use Rattle.star_engine.specs.Private.QuerySteps.{IsProgramOfQuery}
 use Rattle.star_engine.specs.Private.Steps.{IsRun}
@@ -23,10 +20,6 @@ ArePrepared [] [] = Unit {0}
 ArePrepared (q ∷ qs) (x ∷ xs) =
     (x.query ≡ q) × IsProgramOfQuery (query_text q) x.program × ArePrepared qs xs
 ArePrepared _ _ = ⊥
-
--- one of the thirteen means no well named query
-abbrev pub IsNoBenchmark : EngineFault → Type 0
-IsNoBenchmark fault = (q : BenchmarkQuery) × Contains THIRTEEN q × IsNoQuery (query_text q) fault
 
 -- what is found of a program over loaded tables: the printed rows of its run, or what refuses it
 abbrev pub IsFound : Database → ℕ → Parts → (fits : Bool) → List ℕ → Type 0

@@ -22,6 +22,11 @@ OrMemory IsDue OutOfMemory = Unit {0}
 OrMemory IsDue (Write sent) = ⊥
 OrMemory IsDue fault = IsDue fault
 
+-- want of memory alone
+abbrev pub IsMemory : EngineFault → Type 0
+IsMemory OutOfMemory = Unit {0}
+IsMemory fault = ⊥
+
 -- of reading a file: it spells no program
 abbrev pub IsNoProgram : List ℕ → EngineFault → Type 0
 IsNoProgram file (Program fault) = text_fault file ≡ Some fault

@@ -4,7 +4,7 @@ ghost use Rattle.std.specs.Prelude.{◌≡◌, ◌≤◌, length, OnOk, OnErr};
 ghost use Rattle.star_group.specs.Private.BasePut.{HasRoomFor, TakesPut};
 
 use super::key::{OrderedKey, base_key};
-use super::merge::{merge_row, merged_row, row_of};
+use super::merge::{merge_into, merge_row, row_of};
 use crate::KeyValue;
 use crate::cell::Row;
 use star_schema::Aggregate;
@@ -31,8 +31,7 @@ pub(crate) fn add_put(
     ensures total { OnErr result (total.new ≡ total.old) }
 {
     let row = row_of(aggregates, values);
-    let merged = merged_row(aggregates, total, &row);
     merge_row(rows, base_key(keys), aggregates, &row)?;
-    *total = merged;
+    merge_into(aggregates, total, &row);
     Ok(())
 }

@@ -3,6 +3,7 @@
 ghost use Rattle.std.specs.Prelude.{◌≡◌, ◌≤◌, ◌<◌, ℕ, false, length, Some, OnOk, OnErr, slice_index_or};
 ghost use Rattle.std.specs.Ordering.{is_eq};
 ghost use Rattle.std.specs.BTreeMap.{get};
+ghost use Rattle.star_schema.specs.declared.group.Aggregate.TheVariants.{Count};
 ghost use Rattle.star_program.specs.Puts.{leaves};
 ghost use Rattle.star_group.specs.Private.Merged as spec;
 ghost use Rattle.star_group.specs.Private.Merged.{IsMerged, IsMergedInto, IsRowOf, MergeStays, RowsStay, merged_at};
@@ -34,23 +35,22 @@ fn merged(aggregate: Aggregate, held: Option<i64>, more: Option<i64>) -> Option<
 fn merged_cell(aggregates: &[Aggregate], held: &Row, more: &Row, place: usize) -> Option<i64>
     requires place { place < length aggregates.now }
     requires few { length aggregates.now ≤ 8 }
-    requires stays { MergeStays aggregates.now held.now more.now }
+    requires stays { leaves (slice_index_or aggregates.now place Count)
+        (merged_at aggregates.now held.now more.now place) ≡ false }
     ensures { result ≡ merged_at aggregates.now held.now more.now place }
 {
     merged(aggregates[place], held[place], more[place])
 }
 
-// Two rows merged.
-pub(crate) fn merged_row(aggregates: &[Aggregate], held: &Row, more: &Row) -> Row
+// A row merged into another.
+pub(crate) fn merge_into(aggregates: &[Aggregate], held: &mut Row, more: &Row)
     requires few { length aggregates.now ≤ 8 }
-    requires stays { MergeStays aggregates.now held.now more.now }
-    ensures { IsMerged aggregates.now held.now more.now result }
+    requires stays { MergeStays aggregates.now held.old more.now }
+    ensures { IsMerged aggregates.now held.old more.now held.new }
 {
-    let mut row = *held;
     for place in 0..aggregates.len() {
-        row[place] = merged_cell(aggregates, held, more, place);
+        held[place] = merged_cell(aggregates, held, more, place);
     }
-    row
 }
 
 // One more row for this key, merged into the row that is there.
@@ -69,7 +69,7 @@ pub(crate) fn merge_row<K: Ord + Copy + Drop>(
     ensures refused { OnErr result (rows.new.entries ≡ rows.old.entries) }
 {
     if let Some(held) = rows.get_mut(&key) {
-        *held = merged_row(aggregates, held, more);
+        merge_into(aggregates, held, more);
         return Ok(());
     }
     rows.insert(key, *more)?;

@@ -25,7 +25,8 @@ IsDecodable database declared (Some k) = IsSoundKey database declared k
 
 abbrev pub AreDecodable : Database → List GroupKey → List (Option KeyValue) → Type 0
 AreDecodable database [] [] = Unit {0}
-AreDecodable database (declared ∷ rest) (k ∷ ks) = IsDecodable database declared k × AreDecodable database rest ks
+AreDecodable database (declared ∷ rest) (k ∷ ks) =
+    IsDecodable database declared k × AreDecodable database rest ks
 AreDecodable database _ _ = ⊥
 
 -- the cells of a row, one for each show line
@@ -33,6 +34,7 @@ abbrev pub row_cells : World → GroupDecl → List Show → GroupRow → List C
 row_cells w d shows row = map (λ show. cell_of (decoded_row w d (row_shown row)) show.column) shows
 
 -- the groups of some updates as a report has them, but with codes for texts
-pub record AreSortedGroups (d : Group) (sorts : List SortKey) (updates : List Update) (rows : List GroupRow) : Type 0 where
+pub record AreSortedGroups (d : Group) (sorts : List SortKey) (updates : List Update)
+    (rows : List GroupRow) : Type 0 where
   pub groups : AreGroups value_cmp d.shape d.count d.aggregates updates (map row_shown rows)
   pub in_order : AreInOrder value_cmp sorts (map row_shown rows)

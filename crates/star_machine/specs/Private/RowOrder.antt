@@ -21,8 +21,10 @@ use Rattle.star_group.specs.Shown.{row_shown}
 -- ---- as reports are sorted, but with NULL before the numbers
 
 abbrev pub column_order : GroupColumn → Row KeyValue → Row KeyValue → Ordering
-column_order (column.Key place) a b = key_cmp value_cmp (slice_index_or a.keys place None) (slice_index_or b.keys place None)
-column_order (column.Aggregate place) a b = option_cmp int_cmp (slice_index_or a.totals place None) (slice_index_or b.totals place None)
+column_order (column.Key place) a b =
+    key_cmp value_cmp (slice_index_or a.keys place None) (slice_index_or b.keys place None)
+column_order (column.Aggregate place) a b =
+    option_cmp int_cmp (slice_index_or a.totals place None) (slice_index_or b.totals place None)
 
 abbrev pub directed_order : GroupColumn → Direction → Row KeyValue → Row KeyValue → Ordering
 directed_order c Ascending a b = column_order c a b
@@ -46,7 +48,9 @@ AreApart rows = IsDistinct key_eq (map keys_of_row rows)
 
 -- each aggregate is NULL in both rows or in neither
 pub record HaveSameNulls (a b : Row KeyValue) : Type 0 where
-  pub same : (place : ℕ) → is_some (slice_index_or a.totals place None) ≡ is_some (slice_index_or b.totals place None)
+  pub same : (place : ℕ)
+      → is_some (slice_index_or a.totals place None) ≡ is_some (slice_index_or b.totals place None)
 
 pub record AllHaveSameNulls (rows : List GroupRow) : Type 0 where
-  pub each : (a b : GroupRow) → Contains rows a → Contains rows b → HaveSameNulls (row_shown a) (row_shown b)
+  pub each : (a b : GroupRow) → Contains rows a → Contains rows b
+      → HaveSameNulls (row_shown a) (row_shown b)

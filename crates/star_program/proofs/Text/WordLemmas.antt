@@ -3,7 +3,7 @@ use Rattle.std.proofs.Common.{◌≡◌, ◌==◌, ◌<◌, ◌||◌, ◌∙◌,
 use Rattle.std.specs.Prelude.{filter}
 use Rattle.std.proofs.Common.{◌≢◌, Some, None, add-zero, length-drop}
 use Rattle.std.specs.List.{position}
-use Rattle.std.proofs.lemmas.Bool.{eq-eqb, eqb-false, eqb-true, ne_eqb, not-false, not-true}
+use Rattle.std.proofs.lemmas.Bool.{eq-eqb, eqb-false, eqb-true, ne_eqb, not-false, not-true, or_parts}
 use Rattle.std.proofs.lemmas.List.{get_or-drop}
 use Rattle.std.proofs.lemmas.List.Quantifiers.{position-Some}
 use Rattle.star_program.proofs.Text.Positions.{position-None}
@@ -49,10 +49,6 @@ pub piece_quoted : (line : List ℕ) → pieces_of (39 ∷ line) ≡ (39 ∷ lin
 unfolding pieces_of
 piece_quoted line = refl
 
-neither : (x y : Bool) → (x || y) ≡ false → (x ≡ false) × (y ≡ false)
-neither true y h = let bad : true ≡ false = h in cc
-neither false y h = (refl, h)
-
 second : (x y : Bool) → x ≡ false → (x || y) ≡ true → y ≡ true
 second true y h either = let bad : true ≡ false = h in cc
 second false y h either = either
@@ -60,7 +56,7 @@ second false y h either = either
 pub piece_on : (b : ℕ) (line : List ℕ) → ((b == 32) || (b == 39)) ≡ false → pieces_of (b ∷ line) ≡ with_first b (pieces_of line)
 unfolding pieces_of
 piece_on b line plain =
-    let both = neither (b == 32) (b == 39) plain in
+    let both = or_parts (b == 32) (b == 39) plain in
     rw (both.1, both.0) refl
 
 cut_piece : (line : List ℕ) (k : ℕ) → k < length line → (get_or line k 0 == 32) ≡ true → ((j : ℕ) → j < k → ((get_or line j 0 == 32) || (get_or line j 0 == 39)) ≡ false)

@@ -9,7 +9,7 @@ use Rattle.star_query.specs.declared.counts.Part.TheVariants as part
 use Rattle.star_query.specs.declared.fault.Fault.TheVariants.{TooMany}
 use Rattle.star_query.specs.declared.fault.ParseError.{ParseError}
 use Rattle.star_query.specs.declared.fault.ParseError.TheVariants as errors
-use Rattle.star_query.specs.declared.parser.Function.{Function}
+use Rattle.star_query.specs.declared.clauses.Function.{Function}
 use Rattle.star_query.specs.declared.tree.Name.{Name}
 use Rattle.star_query.specs.declared.tree.Condition.{Condition}
 use Rattle.star_query.specs.declared.tree.Measure.{Measure}

@@ -15,7 +15,7 @@ use Rattle.star_query.specs.declared.fault.Fault.TheVariants.{Unexpected, TooDee
 use Rattle.star_query.specs.Symbols.{Symbol, keyword, fold, count, relation, sign, additive, name, number, text}
 use Rattle.star_query.specs.Tree.{Name}
 use Rattle.star_query.specs.Grammar.{Several, one, more, Expr, lone_term, joined, Term, lone_factor, times, Factor, column, constant, negative, parens, Lit, whole, negated, quoted, Cond, lone_conj, or_conj, Conj, lone_unit, and_unit, Unary, not_unit, group, pair, compare, between, Agg, folded, counted, Item, plain, aggregate, Key, unmarked, ascending, descending, Groups, ungrouped, grouped, cubed, Query, Mark, at, first, function}
-use Rattle.star_query.specs.Derives.{limit}
+use Rattle.star_query.specs.Maxima.{limit, most_name_bytes, most_nestings}
 
 -- one more behind these, if there are any
 abbrev pub extended : {A : Type 0} → Option (Several A) → A → Several A
@@ -437,13 +437,13 @@ is_over n [] = false
 is_over n (p ∷ ps) = nat_lt (limit p) (number_of n p) || is_over n ps
 
 abbrev pub is_long : Symbol → Bool
-is_long (name t p) = nat_lt 64 (length t)
+is_long (name t p) = nat_lt most_name_bytes (length t)
 is_long x = false
 
 -- a symbol within the limits, after these counts
 abbrev pub checked : Counts → Mark → List Symbol → (Counts → Verdict) → Verdict
 checked n m left go =
-    if nat_lt 32 m.depth
+    if nat_lt most_nestings m.depth
     then Bad TooDeep left
     else if is_over (plus n m.parts) m.parts || is_long m.symbol
     then Bad TooMany left

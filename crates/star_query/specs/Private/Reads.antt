@@ -18,7 +18,7 @@ use Rattle.std.specs.declared.alloc.Global.{Global}
 use Rattle.std.specs.declared.vec.Vec.{Vec}
 use Rattle.star_query.specs.Symbols.{Symbol, keyword, sign, additive, name, number, text}
 use Rattle.star_query.specs.Private.Lexed.{symbol_of}
-use Rattle.star_query.specs.Derives.{limit}
+use Rattle.star_query.specs.Maxima.{limit, most_nestings}
 use Rattle.star_query.specs.Grammar.{ident, factor_tree, term_tree, expr_tree, lit_tree, unit_tree, conj_tree, cond_tree}
 use Rattle.star_query.specs.Private.Machine.{UnitHole, factor_depth, term_depth, expr_depth, lit_depth, unit_depth, conj_depth, cond_depth, first_factor, first_term, first_unit, first_conj, State, factor_wanted, give_factor, term_had, expr_had, lit_wanted, give_lit, unit_wanted, give_unit, conj_had, cond_had, Verdict, Bad, number_of, bump, plus, is_over, is_long, run}
 use Rattle.star_query.specs.Views.{name_view, expression_view, literal_view, condition_view}
@@ -115,12 +115,12 @@ ReadsText old new (Err (errors.Fault f)) = ⊥
 
 -- a nesting, if it is opened by this symbol, at which these parts begin
 abbrev pub Nests : Symbol → List Part → ℕ → Spot → Spot → Result Bool ParseError → Type 0
-Nests x ps d old new (Ok true) = (d < 32) × Takes old new x ps
+Nests x ps d old new (Ok true) = (d < most_nestings) × Takes old new x ps
 Nests x ps d old new (Ok false) = No x old × (new ≡ old)
 Nests x ps d old new (Err errors.OutOfMemory) = ⊥
 Nests x ps d old new (Err (errors.Fault Unexpected)) = ⊥
-Nests x ps d old new (Err (errors.Fault TooDeep)) = (32 ≤ d) × (head_of old.left ≡ Some x) × (new ≡ old)
-Nests x ps d old new (Err (errors.Fault TooMany)) = (d < 32) × (head_of old.left ≡ Some x) × IsBeyond ps old.counts old.left × (new ≡ old)
+Nests x ps d old new (Err (errors.Fault TooDeep)) = (most_nestings ≤ d) × (head_of old.left ≡ Some x) × (new ≡ old)
+Nests x ps d old new (Err (errors.Fault TooMany)) = (d < most_nestings) × (head_of old.left ≡ Some x) × IsBeyond ps old.counts old.left × (new ≡ old)
 
 -- a phrase is read wherever one is wanted, or the machine ends with the fault
 abbrev pub ReadsPhrase : {A T P H : Type 0} → (A → T) → (P → T) → (H → Type 0) → (H → State) → (P → H → State) → Spot → Spot → Result A ParseError → Type 0
@@ -138,7 +138,7 @@ abbrev pub ReadsExpr : ℕ → Spot → Spot → Result Expression ParseError �
 ReadsExpr d = ReadsPhrase expression_view expr_tree (λ h. expr_depth h ≡ d) (λ h. factor_wanted (first_factor (first_term h))) expr_had
 
 abbrev pub ReadsOperand : Spot → Spot → Result Expression ParseError → Type 0
-ReadsOperand = ReadsPhrase expression_view factor_tree (λ h. factor_depth h ≤ 32) factor_wanted give_factor
+ReadsOperand = ReadsPhrase expression_view factor_tree (λ h. factor_depth h ≤ most_nestings) factor_wanted give_factor
 
 -- no operator goes on with a term, or with an expression
 abbrev pub NoTimes : Spot → Type 0
@@ -148,14 +148,14 @@ abbrev pub NoOperator : Spot → Type 0
 NoOperator spot = No (sign s.Star) spot × ((q : Additive) → No (additive q) spot)
 
 abbrev pub ReadsLit : Spot → Spot → Result Literal ParseError → Type 0
-ReadsLit = ReadsPhrase literal_view lit_tree (λ h. lit_depth h ≤ 32) lit_wanted give_lit
+ReadsLit = ReadsPhrase literal_view lit_tree (λ h. lit_depth h ≤ most_nestings) lit_wanted give_lit
 
 abbrev pub ReadsUnit : ℕ → Spot → Spot → Result Condition ParseError → Type 0
 ReadsUnit d = ReadsPhrase condition_view unit_tree (λ h. unit_depth h ≡ d) unit_wanted give_unit
 
 -- a comparison from behind its column, from behind BETWEEN, and from behind its relation
 abbrev pub ReadsNamed : (UnitHole → State) → Spot → Spot → Result Condition ParseError → Type 0
-ReadsNamed wanted = ReadsPhrase condition_view unit_tree (λ h. unit_depth h ≤ 32) wanted give_unit
+ReadsNamed wanted = ReadsPhrase condition_view unit_tree (λ h. unit_depth h ≤ most_nestings) wanted give_unit
 
 abbrev pub ReadsConj : ℕ → Spot → Spot → Result Condition ParseError → Type 0
 ReadsConj d = ReadsPhrase condition_view conj_tree (λ h. conj_depth h ≡ d) (λ h. unit_wanted (first_unit h)) conj_had

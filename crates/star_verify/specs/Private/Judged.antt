@@ -57,7 +57,8 @@ AreFewAt noted at = AreFew noted.tallies.items (at * 10 ^ 15)
 -- Ok where there is no reason, with what is kept then, else the reason
 abbrev pub IsJudged : Result (Unit {0}) Refusal → ℕ → Option refusals.Reason → Type 0 → Type 0
 IsJudged result at reason Kept =
-    MatchResult result (λ _. (reason ≡ None) × Kept) (λ refusal. IsFirst refusal (at_place at reason))
+    MatchResult result (λ _. (reason ≡ None) × Kept)
+    (λ refusal. IsFirst refusal (at_place at reason))
 
 -- Ok where nothing refuses some code, with what is kept then, else what does first
 abbrev pub IsWalked : Result ℕ Refusal → Option (ℕ × refusals.Reason) → Type 0 → Type 0

@@ -18,7 +18,8 @@ abbrev pub reach_shown : Reach → ranges.Reach
 reach_shown reach c = nat_eq (bit_at reach.columns (index_of c)) 1
 
 abbrev pub known_shown : Known → ranges.Known
-known_shown (known.Number range reach origin) = ranges.KnownNumber (range_of range) (reach_shown reach) origin
+known_shown (known.Number range reach origin) =
+    ranges.KnownNumber (range_of range) (reach_shown reach) origin
 known_shown (known.Text c) = ranges.KnownText c
 known_shown (known.Place c) = ranges.KnownPlace c
 known_shown (known.Row t) = ranges.KnownRow t

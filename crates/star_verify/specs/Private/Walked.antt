@@ -13,10 +13,10 @@ use Rattle.star_admission.specs.Quote.{turns_met}
 use Rattle.star_admission.specs.Refusals as refusals
 use Rattle.star_admission.specs.Refusals.{op_reason}
 use Rattle.star_admission.specs.Standing.{at_place}
-use Rattle.star_verify.specs.declared.facts.Facts.{Facts}
 use Rattle.star_verify.specs.declared.instructions.Noted.{Noted}
 use Rattle.star_verify.specs.declared.instructions.Place.{Place}
 use Rattle.star_verify.specs.declared.register.Register.{Register}
+use Rattle.star_verify.specs.declared.subject.Subject.{Subject}
 use Rattle.star_verify.specs.Private.Facts.{AreFacts}
 use Rattle.star_verify.specs.Private.Judged.{AreFewAt, IsPlaced, IsSized, Keeps, scan_first}
 use Rattle.star_verify.specs.Private.Kept.{AreMarked}
@@ -44,34 +44,34 @@ step_size (Scan table r body) = 1 + code_size body
 -- ---- how far a walk is
 
 -- what is first of some code is what is first of this rest of it, in the context there
-pub record IsRest (w : World) (parts : Parts) (pending : ℕ → Bool) (x : Context) (at : ℕ) (all : Code)
-    (there : Context) (now : ℕ) (rest : Code) : Type 0 where
+pub record IsRest (w : World) (parts : Parts) (pending : ℕ → Bool) (x : Context) (at : ℕ)
+    (all : Code) (there : Context) (now : ℕ) (rest : Code) : Type 0 where
   pub first : first_reason w parts pending x at all ≡ first_reason w parts pending there now rest
   pub after : at_end w parts x all ≡ at_end w parts there rest
 
 -- what a walk was given
 pub record Walk : Type 0 where
-  pub parts : Parts
-  pub facts : Facts
+  pub subject : Subject
   pub place : Place
-  pub pending : List Bool
   pub registers : List Register
   pub noted : Noted
   pub steps : List Step
 
 -- these steps are left, from the instruction of this number on, with what is kept there
-pub record IsLeft (walk : Walk) (registers : List Register) (noted : Noted) (at : ℕ) (left : List Step)
-    : Type 0 where
+pub record IsLeft (walk : Walk) (registers : List Register) (noted : Noted) (at : ℕ)
+    (left : List Step) : Type 0 where
   pub past : walk.place.at ≤ at
   pub size : at + code_size (code_of_steps left)
       ≡ walk.place.at + code_size (code_of_steps walk.steps)
-  pub turns : turns_met (size_of walk.facts.sizes) walk.place.met (code_of_steps left) ≤ 10 ^ 15
+  pub turns : turns_met (size_of walk.subject.facts.now.sizes) walk.place.met (code_of_steps left)
+      ≤ 10 ^ 15
   pub wide : length registers ≡ length walk.registers
-  pub sized : IsSized walk.parts noted
+  pub sized : IsSized walk.subject.parts.now noted
   pub few : AreFewAt noted at
-  pub kept : (w : World) (x : Context) (pending : ℕ → Bool) → AreFacts w walk.facts
-      → Keeps walk.parts walk.registers walk.noted x → IsPlaced walk.place x
-      → AreMarked walk.parts walk.pending pending
-      → (there : Context) × Keeps walk.parts registers noted there × IsPlaced walk.place there
-      × IsRest w walk.parts pending x walk.place.at (code_of_steps walk.steps) there at
+  pub kept : (w : World) (x : Context) (pending : ℕ → Bool) → AreFacts w walk.subject.facts.now
+      → Keeps walk.subject.parts.now walk.registers walk.noted x → IsPlaced walk.place x
+      → AreMarked walk.subject.parts.now walk.place.pending pending
+      → (there : Context) × Keeps walk.subject.parts.now registers noted there
+      × IsPlaced walk.place there
+      × IsRest w walk.subject.parts.now pending x walk.place.at (code_of_steps walk.steps) there at
       (code_of_steps left)

@@ -1,6 +1,14 @@
 -- Before the instruction that is refused all that is known fits 64 bits.
+use Rattle.star_admission.proofs.Quoted.{told_visits_fit}
 use Rattle.star_admission.proofs.ToldBounds.{told_bounds_fit}
+use Rattle.star_admission.proofs.ToldColumns.{told_columns_fit}
 use Rattle.star_admission.proofs.law.told_bounds_fit_128_bits.Goals as goal
 
-pub returns : goal.returns
-returns c = told_bounds_fit
+pub returns-clause-range : goal.returns-clause-range
+returns-clause-range c = told_bounds_fit
+
+pub returns-clause-columns : goal.returns-clause-columns
+returns-clause-columns c = told_columns_fit
+
+pub returns-clause-visits : goal.returns-clause-visits
+returns-clause-visits c = told_visits_fit

@@ -26,7 +26,8 @@ returns-in-None c =
     cell_absent c.args.tables.now (c.args.row + 1)
     (get_or rows c.args.row []) c.args.column c.in-Some.table c.at-number.result
     (sym c.in-Some.ensures) number
-    (λ place at. let bad = (rw (to_z-of_z fits) at (c.in-None.ensures place).1) at in cc bad)
+    (λ place at. let bad = (rw (c.table.ensures.table, c.table.ensures.rows, to_z-of_z fits) at
+    (c.in-None.ensures place).1) at in cc bad)
 
 pub returns-in-Some-find : goal.returns-in-Some-find
 returns-in-Some-find c =
@@ -39,4 +40,4 @@ returns-in-Some-find c =
     let found = (c.in-Some-find.ensures c.in-Some-find.field-0).0 refl in
     cell_known c.args.tables.now (c.args.row + 1)
     (get_or rows c.args.row []) c.args.column c.in-Some.table c.at-number.result
-    c.in-Some-find.field-0 (sym c.in-Some.ensures) number (rw (to_z-of_z fits) at found)
+    c.in-Some-find.field-0 (sym c.in-Some.ensures) number (rw (c.table.ensures.table, c.table.ensures.rows, to_z-of_z fits) at found)

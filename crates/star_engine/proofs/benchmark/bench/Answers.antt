@@ -3,7 +3,8 @@ use Rattle.std.specs.Prelude.{Err}
 use Rattle.std.proofs.lemmas.Result.{err_from_is_err_and}
 use Rattle.star_catalogue.specs.Load.{text_of}
 use Rattle.star_engine.specs.Answered.{change}
-use Rattle.star_engine.specs.Bench.{IsBench, IsUnbenched}
+use Rattle.star_engine.specs.Bench.{IsBench}
+use Rattle.star_engine.specs.Loads.{IsUnloaded}
 use Rattle.star_engine.proofs.BenchAnswers.{bench_some, unwritten}
 use Rattle.star_engine.proofs.benchmark.bench.Goals as goal
 
@@ -22,7 +23,7 @@ returns-in_err-write_text-clause-answered g c =
     let texts = text_of c.args.texts.now in
     unwritten
     (change g.S.Sink.contents g.S.Sink.is_failed c.args.out.now c.write_text.new.out)
-    c.as_slice.result.now (IsBench rows most texts) (IsUnbenched rows texts) from.result
+    c.as_slice.result.now (IsBench rows most texts) (IsUnloaded rows texts) from.result
     c.in_err-write_text.field-0.0 (p.1 ∙ ap Err p.2)
     (subst (IsBench rows most texts) (sym c.as_slice.ensures.value) c.in_ok-found.ensures.0)
     c.in_err-write_text.ensures

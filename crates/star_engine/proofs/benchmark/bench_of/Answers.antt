@@ -1,23 +1,9 @@
 use Rattle.std.proofs.Common.{subst}
-use Rattle.std.proofs.lemmas.Result.{err_from_is_err_and}
 use Rattle.star_catalogue.specs.Load.{text_of}
-use Rattle.star_engine.specs.Bench.{IsUnbenched}
 use Rattle.star_engine.specs.declared.thirteen.TheConstants.{THIRTEEN}
-use Rattle.star_engine.specs.Loads.{IsUnloaded}
 use Rattle.star_engine.specs.Private.BenchSteps.{ArePartsOver}
-use Rattle.star_engine.proofs.BenchAnswers.{parts_told, unloaded_bench, verdict_told}
-use Rattle.star_engine.proofs.QueryFaults.{or_memory}
+use Rattle.star_engine.proofs.BenchAnswers.{parts_told, verdict_told}
 use Rattle.star_engine.proofs.benchmark.bench_of.Goals as goal
-
-pub returns-in_err-catalogue : goal.returns-in_err-catalogue
-returns-in_err-catalogue c =
-    let from = c.from_residual-in_err-catalogue in
-    let p = err_from_is_err_and from.result from.ensures.1 in
-    let rows = c.args.limits.rows in
-    let texts = text_of c.args.texts.now in
-    rw (p.1, p.2)
-    (or_memory (IsUnloaded rows texts) (IsUnbenched rows texts) _
-    (unloaded_bench rows texts c.in_ok-all.all c.in_ok-all.ensures) c.in_err-catalogue.ensures)
 
 pub returns : goal.returns
 returns c =

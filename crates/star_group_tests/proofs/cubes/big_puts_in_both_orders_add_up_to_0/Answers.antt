@@ -12,3 +12,15 @@ total_of-requires-2-clause-first g c = minus_big
 
 pub total_of-requires-2-clause-both : goal.total_of-requires-2-clause-both
 total_of-requires-2-clause-both g c = minus_big_first
+
+pub total_of-requires-3-clause-first : goal.total_of-requires-3-clause-first
+total_of-requires-3-clause-first g c = big
+
+pub total_of-requires-3-clause-both : goal.total_of-requires-3-clause-both
+total_of-requires-3-clause-both g c = big_first
+
+pub total_of-requires-4-clause-first : goal.total_of-requires-4-clause-first
+total_of-requires-4-clause-first g c = minus_big
+
+pub total_of-requires-4-clause-both : goal.total_of-requires-4-clause-both
+total_of-requires-4-clause-both g c = minus_big_first

@@ -11,16 +11,18 @@ use Rattle.star_world.specs.WorldOf.{world_of}
 use Rattle.star_machine.proofs.Started.{sound_nothing}
 use Rattle.star_machine.proofs.trials.run_through.Goals as goal
 
-pub walk-requires-clause-few : goal.walk-requires-clause-few
-walk-requires-clause-few c =
+pub walk-requires-clause-ready : goal.walk-requires-clause-ready
+walk-requires-clause-ready c =
     let done = c.in_ok-run.ensures c.args.catalogue.now in
-    record { visits = omega (arith, done.visits); work = omega (arith, done.visits, done.lookups, done.updates, c.requires.limits.instructions) }
-
-pub walk-requires-clause-sound : goal.walk-requires-clause-sound
-walk-requires-clause-sound c = sound_nothing c.args.catalogue.now (held c.as_mut_slice.result.now) (ap held c.as_mut_slice.ensures.value ∙ c.in_ok-registers.ensures.empty)
-
-pub walk-requires-clause-done : goal.walk-requires-clause-done
-walk-requires-clause-done c = (empty_store, c.in_ok-run.ensures c.args.catalogue.now)
+    let empty = ap held c.as_mut_slice.ensures.value ∙ c.in_ok-registers.ensures.empty in
+    record {
+      few = record {
+        visits = omega (arith, done.visits);
+        work = omega (arith, done.visits, done.lookups, done.updates, c.requires.limits.instructions);
+      };
+      sound = sound_nothing c.args.catalogue.now (held c.as_mut_slice.result.now) empty;
+      done = (empty_store, done);
+    }
 
 pub returns-in_err-walk : goal.returns-in_err-walk
 returns-in_err-walk c =

@@ -1,5 +1,6 @@
 use Rattle.std.proofs.Common.{◌≡◌, ◌≤◌, ◌<◌, ◌+◌, ◌-◌, ◌*◌, length, drop, sym, ap, subst, ◌∙◌, arith, refl}
 use Rattle.std.specs.Prelude.{nat_lt, true}
+use Rattle.std.proofs.lemmas.List.{drop_all}
 use Rattle.std.proofs.lemmas.Result.{err_from_is_err_and}
 use Rattle.star_schema.specs.Database.{rows_in}
 use Rattle.star_program.specs.Code.{code_size, scan_depth}
@@ -14,35 +15,46 @@ use Rattle.star_machine.specs.Trials.{IsFaultOf}
 use Rattle.star_machine.specs.Private.Walks.{HasWorked, IsEnd, means, means_at}
 use Rattle.star_machine.specs.Private.Runs.{HasDone}
 use Rattle.star_world.specs.WorldOf.{world_of}
+use Rattle.star_program.proofs.Steps.{next_act, next_scan}
 use Rattle.star_machine.proofs.Registers.{sound_set}
-use Rattle.star_machine.proofs.Turned.{act_follows, after_fault, begin_turn, body_deep, done_visited, drop_past, gone_on, next_act, next_scan, rest_deep, scan_follows, stop_fault, turn_done, turn_ended, turns_fault, worked_act, worked_more}
+use Rattle.star_machine.proofs.Turned.{act_follows, after_fault, begin_turn, body_deep, done_visited, gone_on, rest_deep, scan_follows, stop_fault, turn_done, turn_ended, turns_fault, worked_act, worked_more}
 use Rattle.star_machine.proofs.walk.+walk.Goals as goal
 use Rattle.star_machine.proofs.walk.+walk.Goals.{walk-in-Act+in-Ok-GoesOn, walk-in-Scan+in_ok-scan-in-Scan}
 
 pub turn-walk-requires : goal.turn-walk-requires
-turn-walk-requires t c = (
-  omega (arith, c.decreases),
-  (
-    c.requires.size,
-    (
-      c.requires.at,
+turn-walk-requires t c =
+    let m = c.args.machine.now in
+    let scanned = c.args.scanned.now in
+    let at_row = c.set.ensures.set
+    ∙ ap (λ xs. with_entry (held xs) scanned.target c.args.row) c.copy_from_slice.ensures.after in
+    let done = c.requires.ready.done in (
+      omega (arith, c.decreases),
       (
-        c.set.ensures.len ∙ c.copy_from_slice.ensures.len ∙ c.requires.wide,
+        omega (arith, scanned.size),
         (
-          c.requires.deep,
+          scanned.numbered,
           (
-            record { visits = omega (arith, c.if-run-machine.false); work = omega (arith, c.requires.few.work, c.requires.size) },
+            c.set.ensures.len ∙ c.copy_from_slice.ensures.len ∙ c.requires.wide,
             (
-              subst (AreSound c.args.machine.now.catalogue.now) (sym (c.set.ensures.set ∙ ap (λ xs. with_entry (held xs) c.args.scanned.now.target c.args.row) c.copy_from_slice.ensures.after))
-                  (sound_set c.args.machine.now.catalogue.now (held c.args.before.now) c.args.scanned.now.target c.args.row c.requires.sound c.requires.row),
-              (visited c.requires.done.0, done_visited c.args.machine.now.catalogue.now c.args.machine.now.parts.now c.args.run.now _ c.requires.done.0 refl refl refl refl c.requires.done.1),
+              c.requires.deep,
+              record {
+                few = record {
+                  visits = omega (arith, c.if-run-machine.false);
+                  work = omega (arith, c.requires.ready.few.work, scanned.size);
+                };
+                sound = subst (AreSound m.catalogue.now) (sym at_row)
+                    (sound_set m.catalogue.now (held scanned.before.now) scanned.target c.args.row
+                    c.requires.ready.sound c.requires.row);
+                done = (
+                  visited done.0,
+                  done_visited m.catalogue.now m.parts.now c.args.run.now _ done.0 refl refl refl refl done.1,
+                );
+              },
             ),
           ),
         ),
       ),
-    ),
-  ),
-)
+    )
 
 pub turn-returns-clause-ends : goal.turn-returns-clause-ends
 turn-returns-clause-ends t c = λ s h.
@@ -51,14 +63,14 @@ turn-returns-clause-ends t c = λ s h.
     let at_row = c.set.ensures.set ∙ ap (λ xs. with_entry (held xs) c.args.scanned.now.target c.args.row) c.copy_from_slice.ensures.after in
     let may : s.visits < m.most = omega (arith, h.visits, c.if-run-machine.false) in
     subst (λ end. IsEnd m.catalogue.now m.parts.now c.walk.new.run end c.walk.result)
-    (ap (λ registers. meant registers (visited s)) at_row ∙ sym (begin_turn m.most s (means_at m c.args.scanned.now (held c.args.before.now) c.args.row) may))
+    (ap (λ registers. meant registers (visited s)) at_row ∙ sym (begin_turn m.most s (means_at m c.args.scanned.now (held c.args.scanned.now.before.now) c.args.row) may))
     (c.walk.ensures.ends (visited s) (done_visited m.catalogue.now m.parts.now c.args.run.now _ s refl refl refl refl h))
 
 pub turns-returns-in_err-turn-clause-ends : goal.turns-returns-in_err-turn-clause-ends
 turns-returns-in_err-turn-clause-ends t c = λ s h.
     let p = err_from_is_err_and c.from_residual.result c.from_residual.ensures.1 in
     let at = c.loop-row.invariant.ends s h in
-    rw (p.1, p.2) (turns_fault (λ visits. nat_lt visits c.args.machine.now.most) (length (rows_in c.args.machine.now.catalogue.now c.args.scanned.now.table)) c.loop-row.row (λ row. means_at c.args.machine.now c.args.scanned.now (held c.args.before.now) (Row c.args.scanned.now.table row)) at.0 _ c.in_err-turn.field-0.0
+    rw (p.1, p.2) (turns_fault (λ visits. nat_lt visits c.args.machine.now.most) (length (rows_in c.args.machine.now.catalogue.now c.args.scanned.now.table)) c.loop-row.row (λ row. means_at c.args.machine.now c.args.scanned.now (held c.args.scanned.now.before.now) (Row c.args.scanned.now.table row)) at.0 _ c.in_err-turn.field-0.0
     (omega (arith, c.loop-row-test.true, c.rows-row-end.ensures)) (c.in_err-turn.ensures.ends at.0 at.1) at.2)
 
 pub turns-loop-row-preserved : goal.turns-loop-row-preserved
@@ -66,7 +78,7 @@ turns-loop-row-preserved t c = record {
   ends = λ s h.
       let at = c.loop-row.invariant.ends s h in
       let done = c.in_ok-turn.ensures.ends at.0 at.1 in
-      (done.s, done.done, sym (turn_done (λ visits. nat_lt visits c.args.machine.now.most) (length (rows_in c.args.machine.now.catalogue.now c.args.scanned.now.table)) c.loop-row.row (λ row. means_at c.args.machine.now c.args.scanned.now (held c.args.before.now) (Row c.args.scanned.now.table row)) at.0 done.s (omega (arith, c.loop-row-test.true, c.rows-row-end.ensures)) done.is) ∙ at.2);
+      (done.s, done.done, sym (turn_done (λ visits. nat_lt visits c.args.machine.now.most) (length (rows_in c.args.machine.now.catalogue.now c.args.scanned.now.table)) c.loop-row.row (λ row. means_at c.args.machine.now c.args.scanned.now (held c.args.scanned.now.before.now) (Row c.args.scanned.now.table row)) at.0 done.s (omega (arith, c.loop-row-test.true, c.rows-row-end.ensures)) done.is) ∙ at.2);
   worked = worked_more c.args.machine.now.most c.args.run.now c.loop-row.run c.turn.new.run 0 0 0 c.loop-row.invariant.worked c.in_ok-turn.ensures.worked (omega arith);
 }
 
@@ -92,25 +104,21 @@ walk-scan-requires t c =
     let code = next_scan c.as_slice-step-items.result.now c.loop-step.step-index c.step-item.result c.in-Scan.table c.in-Scan.target c.in-Scan.body c.loop-step-test.true c.step-item.is c.in-Scan.is in
     let left = ap code_size code in
     let all = ap code_size c.as_slice-step-items.ensures in
-    let now = c.loop-step.invariant.ends c.requires.done.0 c.requires.done.1 in (
-      omega (arith, c.decreases, left, all, c.loop-step.invariant.placed, c.loop-step.invariant.after),
+    let so_far = c.loop-step.invariant in
+    let now = so_far.ends c.requires.ready.done.0 c.requires.ready.done.1 in (
+      omega (arith, c.decreases, left, all, so_far.placed, so_far.after),
       (
-        omega (arith, c.requires.size, left, all, c.loop-step.invariant.placed, c.loop-step.invariant.after),
+        c.loop-step.auto.registers ∙ c.requires.wide,
         (
-          omega (arith, c.requires.at, left, all, c.loop-step.invariant.placed),
-          (
-            c.loop-step.auto.registers ∙ c.requires.wide,
-            (
-              body_deep c.in-Scan.table c.in-Scan.target c.args.machine.now.parts.now.registers (length c.loop-step.frames) c.in-Scan.body (code_of_steps (drop (c.loop-step.step-index + 1) c.as_slice-step-items.result.now)) (subst (λ k. scan_depth k * c.args.machine.now.parts.now.registers ≤ length c.loop-step.frames) code c.loop-step.invariant.deep),
-              (
-                record { visits = c.loop-step.invariant.worked.visits; work = omega (arith, c.loop-step.invariant.worked.work, c.requires.few.work, c.loop-step.invariant.placed, c.loop-step.invariant.after, all) },
-                (
-                  c.loop-step.invariant.sound,
-                  (now.0, now.1),
-                ),
-              ),
-            ),
-          ),
+          body_deep c.in-Scan.table c.in-Scan.target c.args.machine.now.parts.now.registers (length c.loop-step.frames) c.in-Scan.body (code_of_steps (drop (c.loop-step.step-index + 1) c.as_slice-step-items.result.now)) (subst (λ k. scan_depth k * c.args.machine.now.parts.now.registers ≤ length c.loop-step.frames) code so_far.deep),
+          record {
+            few = record {
+              visits = so_far.worked.visits;
+              work = omega (arith, so_far.worked.work, c.requires.ready.few.work, so_far.placed, so_far.after, all);
+            };
+            sound = so_far.sound;
+            done = (now.0, now.1);
+          },
         ),
       ),
     )
@@ -176,6 +184,6 @@ walk-returns-clause-ends t c = λ s h.
     let at = c.loop-step.invariant.ends s h in
     record {
       s = at.0;
-      is = sym (ap (λ k. means c.args.machine.now k c.args.at c.args.inside (held c.args.registers.now) s) c.as_slice-step-items.ensures) ∙ sym at.2 ∙ ap (λ k. means c.args.machine.now k c.loop-step.place c.args.inside (held c.loop-step.registers) at.0) (ap code_of_steps (drop_past c.as_slice-step-items.result.now c.loop-step.step-index c.loop-step-test.false));
+      is = sym (ap (λ k. means c.args.machine.now k c.args.at c.args.inside (held c.args.registers.now) s) c.as_slice-step-items.ensures) ∙ sym at.2 ∙ ap (λ k. means c.args.machine.now k c.loop-step.place c.args.inside (held c.loop-step.registers) at.0) (ap code_of_steps (drop_all c.loop-step.step-index c.as_slice-step-items.result.now c.loop-step-test.false));
       done = at.1;
     }

@@ -27,8 +27,8 @@ decreases-scan l = 4 * code_size l.scanned.now.body.now + 3
 abbrev pub invariant-turns-loop-row : goal.invariant-turns-loop-row
 invariant-turns-loop-row l = record {
   ends : (s : Store) → HasDone l.machine.catalogue.now l.machine.parts.now l.initial.run s → (now : Store) × HasDone l.machine.catalogue.now l.machine.parts.now l.run now
-      × (turns (λ visits. nat_lt visits l.machine.most) (length (rows_in l.machine.catalogue.now l.scanned.table) - l.row) l.row (λ row. means_at l.machine l.scanned (held l.before) (Row l.scanned.table row)) now
-      ≡ means_turns l.machine l.scanned (held l.before) s);
+      × (turns (λ visits. nat_lt visits l.machine.most) (length (rows_in l.machine.catalogue.now l.scanned.table) - l.row) l.row (λ row. means_at l.machine l.scanned (held l.scanned.before.now) (Row l.scanned.table row)) now
+      ≡ means_turns l.machine l.scanned (held l.scanned.before.now) s);
   worked : HasWorked l.machine.most l.initial.run l.run 0;
 }
 

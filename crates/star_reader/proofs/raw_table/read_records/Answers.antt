@@ -1,9 +1,8 @@
-use Rattle.std.proofs.Common.{◌≡◌, ◌+◌, inl, inr, arith}
+use Rattle.std.proofs.Common.{◌≡◌, inl, inr, arith}
 use Rattle.std.proofs.lemmas.Result.{err_from_is_err_and}
 use Rattle.csv.specs.Records.{fields_of as fields_read}
 use Rattle.star_reader.specs.Private.Lines.{ReadsFirst, TakesFirst}
 use Rattle.star_reader.proofs.TableSteps as steps
-use Rattle.star_reader.proofs.TableSteps.{AddsRecord}
 use Rattle.star_reader.proofs.raw_table.read_records.Goals as goal
 
 pub loop-rows-init : goal.loop-rows-init
@@ -19,20 +18,20 @@ returns-then-not-branch c = λ table lines left empty.
     steps.whole table c.args.most lines c.loop-rows.rows c.loop-rows.columns c.loop-rows.reader h
     (rw c.if-not-branch.true at read)
 
-pub push_record-requires : goal.push_record-requires
-push_record-requires c = omega (arith, c.requires, c.loop-rows.auto.columns)
+pub add_record-requires : goal.add_record-requires
+add_record-requires c = omega (arith, c.requires, c.loop-rows.auto.columns)
 
-pub returns-in_err-push_record : goal.returns-in_err-push_record
-returns-in_err-push_record c = λ table lines left empty.
+pub returns-in_err-add_record : goal.returns-in_err-add_record
+returns-in_err-add_record c = λ table lines left empty.
     let h = c.loop-rows.invariant table lines left empty in
     let read : ReadsFirst c.in_ok-read_next.field-0 h.lines
     (fields_read c.read_next.new.row) c.read_next.new.reader =
     c.in_ok-read_next.ensures.reads h.lines h.left in
     let next : TakesFirst h.lines (fields_read c.read_next.new.row) c.read_next.new.reader =
     rw c.if-not-branch.false at read in
-    let p = err_from_is_err_and c.from_residual-in_err-push_record.result
-    c.from_residual-in_err-push_record.ensures.1 in
-    rw (p.1, p.2) (elim c.in_err-push_record.ensures.pushed [
+    let p = err_from_is_err_and c.from_residual-in_err-add_record.result
+    c.from_residual-in_err-add_record.ensures.1 in
+    rw (p.1, p.2) (elim (c.in_err-add_record.ensures next.line next.parts_are) [
       | inl memory ↦ inl memory
       | inr here ↦
           inr (steps.faulty table c.args.most lines c.loop-rows.rows c.loop-rows.columns
@@ -48,18 +47,10 @@ loop-rows-preserved c = λ table lines left empty.
     c.in_ok-read_next.ensures.reads h.lines h.left in
     let next : TakesFirst h.lines (fields_read c.read_next.new.row) c.read_next.new.reader =
     rw c.if-not-branch.false at read in
-    let pushed = c.in_ok-push_record.ensures.pushed in
-    let adds : AddsRecord (c.loop-rows.rows + 1)
-    (fields_read c.read_next.new.row) c.loop-rows.columns c.push_record.new.columns =
-    record {
-      no_fault = pushed.0;
-      columns = pushed.1;
-      width = pushed.2;
-      kinds = c.push_record.ensures.kinds;
-    } in
     steps.more table c.args.most lines c.loop-rows.rows c.loop-rows.columns
-    c.push_record.new.columns c.loop-rows.reader c.read_next.new.reader
-    (fields_read c.read_next.new.row) h next c.loop-rows-test.true adds
+    c.add_record.new.columns c.loop-rows.reader c.read_next.new.reader
+    (fields_read c.read_next.new.row) h next c.loop-rows-test.true
+    (c.in_ok-add_record.ensures next.line next.parts_are)
 
 pub returns-then-branch : goal.returns-then-branch
 returns-then-branch c = λ table lines left empty.

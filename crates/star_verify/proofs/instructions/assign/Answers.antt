@@ -4,29 +4,30 @@ use Rattle.std.specs.Prelude.{◌||◌, nat_eq}
 use Rattle.star_program.specs.Values.{with_entry}
 use Rattle.star_verify.specs.Private.Judged.{IsFirst}
 use Rattle.star_verify.specs.Private.Kept.{HasShares, flag_at}
-use Rattle.star_verify.proofs.Judging.{first_found, second_found, neither}
+use Rattle.star_admission.proofs.Instructions.{both_none}
+use Rattle.star_verify.proofs.Judging.{first_found, second_found}
 use Rattle.star_verify.proofs.instructions.assign.Goals as goal
 
 pub returns-in-Err-clause-judged : goal.returns-in-Err-clause-judged
 returns-in-Err-clause-judged c = λ w x pending facts keeps marked.
-    first_found c.args.at _ _ _ (c.in-Err.ensures x pending c.args.target keeps.known marked)
+    first_found c.args.place.at _ _ _ (c.in-Err.ensures x pending c.args.target keeps.known marked)
 
 pub returns-in-Err-make-clause-judged : goal.returns-in-Err-make-clause-judged
 returns-in-Err-make-clause-judged c = λ w x pending facts keeps marked.
-    let shares : HasShares c.args.parts.now c.deref.result.now x = rw c.deref.ensures.value keeps.earlier.shares in
+    let shares : HasShares c.args.subject.now.parts.now c.deref.result.now x = rw c.deref.ensures.value keeps.earlier.shares in
     subst (IsFirst c.overflow.result)
-    (sym (second_found c.args.at _ _ _ (c.in-Ok.ensures x pending c.args.target keeps.known marked)
+    (sym (second_found c.args.place.at _ _ _ (c.in-Ok.ensures x pending c.args.target keeps.known marked)
     (c.in-Err-make.ensures w x facts keeps.known shares)))
     (c.overflow.ensures w facts)
 
 pub returns-in-Ok-make-clause-judged : goal.returns-in-Ok-make-clause-judged
 returns-in-Ok-make-clause-judged c = λ w x pending facts keeps marked.
-    let shares : HasShares c.args.parts.now c.deref.result.now x = rw c.deref.ensures.value keeps.earlier.shares in
+    let shares : HasShares c.args.subject.now.parts.now c.deref.result.now x = rw c.deref.ensures.value keeps.earlier.shares in
     let made = c.in-Ok-make.ensures w x facts keeps.known shares in
     let value = c.deref_mut.ensures.value in
     let items = with_items_is c.args.noted.now.written c.note.new.written
     (omega (arith, c.note.ensures.len, ap length value, c.args.noted.now.written.ok.0)) in (
-      neither _ _ (c.in-Ok.ensures x pending c.args.target keeps.known marked) made.1,
+      both_none _ _ (c.in-Ok.ensures x pending c.args.target keeps.known marked) made.1,
       record {
         known = c.learn.ensures.learned
             ∙ (λ i. with_entry (keeps.known i) c.args.target (made.0 i));

@@ -16,7 +16,7 @@ use Rattle.star_verify.proofs.instructions.perform.Goals as goal
 
 pub returns-in-Put-clause-judged : goal.returns-in-Put-clause-judged
 returns-in-Put-clause-judged c = λ w x pending facts keeps placed marked.
-    let parts = c.args.parts.now in
+    let parts = c.args.subject.now.parts.now in
     let items = with_items_is c.args.noted.now.tallies c.put.new.tallies
     (omega (arith, c.put.ensures.len, ap length c.deref_mut.ensures.value, c.args.noted.now.tallies.ok.0)) in
     let shares : HasShares parts c.deref_mut.result.now x = rw c.deref_mut.ensures.value keeps.earlier.shares in

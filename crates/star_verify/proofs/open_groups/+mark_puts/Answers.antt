@@ -4,7 +4,8 @@ use Rattle.star_program.specs.Code.{code_size}
 use Rattle.star_program.specs.CodeOfSteps.{code_of_steps}
 use Rattle.star_admission.specs.Private.Forward.{code_puts_to}
 use Rattle.star_verify.proofs.Marks.{marked_more, or_none}
-use Rattle.star_verify.proofs.Steps.{next_act, next_scan, drop_past}
+use Rattle.std.proofs.lemmas.List.{drop_all}
+use Rattle.star_program.proofs.Steps.{next_act, next_scan}
 use Rattle.star_verify.proofs.open_groups.+mark_puts.Goals as goal
 use Rattle.star_verify.proofs.open_groups.+mark_puts.Goals.{in-Act, in-Scan}
 
@@ -46,7 +47,7 @@ pub returns : goal.returns
 returns t c = record {
   marked = λ g lt.
       sym (or_none (get_or c.loop-step.pending g false))
-      ∙ sym (ap (λ steps. get_or c.loop-step.pending g false || code_puts_to g (code_of_steps steps)) (drop_past c.args.steps.now c.loop-step.step-index c.loop-step-test.false))
+      ∙ sym (ap (λ steps. get_or c.loop-step.pending g false || code_puts_to g (code_of_steps steps)) (drop_all c.loop-step.step-index c.args.steps.now c.loop-step-test.false))
       ∙ c.loop-step.invariant.marked g lt;
   len = c.loop-step.auto.pending;
 }

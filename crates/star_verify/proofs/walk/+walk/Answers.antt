@@ -19,7 +19,7 @@ use Rattle.star_verify.proofs.walk.+walk.Goals as goal
 
 pub scan-returns-clause-judged : goal.scan-returns-clause-judged
 scan-returns-clause-judged t c = λ w x pending facts keeps placed marked.
-    let parts = c.args.parts.now in
+    let parts = c.args.subject.now.parts.now in
     let inner = in_scan w x c.args.table c.args.target in
     let value = c.deref_mut-2.ensures.value in
     let flags = with_items_is c.args.noted.now.written c.note.new.written
@@ -57,9 +57,9 @@ walk-walk_step-requires t c =
     let size : code_size (code_of_steps left) ≡ code_size (before step (code_of_steps (others left))) = ap code_size code in
     let kept = c.loop-left.invariant in
     let few : c.loop-left.at + code_size (before step (code_of_steps (others left))) ≤ 4097 = omega (arith, size, kept.size, c.requires.size) in
-    let turns = subst (λ code. turns_met (size_of c.args.facts.now.sizes) c.args.place.met code ≤ 10 ^ 15) code kept.turns in
+    let turns = subst (λ code. turns_met (size_of c.args.subject.now.facts.now.sizes) c.args.place.met code ≤ 10 ^ 15) code kept.turns in
     let fewer : 3 * code_size (before step (code_of_steps (others left))) < 3 * code_size (code_of_steps c.args.steps.now) + 1 = omega (arith, size, kept.size, kept.past) in
-    (omega (arith, fewer, c.decreases), (c.requires.limits, (few, (c.requires.met, (turns, (kept.wide ∙ c.requires.wide, (kept.sized, kept.few)))))))
+    (omega (arith, fewer, c.decreases), (few, (c.requires.met, (turns, (kept.wide ∙ c.requires.wide, (kept.sized, kept.few))))))
 
 pub walk-returns-in_err-at-clause-judged : goal.walk-returns-in_err-at-clause-judged
 walk-returns-in_err-at-clause-judged t c = λ w x pending facts keeps placed marked.
@@ -84,19 +84,20 @@ walk-returns-clause-judged t c =
 pub walk_step-returns-in_ok-judge-in-Act-clause-judged : goal.walk_step-returns-in_ok-judge-in-Act-clause-judged
 walk_step-returns-in_ok-judge-in-Act-clause-judged t c = λ w x pending facts keeps placed marked.
     let judged = c.in_ok-judge-in-Act.ensures.judged w x pending facts keeps placed marked in
-    act_walked w c.args.parts.now pending x c.args.place.at c.args.step.now (code_of_steps c.args.rest.now)
+    act_walked w c.args.subject.now.parts.now pending x c.args.place.at c.args.step.now (code_of_steps c.args.rest.now)
     c.judge.new.registers c.judge.new.noted c.in-Act.op c.in-Act.is judged.0 judged.1
 
 pub walk_step-returns-in-Scan-clause-judged : goal.walk_step-returns-in-Scan-clause-judged
 walk_step-returns-in-Scan-clause-judged t c = λ w x pending facts keeps placed marked.
-    let parts = c.args.parts.now in
+    let parts = c.args.subject.now.parts.now in
     let rest = code_of_steps c.args.rest.now in
     let inside = open_with pending (Each c.in-Scan.table c.in-Scan.target c.in-Scan.body rest) in
     scan_walked w parts pending x c.args.place.at c.args.step.now rest
     c.args.registers.now c.scan.new.noted c.scan.result c.in-Scan.table c.in-Scan.target c.in-Scan.body c.in-Scan.is keeps.known
-    (c.scan.ensures.judged w x inside facts keeps placed
+    (c.scan.ensures.judged w x inside facts keeps
+    (record { inside = placed.inside; met = placed.met })
     (λ g there.
-    let few : g < length c.args.pending = search rules in
+    let few : g < length c.args.place.pending = search rules in
     opened_in g pending c.in-Scan.table c.in-Scan.target c.in-Scan.body rest (code_of_steps c.as_slice.result.now)
-    (flag_at c.args.pending g) (flag_at c.mark_puts.new.pending g) (flag_at c.mark_puts-in-Scan.new.pending g)
+    (flag_at c.args.place.pending g) (flag_at c.mark_puts.new.pending g) (flag_at c.mark_puts-in-Scan.new.pending g)
     (c.mark_puts-in-Scan.ensures.marked g (omega (arith, few, c.mark_puts.ensures.len))) (c.mark_puts.ensures.marked g few) c.as_slice.ensures (marked g there)))

@@ -16,10 +16,8 @@ decreases-scan l = 3 * code_size l.body.now + 2
 abbrev pub invariant-walk-loop-left : goal.invariant-walk-loop-left
 invariant-walk-loop-left l =
     IsLeft (record {
-      parts = l.parts;
-      facts = l.facts;
+      subject = l.subject;
       place = l.place;
-      pending = l.pending;
       registers = l.fn.registers;
       noted = l.fn.noted;
       steps = l.steps;

@@ -5,6 +5,7 @@ use Rattle.star_catalogue.specs.Load.{text_of}
 use Rattle.star_catalogue.specs.Private.Referred.{AreReferred}
 use Rattle.star_catalogue.proofs.Loading.{referred_sound, refused_key, refused_table}
 use Rattle.star_catalogue.proofs.SmallNumbers.{bounds_small}
+use Rattle.star_catalogue.proofs.Typed.{rows_typed}
 use Rattle.star_catalogue.proofs.catalogue.Catalogue.load.Goals as goal
 
 pub returns-in_err-loaded-clause-refused : goal.returns-in_err-loaded-clause-refused
@@ -44,6 +45,7 @@ invariant_of-result c =
     let loaded = c.in_ok-loaded.ensures in
     rw (c.in_ok-tables.ensures.ok ∙ loaded.1, c.in_ok-new-in-Some.ensures.ok) (
       sound c,
+      rows_typed c.args.limits.rows (text_of c.args.texts.now) loaded.0,
       bounds_small c.args.limits.rows (text_of c.args.texts.now) loaded.0,
       referred c,
     )

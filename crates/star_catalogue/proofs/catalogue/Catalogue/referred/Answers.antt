@@ -9,7 +9,7 @@ pub get-requires : goal.get-requires
 get-requires c =
     let kept = c.self.inside.referred.value in
     let leads =
-    leads_on c.self.inside.tables.value kept c.args.column c.args.row c.self.invariant.2
+    leads_on c.self.inside.tables.value kept c.args.column c.args.row c.self.invariant.3
     c.requires.refers (rw c.self.view_is c.requires.row) in
     rw (c.rows-rows.ensures, c.deref.ensures)
     (slice_get_within (rows_kept kept c.args.column) c.args.row leads.place leads.there)
@@ -18,7 +18,7 @@ pub overflow_cast-result : goal.overflow_cast-result
 overflow_cast-result c =
     let kept = c.self.inside.referred.value in
     let leads =
-    leads_on c.self.inside.tables.value kept c.args.column c.args.row c.self.invariant.2
+    leads_on c.self.inside.tables.value kept c.args.column c.args.row c.self.invariant.3
     c.requires.refers (rw c.self.view_is c.requires.row) in
     let same = read_there c.self.inside.tables.value kept c.args.column c.args.row
     c.rows-rows.result.now c.get.result leads
@@ -32,7 +32,7 @@ pub returns : goal.returns
 returns c = λ t number refers at.
     let kept = c.self.inside.referred.value in
     let leads =
-    leads_on c.self.inside.tables.value kept c.args.column c.args.row c.self.invariant.2
+    leads_on c.self.inside.tables.value kept c.args.column c.args.row c.self.invariant.3
     c.requires.refers (rw c.self.view_is c.requires.row) in
     let same = read_there c.self.inside.tables.value kept c.args.column c.args.row
     c.rows-rows.result.now c.get.result leads

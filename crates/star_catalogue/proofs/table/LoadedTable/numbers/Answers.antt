@@ -4,9 +4,9 @@ use Rattle.star_schema.specs.declared.column.Kind.TheVariants as kind
 use Rattle.star_schema.specs.Bounds.{numbers_at}
 use Rattle.star_schema.specs.Schema.{kinds_of, table_of}
 use Rattle.star_schema.specs.Tables.{Number}
-use Rattle.star_reader.specs.Columns.{first_rows}
+use Rattle.star_reader.specs.Columns.{first_rows, values}
 use Rattle.star_reader.proofs.RowLemmas.{numbers_are}
-use Rattle.star_catalogue.specs.Private.Columns.{values}
+use Rattle.star_catalogue.specs.Private.Columns.{as_read}
 use Rattle.star_catalogue.proofs.Placed.{column_at, kind_at}
 use Rattle.star_catalogue.proofs.table.LoadedTable.numbers.Goals as goal
 
@@ -41,6 +41,6 @@ returns c =
     sym (length-map c.in-Numbers.numbers Number) ∙ full in
     rw (← c.self.view_is)
     (sym (numbers_are kept.rows
-    (map values kept.columns.items) c.place_of.result c.in-Numbers.numbers all there)
-    ∙ ap (λ place. numbers_at place (first_rows kept.rows (map values kept.columns.items)))
+    (map values (map as_read kept.columns.items)) c.place_of.result c.in-Numbers.numbers all there)
+    ∙ ap (λ place. numbers_at place (first_rows kept.rows (map values (map as_read kept.columns.items))))
     c.place_of.ensures.place)

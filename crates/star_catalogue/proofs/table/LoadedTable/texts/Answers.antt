@@ -4,8 +4,8 @@ use Rattle.star_schema.specs.declared.column.Kind.TheVariants as kind
 use Rattle.star_schema.specs.Schema.{kinds_of, table_of}
 use Rattle.star_schema.specs.Tables.{Text}
 use Rattle.star_schema.specs.Texts.{texts_at}
-use Rattle.star_reader.specs.Columns.{first_rows}
-use Rattle.star_catalogue.specs.Private.Columns.{values}
+use Rattle.star_reader.specs.Columns.{first_rows, values}
+use Rattle.star_catalogue.specs.Private.Columns.{as_read}
 use Rattle.star_catalogue.proofs.Placed.{column_at, kind_at, texts_are}
 use Rattle.star_catalogue.proofs.table.LoadedTable.texts.Goals as goal
 
@@ -39,6 +39,6 @@ returns c =
     let all : length c.in-Texts.texts ≡ kept.rows = sym (length-map c.in-Texts.texts Text) ∙ full in
     rw (← c.self.view_is)
     (sym (texts_are kept.rows
-    (map values kept.columns.items) c.place_of.result c.in-Texts.texts all there)
-    ∙ ap (λ place. texts_at place (first_rows kept.rows (map values kept.columns.items)))
+    (map values (map as_read kept.columns.items)) c.place_of.result c.in-Texts.texts all there)
+    ∙ ap (λ place. texts_at place (first_rows kept.rows (map values (map as_read kept.columns.items))))
     c.place_of.ensures.place)

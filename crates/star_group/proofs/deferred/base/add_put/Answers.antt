@@ -4,8 +4,8 @@ use Rattle.star_group.specs.Stores.{Put}
 use Rattle.std.proofs.Common.{length, refl}
 use Rattle.star_group.proofs.deferred.base.add_put.Goals as goal
 
-pub merged_row-merged-requires-clause-stays : goal.merged_row-merged-requires-clause-stays
-merged_row-merged-requires-clause-stays c =
+pub merge_into-requires-clause-stays : goal.merge_into-requires-clause-stays
+merge_into-requires-clause-stays c =
     let u : Put = record { keys = c.args.keys.now; values = c.args.values.now } in
     let room = c.requires.room in
     total_stays (group_with room.0 (length u.keys) c.args.aggregates.now) room.1 u c.row_of-row.result c.row_of-row.ensures room.3 c.args.total.now room.2.total
@@ -19,5 +19,5 @@ merge_row-requires-clause-stays c =
 pub returns-clause-ok : goal.returns-clause-ok
 returns-clause-ok c = λ shape puts base.
     let u : Put = record { keys = c.args.keys.now; values = c.args.values.now } in
-    base_more (group_with shape (length u.keys) c.args.aggregates.now) puts u c.base_key.result c.row_of-row.result c.base_key.ensures c.row_of-row.ensures c.args.rows.now.entries c.args.total.now base refl c.merge_row.new.rows.entries c.merged_row-merged.result
-    (c.in_ok-merge_row.ensures.own, c.in_ok-merge_row.ensures.others) c.merged_row-merged.ensures
+    base_more (group_with shape (length u.keys) c.args.aggregates.now) puts u c.base_key.result c.row_of-row.result c.base_key.ensures c.row_of-row.ensures c.args.rows.now.entries c.args.total.now base refl c.merge_row.new.rows.entries c.merge_into.new.held
+    (c.in_ok-merge_row.ensures.own, c.in_ok-merge_row.ensures.others) c.merge_into.ensures

@@ -7,7 +7,7 @@ use Rattle.star_query.specs.Private.Machine.{unit_wanted, first_unit, first_conj
 use Rattle.star_query.specs.Private.Reads.{spot_of, verdict}
 use Rattle.star_query.proofs.Tokens.{shorter}
 use Rattle.star_query.proofs.Descent.{opened, not_opened}
-use Rattle.star_query.proofs.Conditions.{read_not, read_group, named_unit, one_more_unit, one_more_conj}
+use Rattle.star_query.proofs.Filtering.{read_not, read_group, named_unit, one_more_unit, one_more_conj}
 use Rattle.star_query.proofs.parser.Parser.+condition.Goals as goal
 
 pub conjunction-loop-self-init : goal.conjunction-loop-self-init

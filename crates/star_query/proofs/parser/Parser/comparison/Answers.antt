@@ -1,7 +1,7 @@
 use Rattle.std.proofs.Common.{◌∙◌, ap, Err}
 use Rattle.std.proofs.lemmas.Result.{err_from_is_err_and}
 use Rattle.star_query.specs.Private.Reads.{spot_of}
-use Rattle.star_query.proofs.Conditions.{read_comparison, bad_comparison}
+use Rattle.star_query.proofs.Filtering.{read_comparison, bad_comparison}
 use Rattle.star_query.proofs.parser.Parser.comparison.Goals as goal
 
 pub returns-clause-reads : goal.returns-clause-reads

@@ -1,5 +1,5 @@
 use Rattle.star_query.specs.Private.Reads.{spot_of}
-use Rattle.star_query.proofs.Conditions.{read_negated, read_whole, read_quoted}
+use Rattle.star_query.proofs.Filtering.{read_negated, read_whole, read_quoted}
 use Rattle.star_query.proofs.parser.Parser.literal.Goals as goal
 
 pub returns-then-take_minus-clause-reads : goal.returns-then-take_minus-clause-reads

@@ -10,7 +10,7 @@ use Rattle.star_verify.specs.Private.Shown.{reach_shown}
 use Rattle.star_verify.specs.Shown.{reached_shown}
 use Rattle.star_verify.proofs.Chosen.{picked, left_out}
 use Rattle.star_verify.proofs.Reaching.{one_reached}
-use Rattle.star_verify.proofs.Steps.{drop_past}
+use Rattle.std.proofs.lemmas.List.{drop_all}
 use Rattle.star_verify.proofs.facts.Facts.reached.Goals as goal
 use Rattle.star_verify.proofs.facts.Facts.reached.Goals.{then-has+in_ok-push, else-has}
 
@@ -45,5 +45,5 @@ returns c = λ w facts.
     let f : ColumnId → ColumnId × Range = λ column. (column, w.bounds column) in
     ap (λ (items : List Reached). map reached_shown items) c.from_vec.ensures
     ∙ sym (append-nil (map reached_shown c.loop-column.columns.items))
-    ∙ sym (ap (λ items. map reached_shown c.loop-column.columns.items ++ map f (filter p items)) (drop_past COLUMNS c.loop-column.column-index c.loop-column-test.false))
+    ∙ sym (ap (λ items. map reached_shown c.loop-column.columns.items ++ map f (filter p items)) (drop_all c.loop-column.column-index COLUMNS c.loop-column-test.false))
     ∙ c.loop-column.invariant w facts

@@ -1,0 +1,114 @@
+use Rattle.std.proofs.Common.{◌≡◌, ◌∙◌, ap, inl, inr, length, sym}
+use Rattle.std.proofs.lemmas.Result.{MatchResult-weaker, err_from_is_err_and}
+use Rattle.star_schema.specs.declared.table.Key.TheVariants.{One, Two}
+use Rattle.star_schema.specs.Bounds.{numbers_at}
+use Rattle.star_schema.specs.Loadable.{keys_of}
+use Rattle.star_schema.specs.Schema.{key_of, place_of}
+use Rattle.star_schema.proofs.KeyColumns.{key_column, key_pair, number_at_place}
+use Rattle.star_catalogue.proofs.Apart.{numbers_apart}
+use Rattle.star_catalogue.proofs.KeyLists.{apart_of_one, apart_of_two, fault_of_one, fault_of_two, keys_of_one, length-numbers_at, length_of_two}
+use Rattle.star_catalogue.specs.Private.Keys.{row_in}
+use Rattle.star_catalogue.proofs.Found.{kept_one, none_among_two}
+use Rattle.star_catalogue.proofs.keys.KeyIndex.build.Goals as goal
+
+pub numbers-numbers-requires : goal.numbers-numbers-requires
+numbers-numbers-requires c =
+    let table = c.args.raw.now.table in
+    let key : key_of table ≡ One c.in-One.column =
+    ap key_of (sym c.table-table.ensures) ∙ sym c.in-One.ensures in
+    rw c.place_of.ensures.place
+    (number_at_place table c.in-One.column (key_column table c.in-One.column key))
+
+pub of_numbers-requires : goal.of_numbers-requires
+of_numbers-requires c =
+    rw (c.numbers-numbers.ensures.numbers, length-numbers_at c.place_of.result c.args.raw.now.rows)
+    c.requires
+
+pub returns-in-One : goal.returns-in-One
+returns-in-One c =
+    let table = c.args.raw.now.table in
+    let rows = c.args.raw.now.rows in
+    let key : key_of table ≡ One c.in-One.column =
+    ap key_of (sym c.table-table.ensures) ∙ sym c.in-One.ensures in
+    let numbers : c.numbers-numbers.result.now ≡ numbers_at (place_of c.in-One.column) rows =
+    c.numbers-numbers.ensures.numbers
+    ∙ ap (λ place. numbers_at place rows) c.place_of.ensures.place in
+    MatchResult-weaker c.of_numbers.result c.of_numbers.ensures (λ index built. (
+      kept_one (row_in index) (numbers_at (place_of c.in-One.column) rows) _ (rw numbers at built.0)
+          (keys_of_one table c.in-One.column rows key),
+      apart_of_one table c.in-One.column rows key
+          (numbers_apart (numbers_at (place_of c.in-One.column) rows) (rw numbers at built.1)),
+    )) (λ fault refused. elim refused [
+      | inl memory ↦ inl memory
+      | inr first ↦ inr (fault_of_one table c.in-One.column rows key
+          ∙ rw (c.table-table.ensures, numbers) at first)
+    ])
+
+pub numbers-firsts-requires : goal.numbers-firsts-requires
+numbers-firsts-requires c =
+    let table = c.args.raw.now.table in
+    let key : key_of table ≡ Two c.in-Two.first c.in-Two.second =
+    ap key_of (sym c.table-table.ensures) ∙ sym c.in-Two.ensures in
+    rw c.place_of-in-Two.ensures.place
+    (number_at_place table c.in-Two.first (key_pair table c.in-Two.first c.in-Two.second key).0)
+
+pub numbers-seconds-requires : goal.numbers-seconds-requires
+numbers-seconds-requires c =
+    let table = c.args.raw.now.table in
+    let key : key_of table ≡ Two c.in-Two.first c.in-Two.second =
+    ap key_of (sym c.table-table.ensures) ∙ sym c.in-Two.ensures in
+    rw c.place_of-in-Two-2.ensures.place
+    (number_at_place table c.in-Two.second
+    (key_pair table c.in-Two.first c.in-Two.second key).1)
+
+pub check_pairs-requires-clause-len : goal.check_pairs-requires-clause-len
+check_pairs-requires-clause-len c =
+    let rows = c.args.raw.now.rows in
+    ap length c.numbers-firsts.ensures.numbers ∙ length-numbers_at c.place_of-in-Two.result rows
+    ∙ sym (ap length c.numbers-seconds.ensures.numbers
+    ∙ length-numbers_at c.place_of-in-Two-2.result rows)
+
+pub check_pairs-requires-clause-few : goal.check_pairs-requires-clause-few
+check_pairs-requires-clause-few c =
+    rw (
+      c.numbers-firsts.ensures.numbers,
+      length-numbers_at c.place_of-in-Two.result c.args.raw.now.rows,
+    ) c.requires
+
+pub returns-in_err-check_pairs-in-Two : goal.returns-in_err-check_pairs-in-Two
+returns-in_err-check_pairs-in-Two c =
+    let table = c.args.raw.now.table in
+    let rows = c.args.raw.now.rows in
+    let key : key_of table ≡ Two c.in-Two.first c.in-Two.second =
+    ap key_of (sym c.table-table.ensures) ∙ sym c.in-Two.ensures in
+    let p = err_from_is_err_and c.from_residual.result
+    c.from_residual.ensures.1 in
+    rw (p.1, p.2) (elim c.in_err-check_pairs-in-Two.ensures [
+      | inl memory ↦ inl memory
+      | inr first ↦ inr (fault_of_two table c.in-Two.first c.in-Two.second rows key
+          ∙ rw (
+            c.table-table.ensures,
+            c.numbers-firsts.ensures.numbers,
+            c.numbers-seconds.ensures.numbers,
+            c.place_of-in-Two.ensures.place,
+            c.place_of-in-Two-2.ensures.place,
+          ) at first)
+    ])
+
+pub returns-in_ok-check_pairs-in-Two : goal.returns-in_ok-check_pairs-in-Two
+returns-in_ok-check_pairs-in-Two c =
+    let table = c.args.raw.now.table in
+    let rows = c.args.raw.now.rows in
+    let key : key_of table ≡ Two c.in-Two.first c.in-Two.second =
+    ap key_of (sym c.table-table.ensures) ∙ sym c.in-Two.ensures in (
+      λ number. none_among_two (keys_of table rows) number
+          (length_of_two table c.in-Two.first c.in-Two.second rows key),
+      apart_of_two table c.in-Two.first c.in-Two.second rows key
+          (rw (
+            c.numbers-firsts.ensures.numbers,
+            c.numbers-seconds.ensures.numbers,
+            c.place_of-in-Two.ensures.place,
+            c.place_of-in-Two-2.ensures.place,
+          ) at
+          c.in_ok-check_pairs-in-Two.ensures),
+    )

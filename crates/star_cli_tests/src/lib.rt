@@ -1,0 +1,8 @@
+//! Tests of the commands by the public items of `star_cli` alone: their words, files and exit
+//! statuses, and what goes to which stream.
+#![tactic(auto)]
+
+#[cfg(test)]
+mod commands;
+#[cfg(test)]
+mod surroundings;

@@ -1,0 +1,53 @@
+-- Columns that are lent.
+use Rattle.std.proofs.Common.{◌≡◌, ℕ, ℤ, pos, ◌+ℤ◌, ◌<◌, List, [], Some, length, get_or, sym, ap, ◌∙◌, arith}
+use Rattle.std.specs.List.{All, slice_get}
+use Rattle.std.proofs.lemmas.Int.{ints}
+use Rattle.std.proofs.lemmas.List.Elements.{All-get_or, All-weaker}
+use Rattle.std.proofs.lemmas.Option.{get_or_from_slice_get, slice_get-get_or, slice_get_within}
+use Rattle.std.proofs.lemmas.Simd.{map-map}
+use Rattle.star_common.proofs.Members.{map_agree}
+use Rattle.star_schema.specs.Dictionary.{codes_of, dictionary_of, low_in}
+use Rattle.star_schema.proofs.Dictionaries.{IsDictionary-dictionary_of}
+use Rattle.star_schema.proofs.TextPlaces.{low_in-place}
+use Rattle.star_interval.specs.Range.{Holds, Range}
+use Rattle.star_column.specs.Private.Codes.{AreCodes, texts_at}
+use Rattle.star_column.specs.Private.Words.{above}
+use Rattle.star_column.proofs.Differences.{packed_at}
+
+-- what holds of all values holds of a row's
+pub lent_holds : (r : Range) (low : ℤ) (ns : List ℕ) (row d : ℕ) → All (Holds r) (above low ns)
+    → slice_get ns row ≡ Some d → Holds r (low +ℤ pos d)
+lent_holds r low ns row d all there =
+    let at_row = packed_at low ns row d there in
+    let within : row < length (above low ns) =
+    slice_get_within (above low ns) row (low +ℤ pos d) at_row in
+    rw (get_or_from_slice_get (above low ns) row (low +ℤ pos d) (pos 0) at_row)
+    at (All-get_or (Holds r) (above low ns) row (pos 0) within all)
+
+-- each code is the number of texts below its text
+module _ (dictionary : List (List ℕ)) (codes : List ℕ) (are : AreCodes dictionary codes) where
+  zero_more : (n : ℕ) → pos 0 +ℤ pos n ≡ pos n
+  zero_more n = omega (arith, ints)
+
+  same : (n : ℕ) → n < length dictionary → pos 0 +ℤ pos n
+      ≡ pos (low_in (dictionary_of (texts_at dictionary codes)) (get_or dictionary n []))
+  same n within =
+      let ds = dictionary_of (texts_at dictionary codes) in
+      let there : slice_get ds n ≡ Some (get_or dictionary n []) =
+      ap (λ xs. slice_get xs n) (sym are.dictionary_is)
+      ∙ slice_get-get_or dictionary n [] within in
+      zero_more n
+      ∙ ap pos (sym (low_in-place ds
+      (IsDictionary-dictionary_of (texts_at dictionary codes)).sorted n (get_or dictionary n [])
+      there))
+
+  pub above_codes : above (pos 0) codes ≡ codes_of (texts_at dictionary codes)
+  above_codes =
+      let texts = texts_at dictionary codes in
+      map_agree (λ n. pos 0 +ℤ pos n)
+      (λ n. pos (low_in (dictionary_of texts) (get_or dictionary n []))) codes
+      (All-weaker (λ n. n < length dictionary)
+      (λ n. pos 0 +ℤ pos n ≡ pos (low_in (dictionary_of texts) (get_or dictionary n []))) same codes
+      are.within)
+      ∙ sym (map-map (λ text. pos (low_in (dictionary_of texts) text))
+      (λ n. get_or dictionary n []) codes)

@@ -1,0 +1,693 @@
+// Programs that are checked and then run: worked reports with their notes, each kind of refusal with
+// its place, limits at and one below what is quoted, and sinks that fail.
+
+use star_engine::{EngineFault, Texts, answer_program, quote_text, sample};
+use star_fixtures::programs::{
+    ABOVE_AVERAGE, ABSENT_KEY, DISCOUNTED_REVENUE, MISPLACED, NESTED, NO_TEXTS, READ_INSIDE, UNSET,
+    counting,
+};
+use star_fixtures::streams::Short;
+use star_schema::{Limits, MOST_ROWS, MOST_VISITS, Out};
+use std::alloc::{AllocError, Global};
+use std::fmt::Write;
+use std::test::Fail;
+
+// How many bytes a program's report or its notes have at most, so that no writer takes memory.
+const ROOM: usize = 4096;
+
+// A program, a bound on visits, and what it prints: its report, and its notes with the line of its
+// fault, if it has one.
+type Case = (&'static str, u64, &'static str, &'static str);
+
+// The report of a program; and its notes, with its fault line behind them.
+#[derive(Drop)]
+struct Printed {
+    report: Vec<u8>,
+    notes: Vec<u8>,
+}
+
+impl Printed {
+    // What was printed, with the line of a fault behind the notes. Want of memory is an error of the
+    // test.
+    fn of(
+        alloc: Global,
+        report: Vec<u8>,
+        notes: Vec<u8>,
+        answer: Result<(), EngineFault>,
+    ) -> Result<Printed, AllocError> {
+        let mut printed = Printed { report, notes };
+        match answer {
+            Ok(()) => {}
+            Err(EngineFault::OutOfMemory) => return Err(AllocError),
+            Err(fault) => {
+                let line = format!(in alloc; "{fault}\n")?;
+                printed.notes.extend_from_slice(line.as_bytes())?;
+            }
+        }
+        Ok(printed)
+    }
+
+    fn agree(&self, report: &str, notes: &str) -> Result<(), Fail> {
+        if self.report.as_slice() == report.as_bytes()
+            && self.notes.as_slice() == notes.as_bytes()
+        {
+            return Ok(());
+        }
+        let printed = str::from_utf8(self.report.as_slice())?;
+        let noted = str::from_utf8(self.notes.as_slice())?;
+        Err(Fail::from(format_args!(
+            "{printed} and {noted} where {report} and {notes} are expected"
+        )))
+    }
+}
+
+// The widest limits, but for so many visits.
+fn limits_of(visits: u64) -> Limits {
+    Limits::new(MOST_ROWS, visits).unwrap_or(Limits::widest())
+}
+
+// What a program prints over some texts, where so many visits are allowed.
+fn executed(
+    alloc: Global,
+    texts: &Texts<'_>,
+    program: &str,
+    visits: u64,
+) -> Result<Printed, AllocError> {
+    let mut report = Vec::with_capacity(alloc, ROOM)?;
+    let mut notes = Vec::with_capacity(alloc, ROOM)?;
+    let answer = answer_program(
+        alloc,
+        texts,
+        program.as_bytes(),
+        limits_of(visits),
+        &mut Out::new(&mut report),
+        &mut Out::new(&mut notes),
+    );
+    Printed::of(alloc, report, notes, answer)
+}
+
+fn all_agree(alloc: Global, texts: &Texts<'_>, cases: &[Case]) -> Result<(), Fail> {
+    for (program, visits, report, notes) in cases {
+        executed(alloc, texts, program, *visits)?.agree(report, notes)?;
+    }
+    Ok(())
+}
+
+// Programs of these lines, with three registers, that count their puts.
+fn all_counting_agree(alloc: Global, texts: &Texts<'_>, cases: &[Case]) -> Result<(), Fail> {
+    for (lines, visits, report, notes) in cases {
+        let program = counting(alloc, lines)?;
+        executed(alloc, texts, program.as_str(), *visits)?.agree(report, notes)?;
+    }
+    Ok(())
+}
+
+const WORKED: &[Case] = &[
+    (
+        ABOVE_AVERAGE,
+        MOST_VISITS,
+        "n\n2\n",
+        "quote 10\nvisits 10 lookups 0 updates 7\n",
+    ),
+    (
+        ABOVE_AVERAGE,
+        10,
+        "n\n2\n",
+        "quote 10\nvisits 10 lookups 0 updates 7\n",
+    ),
+    (
+        ABOVE_AVERAGE,
+        9,
+        "",
+        "quote 10\nrefused 71 TooCostly visits 10\n",
+    ),
+    (
+        DISCOUNTED_REVENUE,
+        5,
+        "revenue\n2000\n",
+        "quote 5\nvisits 5 lookups 5 updates 1\n",
+    ),
+    (
+        DISCOUNTED_REVENUE,
+        4,
+        "",
+        "quote 5\nrefused 71 TooCostly visits 5\n",
+    ),
+    (
+        REVENUES,
+        MOST_VISITS,
+        concat!(
+            "y|r|s|n\nALL|ALL|7045|5\nALL|AMERICA|4475|3\n1997|ALL|3630|2\n1997|AMERICA|3000|1\n",
+            "1993|ALL|2920|2\nALL|EUROPE|2570|2\n1993|EUROPE|1940|1\n1993|AMERICA|980|1\n",
+            "1997|EUROPE|630|1\n1994|AMERICA|495|1\n1994|ALL|495|1\n",
+        ),
+        "quote 5\nvisits 5 lookups 10 updates 5\n",
+    ),
+];
+
+// A cube of years and regions, the greatest revenue first.
+const REVENUES: &str = concat!(
+    "star program 1\nregisters 8\ngroup 0 cube number s_region : sum count\nscan lineorder r0\n",
+    "r1 = load lo_orderdate r0\nr2 = find date r1\nr3 = load d_year r2\n",
+    "r4 = load lo_suppkey r0\nr5 = find supplier r4\nr6 = load s_region r5\n",
+    "r7 = load lo_revenue r0\nput 0 r3 r6 : r7\nend\n",
+    "report 0\nshow y key 0\nshow r key 1\nshow s aggregate 0\nshow n aggregate 1\nsort aggregate 0 descending\n",
+);
+
+const OF_EMPTY_TABLES: &[Case] = &[
+    (
+        REVENUES,
+        0,
+        "y|r|s|n\nALL|ALL|NULL|0\n",
+        "quote 0\nvisits 0 lookups 0 updates 0\n",
+    ),
+    (
+        ABOVE_AVERAGE,
+        0,
+        "n\n0\n",
+        "quote 0\nvisits 0 lookups 0 updates 0\n",
+    ),
+];
+
+#[test]
+fn reports_with_notes(rt: HostRuntime) -> Result<(), Fail> {
+    all_agree(rt.alloc(), &sample(), WORKED)?;
+    all_agree(rt.alloc(), &NO_TEXTS, OF_EMPTY_TABLES)
+}
+
+// Scans of three tables one in another, and a scan beside them.
+const DEEP: &str = concat!(
+    "scan lineorder r0\nscan supplier r1\nscan part r2\nput 0 :\nend\nend\nend\n",
+);
+
+// Bodies: what they print, or their refusal; each number of a refusal twice or more.
+const BODIES: &[Case] = &[
+    ("", 0, "n\n0\n", "quote 0\nvisits 0 lookups 0 updates 0\n"),
+    (
+        NESTED,
+        9,
+        "n\n6\n",
+        "quote 9\nvisits 9 lookups 0 updates 6\n",
+    ),
+    (NESTED, 8, "", "quote 9\nrefused 71 TooCostly visits 9\n"),
+    (
+        DEEP,
+        45,
+        "n\n30\n",
+        "quote 45\nvisits 45 lookups 0 updates 30\n",
+    ),
+    (DEEP, 44, "", "quote 45\nrefused 71 TooCostly visits 45\n"),
+    (
+        "r3 = const 1\n",
+        0,
+        "",
+        "quote 0\nrefused 60 BadRegister at 1\n",
+    ),
+    (
+        "r0 = const 1\nr1 = add r0 r3\n",
+        0,
+        "",
+        "quote 0\nrefused 60 BadRegister at 2\n",
+    ),
+    (
+        "scan date r3\nend\n",
+        3,
+        "",
+        "quote 3\nrefused 60 BadRegister at 1\n",
+    ),
+    (
+        "r0 = const 1\nr0 = const 2\n",
+        0,
+        "",
+        "quote 0\nrefused 61 WrittenTwice at 2\n",
+    ),
+    (
+        "scan date r0\nr1 = const 1\nend\nr1 = const 1\n",
+        3,
+        "",
+        "quote 3\nrefused 61 WrittenTwice at 3\n",
+    ),
+    (UNSET, 3, "", "quote 3\nrefused 62 Unset at 3\n"),
+    (
+        "r0 = add r0 r0\n",
+        0,
+        "",
+        "quote 0\nrefused 62 Unset at 1\n",
+    ),
+    (
+        "r0 = const 1\nr1 = load d_year r0\n",
+        0,
+        "",
+        "quote 0\nrefused 63 WrongKind at 2\n",
+    ),
+    (
+        "r0 = const 1\nr1 = eq r0 r0\nr2 = add r1 r9\n",
+        0,
+        "",
+        "quote 0\nrefused 63 WrongKind at 3\n",
+    ),
+    (
+        "r0 = low d_year 'x'\n",
+        0,
+        "",
+        "quote 0\nrefused 64 BadColumn at 1\n",
+    ),
+    (
+        "scan date r0\nr1 = load s_region r0\nend\n",
+        3,
+        "",
+        "quote 3\nrefused 64 BadColumn at 2\n",
+    ),
+    (
+        ABSENT_KEY,
+        5,
+        "",
+        "quote 5\nrefused 65 NotAForeignKey at 3\n",
+    ),
+    (
+        "r0 = const 19930210\nr1 = find date r0\n",
+        0,
+        "",
+        "quote 0\nrefused 65 NotAForeignKey at 2\n",
+    ),
+    // The key of a dimension is no foreign key to it.
+    (
+        "scan date r0\nr1 = load d_datekey r0\nr2 = find date r1\nend\n",
+        3,
+        "",
+        "quote 3\nrefused 65 NotAForeignKey at 3\n",
+    ),
+    ("put 1 :\n", 0, "", "quote 0\nrefused 66 BadGroup at 1\n"),
+    (
+        "r0 = const 1\nput 0 r0 :\n",
+        0,
+        "",
+        "quote 0\nrefused 66 BadGroup at 2\n",
+    ),
+    (
+        "r3 = read 0 1 0\n",
+        0,
+        "",
+        "quote 0\nrefused 66 BadGroup at 1\n",
+    ),
+    (READ_INSIDE, 5, "", "quote 5\nrefused 67 OpenGroup at 3\n"),
+    (
+        "r0 = read 0 0 0\nput 0 :\n",
+        0,
+        "",
+        "quote 0\nrefused 67 OpenGroup at 1\n",
+    ),
+    (MISPLACED, 0, "", "quote 0\nrefused 68 Misplaced at 3\n"),
+    (
+        "scan date r0\nend\nkeep r9\n",
+        3,
+        "",
+        "quote 3\nrefused 68 Misplaced at 2\n",
+    ),
+    (
+        "r0 = const 9223372036854775807\nr1 = const 1\nr2 = add r0 r1\n",
+        0,
+        "",
+        "quote 0\nrefused 69 Overflow at 3: 9223372036854775808..9223372036854775808\n",
+    ),
+    // Too many visits come before any instruction.
+    (
+        "r3 = const 1\nscan date r0\nend\n",
+        2,
+        "",
+        "quote 3\nrefused 71 TooCostly visits 3\n",
+    ),
+];
+
+#[test]
+fn tells_refusals_of_bodies(rt: HostRuntime) -> Result<(), Fail> {
+    all_counting_agree(rt.alloc(), &sample(), BODIES)
+}
+
+// Over empty tables the same refusals come, and no turn is quoted.
+const BODIES_OVER_NOTHING: &[Case] = &[
+    (
+        NESTED,
+        0,
+        "n\n0\n",
+        "quote 0\nvisits 0 lookups 0 updates 0\n",
+    ),
+    (
+        ABSENT_KEY,
+        0,
+        "",
+        "quote 0\nrefused 65 NotAForeignKey at 3\n",
+    ),
+    (UNSET, 0, "", "quote 0\nrefused 62 Unset at 3\n"),
+];
+
+#[test]
+fn tells_refusals_over_empty_tables(rt: HostRuntime) -> Result<(), Fail> {
+    all_counting_agree(rt.alloc(), &NO_TEXTS, BODIES_OVER_NOTHING)
+}
+
+// Reports of what is not there: what follows three registers and a group of a count.
+const NOT_THERE: &[(&str, &str)] = &[
+    (
+        "report 0\nshow n key 0\n",
+        "quote 0\nrefused 70 BadShow at 1\n",
+    ),
+    (
+        "report 0\nshow n aggregate 0\nshow m aggregate 1\n",
+        "quote 0\nrefused 70 BadShow at 2\n",
+    ),
+    ("report 0\n", "quote 0\nrefused 70 BadShow at 0\n"),
+    (
+        "report 1\nshow n aggregate 0\n",
+        "quote 0\nrefused 70 BadShow at 0\n",
+    ),
+    (
+        "report 0\nshow n aggregate 0\nsort aggregate 0 ascending\nsort key 0 ascending\n",
+        "quote 0\nrefused 70 BadShow at 3\n",
+    ),
+    // An instruction comes before the report.
+    (
+        "r3 = const 1\nreport 1\nshow n aggregate 0\n",
+        "quote 0\nrefused 60 BadRegister at 1\n",
+    ),
+];
+
+#[test]
+fn tells_refusals_of_reports(rt: HostRuntime) -> Result<(), Fail> {
+    for (lines, notes) in NOT_THERE {
+        let program = format!(in rt.alloc();
+            "star program 1\nregisters 3\ngroup 0 plain : count\n{lines}"
+        )?;
+        executed(rt.alloc(), &sample(), program.as_str(), 0)?.agree("", notes)?;
+    }
+    Ok(())
+}
+
+// The sum of the prices of the first line of an order.
+const FIRST_PRICES: &str = concat!(
+    "star program 1\nregisters 5\ngroup 0 plain : sum\nscan lineorder r0\n",
+    "r1 = load lo_linenumber r0\nr2 = const 1\nr3 = eq r1 r2\nkeep r3\n",
+    "r4 = load lo_extendedprice r0\nput 0 : r4\nend\n",
+    "report 0\nshow s aggregate 0\n",
+);
+
+// Twice by how much a sum of prices is below 9,000,000,000,000,000,000.
+const BELOW_NINE: &str = concat!(
+    "star program 1\nregisters 10\ngroup 0 plain : sum\ngroup 1 plain : max\n",
+    "scan lineorder r0\nr1 = load lo_linenumber r0\nr2 = const 1\nr3 = eq r1 r2\nkeep r3\n",
+    "r4 = load lo_extendedprice r0\nput 0 : r4\nend\n",
+    "r5 = read 0 0 0\nr6 = const 9000000000000000000\nr7 = sub r5 r6\nr8 = const 2\nr9 = mul r7 r8\nput 1 : r9\n",
+    "report 1\nshow m aggregate 0\n",
+);
+
+// The sum of the squares of prices.
+const SQUARES: &str = concat!(
+    "star program 1\nregisters 3\ngroup 0 plain : sum\nscan lineorder r0\n",
+    "r1 = load lo_extendedprice r0\nr2 = mul r1 r1\nput 0 : r2\nend\n",
+    "report 0\nshow s aggregate 0\n",
+);
+
+// The greatest of the prices times quantities, and of a price less a discount, loaded out of order.
+const TWO_COLUMNS: &str = concat!(
+    "star program 1\nregisters 5\ngroup 0 plain : max\nscan lineorder r0\n",
+    "r1 = load lo_discount r0\nr2 = load lo_extendedprice r0\nr3 = sub r1 r2\nr4 = mul r3 r2\n",
+    "put 0 : r4\nend\n",
+    "report 0\nshow m aggregate 0\n",
+);
+
+// So many lines of one order, all dear.
+fn dear_lines(alloc: Global, count: u64) -> Result<String, Fail> {
+    let mut lines = String::new(alloc);
+    for place in 0..count {
+        let number = place + 1;
+        writeln!(
+            lines,
+            "1|{number}|1|1|2|19930210|2-HIGH|0|10|900000000000000000|3000|2|980|600|2|19940105|MAIL|"
+        )?;
+    }
+    Ok(lines)
+}
+
+const OF_TEN_DEAR_LINES: &[Case] = &[
+    (
+        FIRST_PRICES,
+        10,
+        "s\n900000000000000000\n",
+        "quote 10\nvisits 10 lookups 0 updates 1\n",
+    ),
+    (
+        BELOW_NINE,
+        10,
+        "",
+        "quote 10\nrefused 69 Overflow at 12: -18000000000000000000..0\n",
+    ),
+    (
+        TWO_COLUMNS,
+        10,
+        "",
+        concat!(
+            "quote 10\nrefused 69 Overflow at 5: ",
+            "-809999999999999998200000000000000000..-809999999999999998200000000000000000",
+            " from lo_extendedprice 900000000000000000..900000000000000000, lo_discount 2..2\n",
+        ),
+    ),
+];
+
+const OF_ELEVEN_DEAR_LINES: &[Case] = &[
+    (
+        FIRST_PRICES,
+        11,
+        "",
+        concat!(
+            "quote 11\nrefused 69 Overflow at 7: 0..9900000000000000000",
+            " from lo_extendedprice 900000000000000000..900000000000000000\n",
+        ),
+    ),
+    (
+        BELOW_NINE,
+        11,
+        "",
+        concat!(
+            "quote 11\nrefused 69 Overflow at 7: 0..9900000000000000000",
+            " from lo_extendedprice 900000000000000000..900000000000000000\n",
+        ),
+    ),
+];
+
+fn dear_agree(alloc: Global, count: u64, cases: &[Case]) -> Result<(), Fail> {
+    let lines = dear_lines(alloc, count)?;
+    let dear = Texts {
+        lineorder: lines.as_bytes(),
+        ..sample()
+    };
+    all_agree(alloc, &dear, cases)
+}
+
+// The sample's orders, one of them with the greatest price.
+const GREAT_PRICE: &str = concat!(
+    "1|1|1|1|2|19930210|2-HIGH|0|10|1000|3000|2|980|600|2|19940105|MAIL|\n",
+    "1|2|1|2|1|19930210|2-HIGH|0|30|2000|3000|3|1940|1200|0|19940105|RAIL|\n",
+    "2|1|2|1|2|19940105|5-LOW|0|24|500|500|1|495|700|4|19940105|SHIP|\n",
+    "3|1|3|3|2|19971215|1-URGENT|0|50|999999999999999999|3700|0|3000|1000|8|19971215|TRUCK|\n",
+    "3|2|1|2|1|19971215|1-URGENT|0|1|700|3700|10|630|100|1|19971215|AIR|\n",
+);
+
+const OF_A_GREAT_PRICE: &[Case] = &[(
+    SQUARES,
+    5,
+    "",
+    concat!(
+        "quote 5\nrefused 69 Overflow at 3: 250000..999999999999999998000000000000000001",
+        " from lo_extendedprice 500..999999999999999999\n",
+    ),
+)];
+
+#[test]
+fn tells_ranges_that_leave_64_bits(rt: HostRuntime) -> Result<(), Fail> {
+    dear_agree(rt.alloc(), 10, OF_TEN_DEAR_LINES)?;
+    dear_agree(rt.alloc(), 11, OF_ELEVEN_DEAR_LINES)?;
+    let great = Texts {
+        lineorder: GREAT_PRICE.as_bytes(),
+        ..sample()
+    };
+    all_agree(rt.alloc(), &great, OF_A_GREAT_PRICE)
+}
+
+// The file decides before the tables, and no note is written of what is no program or not loaded.
+const UNREAD: &[(&str, &str, &str)] = &[
+    ("star program 2\n", "x", "program 50 BadHeader\n"),
+    (
+        "star program 1\nregisters 99999\n",
+        "x",
+        "program 51 BadLine line 2\n",
+    ),
+    (
+        "star program 1\nregisters 1\nscan date r0\n",
+        "",
+        "program 52 OpenScan\n",
+    ),
+    (
+        "star program 1\nregisters 4097\n",
+        "",
+        "program 53 TooLarge line 2\n",
+    ),
+    (
+        ABOVE_AVERAGE,
+        "x",
+        "load 4 FieldCount table lineorder record 1\n",
+    ),
+];
+
+#[test]
+fn tells_what_is_not_read(rt: HostRuntime) -> Result<(), Fail> {
+    for (program, lineorder, line) in UNREAD {
+        let texts = Texts {
+            lineorder: lineorder.as_bytes(),
+            ..sample()
+        };
+        executed(rt.alloc(), &texts, program, 10)?.agree("", line)?;
+        quoted(rt.alloc(), &texts, program, 10)?.agree("", line)?;
+    }
+    executed(rt.alloc(), &sample(), "", 10)?.agree("", "program 50 BadHeader\n")
+}
+
+// What is quoted of a file over some texts.
+fn quoted(
+    alloc: Global,
+    texts: &Texts<'_>,
+    file: &str,
+    visits: u64,
+) -> Result<Printed, AllocError> {
+    let mut report = Vec::with_capacity(alloc, ROOM)?;
+    let notes = Vec::with_capacity(alloc, ROOM)?;
+    let answer = quote_text(
+        alloc,
+        texts,
+        file.as_bytes(),
+        limits_of(visits),
+        &mut Out::new(&mut report),
+    );
+    Printed::of(alloc, report, notes, answer)
+}
+
+// Files with what is quoted of them, refused or not; and what is taken for a query, though some of it
+// is a program.
+const QUOTED: &[(&str, &str, &str)] = &[
+    (ABOVE_AVERAGE, "quote 10\n", ""),
+    (DISCOUNTED_REVENUE, "quote 5\n", ""),
+    (
+        "star program 1\nregisters 0\nscan part r7\nscan part r7\nend\nend\nreport 5\n",
+        "quote 12\n",
+        "",
+    ),
+    (
+        " star program 1\nregisters 0\nreport 0\n",
+        "",
+        "query 24 Unexpected at 1\n",
+    ),
+    (
+        "star  program 1\nregisters 0\nreport 0\n",
+        "",
+        "query 24 Unexpected at 0\n",
+    ),
+    ("star program 2\n", "", "program 50 BadHeader\n"),
+    ("star program", "", "query 24 Unexpected at 0\n"),
+];
+
+#[test]
+fn quotes_without_a_check(rt: HostRuntime) -> Result<(), Fail> {
+    for (file, report, line) in QUOTED {
+        quoted(rt.alloc(), &sample(), file, 0)?.agree(report, line)?;
+    }
+    Ok(())
+}
+
+// How many bytes are told as sent: none where there is no fault.
+fn sent_of(answer: Result<(), EngineFault>) -> Result<Option<u64>, Fail> {
+    match answer {
+        Ok(()) => Ok(None),
+        Err(EngineFault::Write { sent }) => Ok(Some(sent)),
+        Err(EngineFault::OutOfMemory) => Err(Fail::from(AllocError)),
+        Err(fault) => Err(Fail::from(format_args!("{fault}"))),
+    }
+}
+
+const REPORT: &str = "n\n2\n";
+
+const NOTES: &str = "quote 10\nvisits 10 lookups 0 updates 7\n";
+
+// Whether a program whose report and notes are taken up to so many bytes leaves just these bytes, and
+// tells so many as sent.
+fn leaves(
+    alloc: Global,
+    room: usize,
+    noted: usize,
+    report: usize,
+    notes: usize,
+    sent: Option<u64>,
+) -> Result<bool, Fail> {
+    let mut out = Short::with_room(alloc, room, 3)?;
+    let mut err = Short::with_room(alloc, noted, 2)?;
+    let answer = answer_program(
+        alloc,
+        &sample(),
+        ABOVE_AVERAGE.as_bytes(),
+        Limits::widest(),
+        &mut Out::new(&mut out),
+        &mut Out::new(&mut err),
+    );
+    Ok(
+        sent_of(answer)? == sent
+            && REPORT.as_bytes().get(..report) == Some(out.taken.as_slice())
+            && NOTES.as_bytes().get(..notes) == Some(err.taken.as_slice()),
+    )
+}
+
+// Notes that fail at each of their bytes: at the first line nothing was sent, and at the last the
+// whole report.
+#[test]
+fn tells_notes_that_fail(rt: HostRuntime) -> Result<(), Fail> {
+    for noted in 0..NOTES.len() + 1 {
+        let (report, sent) = match noted {
+            0..9 => (0, Some(0)),
+            9..39 => (4, Some(4)),
+            _ => (4, None),
+        };
+        assert!(rt;
+            leaves(rt.alloc(), 10, noted, report, noted, sent)?,
+            "{noted}"
+        );
+    }
+    Ok(())
+}
+
+// A report that fails at each of its bytes: no last note is written.
+#[test]
+fn tells_reports_that_fail(rt: HostRuntime) -> Result<(), Fail> {
+    for room in 0..REPORT.len() {
+        let sent = Some(room as u64);
+        assert!(rt; leaves(rt.alloc(), room, 100, room, 9, sent)?, "{room}");
+    }
+    Ok(())
+}
+
+fn quote_sends(alloc: Global, room: usize, sent: Option<u64>) -> Result<bool, Fail> {
+    let mut out = Short::with_room(alloc, room, 1)?;
+    let answer = quote_text(
+        alloc,
+        &sample(),
+        ABOVE_AVERAGE.as_bytes(),
+        Limits::widest(),
+        &mut Out::new(&mut out),
+    );
+    Ok(sent_of(answer)? == sent && b"quote 10\n".get(..room) == Some(out.taken.as_slice()))
+}
+
+#[test]
+fn tells_quotes_that_fail(rt: HostRuntime) -> Result<(), Fail> {
+    for room in 0..9usize {
+        assert!(rt; quote_sends(rt.alloc(), room, Some(room as u64))?, "{room}");
+    }
+    assert!(rt; quote_sends(rt.alloc(), 9, None)?);
+    Ok(())
+}

@@ -1,0 +1,6 @@
+//! What the tests of several crates share: programs, loaded tables, and streams that fail.
+#![tactic(auto)]
+
+pub mod programs;
+pub mod samples;
+pub mod streams;

@@ -1,0 +1,100 @@
+// Programs that several tests try, tables with no rows, and texts read as programs.
+
+use star_catalogue::Texts;
+use star_program::{Program, TextFault};
+use std::alloc::{AllocError, Global};
+use std::test::Fail;
+
+/// Counts the lines that are priced above the average: two of the sample.
+pub const ABOVE_AVERAGE: &str = concat!(
+    "star program 1\n",
+    "registers 8\n",
+    "group 0 plain : sum count\n",
+    "group 1 plain : count\n",
+    "scan lineorder r0\n",
+    "  r1 = load lo_extendedprice r0\n",
+    "  put 0 : r1\n",
+    "end\n",
+    "r2 = read 0 0 0\n",
+    "r3 = read 0 1 0\n",
+    "scan lineorder r4\n",
+    "  r5 = load lo_extendedprice r4\n",
+    "  r6 = mul r5 r3\n",
+    "  r7 = lt r2 r6\n",
+    "  keep r7\n",
+    "  put 1 :\n",
+    "end\n",
+    "report 1\n",
+    "show n aggregate 0\n",
+);
+
+/// The sum of the discounts of one year.
+pub const DISCOUNTED_REVENUE: &str = concat!(
+    "star program 1\n",
+    "registers 15\n",
+    "group 0 plain : sum\n",
+    "scan lineorder r0\n",
+    "  r1 = load lo_orderdate r0\n",
+    "  r2 = find date r1\n",
+    "  r3 = load d_year r2\n",
+    "  r4 = const 1993\n",
+    "  r5 = eq r3 r4\n",
+    "  keep r5\n",
+    "  r6 = load lo_discount r0\n",
+    "  r7 = const 1\n",
+    "  r8 = const 4\n",
+    "  r9 = within r6 r7 r8\n",
+    "  keep r9\n",
+    "  r10 = load lo_quantity r0\n",
+    "  r11 = const 25\n",
+    "  r12 = lt r10 r11\n",
+    "  keep r12\n",
+    "  r13 = load lo_extendedprice r0\n",
+    "  r14 = mul r13 r6\n",
+    "  put 0 : r14\n",
+    "end\n",
+    "report 0\n",
+    "show revenue aggregate 0\n",
+);
+
+/// Suppliers for each date.
+pub const NESTED: &str = "scan date r0\nscan supplier r1\nput 0 :\nend\nend\n";
+
+/// A read in the scan that fills its group.
+pub const READ_INSIDE: &str = "scan lineorder r0\nput 0 :\nr1 = read 0 0 0\nend\n";
+
+/// A look-up of dates that are not there.
+pub const ABSENT_KEY: &str =
+    "scan lineorder r0\nr1 = load lo_quantity r0\nr2 = find date r1\nput 0 :\nend\n";
+
+/// A register of a turn is read after the scan.
+pub const UNSET: &str = "scan date r0\nr1 = load d_year r0\nend\nr2 = eq r1 r1\n";
+
+/// A keep outside scans.
+pub const MISPLACED: &str = "r0 = const 1\nr1 = eq r0 r0\nkeep r1\n";
+
+/// A program of these lines, with three registers, that counts its puts.
+pub fn counting(alloc: Global, lines: &str) -> Result<String, AllocError> {
+    format!(in alloc;
+        "star program 1\nregisters 3\ngroup 0 plain : count\n{lines}report 0\nshow n aggregate 0\n"
+    )
+}
+
+/// The texts of tables with no rows.
+pub const NO_TEXTS: Texts<'static> = Texts {
+    date: b"",
+    customer: b"",
+    supplier: b"",
+    part: b"",
+    lineorder: b"",
+};
+
+/// A program that is read, or its text's fault. Want of memory is an error of the test. The program
+/// is boxed, since it is dear to let go in a proof.
+pub fn read(alloc: Global, text: &[u8]) -> Result<Result<Box<Program>, TextFault>, Fail> {
+    match Program::parse(alloc, text) {
+        Ok(program) => Ok(Ok(Box::new(alloc, program)?)),
+        Err(TextFault::OutOfMemory) => Err(Fail::from(AllocError)),
+        Err(fault) => Ok(Err(fault)),
+    }
+}

@@ -1,0 +1,65 @@
+// Writers that fail and readers that fail or never end.
+
+use std::alloc::{AllocError, Global};
+use std::io;
+use std::io::{Read, Write};
+
+/// A writer that takes at most so many bytes at once, and so many in all, and then fails.
+#[derive(Drop)]
+pub struct Short {
+    pub taken: Vec<u8>,
+    pub left: usize,
+    pub at_once: usize,
+}
+
+impl Short {
+    /// A writer with room for so many bytes, and no more than that many, before it takes memory.
+    pub fn with_room(alloc: Global, left: usize, at_once: usize) -> Result<Short, AllocError> {
+        Ok(Short {
+            taken: Vec::with_capacity(alloc, left.min(1 << 20))?,
+            left,
+            at_once,
+        })
+    }
+}
+
+impl Write for Short {
+    fn write(&mut self, text: &[u8]) -> io::Result<usize> {
+        let count = text.len().min(self.left).min(self.at_once);
+        if count == 0 {
+            return Err(io::Error::from(io::ErrorKind::StorageFull));
+        }
+        self.taken.extend_from_slice(&text[..count])?;
+        self.left -= count;
+        Ok(count)
+    }
+
+    fn flush(&mut self) -> io::Result<()> {
+        Ok(())
+    }
+}
+
+/// A reader of zeros: so many reads give at most so many bytes each, and then it fails or is at its
+/// end. It counts its reads.
+#[derive(Drop)]
+pub struct Zeros {
+    pub good: u64,
+    pub at_once: usize,
+    pub fails: bool,
+    pub reads: u64,
+}
+
+impl Read for Zeros {
+    fn read(&mut self, room: &mut [u8]) -> io::Result<usize> {
+        self.reads = self.reads.saturating_add(1);
+        if self.reads <= self.good {
+            let count = room.len().min(self.at_once);
+            room[..count].fill(0);
+            Ok(count)
+        } else if self.fails {
+            Err(io::Error::from(io::ErrorKind::Interrupted))
+        } else {
+            Ok(0)
+        }
+    }
+}

@@ -1,0 +1,235 @@
+// Plans as SQL, with the parentheses that their grouping needs: the joins stand first in WHERE, and
+// each aggregate has its name. No contract says what is printed: its definition would be this file
+// again, and nothing is proved from it.
+
+use crate::tree::{Aggregate, Condition, Expression, Join, Measure, PlanTree};
+use star_schema::{Direction, GroupColumn, Shape, SortKey, table_of};
+use std::fmt;
+
+impl fmt::Display for Join {
+    fn fmt<W: fmt::Write>(&self, f: &mut fmt::Formatter<W>) -> fmt::Result {
+        let foreign = self.foreign;
+        let key = self.key;
+        write!(f, "{foreign} = {key}")
+    }
+}
+
+// How tightly an expression's operator binds.
+fn tightness(expression: &Expression) -> u8 {
+    match expression {
+        Expression::Add(_, _) | Expression::Sub(_, _) => 0,
+        Expression::Mul(_, _) => 1,
+        Expression::Column(_) | Expression::Number(_) => 2,
+    }
+}
+
+impl fmt::Display for Expression {
+    fn fmt<W: fmt::Write>(&self, f: &mut fmt::Formatter<W>) -> fmt::Result {
+        let (left, operator, right) = match self {
+            Expression::Column(column) => return write!(f, "{column}"),
+            Expression::Number(number) => return write!(f, "{number}"),
+            Expression::Add(left, right) => (left, '+', right),
+            Expression::Sub(left, right) => (left, '-', right),
+            Expression::Mul(left, right) => (left, '*', right),
+        };
+        let own = tightness(self);
+        if tightness(left) < own {
+            write!(f, "({left}) {operator} ")?;
+        } else {
+            write!(f, "{left} {operator} ")?;
+        }
+        if tightness(right) <= own {
+            write!(f, "({right})")
+        } else {
+            write!(f, "{right}")
+        }
+    }
+}
+
+// How tightly a condition's operator binds.
+fn condition_tightness(condition: &Condition) -> u8 {
+    match condition {
+        Condition::Or(_, _) => 0,
+        Condition::And(_, _) => 1,
+        _ => 2,
+    }
+}
+
+impl fmt::Display for Condition {
+    fn fmt<W: fmt::Write>(&self, f: &mut fmt::Formatter<W>) -> fmt::Result {
+        let (left, operator, right) = match self {
+            Condition::Compare(column, relation, literal) => {
+                return write!(f, "{column} {relation} {literal}");
+            }
+            Condition::Between(column, from, upto) => {
+                return write!(f, "{column} between {from} and {upto}");
+            }
+            Condition::Not(negated) => {
+                return if condition_tightness(negated) < 2 {
+                    write!(f, "not ({negated})")
+                } else {
+                    write!(f, "not {negated}")
+                };
+            }
+            Condition::Or(left, right) => (left, "or", right),
+            Condition::And(left, right) => (left, "and", right),
+        };
+        let own = condition_tightness(self);
+        if condition_tightness(left) < own {
+            write!(f, "({left}) {operator} ")?;
+        } else {
+            write!(f, "{left} {operator} ")?;
+        }
+        if condition_tightness(right) <= own {
+            write!(f, "({right})")
+        } else {
+            write!(f, "{right}")
+        }
+    }
+}
+
+impl fmt::Display for Measure {
+    fn fmt<W: fmt::Write>(&self, f: &mut fmt::Formatter<W>) -> fmt::Result {
+        match self {
+            Measure::Fold(fold, expression) => write!(f, "{fold}({expression})"),
+            Measure::Count => write!(f, "count(*)"),
+        }
+    }
+}
+
+fn write_name<W: fmt::Write>(f: &mut fmt::Formatter<W>, name: &[u8]) -> fmt::Result {
+    for byte in name {
+        f.write_char(char::from(*byte))?;
+    }
+    Ok(())
+}
+
+impl fmt::Display for Aggregate {
+    fn fmt<W: fmt::Write>(&self, f: &mut fmt::Formatter<W>) -> fmt::Result {
+        let measure = &self.measure;
+        write!(f, "{measure} as ")?;
+        write_name(f, &self.name)
+    }
+}
+
+impl PlanTree {
+    fn write_items<W: fmt::Write>(&self, f: &mut fmt::Formatter<W>) -> fmt::Result {
+        let mut separator = "select ";
+        for item in &self.items {
+            f.write_str(separator)?;
+            match item {
+                GroupColumn::Key(place) => {
+                    if let Some(column) = self.keys.get(usize::from(*place)) {
+                        write!(f, "{column}")?;
+                    }
+                }
+                GroupColumn::Aggregate(place) => {
+                    if let Some(aggregate) = self.aggregates.get(usize::from(*place)) {
+                        write!(f, "{aggregate}")?;
+                    }
+                }
+            }
+            separator = ", ";
+        }
+        Ok(())
+    }
+
+    fn write_tables<W: fmt::Write>(&self, f: &mut fmt::Formatter<W>) -> fmt::Result {
+        f.write_str(" from lineorder")?;
+        for join in &self.joins {
+            let table = table_of(join.key);
+            write!(f, ", {table}")?;
+        }
+        Ok(())
+    }
+
+    fn write_joins<W: fmt::Write>(&self, f: &mut fmt::Formatter<W>) -> fmt::Result {
+        let mut separator = " where ";
+        for join in &self.joins {
+            write!(f, "{separator}{join}")?;
+            separator = " and ";
+        }
+        Ok(())
+    }
+
+    // Behind the joins.
+    fn write_conjuncts<W: fmt::Write>(&self, f: &mut fmt::Formatter<W>) -> fmt::Result {
+        let mut separator = if self.joins.is_empty() {
+            " where "
+        } else {
+            " and "
+        };
+        for conjunct in &self.conjuncts {
+            if condition_tightness(conjunct) < 1 {
+                write!(f, "{separator}({conjunct})")?;
+            } else {
+                write!(f, "{separator}{conjunct}")?;
+            }
+            separator = " and ";
+        }
+        Ok(())
+    }
+
+    fn write_keys<W: fmt::Write>(&self, f: &mut fmt::Formatter<W>) -> fmt::Result {
+        let mut separator = match self.shape {
+            Shape::Plain => " group by ",
+            Shape::Cube => " group by cube(",
+        };
+        for key in &self.keys {
+            write!(f, "{separator}{key}")?;
+            separator = ", ";
+        }
+        match self.shape {
+            Shape::Plain => Ok(()),
+            Shape::Cube => f.write_char(')'),
+        }
+    }
+
+    // A column of the groups, by its name.
+    fn write_column<W: fmt::Write>(
+        &self,
+        f: &mut fmt::Formatter<W>,
+        column: GroupColumn,
+    ) -> fmt::Result {
+        match column {
+            GroupColumn::Key(place) => match self.keys.get(usize::from(place)) {
+                Some(column) => write!(f, "{column}"),
+                None => Ok(()),
+            },
+            GroupColumn::Aggregate(place) => match self.aggregates.get(usize::from(place)) {
+                Some(aggregate) => write_name(f, &aggregate.name),
+                None => Ok(()),
+            },
+        }
+    }
+
+    fn write_sort<W: fmt::Write>(&self, f: &mut fmt::Formatter<W>, sort: &SortKey) -> fmt::Result {
+        self.write_column(f, sort.column)?;
+        match sort.direction {
+            Direction::Ascending => f.write_str(" asc"),
+            Direction::Descending => f.write_str(" desc"),
+        }
+    }
+
+    fn write_sorts<W: fmt::Write>(&self, f: &mut fmt::Formatter<W>) -> fmt::Result {
+        let mut separator = " order by ";
+        for sort in &self.sorts {
+            f.write_str(separator)?;
+            self.write_sort(f, sort)?;
+            separator = ", ";
+        }
+        Ok(())
+    }
+}
+
+/// The plan as SQL in lower case.
+impl fmt::Display for PlanTree {
+    fn fmt<W: fmt::Write>(&self, f: &mut fmt::Formatter<W>) -> fmt::Result {
+        self.write_items(f)?;
+        self.write_tables(f)?;
+        self.write_joins(f)?;
+        self.write_conjuncts(f)?;
+        self.write_keys(f)?;
+        self.write_sorts(f)
+    }
+}

@@ -1,0 +1,301 @@
+// The clauses of a query, from its tokens.
+
+ghost use Rattle.std.specs.Prelude.{◌≡◌, ◌≤◌, Some, length, OnOk, IfSome, IfNone};
+ghost use Rattle.star_query.specs.Private.Reads.{spot_of, head_of};
+ghost use Rattle.star_query.specs.Private.Clauses.{function_symbol, NoFunction, ReadsFunction, ReadsFolded, ReadsCounted, ReadsMeasure, ReadsAlias, ReadsAggregate, ReadsItem, NoComma, ReadsItems, ReadsTables, ReadsFilter, ReadsColumns, ReadsGroups, ReadsGrouping, ReadsKey, ReadsKeyList, ReadsKeys, ReadsEnd, ReadsQuery};
+
+use crate::counts::Part;
+use crate::fault::{Fault, ParseError};
+use crate::parser::Parser;
+use crate::token::{Fold, Keyword, Kind, Sign};
+use crate::tree::{Aggregate, Condition, Grouping, Item, Measure, Name, SortKey, Tree};
+use star_schema::{Direction, Shape};
+
+// A function whose word was read: what it folds by, if it isn't `count`, and the place of its word.
+#[derive(Clone, Copy)]
+pub(crate) struct Function {
+    pub(crate) fold: Option<Fold>,
+    pub(crate) place: usize,
+}
+
+impl<'a> Parser<'a> {
+    // The word of a function, if one is next: an item and an aggregate begin.
+    fn take_function(&mut self) -> Result<Option<Function>, ParseError>
+        ensures reads { ReadsFunction (spot_of self.old) (spot_of self.new) result }
+        ensures shorter { length self.new.left.now ≤ length self.old.left.now }
+    {
+        let Some(function) = self.next_function() else {
+            return Ok(None);
+        };
+        self.count(Part::Item)?;
+        self.count(Part::Aggregate)?;
+        self.left = &self.left[1..];
+        Ok(Some(function))
+    }
+
+    fn next_function(&self) -> Option<Function>
+        ensures found { IfSome result (λ f. head_of (spot_of self.now).left ≡ Some (function_symbol f)) }
+        ensures other { IfNone result (NoFunction (spot_of self.now).left) }
+    {
+        let token = self.left.first()?;
+        let place = token.place;
+        match token.kind {
+            Kind::Fold(fold) => Some(Function {
+                fold: Some(fold),
+                place,
+            }),
+            Kind::Count => Some(Function { fold: None, place }),
+            _ => None,
+        }
+    }
+
+    // ( expr ), behind the word of a function
+    fn folded(&mut self, fold: Fold) -> Result<Measure, ParseError>
+        ensures reads { ReadsFolded fold (spot_of self.old) (spot_of self.new) result }
+        ensures shorter { length self.new.left.now ≤ length self.old.left.now }
+    {
+        self.expect_sign(Sign::Open)?;
+        let expression = self.expression(0)?;
+        self.expect_sign(Sign::Close)?;
+        Ok(Measure::Fold(fold, expression))
+    }
+
+    // ( * ), behind `count`
+    fn counted(&mut self) -> Result<Measure, ParseError>
+        ensures reads { ReadsCounted (spot_of self.old) (spot_of self.new) result }
+        ensures shorter { length self.new.left.now ≤ length self.old.left.now }
+    {
+        self.expect_sign(Sign::Open)?;
+        self.expect_sign(Sign::Star)?;
+        self.expect_sign(Sign::Close)?;
+        Ok(Measure::Count)
+    }
+
+    // agg, behind the word of the function
+    fn measure(&mut self, function: Function) -> Result<Measure, ParseError>
+        ensures reads { ReadsMeasure function (spot_of self.old) (spot_of self.new) result }
+        ensures shorter { length self.new.left.now ≤ length self.old.left.now }
+    {
+        match function.fold {
+            Some(fold) => self.folded(fold),
+            None => self.counted(),
+        }
+    }
+
+    // [as name]
+    fn alias(&mut self) -> Result<Option<Name>, ParseError>
+        ensures reads { ReadsAlias (spot_of self.old) (spot_of self.new) result }
+        ensures shorter { length self.new.left.now ≤ length self.old.left.now }
+    {
+        if self.take_keyword(Keyword::As) {
+            let name = self.name()?;
+            return Ok(Some(name));
+        }
+        Ok(None)
+    }
+
+    // agg [as name], behind the word of the function
+    fn aggregate(&mut self, function: Function) -> Result<Aggregate, ParseError>
+        ensures reads { ReadsAggregate function (spot_of self.old) (spot_of self.new) result }
+        ensures shorter { length self.new.left.now ≤ length self.old.left.now }
+    {
+        let measure = self.measure(function)?;
+        let name = self.alias()?;
+        Ok(Aggregate {
+            measure,
+            place: function.place,
+            name,
+        })
+    }
+
+    // name | agg [as name]
+    fn item(&mut self) -> Result<Item, ParseError>
+        ensures reads { ReadsItem (spot_of self.old) (spot_of self.new) result }
+        ensures shorter { length self.new.left.now ≤ length self.old.left.now }
+    {
+        let function = self.take_function()?;
+        match function {
+            Some(function) => {
+                let aggregate = self.aggregate(function)?;
+                Ok(Item::Aggregate(aggregate))
+            }
+            None => {
+                let name = self.counted_name(Part::Item)?;
+                Ok(Item::Column(name))
+            }
+        }
+    }
+
+    // item {, item}
+    fn items(&mut self) -> Result<Vec<Item>, ParseError>
+        ensures reads { ReadsItems (spot_of self.old) (spot_of self.new) result }
+        ensures ends { OnOk result (NoComma (spot_of self.new)) }
+    {
+        let mut items = Vec::new(self.alloc);
+        let first = self.item()?;
+        items.push(first)?;
+        while self.take_sign(Sign::Comma) {
+            let next = self.item()?;
+            items.push(next)?;
+        }
+        Ok(items)
+    }
+
+    // name {, name}
+    fn tables(&mut self) -> Result<Vec<Name>, ParseError>
+        ensures reads { ReadsTables (spot_of self.old) (spot_of self.new) result }
+        ensures ends { OnOk result (NoComma (spot_of self.new)) }
+    {
+        let mut tables = Vec::new(self.alloc);
+        let first = self.name()?;
+        tables.push(first)?;
+        while self.take_sign(Sign::Comma) {
+            let next = self.name()?;
+            tables.push(next)?;
+        }
+        Ok(tables)
+    }
+
+    // [where cond]
+    fn filter(&mut self) -> Result<Option<Condition>, ParseError>
+        requires { NoComma (spot_of self.old) }
+        ensures { ReadsFilter (spot_of self.old) (spot_of self.new) result }
+    {
+        if self.take_keyword(Keyword::Where) {
+            let condition = self.condition(0)?;
+            return Ok(Some(condition));
+        }
+        Ok(None)
+    }
+
+    // The columns of a group.
+    fn columns(&mut self) -> Result<Vec<Name>, ParseError>
+        ensures reads { ReadsColumns (spot_of self.old) (spot_of self.new) result }
+        ensures ends { OnOk result (NoComma (spot_of self.new)) }
+    {
+        let mut columns = Vec::new(self.alloc);
+        let first = self.counted_name(Part::GroupColumn)?;
+        columns.push(first)?;
+        while self.take_sign(Sign::Comma) {
+            let next = self.counted_name(Part::GroupColumn)?;
+            columns.push(next)?;
+        }
+        Ok(columns)
+    }
+
+    // names | cube ( names ), behind `group by`
+    fn groups(&mut self) -> Result<Grouping, ParseError>
+        ensures { ReadsGroups (spot_of self.old) (spot_of self.new) result }
+    {
+        if self.take_keyword(Keyword::Cube) {
+            self.expect_sign(Sign::Open)?;
+            let columns = self.columns()?;
+            self.expect_sign(Sign::Close)?;
+            return Ok(Grouping {
+                shape: Shape::Cube,
+                columns,
+            });
+        }
+        let columns = self.columns()?;
+        Ok(Grouping {
+            shape: Shape::Plain,
+            columns,
+        })
+    }
+
+    // [group by ..]
+    fn grouping(&mut self) -> Result<Grouping, ParseError>
+        ensures { ReadsGrouping (spot_of self.old) (spot_of self.new) result }
+    {
+        if self.take_keyword(Keyword::Group) {
+            self.expect_keyword(Keyword::By)?;
+            return self.groups();
+        }
+        Ok(Grouping {
+            shape: Shape::Plain,
+            columns: Vec::new(self.alloc),
+        })
+    }
+
+    // name [asc | desc]
+    fn key(&mut self) -> Result<SortKey, ParseError>
+        ensures reads { ReadsKey (spot_of self.old) (spot_of self.new) result }
+        ensures shorter { length self.new.left.now ≤ length self.old.left.now }
+    {
+        let name = self.counted_name(Part::SortKey)?;
+        if self.take_keyword(Keyword::Desc) {
+            return Ok(SortKey {
+                name,
+                direction: Direction::Descending,
+            });
+        }
+        if self.take_keyword(Keyword::Asc) {
+            return Ok(SortKey {
+                name,
+                direction: Direction::Ascending,
+            });
+        }
+        Ok(SortKey {
+            name,
+            direction: Direction::Ascending,
+        })
+    }
+
+    // key {, key}
+    fn key_list(&mut self) -> Result<Vec<SortKey>, ParseError>
+        ensures reads { ReadsKeyList (spot_of self.old) (spot_of self.new) result }
+        ensures ends { OnOk result (NoComma (spot_of self.new)) }
+    {
+        let mut keys = Vec::new(self.alloc);
+        let first = self.key()?;
+        keys.push(first)?;
+        while self.take_sign(Sign::Comma) {
+            let next = self.key()?;
+            keys.push(next)?;
+        }
+        Ok(keys)
+    }
+
+    // [order by key {, key}]
+    fn keys(&mut self) -> Result<Vec<SortKey>, ParseError>
+        ensures { ReadsKeys (spot_of self.old) (spot_of self.new) result }
+    {
+        if self.take_keyword(Keyword::Order) {
+            self.expect_keyword(Keyword::By)?;
+            return self.key_list();
+        }
+        Ok(Vec::new(self.alloc))
+    }
+
+    // [;], and nothing behind it
+    fn end(&mut self) -> Result<(), ParseError>
+        ensures { ReadsEnd (spot_of self.old) (spot_of self.new) result }
+    {
+        let _semicolon = self.take_sign(Sign::Semicolon);
+        if !self.left.is_empty() {
+            return Err(ParseError::Fault(Fault::Unexpected));
+        }
+        Ok(())
+    }
+
+    // A query, and nothing behind it.
+    pub(crate) fn query(&mut self) -> Result<Tree, ParseError>
+        ensures { ReadsQuery (spot_of self.old) (spot_of self.new) result }
+    {
+        self.expect_keyword(Keyword::Select)?;
+        let items = self.items()?;
+        self.expect_keyword(Keyword::From)?;
+        let tables = self.tables()?;
+        let condition = self.filter()?;
+        let grouping = self.grouping()?;
+        let keys = self.keys()?;
+        self.end()?;
+        Ok(Tree {
+            items,
+            tables,
+            condition,
+            grouping,
+            keys,
+        })
+    }
+}

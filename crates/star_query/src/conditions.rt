@@ -1,0 +1,204 @@
+// The condition of WHERE, from its tokens.
+
+ghost use Rattle.std.specs.Prelude.{◌≡◌, ◌≤◌, [], ◌∷◌, Some, pos, neg_ℤ, length, OnOk, IfOk};
+ghost use Rattle.std.specs.Bool.{OnTrue, OnFalse};
+ghost use Rattle.star_query.specs.Symbols as symbols;
+ghost use Rattle.star_query.specs.Private.Reads.{spot_of, No, head_of, Nests, ReadsLit, ReadsNamed, ReadsUnit, ReadsConj, ReadsCond, NoAnd, NoLogic};
+ghost use Rattle.star_query.specs.Maxima.{most_nestings};
+ghost use Rattle.star_query.specs.Views.{name_view, condition_view, literal_view};
+ghost use Rattle.star_query.specs.Tree as tree;
+ghost use Rattle.star_query.specs.Private.Machine.{unit_wanted, unit_named, equal_had, lit_wanted, low, compared, behind_relation};
+
+use crate::counts::{MAX_DEPTH, Part};
+use crate::fault::{Fault, ParseError};
+use crate::parser::Parser;
+use crate::token::{Digits, Keyword, Kind, Relation, Sign};
+use crate::tree::{Condition, Literal, Name};
+use std::alloc::{AllocError, Global};
+
+impl<'a> Parser<'a> {
+    fn is_not(&self) -> bool
+        ensures taken { OnTrue result (head_of (spot_of self.now).left ≡ Some (symbols.keyword Keyword.Not)) }
+        ensures other { OnFalse result (No (symbols.keyword Keyword.Not) (spot_of self.now)) }
+    {
+        matches!(self.left.first(), Some(token) if matches!(token.kind, Kind::Keyword(Keyword::Not)))
+    }
+
+    // Goes past `not`, if it is next.
+    fn negate(&mut self, depth: u32) -> Result<bool, ParseError>
+        ensures reads { Nests (symbols.keyword Keyword.Not) (Part.Comparison ∷ []) depth (spot_of self.old) (spot_of self.new) result }
+        ensures shorter { length self.new.left.now ≤ length self.old.left.now }
+    {
+        if !self.is_not() {
+            return Ok(false);
+        }
+        if depth >= MAX_DEPTH {
+            return Err(ParseError::Fault(Fault::TooDeep));
+        }
+        self.count(Part::Comparison)?;
+        self.left = &self.left[1..];
+        Ok(true)
+    }
+
+    // [-] number | text
+    fn literal(&mut self) -> Result<Literal, ParseError>
+        ensures reads { ReadsLit (spot_of self.old) (spot_of self.new) result }
+        ensures shorter { length self.new.left.now ≤ length self.old.left.now }
+    {
+        if self.take_minus() {
+            let number = self.number()?;
+            return Ok(negated(number));
+        }
+        if self.is_number() {
+            let digits = self.number()?;
+            return Ok(whole(digits));
+        }
+        let text = self.text()?;
+        Ok(Literal::Text(text))
+    }
+
+    // name between lit and lit, from behind `between`
+    fn between(&mut self, column: Name) -> Result<Condition, ParseError>
+        ensures reads { ReadsNamed (λ h. lit_wanted (low h (name_view column))) (spot_of self.old) (spot_of self.new) result }
+        ensures shorter { length self.new.left.now ≤ length self.old.left.now }
+    {
+        let least = self.literal()?;
+        self.expect_keyword(Keyword::And)?;
+        let most = self.literal()?;
+        Ok(Condition::Between(column, least, most))
+    }
+
+    // name sign lit, from behind the sign
+    fn compared(&mut self, column: Name, relation: Relation) -> Result<Condition, ParseError>
+        ensures reads { ReadsNamed (λ h. lit_wanted (compared h (name_view column) relation)) (spot_of self.old) (spot_of self.new) result }
+        ensures shorter { length self.new.left.now ≤ length self.old.left.now }
+    {
+        let literal = self.literal()?;
+        Ok(Condition::Compare(column, relation, literal))
+    }
+
+    // name = name | name = lit, from behind the sign
+    fn equal(&mut self, column: Name) -> Result<Condition, ParseError>
+        ensures reads { ReadsNamed (λ h. equal_had h (name_view column)) (spot_of self.old) (spot_of self.new) result }
+        ensures shorter { length self.new.left.now ≤ length self.old.left.now }
+    {
+        if self.is_name() {
+            let other = self.name()?;
+            return Ok(Condition::Pair(column, other));
+        }
+        self.compared(column, Relation::Equal)
+    }
+
+    // What follows a column and a sign.
+    fn related(&mut self, column: Name, relation: Relation) -> Result<Condition, ParseError>
+        ensures reads { ReadsNamed (λ h. behind_relation h (name_view column) relation) (spot_of self.old) (spot_of self.new) result }
+        ensures shorter { length self.new.left.now ≤ length self.old.left.now }
+    {
+        match relation {
+            Relation::Equal => self.equal(column),
+            _ => self.compared(column, relation),
+        }
+    }
+
+    // What follows a column.
+    fn compare(&mut self, column: Name) -> Result<Condition, ParseError>
+        ensures reads { ReadsNamed (λ h. unit_named h (name_view column)) (spot_of self.old) (spot_of self.new) result }
+        ensures shorter { length self.new.left.now ≤ length self.old.left.now }
+    {
+        if self.take_keyword(Keyword::Between) {
+            return self.between(column);
+        }
+        let Some(relation) = self.take_relation() else {
+            return Err(ParseError::Fault(Fault::Unexpected));
+        };
+        self.related(column, relation)
+    }
+
+    // name = name | name sign lit | name between lit and lit
+    fn comparison(&mut self) -> Result<Condition, ParseError>
+        requires no_not { No (symbols.keyword Keyword.Not) (spot_of self.old) }
+        requires no_open { No (symbols.sign Sign.Open) (spot_of self.old) }
+        ensures reads { ReadsNamed unit_wanted (spot_of self.old) (spot_of self.new) result }
+        ensures shorter { length self.new.left.now ≤ length self.old.left.now }
+    {
+        let column = self.counted_name(Part::Comparison)?;
+        self.compare(column)
+    }
+
+    // not unit | ( cond ) | a comparison
+    #[cycle(condition)]
+    fn unit(&mut self, depth: u32) -> Result<Condition, ParseError>
+        requires { depth ≤ most_nestings }
+        ensures reads { ReadsUnit depth (spot_of self.old) (spot_of self.new) result }
+        ensures shorter { length self.new.left.now ≤ length self.old.left.now }
+    {
+        let negated = self.negate(depth)?;
+        if negated {
+            let inner = self.unit(depth + 1)?;
+            return Ok(Condition::Not(Box::new(self.alloc, inner)?));
+        }
+        let opened = self.open(depth)?;
+        if opened {
+            let grouped = self.condition(depth + 1)?;
+            self.expect_sign(Sign::Close)?;
+            return Ok(grouped);
+        }
+        self.comparison()
+    }
+
+    // unit {and unit}
+    #[cycle(condition)]
+    fn conjunction(&mut self, depth: u32) -> Result<Condition, ParseError>
+        requires { depth ≤ most_nestings }
+        ensures reads { ReadsConj depth (spot_of self.old) (spot_of self.new) result }
+        ensures ends { OnOk result (NoAnd (spot_of self.new)) }
+        ensures shorter { length self.new.left.now ≤ length self.old.left.now }
+    {
+        let mut all = self.unit(depth)?;
+        while self.take_keyword(Keyword::And) {
+            let next = self.unit(depth)?;
+            all = both(self.alloc, all, next)?;
+        }
+        Ok(all)
+    }
+
+    // conj {or conj}
+    #[cycle(condition)]
+    pub(crate) fn condition(&mut self, depth: u32) -> Result<Condition, ParseError>
+        requires { depth ≤ most_nestings }
+        ensures reads { ReadsCond depth (spot_of self.old) (spot_of self.new) result }
+        ensures ends { OnOk result (NoLogic (spot_of self.new)) }
+        ensures shorter { length self.new.left.now ≤ length self.old.left.now }
+    {
+        let mut any = self.conjunction(depth)?;
+        while self.take_keyword(Keyword::Or) {
+            let next = self.conjunction(depth)?;
+            any = either(self.alloc, any, next)?;
+        }
+        Ok(any)
+    }
+}
+
+fn both(alloc: Global, left: Condition, right: Condition) -> Result<Condition, AllocError>
+    ensures { IfOk result (λ c. condition_view c ≡ tree.both (condition_view left) (condition_view right)) }
+{
+    Ok(Condition::And(Box::new(alloc, left)?, Box::new(alloc, right)?))
+}
+
+fn either(alloc: Global, left: Condition, right: Condition) -> Result<Condition, AllocError>
+    ensures { IfOk result (λ c. condition_view c ≡ tree.either (condition_view left) (condition_view right)) }
+{
+    Ok(Condition::Or(Box::new(alloc, left)?, Box::new(alloc, right)?))
+}
+
+fn whole(digits: Digits) -> Literal
+    ensures { literal_view result ≡ tree.number (pos digits.value) }
+{
+    Literal::Number(digits.value as i64)
+}
+
+fn negated(digits: Digits) -> Literal
+    ensures { literal_view result ≡ tree.number (neg_ℤ (pos digits.value)) }
+{
+    Literal::Number(-(digits.value as i64))
+}

@@ -1,0 +1,216 @@
+// Queries as SQL, with the parentheses that their grouping needs. No contract says what is printed:
+// its definition would be this file again, and nothing is proved from it.
+
+use crate::token::{Fold, Relation};
+use crate::tree::{
+    Aggregate, Condition, Expression, Grouping, Item, Literal, Measure, Name, SortKey, Tree,
+};
+use star_schema::{Direction, Shape};
+use std::fmt;
+
+impl fmt::Display for Fold {
+    fn fmt<W: fmt::Write>(&self, f: &mut fmt::Formatter<W>) -> fmt::Result {
+        f.write_str(match self {
+            Fold::Sum => "sum",
+            Fold::Min => "min",
+            Fold::Max => "max",
+        })
+    }
+}
+
+impl fmt::Display for Relation {
+    fn fmt<W: fmt::Write>(&self, f: &mut fmt::Formatter<W>) -> fmt::Result {
+        f.write_str(match self {
+            Relation::Equal => "=",
+            Relation::Unequal => "<>",
+            Relation::Less => "<",
+            Relation::AtMost => "<=",
+            Relation::Greater => ">",
+            Relation::AtLeast => ">=",
+        })
+    }
+}
+
+impl fmt::Display for Name {
+    fn fmt<W: fmt::Write>(&self, f: &mut fmt::Formatter<W>) -> fmt::Result {
+        for byte in &self.text {
+            f.write_char(char::from(*byte))?;
+        }
+        Ok(())
+    }
+}
+
+// A text in quotes, each quote in it doubled.
+fn write_text<W: fmt::Write>(f: &mut fmt::Formatter<W>, text: &[u8]) -> fmt::Result {
+    f.write_char('\'')?;
+    for byte in text {
+        if *byte == b'\'' {
+            f.write_char('\'')?;
+        }
+        f.write_char(char::from(*byte))?;
+    }
+    f.write_char('\'')
+}
+
+impl fmt::Display for Literal {
+    fn fmt<W: fmt::Write>(&self, f: &mut fmt::Formatter<W>) -> fmt::Result {
+        match self {
+            Literal::Number(number) => write!(f, "{number}"),
+            Literal::Text(text) => write_text(f, text),
+        }
+    }
+}
+
+// How tightly an expression's operator binds.
+fn tightness(expression: &Expression) -> u8 {
+    match expression {
+        Expression::Add(_, _) | Expression::Sub(_, _) => 0,
+        Expression::Mul(_, _) => 1,
+        Expression::Column(_) | Expression::Number(_) => 2,
+    }
+}
+
+impl fmt::Display for Expression {
+    fn fmt<W: fmt::Write>(&self, f: &mut fmt::Formatter<W>) -> fmt::Result {
+        let (left, operator, right) = match self {
+            Expression::Column(name) => return write!(f, "{name}"),
+            Expression::Number(number) => return write!(f, "{number}"),
+            Expression::Add(left, right) => (left, '+', right),
+            Expression::Sub(left, right) => (left, '-', right),
+            Expression::Mul(left, right) => (left, '*', right),
+        };
+        let own = tightness(self);
+        if tightness(left) < own {
+            write!(f, "({left}) {operator} ")?;
+        } else {
+            write!(f, "{left} {operator} ")?;
+        }
+        if tightness(right) <= own {
+            write!(f, "({right})")
+        } else {
+            write!(f, "{right}")
+        }
+    }
+}
+
+// How tightly a condition's operator binds.
+fn condition_tightness(condition: &Condition) -> u8 {
+    match condition {
+        Condition::Or(_, _) => 0,
+        Condition::And(_, _) => 1,
+        _ => 2,
+    }
+}
+
+impl fmt::Display for Condition {
+    fn fmt<W: fmt::Write>(&self, f: &mut fmt::Formatter<W>) -> fmt::Result {
+        let (left, operator, right) = match self {
+            Condition::Pair(first, second) => return write!(f, "{first} = {second}"),
+            Condition::Compare(name, relation, literal) => {
+                return write!(f, "{name} {relation} {literal}");
+            }
+            Condition::Between(name, from, upto) => {
+                return write!(f, "{name} between {from} and {upto}");
+            }
+            Condition::Not(negated) => {
+                return if condition_tightness(negated) < 2 {
+                    write!(f, "not ({negated})")
+                } else {
+                    write!(f, "not {negated}")
+                };
+            }
+            Condition::Or(left, right) => (left, "or", right),
+            Condition::And(left, right) => (left, "and", right),
+        };
+        let own = condition_tightness(self);
+        if condition_tightness(left) < own {
+            write!(f, "({left}) {operator} ")?;
+        } else {
+            write!(f, "{left} {operator} ")?;
+        }
+        if condition_tightness(right) <= own {
+            write!(f, "({right})")
+        } else {
+            write!(f, "{right}")
+        }
+    }
+}
+
+impl fmt::Display for Measure {
+    fn fmt<W: fmt::Write>(&self, f: &mut fmt::Formatter<W>) -> fmt::Result {
+        match self {
+            Measure::Fold(fold, expression) => write!(f, "{fold}({expression})"),
+            Measure::Count => write!(f, "count(*)"),
+        }
+    }
+}
+
+impl fmt::Display for Aggregate {
+    fn fmt<W: fmt::Write>(&self, f: &mut fmt::Formatter<W>) -> fmt::Result {
+        let measure = &self.measure;
+        match &self.name {
+            Some(name) => write!(f, "{measure} as {name}"),
+            None => write!(f, "{measure}"),
+        }
+    }
+}
+
+impl fmt::Display for Item {
+    fn fmt<W: fmt::Write>(&self, f: &mut fmt::Formatter<W>) -> fmt::Result {
+        match self {
+            Item::Column(name) => write!(f, "{name}"),
+            Item::Aggregate(aggregate) => write!(f, "{aggregate}"),
+        }
+    }
+}
+
+impl fmt::Display for SortKey {
+    fn fmt<W: fmt::Write>(&self, f: &mut fmt::Formatter<W>) -> fmt::Result {
+        let name = &self.name;
+        match self.direction {
+            Direction::Ascending => write!(f, "{name} asc"),
+            Direction::Descending => write!(f, "{name} desc"),
+        }
+    }
+}
+
+// What a word introduces, with commas between.
+fn write_list<T: fmt::Display, W: fmt::Write>(
+    f: &mut fmt::Formatter<W>,
+    word: &str,
+    list: &[T],
+) -> fmt::Result {
+    let mut separator = word;
+    for element in list {
+        write!(f, "{separator}{element}")?;
+        separator = ", ";
+    }
+    Ok(())
+}
+
+/// How rows are grouped, behind a space; nothing where they aren't.
+impl fmt::Display for Grouping {
+    fn fmt<W: fmt::Write>(&self, f: &mut fmt::Formatter<W>) -> fmt::Result {
+        match self.shape {
+            Shape::Plain => write_list(f, " group by ", &self.columns),
+            Shape::Cube => {
+                write_list(f, " group by cube(", &self.columns)?;
+                f.write_char(')')
+            }
+        }
+    }
+}
+
+/// The query as SQL in lower case, without the places of its names.
+impl fmt::Display for Tree {
+    fn fmt<W: fmt::Write>(&self, f: &mut fmt::Formatter<W>) -> fmt::Result {
+        write_list(f, "select ", &self.items)?;
+        write_list(f, " from ", &self.tables)?;
+        if let Some(condition) = &self.condition {
+            write!(f, " where {condition}")?;
+        }
+        let grouping = &self.grouping;
+        write!(f, "{grouping}")?;
+        write_list(f, " order by ", &self.keys)
+    }
+}

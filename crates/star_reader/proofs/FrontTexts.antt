@@ -1,0 +1,101 @@
+-- The first field of a text, as a text.
+use Rattle.std.proofs.Common.{◌≡◌, ◌⊎◌, ◌<◌, ◌≤◌, ◌∙◌, ℕ, zero, suc, List, ◌&&◌, Bool, true, false, get_or, length, take, refl, sym, inl, inr, arith}
+use Rattle.std.specs.List.{list_all}
+use Rattle.std.specs.Prelude.{nat_le}
+use Rattle.std.proofs.lemmas.Bool.{and_from, and_parts, cases_Bool, le-leb, leb-true, true≢false}
+use Rattle.std.proofs.lemmas.List.{length-take-le}
+use Rattle.star_schema.specs.Tables.{is_printable, is_short}
+use Rattle.star_reader.specs.Private.Fronts.{IsFront, is_plain}
+use Rattle.star_reader.proofs.Fronts.{all_at}
+
+-- a first field reaches as far as there is no bar
+pub past_plain : (text : List ℕ) (i n : ℕ) → list_all is_plain (take i text) ≡ true
+    → i ≤ length text → IsFront text n → i ≤ n
+past_plain text i n plain within front = go (below_or n i)
+  where
+    below_or : (a b : ℕ) → (a < b) ⊎ (b ≤ a)
+    below_or zero zero = inr (omega arith)
+    below_or zero (suc b) = inl (omega arith)
+    below_or (suc a) zero = inr (omega arith)
+    below_or (suc a) (suc b) = elim (below_or a b)
+        [ inl less ↦ inl (omega (arith, less)) | inr more ↦ inr (omega (arith, more)) ]
+
+    go : (n < i) ⊎ (i ≤ n) → i ≤ n
+    go (inr more) = more
+    go (inl less) = absurd (elim front.end [
+      | inl all ↦ omega (arith, less, within, all)
+      | inr bar ↦
+          let no_bar : is_plain (get_or text n 0) ≡ true = all_at is_plain text i n plain less within
+          in
+          let bad : false ≡ true = rw bar.1 at no_bar in
+          true≢false (sym bad)
+    ])
+
+-- a byte that is not printable stands in the first field
+pub bad_byte : (text : List ℕ) (i n : ℕ) → i < length text
+    → list_all is_plain (take i text) ≡ true → (get_or text i 0 ≡ 124 → ⊥)
+    → is_printable (get_or text i 0) ≡ false → IsFront text n
+    → list_all is_printable (take n text) ≡ false
+bad_byte text i n within plain other bad front =
+    let reaches = past_plain text i n plain (omega (arith, within)) front in
+    let past : i < n = go reaches in
+    elim (cases_Bool (list_all is_printable (take n text))) [
+      | inl fine ↦
+          absurd (true≢false (sym (all_at is_printable text n i fine past front.within) ∙ bad))
+      | inr found ↦ found
+    ]
+  where
+    apart : (a b : ℕ) → a ≤ b → (a < b) ⊎ (a ≡ b)
+    apart zero zero h = inr refl
+    apart zero (suc b) h = inl (omega arith)
+    apart (suc a) zero h = absurd (omega (arith, h))
+    apart (suc a) (suc b) h = elim (apart a b (omega (arith, h)))
+        [ inl less ↦ inl (omega (arith, less)) | inr same ↦ inr (omega (arith, same)) ]
+
+    go : i ≤ n → i < n
+    go reaches = elim (apart i n reaches) [
+      | inl less ↦ less
+      | inr same ↦ absurd (elim front.end [
+        | inl all ↦ omega (arith, within, same, all)
+        | inr bar ↦ other (rw same bar.1)
+      ])
+    ]
+
+-- a first field of more than 255 bytes
+pub long_front : (text : List ℕ) (n : ℕ) → list_all is_plain (take 256 text) ≡ true
+    → 256 ≤ length text → IsFront text n → is_short (take n text) ≡ false
+long_front text n plain within front =
+    let reaches = past_plain text 256 n plain within front in
+    let all = length-take-le n text front.within in
+    elim (cases_Bool (is_short (take n text))) [
+      | inl short ↦ absurd (omega (arith, all, reaches, leb-true (length (take n text)) 255 short))
+      | inr long ↦ long
+    ]
+
+pub short_front : (text : List ℕ) (n : ℕ) → n ≤ length text → n ≤ 255
+    → is_short (take n text) ≡ true
+short_front text n within few =
+    le-leb (length (take n text)) 255 (omega (arith, length-take-le n text within, few))
+
+pub printable_byte : (b : ℕ) → 32 ≤ b → b ≤ 126 → is_printable b ≡ true
+printable_byte b low high = and_from _ _ (le-leb 32 b low) (le-leb b 126 high)
+
+pub below_space : (b : ℕ) → b < 32 → is_printable b ≡ false
+below_space b low = elim (cases_Bool (is_printable b)) [
+  | inl fine ↦
+      let least = leb-true 32 b (and_parts (nat_le 32 b) (nat_le b 126) fine).0 in
+      absurd (omega (arith, low, least))
+  | inr bad ↦ bad
+]
+
+pub above_tilde : (b : ℕ) → 126 < b → is_printable b ≡ false
+above_tilde b high = elim (cases_Bool (is_printable b)) [
+  | inl fine ↦
+      let most = leb-true b 126 (and_parts (nat_le 32 b) (nat_le b 126) fine).1 in
+      absurd (omega (arith, high, most))
+  | inr bad ↦ bad
+]
+
+pub and_false : (a b : Bool) → b ≡ false → (a && b) ≡ false
+and_false true b h = h
+and_false false b h = refl

@@ -1,0 +1,133 @@
+// The first field of what is left of a line.
+
+ghost use Rattle.std.specs.Prelude.{◌≡◌, ◌⊎◌, ◌+◌, ◌<◌, ◌≤◌, ◌^◌, ◌&&◌, ℕ, IsTrue, ◌↔◌, MatchOption, false, true, get_or, length, take};
+ghost use Rattle.std.specs.List.{list_all};
+ghost use Rattle.std.specs.Str.Parse.{digits_value};
+ghost use Rattle.star_common.specs.Numerals.{is_numeral};
+ghost use Rattle.star_schema.specs.Tables as spec;
+ghost use Rattle.star_reader.specs.Private.Fronts.{AreDigits, IsFront};
+
+/// The digits at the front of a text: how many, and the number that they write.
+#[derive(Clone, Copy)]
+pub(crate) struct Digits {
+    pub(crate) value: u64,
+    pub(crate) count: usize,
+}
+
+/// The number at the front of a text, and how many bytes write it.
+#[derive(Clone, Copy)]
+pub(crate) struct Number {
+    pub(crate) value: i64,
+    pub(crate) count: usize,
+}
+
+// The digits at the front of a text, of which at most 19 count. So many always fit.
+#[inline(always)]
+fn digits_front(text: &[u8]) -> Digits
+    ensures { AreDigits text.now result.count result.value }
+{
+    let most = text.len().min(19);
+    let mut value = 0u64;
+    for count in 0..most {
+        let byte = text[count];
+        if !byte.is_ascii_digit() {
+            return Digits { value, count };
+        }
+        value = value * 10 + u64::from(byte - b'0');
+    }
+    Digits { value, count: most }
+}
+
+// Whether a field may end at a place: at a bar, or at the end of all.
+#[inline(always)]
+fn ends_at(text: &[u8], place: usize) -> bool
+    requires { place ≤ length text.now }
+    ensures { IsTrue result
+        ↔ ((place ≡ length text.now)
+        ⊎ ((place < length text.now) × (get_or text.now place 0 ≡ 124))) }
+{
+    place >= text.len() || text[place] == b'|'
+}
+
+// The first field of a text without a sign, if it is 1 to 18 digits.
+#[inline(always)]
+fn magnitude_front(text: &[u8]) -> Option<Digits>
+    ensures { MatchOption result
+        ((count : ℕ) → IsFront text.now count → is_numeral 18 (take count text.now) ≡ false)
+        (λ run. IsFront text.now run.count × (is_numeral 18 (take run.count text.now) ≡ true)
+        × (run.value ≡ digits_value 10 (take run.count text.now)) × (run.value < 10 ^ 18)) }
+{
+    let run = digits_front(text);
+    if run.count == 0 || run.count > 18 {
+        return None;
+    }
+    if !ends_at(text, run.count) {
+        return None;
+    }
+    Some(run)
+}
+
+/// The first field of a text, if it is a number.
+#[inline(always)]
+pub(crate) fn number_front(text: &[u8]) -> Option<Number>
+    ensures { MatchOption result
+        ((count : ℕ) → IsFront text.now count → spec.is_number (take count text.now) ≡ false)
+        (λ number. IsFront text.now number.count
+        × (spec.is_number (take number.count text.now) ≡ true)
+        × (number.value ≡ spec.number_of (take number.count text.now))) }
+{
+    match text {
+        [b'-', unsigned @ ..] => {
+            let run = magnitude_front(unsigned)?;
+            Some(Number {
+                value: -(run.value as i64),
+                count: run.count + 1,
+            })
+        }
+        _ => {
+            let run = magnitude_front(text)?;
+            Some(Number {
+                value: run.value as i64,
+                count: run.count,
+            })
+        }
+    }
+}
+
+/// How many bytes the first field of a text has, if these are at most 255 and printable.
+#[inline(always)]
+pub(crate) fn text_front(text: &[u8]) -> Option<usize>
+    ensures { MatchOption result
+        ((count : ℕ) → IsFront text.now count
+        → (spec.is_short (take count text.now)
+        && list_all spec.is_printable (take count text.now)) ≡ false)
+        (λ count. IsFront text.now count × (spec.is_short (take count text.now) ≡ true)
+        × (list_all spec.is_printable (take count text.now) ≡ true)) }
+{
+    let most = text.len().min(256);
+    for count in 0..most {
+        let byte = text[count];
+        if byte == b'|' {
+            return Some(count);
+        }
+        if byte < b' ' || byte > b'~' {
+            return None;
+        }
+    }
+    if most > 255 {
+        return None;
+    }
+    Some(most)
+}
+
+/// How many bytes the first field of a text has.
+pub(crate) fn front_len(text: &[u8]) -> usize
+    ensures { IsFront text.now result }
+{
+    for count in 0..text.len() {
+        if text[count] == b'|' {
+            return count;
+        }
+    }
+    text.len()
+}
