@@ -1,6 +1,7 @@
 // Programs that are checked and then run: worked reports with their notes, each kind of refusal with
 // its place, limits at and one below what is quoted, and sinks that fail.
 
+use crate::tables::dear_lines;
 use star_engine::{EngineFault, Texts, answer_program, quote_text, sample};
 use star_fixtures::programs::{
     ABOVE_AVERAGE, ABSENT_KEY, DISCOUNTED_REVENUE, MISPLACED, NESTED, NO_TEXTS, READ_INSIDE, UNSET,
@@ -9,7 +10,6 @@ use star_fixtures::programs::{
 use star_fixtures::streams::Short;
 use star_schema::{Limits, MOST_ROWS, MOST_VISITS, Out};
 use std::alloc::{AllocError, Global};
-use std::fmt::Write;
 use std::test::Fail;
 
 // How many bytes a program's report or its notes have at most, so that no writer takes memory.
@@ -415,19 +415,6 @@ const TWO_COLUMNS: &str = concat!(
     "report 0\nshow m aggregate 0\n",
 );
 
-// So many lines of one order, all dear.
-fn dear_lines(alloc: Global, count: u64) -> Result<String, Fail> {
-    let mut lines = String::new(alloc);
-    for place in 0..count {
-        let number = place + 1;
-        writeln!(
-            lines,
-            "1|{number}|1|1|2|19930210|2-HIGH|0|10|900000000000000000|3000|2|980|600|2|19940105|MAIL|"
-        )?;
-    }
-    Ok(lines)
-}
-
 const OF_TEN_DEAR_LINES: &[Case] = &[
     (
         FIRST_PRICES,
@@ -511,6 +498,19 @@ fn tells_ranges_that_leave_64_bits(rt: HostRuntime) -> Result<(), Fail> {
         ..sample()
     };
     all_agree(rt.alloc(), &great, OF_A_GREAT_PRICE)
+}
+
+// Counts the triples of lines.
+const TRIPLES: &str = concat!(
+    "star program 1\nregisters 3\ngroup 0 plain : count\n",
+    "scan lineorder r0\nscan lineorder r1\nscan lineorder r2\nput 0 :\nend\nend\nend\n",
+    "report 0\nshow n aggregate 0\n",
+);
+
+#[test]
+fn refuses_too_many_triples_before_any_is_visited(rt: HostRuntime) -> Result<(), Fail> {
+    let refused = "quote 1000040000600003\nrefused 71 TooCostly visits 1000040000600003\n";
+    dear_agree(rt.alloc(), 100_001, &[(TRIPLES, MOST_VISITS, "", refused)])
 }
 
 // The file decides before the tables, and no note is written of what is no program or not loaded.
