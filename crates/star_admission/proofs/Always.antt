@@ -23,7 +23,8 @@ use Rattle.star_admission.specs.Ranges.{KnownRow, Table}
 use Rattle.star_admission.specs.Tallies.{Shares}
 use Rattle.star_admission.proofs.Tally.{Tally, Tallies, no_tallies, plus_all, times_all, tallies_of, tally_of, tally_sum, sum_range_is}
 use Rattle.star_admission.specs.Contexts.{Context, at_first, after_op, in_scan, after_scan, at_end}
-use Rattle.star_admission.specs.Refusals.{Faulty, op_reason, scan_reason}
+use Rattle.star_admission.specs.declared.reason.Reason.TheVariants.{Faulty}
+use Rattle.star_admission.specs.Refusals.{op_reason, scan_reason}
 use Rattle.star_admission.specs.Standing.{at_place}
 use Rattle.star_admission.specs.Private.Forward.{code_puts_to, open_with, none_open}
 use Rattle.star_admission.specs.Quote.{turns_met, quote}

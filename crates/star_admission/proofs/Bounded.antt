@@ -1,23 +1,19 @@
 -- No run makes more turns than are quoted, and one that may make so many is the run without a bound.
 use Rattle.std.proofs.Common.{◌≡◌, ℕ, zero, suc, ◌+◌, ◌*◌, ◌≤◌, ◌<◌, Bool, true, false, Option, Some, None, refl, sym, ap, subst, ◌∙◌, arith, zero-add}
-use Rattle.std.specs.Prelude.{nat_lt}
+use Rattle.std.specs.Prelude.{nat_lt, if◌then◌else◌}
 use Rattle.std.proofs.lemmas.Bool.{lt-ltb}
 use Rattle.std.proofs.Math.Nat.{mul-le-mul_right}
 use Rattle.star_schema.specs.declared.table.TableId.{TableId}
 use Rattle.star_program.specs.declared.op.Op.{Op}
 use Rattle.star_program.specs.declared.op.Op.TheVariants.{Assign, Keep, Put}
-use Rattle.star_program.specs.declared.op.Operation.{Operation}
 use Rattle.star_program.specs.declared.op.Operation.TheVariants.{Const, Edge, Load, Find, Binary, Within, Not, Read}
 use Rattle.star_program.specs.declared.program.Parts.{Parts}
 use Rattle.star_program.specs.Code.{Code, Stop, Then, Each, code_size}
 use Rattle.star_program.specs.World.{World}
-use Rattle.star_program.specs.declared.value.Value.{Value}
 use Rattle.star_program.specs.declared.value.Value.TheVariants.{Row}
-use Rattle.star_program.specs.Values.{Registers, no_registers, with_entry, number_in, flag_in}
-use Rattle.star_program.specs.declared.fault.Fault.{Fault}
-use Rattle.star_program.specs.Faults.{group_at, fault_of}
-use Rattle.star_program.specs.Puts.{overflows}
-use Rattle.star_program.specs.Effects.{Store, empty_store, Effect, GoesOn, EndsTurn, Traps, sets_answer, sets_found, answer_of, keeps, puts, update_of, assigns, does, unless_fault, kinds_in, act}
+use Rattle.star_program.specs.Values.{Registers, no_registers, with_entry, flag_in}
+use Rattle.star_program.specs.declared.fault.TrapKind.{TrapKind}
+use Rattle.star_program.specs.Effects.{Store, empty_store, Effect, GoesOn, EndsTurn, Traps, trap_of, unless_trap, effect_of, act}
 use Rattle.star_program.specs.Run.{End, Ended, Trapped, Limited, follow, after, visited, begin, turns, scans, meaning, unless_unshown, run_of, bounded_run_of}
 use Rattle.star_program.specs.Shown.{shown_fault}
 use Rattle.star_admission.specs.Quote.{turns_met, quote}
@@ -30,51 +26,34 @@ BeginsNone visits (GoesOn regs s) = s.visits ≡ visits
 BeginsNone visits (EndsTurn s) = s.visits ≡ visits
 BeginsNone visits (Traps trap) = Unit {0}
 
-answers_none : (regs : Registers) (s : Store) (t : ℕ) (v : Option Value)
-    → BeginsNone s.visits (sets_answer regs s t v)
-answers_none regs s t None = tt
-answers_none regs s t (Some v) = refl
+unless_none : (visits : ℕ) (o : Option TrapKind) (e : Effect) → BeginsNone visits e
+    → BeginsNone visits (unless_trap o e)
+unless_none visits None e h = h
+unless_none visits (Some trap) e h = tt
 
-finds_none : (regs : Registers) (s : Store) (t : ℕ) (table : TableId) (o : Option ℕ)
-    → BeginsNone s.visits (sets_found regs s t table o)
-finds_none regs s t table None = tt
-finds_none regs s t table (Some row) = refl
-
-keeps_none : (regs : Registers) (s : Store) (b : Bool) → BeginsNone s.visits (keeps regs s b)
+keeps_none : (regs : Registers) (s : Store) (b : Bool)
+    → BeginsNone s.visits (if b then GoesOn regs s else EndsTurn s)
 keeps_none regs s true = refl
 keeps_none regs s false = refl
 
-assigns_none : (w : World) (parts : Parts) (regs : Registers) (s : Store) (t : ℕ) (o : Operation)
-    → BeginsNone s.visits (assigns w parts regs s t o)
-assigns_none w parts regs s t (Find table k) =
-    finds_none regs s t table (w.find table (number_in (regs k)))
-assigns_none w parts regs s t (Binary o l r) =
-    answers_none regs s t (answer_of o (regs l) (regs r))
-assigns_none w parts regs s t (Const n) = refl
-assigns_none w parts regs s t (Edge e c text) = refl
-assigns_none w parts regs s t (Load c r) = refl
-assigns_none w parts regs s t (Within x a b) = refl
-assigns_none w parts regs s t (Not f) = refl
-assigns_none w parts regs s t (Read g a n) = refl
-
 does_none : (w : World) (parts : Parts) (regs : Registers) (s : Store) (op : Op)
-    → BeginsNone s.visits (does w parts regs s op)
-does_none w parts regs s (Assign t o) = assigns_none w parts regs s t o
+    → BeginsNone s.visits (effect_of w parts regs s op)
+does_none w parts regs s (Assign t (Find table k)) = refl
+does_none w parts regs s (Assign t (Binary o l r)) = refl
+does_none w parts regs s (Assign t (Const n)) = refl
+does_none w parts regs s (Assign t (Edge e c text)) = refl
+does_none w parts regs s (Assign t (Load c r)) = refl
+does_none w parts regs s (Assign t (Within x a b)) = refl
+does_none w parts regs s (Assign t (Not f)) = refl
+does_none w parts regs s (Assign t (Read g a n)) = refl
 does_none w parts regs s (Keep f) = keeps_none regs s (flag_in (regs f))
-does_none w parts regs s (Put g ks vs) = go (overflows (group_at parts g) (s.updates_of g)
-    (update_of (group_at parts g) regs ks vs))
-  where
-    go : (b : Bool) → BeginsNone s.visits (puts regs s g (update_of (group_at parts g) regs ks vs) b)
-    go true = tt
-    go false = refl
+does_none w parts regs s (Put g ks vs) = refl
 
 acts_none : (w : World) (parts : Parts) (inside : Bool) (regs : Registers) (s : Store) (op : Op)
     → BeginsNone s.visits (act w parts inside regs s op)
-acts_none w parts inside regs s op = go (fault_of parts inside None (kinds_in regs) op)
-  where
-    go : (o : Option Fault) → BeginsNone s.visits (unless_fault o (does w parts regs s op))
-    go None = does_none w parts regs s op
-    go (Some fault) = tt
+acts_none w parts inside regs s op =
+    unless_none s.visits (trap_of w parts inside regs s op) (effect_of w parts regs s op)
+    (does_none w parts regs s op)
 
 -- ---- one run as the other, within so many visits
 

@@ -25,9 +25,12 @@ use Rattle.star_program.specs.declared.value.Value.{Value}
 use Rattle.star_program.specs.declared.value.Value.TheVariants.{Number, Text, Place, Row, Flag}
 use Rattle.star_program.specs.Values.{kind_of_value, Registers, with_entry, number_in, flag_in, row_in}
 use Rattle.star_program.specs.declared.fault.Fault.{Fault}
-use Rattle.star_program.specs.Faults.{kind_fault, operand_fault, is_number, is_row, is_row_of, both_fault, binary_fault, numbers_fault, keys_fault, place_fault, target_fault, target_of, operands_fault, group_at, fault_of}
+use Rattle.star_program.specs.Faults.{unless, kind_fault, operand_fault, is_number, is_row, is_row_of, both_fault, binary_fault, numbers_fault, keys_fault, place_fault, target_fault, target_of, operands_fault, group_at, fault_of}
 use Rattle.star_program.specs.Puts.{Update, aligned, overflows, total}
-use Rattle.star_program.specs.Effects.{Store, Effect, GoesOn, EndsTurn, Traps, sets, sets_answer, fitting, answer_of, loaded, sets_found, keeps, puts, update_of, puts_update, does, unless_fault, kinds_in, act}
+use Rattle.star_program.specs.Effects.{Store, Effect, GoesOn, EndsTurn, Traps, answer_of, loaded, update_of, result_trap, effect_of, unless_trap, kinds_in, act}
+use Rattle.star_program.specs.Private.Doing.{sets, sets_answer, sets_found, keeps, puts, puts_update, does}
+use Rattle.star_program.specs.declared.fault.TrapKind.{TrapKind}
+use Rattle.star_program.specs.declared.fault.TrapKind.TheVariants.{Wrong, Overflow}
 use Rattle.star_common.proofs.Firsts.{or_none}
 use Rattle.star_program.proofs.Unless.{unless_none}
 use Rattle.star_schema.proofs.Same.{table_same}
@@ -37,7 +40,9 @@ use Rattle.star_admission.proofs.Tally.{Tally, no_tally, plus, Tallies, no_talli
 use Rattle.star_admission.specs.Fitting.{FromColumn, FitsValue, FitsAt, Agrees}
 use Rattle.star_admission.specs.Contexts.{Context, put_known, after_op}
 use Rattle.star_admission.proofs.Gains.{put_tally, op_gain}
-use Rattle.star_admission.specs.Refusals.{Reason, Faulty, refuses, is_some_table, refers_to, overflow_of, sum_overflow, sums_overflow, target_again, kind_reason, source_reason, range_reason, op_reason}
+use Rattle.star_admission.specs.declared.reason.Reason.{Reason}
+use Rattle.star_admission.specs.declared.reason.Reason.TheVariants.{Faulty}
+use Rattle.star_admission.specs.Refusals.{refuses, is_some_table, refers_to, overflow_of, sum_overflow, sums_overflow, target_again, kind_reason, source_reason, range_reason, op_reason}
 use Rattle.star_admission.proofs.Numbers.{holds_itself, fits_held}
 use Rattle.star_admission.proofs.TallyOrder.{AtMost, at_most_plus}
 use Rattle.star_admission.proofs.Tallied.{IsTallied, tallied_more, tallied_put, no_overflow, read_holds, range_fits, sums_fit, tallies_fit, tallies_fit_less}
@@ -185,10 +190,12 @@ IsGood w known y visits (GoesOn regs s) = Agrees w known regs × AreTallied y s 
 IsGood w known y visits (EndsTurn s) = AreTallied y s × (s.visits ≡ visits)
 IsGood w known y visits (Traps trap) = ⊥
 
-good_unless : (w : World) (known : Table) (y : Tallies) (visits : ℕ) (o : Option Fault) (e : Effect)
-    → o ≡ None → IsGood w known y visits e → IsGood w known y visits (unless_fault o e)
-good_unless w known y visits None e p h = h
-good_unless w known y visits (Some fault) e p h = absurd (cc)
+good_unless : (w : World) (known : Table) (y : Tallies) (visits : ℕ) (o : Option Fault)
+    (own : Option TrapKind) (e : Effect)
+    → o ≡ None → IsGood w known y visits (unless_trap own e)
+    → IsGood w known y visits (unless_trap (option_or (option_map Wrong o) own) e)
+good_unless w known y visits None own e p h = h
+good_unless w known y visits (Some fault) own e p h = absurd (cc)
 
 module _ (w : World) (catalogue : IsLoaded w) (parts : Parts) (x : Context) (y : Tallies)
     (regs : Registers) (s : Store) (agrees : Agrees w x.known regs) (tallied : AreTallied y s) where
@@ -201,14 +208,14 @@ module _ (w : World) (catalogue : IsLoaded w) (parts : Parts) (x : Context) (y :
   good_sets t k v p = (agrees_entry w x.known regs t k v agrees p, still, refl)
 
   good_number : (b : Bool) (t : ℕ) (k : Known) (z : ℤ) → b ≡ true → FitsValue w k (Number z)
-      → IsGood w (with_entry x.known t k) (plus_all y no_tallies) s.visits (sets_answer regs s t (if b then Some (Number z) else None))
+      → IsGood w (with_entry x.known t k) (plus_all y no_tallies) s.visits (unless_trap (unless b Overflow) (sets regs s t (Number z)))
   good_number true t k z e p = good_sets t k (Number z) p
   good_number false t k z e p = absurd (cc)
 
   -- arithmetic
   good_result : (operation : ℤ → ℤ → ℤ) → KeepsValues operation (corner_range operation) → (t a b : ℕ)
       → both_fault parts.registers (kinds_known x.known) is_number a b ≡ None → overflow_of w (computed operation (x.known a) (x.known b)) ≡ None
-      → IsGood w (with_entry x.known t (computed operation (x.known a) (x.known b))) (plus_all y no_tallies) s.visits (sets_answer regs s t (fitting (operation (number_in (regs a)) (number_in (regs b)))))
+      → IsGood w (with_entry x.known t (computed operation (x.known a) (x.known b))) (plus_all y no_tallies) s.visits (sets_answer regs s t (Number (operation (number_in (regs a)) (number_in (regs b)))))
   good_result operation keeps t a b p e =
       let q = or_none (operand_fault parts.registers (kinds_known x.known) is_number a) (operand_fault parts.registers (kinds_known x.known) is_number b) p in
       let held = keeps (range_at (x.known a)) (range_at (x.known b)) (number_in (regs a)) (number_in (regs b)) (number_at w parts.registers a x.known regs q.0 agrees).0 (number_at w parts.registers b x.known regs q.1 agrees).0 in
@@ -361,6 +368,6 @@ act_good w catalogue parts x y regs s agrees tallied pending op m e closed room 
     let b = or_none (target_fault parts.registers (target_of op)) _ a.1 in
     let c = or_none again (operands_fault parts (kinds_known x.known) op) b.1 in
     good_unless w (after_op w parts x op).known (plus_all y (op_gain parts x op)) s.visits
-    (fault_of parts x.inside None (kinds_in regs) op) (does w parts regs s op)
+    (fault_of parts x.inside None (kinds_in regs) op) (result_trap w parts regs s op) (effect_of w parts regs s op)
     (same_fault w parts x.inside again x.known regs op agrees q)
     (does_good w catalogue parts x y regs s agrees tallied pending op m c.1 known.0 known.1 closed room fit)

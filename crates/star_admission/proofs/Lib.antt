@@ -5,6 +5,7 @@ mod WorkedFinds
 mod WorkedRanges
 mod WorkedMoments
 mod WorkedEnds
+mod WorkedTotals
 mod Numbers
 mod Tally
 mod TallyOrder

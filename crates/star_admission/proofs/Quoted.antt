@@ -11,7 +11,7 @@ use Rattle.star_program.specs.Shown.{shown_fault}
 use Rattle.star_program.specs.World.{World}
 use Rattle.star_admission.specs.Admissible.{Refusal, TooCostly, Refused, BadShow, cost_refusal, first_refusal}
 use Rattle.star_admission.specs.Quote.{turns_met, quote}
-use Rattle.star_admission.specs.Refusals.{Reason}
+use Rattle.star_admission.specs.declared.reason.Reason.{Reason}
 use Rattle.star_admission.specs.Standing.{instructions_of, reason_of}
 use Rattle.star_admission.proofs.Nested.{body_nested, rest_nested, met_within}
 
@@ -36,10 +36,6 @@ module _ (size : TableId → ℕ) (small : (t : TableId) → size t < 2 ^ 32) wh
       pow-le-pow_right (omega arith) limits.scans in
       let turns = turns_within parts.body 1 (omega (arith, depth)) in
       omega (arith, turns, limits.instructions)
-
-visits_of : Refusal → ℕ
-visits_of (TooCostly visits) = visits
-visits_of _ = 0
 
 -- what it tells is the quote
 quoted : (w : World) (most : ℕ) (parts : Parts) (visits : ℕ)

@@ -18,7 +18,8 @@ use Rattle.star_admission.specs.Laws.{IsAccepted}
 use Rattle.star_admission.specs.Ranges.{KnownRow}
 use Rattle.star_admission.proofs.Tally.{Tally, no_tally, plus, times, Tallies, no_tallies, plus_all, times_all, tally_of}
 use Rattle.star_admission.specs.Contexts.{Context, at_first, after_op, in_scan, after_scan, at_end}
-use Rattle.star_admission.specs.Refusals.{Faulty, op_reason, scan_reason}
+use Rattle.star_admission.specs.declared.reason.Reason.TheVariants.{Faulty}
+use Rattle.star_admission.specs.Refusals.{op_reason, scan_reason}
 use Rattle.star_admission.specs.Private.Forward.{code_puts_to, open_with, none_open, first_reason}
 use Rattle.star_admission.specs.Standing.{instructions_of, reason_of, at_place}
 use Rattle.star_admission.specs.Quote.{turns_met, quote}

@@ -8,8 +8,8 @@ use Rattle.star_program.specs.declared.program.Parts.{Parts}
 use Rattle.star_program.specs.Code.{Code, Stop, Then, Each, code_size}
 use Rattle.star_program.specs.World.{World}
 use Rattle.star_admission.specs.Contexts.{Context, after_op, in_scan, after_scan, at_end}
-use Rattle.star_admission.specs.Standing.{Enclosing, Standing, standing, has_scan}
-use Rattle.star_admission.specs.Told.{writes_to, scope_of, in_scope, last_writer}
+use Rattle.star_admission.specs.Standing.{Item, Scan, Act, End, Enclosing, Standing, standing, has_scan}
+use Rattle.star_admission.specs.Told.{writes_to, item_scope, scope_of, in_scope, last_writer}
 
 -- ---- tests that are true or false
 
@@ -158,24 +158,19 @@ stand_in w parts (Each table r body rest) round x at n h =
           (at + 1 + code_size body) n h),
     )
 
--- and their registers are in scope there alone
+-- and the registers that they write are in scope there alone
 pub scoped_in : (w : World) (parts : Parts) (c : Code) (round : List Enclosing) (x : Context)
     (at n : ℕ) → has_scan round n ≡ true
     → EachOf (λ i. has_scan (scope_of i) n ≡ true) (standing w parts round x at c)
-scoped_in w parts Stop round x at n h = (h, tt)
-scoped_in w parts (Then op rest) round x at n h =
-    (h, scoped_in w parts rest round (after_op w parts x op) (at + 1) n h)
-scoped_in w parts (Each table r body rest) round x at n h =
-    let inner = in_scan w x table r in
-    let new : Enclosing = record { number = at; table = table } in (
-      or_true (nat_eq at n) (has_scan round n) h,
-      each_both _ (standing w parts (new ∷ round) inner (at + 1) body) _
-          (scoped_in w parts body (new ∷ round) inner (at + 1) n
-          (or_true (nat_eq at n) (has_scan round n) h))
-          (scoped_in w parts rest round
-          (after_scan x (at_end w parts inner body))
-          (at + 1 + code_size body) n h),
-    )
+scoped_in w parts c round x at n h =
+    each_so _ _ (standing w parts round x at c) (λ i h. by i.number i.round i.item h)
+    (stand_in w parts c round x at n h)
+  where
+    by : (at : ℕ) (round : List Enclosing) (i : Item) → has_scan round n ≡ true
+        → has_scan (item_scope at round i) n ≡ true
+    by at round (Scan table r) h = or_true (nat_eq at n) (has_scan round n) h
+    by at round (Act op) h = h
+    by at round End h = h
 
 -- in scans whose numbers are below the next one after the code
 pub scoped_below : (w : World) (parts : Parts) (c : Code) (round : List Enclosing) (x : Context)

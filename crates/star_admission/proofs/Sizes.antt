@@ -1,6 +1,6 @@
 -- Ranges whose ends are no larger than a number.
 use Rattle.std.proofs.Common.{◌≡◌, ℕ, ◌+◌, ◌*◌, ◌^◌, ◌≤◌, ◌<◌, Bool, true, false, cond, arith, int_lt}
-use Rattle.std.specs.Prelude.{ℤ, pos, negsuc, ◌+ℤ◌, ◌-ℤ◌, ◌*ℤ◌, unsigned_abs}
+use Rattle.std.specs.Prelude.{ℤ, pos, negsuc, ◌≤ℤ◌, ◌+ℤ◌, ◌-ℤ◌, ◌*ℤ◌, unsigned_abs}
 use Rattle.std.specs.Int.{int_min, int_max, w128}
 use Rattle.std.proofs.lemmas.Bool.{ltb-true, and_parts}
 use Rattle.std.proofs.lemmas.Int.{ints, unsigned_abs-mul, fits_signed_from_abs}
@@ -18,25 +18,25 @@ small_more n m r h p = (omega (arith, h, p.0), omega (arith, h, p.1))
 
 -- ---- numbers
 
+ends : (z : ℤ) → (z ≤ℤ pos (unsigned_abs z)) × ((pos 0 -ℤ pos (unsigned_abs z)) ≤ℤ z)
+ends (pos n) = (omega (arith, ints), omega (arith, ints))
+ends (negsuc n) = (omega (arith, ints), omega (arith, ints))
+
+abs_within : (n : ℕ) (z : ℤ) → z ≤ℤ pos n → (pos 0 -ℤ pos n) ≤ℤ z → unsigned_abs z ≤ n
+abs_within n (pos m) high low = omega (arith, ints, high)
+abs_within n (negsuc m) high low = omega (arith, ints, low)
+
 pub sum_abs : (x y s : ℤ) → s ≡ x +ℤ y → unsigned_abs s ≤ unsigned_abs x + unsigned_abs y
-sum_abs (pos a) (pos b) (pos c) e = omega (arith, ints, e)
-sum_abs (pos a) (pos b) (negsuc c) e = omega (arith, ints, e)
-sum_abs (pos a) (negsuc b) (pos c) e = omega (arith, ints, e)
-sum_abs (pos a) (negsuc b) (negsuc c) e = omega (arith, ints, e)
-sum_abs (negsuc a) (pos b) (pos c) e = omega (arith, ints, e)
-sum_abs (negsuc a) (pos b) (negsuc c) e = omega (arith, ints, e)
-sum_abs (negsuc a) (negsuc b) (pos c) e = omega (arith, ints, e)
-sum_abs (negsuc a) (negsuc b) (negsuc c) e = omega (arith, ints, e)
+sum_abs x y s e =
+    let a = ends x in
+    let b = ends y in
+    abs_within (unsigned_abs x + unsigned_abs y) s (omega (arith, ints, e)) (omega (arith, ints, e))
 
 pub difference_abs : (x y s : ℤ) → s ≡ x -ℤ y → unsigned_abs s ≤ unsigned_abs x + unsigned_abs y
-difference_abs (pos a) (pos b) (pos c) e = omega (arith, ints, e)
-difference_abs (pos a) (pos b) (negsuc c) e = omega (arith, ints, e)
-difference_abs (pos a) (negsuc b) (pos c) e = omega (arith, ints, e)
-difference_abs (pos a) (negsuc b) (negsuc c) e = omega (arith, ints, e)
-difference_abs (negsuc a) (pos b) (pos c) e = omega (arith, ints, e)
-difference_abs (negsuc a) (pos b) (negsuc c) e = omega (arith, ints, e)
-difference_abs (negsuc a) (negsuc b) (pos c) e = omega (arith, ints, e)
-difference_abs (negsuc a) (negsuc b) (negsuc c) e = omega (arith, ints, e)
+difference_abs x y s e =
+    let a = ends x in
+    let b = ends y in
+    abs_within (unsigned_abs x + unsigned_abs y) s (omega (arith, ints, e)) (omega (arith, ints, e))
 
 pub product_abs : (n m : ℕ) (x y : ℤ) → unsigned_abs x ≤ n → unsigned_abs y ≤ m
     → unsigned_abs (x *ℤ y) ≤ n * m

@@ -32,7 +32,10 @@ use Rattle.star_admission.specs.Admissible.{Refusal, Refused, BadShow, cost_refu
 use Rattle.star_admission.specs.Contexts.{Context, at_first, put_known, put_share, result_known, after_op, in_scan, after_scan, at_end}
 use Rattle.star_admission.specs.Quote.{turns_met, quote}
 use Rattle.star_admission.specs.Ranges.{Known, KnownNumber, KnownText, KnownPlace, KnownRow, KnownFlag, Table, range_at, given, loaded_known, answer_known}
-use Rattle.star_admission.specs.Refusals.{Reason, Faulty, NotAForeignKey, OpenGroup, Overflow, refuses, overflow_of, sum_overflow, sums_overflow, kind_reason, source_reason, range_reason, op_reason, scan_reason}
+use Rattle.star_admission.specs.declared.reason.Reached.{Reached}
+use Rattle.star_admission.specs.declared.reason.Reason.{Reason}
+use Rattle.star_admission.specs.declared.reason.Reason.TheVariants.{Faulty, NotAForeignKey, OpenGroup, Overflow}
+use Rattle.star_admission.specs.Refusals.{refuses, overflow_of, sum_overflow, sums_overflow, kind_reason, source_reason, range_reason, op_reason, scan_reason}
 use Rattle.star_admission.specs.Private.Forward.{open_with, none_open, first_reason}
 use Rattle.star_admission.specs.Standing.{instructions_of, at_place, reason_of}
 use Rattle.star_admission.specs.Tallies.{Share, sum_range, most_of, hull_with, hull_of, read_range, widened}
@@ -279,7 +282,7 @@ result_wide w parts x t (Not f) fits counts named bounds = tt
 -- ---- the range that a reason tells
 
 abbrev range_in : Reason → Range
-range_in (Overflow r columns) = r
+range_in (Overflow low high columns) = record { low = low; high = high }
 range_in _ = only (pos 0)
 
 refused_as : (b : Bool) (reason told : Reason) → refuses b reason ≡ Some told → reason ≡ told
@@ -289,8 +292,8 @@ refused_as true reason told e = some_same e
     some_same h = cc
 refused_as false reason told e = absurd (cc)
 
-overflow_told : (w : World) (k : Known) (r : Range) (columns : List (ColumnId × Range)) → IsWide k
-    → overflow_of w k ≡ Some (Overflow r columns) → Wide r
+overflow_told : (w : World) (k : Known) (r : Range) (columns : List Reached) → IsWide k
+    → overflow_of w k ≡ Some (Overflow r.low r.high columns) → Wide r
 overflow_told w (KnownNumber s reach origin) r columns p e =
     subst Wide (ap range_in (refused_as (not (fits_i64 s)) _ _ e)) p
 overflow_told w (KnownText c) r columns p e = absurd (cc)
@@ -305,16 +308,16 @@ either_first (Some x) b v e = inl e
 
 -- a SUM of a put
 sums_told : (w : World) (gs : List Aggregate) (from : ℕ) (ss : ℕ → List Share) (r : Range)
-    (columns : List (ColumnId × Range))
+    (columns : List Reached)
     → ((a : ℕ) → slice_index_or gs a Count ≡ Sum → Wide (sum_range (ss (from + a))))
-    → sums_overflow w gs from ss ≡ Some (Overflow r columns) → Wide r
+    → sums_overflow w gs from ss ≡ Some (Overflow r.low r.high columns) → Wide r
 sums_told w [] from ss r columns wide e = absurd (cc)
 sums_told w (g ∷ gs) from ss r columns wide e =
     ⊎_elim (λ h. one g refl h)
     (λ h. sums_told w gs (suc from) ss r columns
     (λ a same. subst (λ n. Wide (sum_range (ss n))) (past from a) (wide (suc a) same)) h.1)
     (either_first (sum_overflow w g (ss from)) (sums_overflow w gs (suc from) ss)
-    (Overflow r columns) e)
+    (Overflow r.low r.high columns) e)
   where
     past : (from a : ℕ) → from + suc a ≡ suc from + a
     past from a = omega arith
@@ -322,7 +325,7 @@ sums_told w (g ∷ gs) from ss r columns wide e =
     here : (from : ℕ) → from + 0 ≡ from
     here from = omega arith
 
-    one : (q : Aggregate) → g ≡ q → sum_overflow w q (ss from) ≡ Some (Overflow r columns) → Wide r
+    one : (q : Aggregate) → g ≡ q → sum_overflow w q (ss from) ≡ Some (Overflow r.low r.high columns) → Wide r
     one Sum same h =
         subst Wide (ap range_in (refused_as (not (fits_i64 (sum_range (ss from)))) _ _ h))
         (subst (λ n. Wide (sum_range (ss n))) (here from) (wide 0 same))
@@ -345,8 +348,8 @@ sum_more s ss met p q =
         omega (arith, h, a, b, room)
 
 put_told : (w : World) (parts : Parts) (x : Context) (g : ℕ) (ks vs : List ℕ) (r : Range)
-    (columns : List (ColumnId × Range)) → Fits parts x → Counts x
-    → range_reason w parts x (Put g ks vs) ≡ Some (Overflow r columns) → Wide r
+    (columns : List Reached) → Fits parts x → Counts x
+    → range_reason w parts x (Put g ks vs) ≡ Some (Overflow r.low r.high columns) → Wide r
 put_told w parts x g ks vs r columns fits counts e =
     sums_told w (group_at parts g).aggregates 0 ((after_op w parts x (Put g ks vs)).so_far g) r
     columns wide e
@@ -366,9 +369,9 @@ put_told w parts x g ks vs r columns fits counts e =
         (share_narrow parts x g vs a fits) (fits.sums g a same)))
 
 range_told : (w : World) (parts : Parts) (x : Context) (op : Op) (r : Range)
-    (columns : List (ColumnId × Range)) → Fits parts x → Counts x → NamesI64 op
+    (columns : List Reached) → Fits parts x → Counts x → NamesI64 op
     → ((c : ColumnId) → is_text c ≡ false → FitsI64 (w.bounds c))
-    → range_reason w parts x op ≡ Some (Overflow r columns) → Wide r
+    → range_reason w parts x op ≡ Some (Overflow r.low r.high columns) → Wide r
 range_told w parts x (Put g ks vs) r columns fits counts named bounds e =
     put_told w parts x g ks vs r columns fits counts e
 range_told w parts x (Assign t o) r columns fits counts named bounds e =
@@ -376,21 +379,21 @@ range_told w parts x (Assign t o) r columns fits counts named bounds e =
     (result_wide w parts x t o fits counts named bounds) e
 range_told w parts x (Keep f) r columns fits counts named bounds e = absurd (cc)
 
-faulty_no_range : (o : Option Fault) (r : Range) (columns : List (ColumnId × Range))
-    → option_map Faulty o ≡ Some (Overflow r columns) → ⊥
+faulty_no_range : (o : Option Fault) (r : Range) (columns : List Reached)
+    → option_map Faulty o ≡ Some (Overflow r.low r.high columns) → ⊥
 faulty_no_range None r columns e = absurd (cc)
 faulty_no_range (Some fault) r columns e = absurd (cc)
 
-source_no_range : (pending : ℕ → Bool) (x : Context) (op : Op) (r : Range) (columns : List (ColumnId × Range))
-    → source_reason pending x op ≡ Some (Overflow r columns) → ⊥
+source_no_range : (pending : ℕ → Bool) (x : Context) (op : Op) (r : Range) (columns : List Reached)
+    → source_reason pending x op ≡ Some (Overflow r.low r.high columns) → ⊥
 source_no_range pending x (Assign t (Find table k)) r columns e = refused_other _ e
   where
-    refused_other : (b : Bool) → refuses b NotAForeignKey ≡ Some (Overflow r columns) → ⊥
+    refused_other : (b : Bool) → refuses b NotAForeignKey ≡ Some (Overflow r.low r.high columns) → ⊥
     refused_other true h = absurd (cc)
     refused_other false h = absurd (cc)
 source_no_range pending x (Assign t (Read g a n)) r columns e = refused_other _ e
   where
-    refused_other : (b : Bool) → refuses b OpenGroup ≡ Some (Overflow r columns) → ⊥
+    refused_other : (b : Bool) → refuses b OpenGroup ≡ Some (Overflow r.low r.high columns) → ⊥
     refused_other true h = absurd (cc)
     refused_other false h = absurd (cc)
 source_no_range pending x (Assign t (Const n)) r columns e = absurd (cc)
@@ -403,16 +406,16 @@ source_no_range pending x (Keep f) r columns e = absurd (cc)
 source_no_range pending x (Put g ks vs) r columns e = absurd (cc)
 
 op_told : (w : World) (parts : Parts) (pending : ℕ → Bool) (x : Context) (op : Op) (r : Range)
-    (columns : List (ColumnId × Range)) → Fits parts x → Counts x → NamesI64 op
+    (columns : List Reached) → Fits parts x → Counts x → NamesI64 op
     → ((c : ColumnId) → is_text c ≡ false → FitsI64 (w.bounds c))
-    → op_reason w parts pending x op ≡ Some (Overflow r columns) → Wide r
+    → op_reason w parts pending x op ≡ Some (Overflow r.low r.high columns) → Wide r
 op_told w parts pending x op r columns fits counts named bounds e =
     ⊎_elim (λ h. absurd (faulty_no_range _ r columns h))
     (λ h. ⊎_elim (λ k. absurd (source_no_range pending x op r columns k))
     (λ k. range_told w parts x op r columns fits counts named bounds k.1)
-    (either_first (source_reason pending x op) (range_reason w parts x op) (Overflow r columns) h.1))
+    (either_first (source_reason pending x op) (range_reason w parts x op) (Overflow r.low r.high columns) h.1))
     (either_first (kind_reason parts x op)
-    (option_or (source_reason pending x op) (range_reason w parts x op)) (Overflow r columns) e)
+    (option_or (source_reason pending x op) (range_reason w parts x op)) (Overflow r.low r.high columns) e)
 
 -- ---- from instruction to instruction
 
@@ -496,8 +499,8 @@ module _ (w : World) (parts : Parts)
   told : (c : Code) (pending : ℕ → Bool) (at : ℕ) (x : Context) → Fits parts x → AllNameI64 c
       → x.met + turns_met w.size x.met c ≤ 1 + 10 ^ 15
       → ((g a : ℕ) → most_of (x.so_far g a) + code_size c * (1 + 10 ^ 15) ≤ 4096 * (1 + 10 ^ 15))
-      → (n : ℕ) (r : Range) (columns : List (ColumnId × Range))
-      → first_reason w parts pending x at c ≡ Some (n, Overflow r columns) → Wide r
+      → (n : ℕ) (r : Range) (columns : List Reached)
+      → first_reason w parts pending x at c ≡ Some (n, Overflow r.low r.high columns) → Wide r
   told Stop pending at x fits named met many n r columns e = absurd (cc)
   told (Then op rest) pending at x fits named met many n r columns e =
       let here = op_reason w parts (open_with pending rest) x op in
@@ -507,13 +510,13 @@ module _ (w : World) (parts : Parts)
       } in
       ⊎_elim
       (λ h. op_told w parts (open_with pending rest) x op r columns fits counts named.0 bounds
-      (placed at n here (Overflow r columns) h))
+      (placed at n here (Overflow r.low r.high columns) h))
       (λ h. told rest pending (at + 1) (after_op w parts x op)
       (op_fits w parts (open_with pending rest) x op fits (at_place_none at _ h.0))
       named.1 met
       (λ g a. let one = one_put w parts x op g a in
       let room = many g a in omega (arith, one, room, met)) n r columns h.1)
-      (either_first (at_place at here) _ (n, Overflow r columns) e)
+      (either_first (at_place at here) _ (n, Overflow r.low r.high columns) e)
   told (Each table q body rest) pending at x fits named met many n r columns e =
       let inner = in_scan w x table q in
       let within = open_with pending (Each table q body rest) in
@@ -521,7 +524,7 @@ module _ (w : World) (parts : Parts)
       + turns_met w.size x.met rest) ≤ 1 + 10 ^ 15 = met in
       ⊎_elim
       (λ h. absurd (faulty_no_range _ r columns
-      (placed at n (scan_reason parts x q) (Overflow r columns) h)))
+      (placed at n (scan_reason parts x q) (Overflow r.low r.high columns) h)))
       (λ h. ⊎_elim
       (λ k. told body within (at + 1) inner (in_fits w parts x table q fits) named.0
       (omega (arith, room))
@@ -533,8 +536,8 @@ module _ (w : World) (parts : Parts)
       (λ g a. let b = many g a in
       let inside = end_count w parts body inner (omega (arith, room)) g a in
       omega (arith, b, inside)) n r columns k.1)
-      (either_first (first_reason w parts within inner (at + 1) body) _ (n, Overflow r columns) h.1))
-      (either_first (at_place at (scan_reason parts x q)) _ (n, Overflow r columns) e)
+      (either_first (first_reason w parts within inner (at + 1) body) _ (n, Overflow r.low r.high columns) h.1))
+      (either_first (at_place at (scan_reason parts x q)) _ (n, Overflow r.low r.high columns) e)
 
 -- at the first instruction
 first_fits : (parts : Parts) → Fits parts at_first
@@ -578,10 +581,10 @@ refused_instruction w most parts refused e =
     unwrapped (Some i) h = ap (option_map instruction) h
 
 pub told_bounds_fit : (w : World) (most : ℕ) (parts : Parts) (at : ℕ) (r : Range)
-    (columns : List (ColumnId × Range)) → IsWithinLimits parts → most ≤ 10 ^ 15 → AreI64 w parts
-    → first_refusal w most parts ≡ Some (Refused (at, Overflow r columns)) → FitsI128 r
+    (columns : List Reached) → IsWithinLimits parts → most ≤ 10 ^ 15 → AreI64 w parts
+    → first_refusal w most parts ≡ Some (Refused (at, Overflow r.low r.high columns)) → FitsI128 r
 told_bounds_fit w most parts at r columns limits few are e =
-    let p = refused_instruction w most parts (at, Overflow r columns) e in
+    let p = refused_instruction w most parts (at, Overflow r.low r.high columns) e in
     let size : code_size parts.body * (1 + 10 ^ 15) ≤ 4096 * (1 + 10 ^ 15) =
     mul-le-mul_right (1 + 10 ^ 15) limits.instructions in
     small_fits (2 ^ 126) r (lit< tt)

@@ -1,6 +1,6 @@
--- The bounds of each column that a refusal tells fit 128 bits.
+-- The bounds of each column that a refusal tells fit 64 bits.
 use Rattle.std.proofs.Common.{◌≡◌, ℕ, zero, suc, ◌+◌, ◌^◌, Bool, true, false, List, [], ◌∷◌, ◌++◌, Option, Some, None, refl, sym, ap, subst, ◌∙◌, lit<}
-use Rattle.std.specs.Prelude.{◌||◌, All, IfSome, cond, filter, map, nat_eq, not, slice_index_or, if◌then◌else◌}
+use Rattle.std.specs.Prelude.{◌||◌, ℤ, All, IfSome, cond, filter, map, nat_eq, not, slice_index_or, if◌then◌else◌}
 use Rattle.std.specs.List.{AllByRecursion}
 use Rattle.std.specs.Option.{option_map, option_or}
 use Rattle.std.proofs.lemmas.List.Elements.{All-cons, All-nil}
@@ -24,15 +24,17 @@ use Rattle.star_program.specs.Puts.{aligned}
 use Rattle.star_program.specs.Values.{with_entry}
 use Rattle.star_program.specs.World.{World, is_text}
 use Rattle.star_admission.specs.Admissible.{Refused, first_refusal}
-use Rattle.star_admission.specs.Bounds.{FitsI128, AreI64}
+use Rattle.star_admission.specs.Bounds.{AreI64}
 use Rattle.star_admission.specs.Contexts.{Context, at_first, put_known, put_share, result_known, after_op, in_scan, after_scan, at_end}
 use Rattle.star_admission.specs.Private.Forward.{open_with, none_open, first_reason}
 use Rattle.star_admission.specs.Ranges.{Known, KnownNumber, KnownText, KnownPlace, KnownRow, KnownFlag, Reach, Table, answer_known, joined_reach, loaded_known, no_reach, reach_at}
-use Rattle.star_admission.specs.Refusals.{Reason, Faulty, NotAForeignKey, OpenGroup, Overflow, refuses, reached, overflow_of, sum_overflow, sums_overflow, kind_reason, source_reason, range_reason, op_reason, scan_reason}
+use Rattle.star_admission.specs.declared.reason.Reached.{Reached}
+use Rattle.star_admission.specs.declared.reason.Reason.{Reason}
+use Rattle.star_admission.specs.declared.reason.Reason.TheVariants.{Faulty, NotAForeignKey, OpenGroup, Overflow}
+use Rattle.star_admission.specs.Refusals.{with_bounds, refuses, reached, overflow_of, sum_overflow, sums_overflow, kind_reason, source_reason, range_reason, op_reason, scan_reason}
 use Rattle.star_admission.specs.Standing.{at_place}
 use Rattle.star_admission.specs.Tallies.{Share, reach_of}
 use Rattle.star_admission.proofs.Forward.{first_standing}
-use Rattle.star_admission.proofs.Sizes.{i64_small, small_fits}
 use Rattle.star_admission.proofs.ToldBounds.{refused_instruction}
 
 -- ---- what numbers are computed from
@@ -161,11 +163,11 @@ end_reaches w parts (Each table r body rest) x h =
 
 -- ---- what a reason tells
 
-abbrev Fit : List (ColumnId × Range) → Type 0
-Fit columns = All (λ column. FitsI128 column.1) columns
+abbrev Fit : List Reached → Type 0
+Fit columns = All (λ column. FitsI64 (record { low = column.low; high = column.high })) columns
 
 abbrev Tells : Reason → Type 0
-Tells (Overflow range columns) = Fit columns
+Tells (Overflow low high columns) = Fit columns
 Tells _ = Unit {0}
 
 -- where a reason is found, it does so
@@ -205,17 +207,19 @@ placed_found at (Some reason) h = h
 module _ (w : World) (parts : Parts)
     (bounds : (c : ColumnId) → is_text c ≡ false → FitsI64 (w.bounds c)) where
   some_fit : (reach : Reach) (cs : List ColumnId) → AreNumbers reach
-      → Fit (map (λ c. (c, w.bounds c)) (filter reach cs))
-  some_fit reach [] h = All-nil (λ column. FitsI128 column.1)
+      → Fit (map (with_bounds w) (filter reach cs))
+  some_fit reach [] h =
+      All-nil (λ (column : Reached). FitsI64 (record { low = column.low; high = column.high }))
   some_fit reach (c ∷ cs) h = go (reach c) refl (some_fit reach cs h)
     where
       others : List ColumnId
       others = filter reach cs
 
-      go : (b : Bool) → reach c ≡ b → Fit (map (λ d. (d, w.bounds d)) others)
-          → Fit (map (λ d. (d, w.bounds d)) (cond b (c ∷ others) others))
-      go true e fit = All-cons (λ column. FitsI128 column.1) _ _
-          (small_fits (2 ^ 63) (w.bounds c) (lit< tt) (i64_small (w.bounds c) (bounds c (h c e)))) fit
+      go : (b : Bool) → reach c ≡ b → Fit (map (with_bounds w) others)
+          → Fit (map (with_bounds w) (cond b (c ∷ others) others))
+      go true e fit =
+          All-cons (λ (column : Reached). FitsI64 (record { low = column.low; high = column.high }))
+          (with_bounds w c) (map (with_bounds w) others) (bounds c (h c e)) fit
       go false e fit = fit
 
   reached_fit : (reach : Reach) → AreNumbers reach → Fit (reached w reach)
@@ -224,7 +228,7 @@ module _ (w : World) (parts : Parts)
 
   overflow_found : (k : Known) → AreNumbers (reach_at (Some k)) → Found (overflow_of w k)
   overflow_found (KnownNumber r reach origin) h =
-      refused_found (not (fits_i64 r)) (Overflow r (reached w reach)) (reached_fit reach h)
+      refused_found (not (fits_i64 r)) (Overflow r.low r.high (reached w reach)) (reached_fit reach h)
   overflow_found (KnownText c) h = tt
   overflow_found (KnownPlace c) h = tt
   overflow_found (KnownRow t) h = tt
@@ -232,7 +236,7 @@ module _ (w : World) (parts : Parts)
 
   sum_found : (g : Aggregate) (ss : List Share) → AreNumbers (reach_of ss)
       → Found (sum_overflow w g ss)
-  sum_found Sum ss h = refused_found _ (Overflow _ (reached w (reach_of ss))) (reached_fit (reach_of ss) h)
+  sum_found Sum ss h = refused_found _ (Overflow _ _ (reached w (reach_of ss))) (reached_fit (reach_of ss) h)
   sum_found Count ss h = tt
   sum_found Min ss h = tt
   sum_found Max ss h = tt
@@ -281,11 +285,11 @@ module _ (w : World) (parts : Parts)
       (first_found rest pending (at + 1 + code_size body) later
       (record { known = h.known; puts = (end_reaches w parts body inner within).puts })))
 
-pub told_columns_fit : (w : World) (most : ℕ) (parts : Parts) (at : ℕ) (r : Range)
-    (columns : List (ColumnId × Range)) → AreI64 w parts
-    → first_refusal w most parts ≡ Some (Refused (at, Overflow r columns)) → Fit columns
-told_columns_fit w most parts at r columns are e =
+pub told_columns_fit : (w : World) (most : ℕ) (parts : Parts) (at : ℕ) (low high : ℤ)
+    (columns : List Reached) → AreI64 w parts
+    → first_refusal w most parts ≡ Some (Refused (at, Overflow low high columns)) → Fit columns
+told_columns_fit w most parts at low high columns are e =
     subst (λ o. IfSome o (λ refused. Tells refused.1))
-    (first_standing w parts ∙ (refused_instruction w most parts (at, Overflow r columns) e).1)
+    (first_standing w parts ∙ (refused_instruction w most parts (at, Overflow low high columns) e).1)
     (first_found w parts are.bounds parts.body none_open 1 at_first
     (record { known = λ q. none_numbers; puts = λ g a. none_numbers }))

@@ -15,7 +15,7 @@ use Rattle.star_program.specs.declared.program.Parts.{Parts}
 use Rattle.star_program.specs.Code.{Code, Stop, Each}
 use Rattle.star_program.specs.declared.fault.Fault.TheVariants.{BadRegister, WrittenTwice, Unset, WrongKind, BadColumn, BadGroup, Misplaced}
 use Rattle.star_program.proofs.Sample.{sample, plain}
-use Rattle.star_admission.specs.Refusals.{Faulty, OpenGroup}
+use Rattle.star_admission.specs.declared.reason.Reason.TheVariants.{Faulty, OpenGroup}
 use Rattle.star_admission.specs.Admissible.{Refusal, TooCostly, Refused, BadShow, first_refusal}
 use Rattle.star_admission.proofs.Words.{const, low, load, find, add, eq, opposite, keep, put, read, acts, over}
 

@@ -13,7 +13,8 @@ use Rattle.star_program.specs.Puts.{total}
 use Rattle.star_program.specs.Run.{EndsWith, run_of}
 use Rattle.star_program.specs.World.{World}
 use Rattle.star_program.proofs.Sample.{sample, plain}
-use Rattle.star_admission.specs.Refusals.{NotAForeignKey, reached}
+use Rattle.star_admission.specs.declared.reason.Reason.TheVariants.{NotAForeignKey}
+use Rattle.star_admission.specs.Refusals.{reached}
 use Rattle.star_admission.specs.Admissible.{Refusal, Refused, first_refusal}
 use Rattle.star_admission.proofs.Words.{add, const, find, load, put, acts, over}
 

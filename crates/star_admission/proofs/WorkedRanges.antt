@@ -12,7 +12,10 @@ use Rattle.star_interval.specs.Range.{Range, only, is_i64}
 use Rattle.star_program.specs.Code.{Code, Stop, Each}
 use Rattle.star_program.specs.World.{World}
 use Rattle.star_program.proofs.Sample.{sample, great_prices, plain}
-use Rattle.star_admission.specs.Refusals.{Reason, OpenGroup, Overflow, reached}
+use Rattle.star_admission.specs.declared.reason.Reached.{Reached}
+use Rattle.star_admission.specs.declared.reason.Reason.{Reason}
+use Rattle.star_admission.specs.declared.reason.Reason.TheVariants.{OpenGroup, Overflow}
+use Rattle.star_admission.specs.Refusals.{reached}
 use Rattle.star_admission.specs.Admissible.{Refusal, TooCostly, Refused, first_refusal}
 use Rattle.star_admission.proofs.Words.{const, load, add, mul, put, read, acts, over}
 
@@ -33,20 +36,23 @@ refusal w gs body = first_refusal w 100 (over (plain gs ∷ []) body)
 
 -- a range from the one to the other leaves 64 bits, and is computed from no column
 abbrev leaves : ℤ → ℤ → Reason
-leaves low high = Overflow (record { low = low; high = high }) []
+leaves low high = Overflow low high []
+
+abbrev between : ColumnId → ℤ → ℤ → Reached
+between c low high = record { column = c; low = low; high = high }
 
 -- ---- what is reached
 
 -- columns in the order of the schema, and not of their loads
 reached_in_order : refusal great (Sum ∷ []) (Each Lineorder 0 (acts (load 1 LoRevenue 0 ∷ load 2 LoExtendedprice 0 ∷ mul 3 1 2 ∷ []) Stop) Stop)
-    ≡ Some (Refused (4, Overflow (only (pos 20000000000000000000)) ((LoExtendedprice, only (pos 4000000000)) ∷ (LoRevenue, only (pos 5000000000)) ∷ [])))
+    ≡ Some (Refused (4, Overflow (pos 20000000000000000000) (pos 20000000000000000000) (between LoExtendedprice (pos 4000000000) (pos 4000000000) ∷ between LoRevenue (pos 5000000000) (pos 5000000000) ∷ [])))
 unfolding column_of is_i64 reached first_answer
 reached_in_order = refl
 
 -- a SUM reaches the columns of all that was put for it, and of nothing else
 sum_reaches : refusal great (Sum ∷ Count ∷ Sum ∷ [])
     (Each Lineorder 0 (acts (load 1 LoQuantity 0 ∷ load 2 LoRevenue 0 ∷ const 3 (pos 3000000000000000000) ∷ put 0 [] (1 ∷ 2 ∷ []) ∷ put 0 [] (1 ∷ 3 ∷ []) ∷ []) Stop) Stop)
-    ≡ Some (Refused (6, Overflow (record { low = pos 0; high = pos 15000000025000000000 }) ((LoRevenue, only (pos 5000000000)) ∷ [])))
+    ≡ Some (Refused (6, Overflow (pos 0) (pos 15000000025000000000) (between LoRevenue (pos 5000000000) (pos 5000000000) ∷ [])))
 unfolding column_of is_i64 reached first_answer
 sum_reaches = refl
 
@@ -68,8 +74,8 @@ negative_sum = refl
 sum_both_ways : refusal great (Sum ∷ []) (Each Lineorder 0 (acts (load 1 LoTax 0 ∷ put 0 [] (1 ∷ []) ∷ []) Stop) Stop)
     ≡ Some (Refused (
       3,
-      Overflow (record { low = neg_ℤ (pos 15000000000000000000); high = pos 20000000000000000000 })
-          ((LoTax, record { low = neg_ℤ (pos 3000000000000000000); high = pos 4000000000000000000 }) ∷ []),
+      Overflow (neg_ℤ (pos 15000000000000000000)) (pos 20000000000000000000)
+          (between LoTax (neg_ℤ (pos 3000000000000000000)) (pos 4000000000000000000) ∷ []),
     ))
 unfolding column_of is_i64 reached first_answer
 sum_both_ways = refl
@@ -187,6 +193,6 @@ great_constant = refl
 
 -- and so is what a column holds
 great_column : refusal (record sample { bounds = λ c. only (neg_ℤ (pos 9223372036854775809)) }) [] (Each Lineorder 0 (acts (load 1 LoTax 0 ∷ []) Stop) Stop)
-    ≡ Some (Refused (2, Overflow (only (neg_ℤ (pos 9223372036854775809))) ((LoTax, only (neg_ℤ (pos 9223372036854775809))) ∷ [])))
+    ≡ Some (Refused (2, Overflow (neg_ℤ (pos 9223372036854775809)) (neg_ℤ (pos 9223372036854775809)) (between LoTax (neg_ℤ (pos 9223372036854775809)) (neg_ℤ (pos 9223372036854775809)) ∷ [])))
 unfolding column_of first_answer is_i64 reached
 great_column = refl

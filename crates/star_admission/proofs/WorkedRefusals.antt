@@ -18,7 +18,8 @@ use Rattle.star_program.specs.declared.fault.Fault.TheVariants.{WrittenTwice, Mi
 use Rattle.star_program.specs.World.{World}
 use Rattle.star_program.proofs.Sample.{sample, great_prices, plain, program, assign, above_average, find_by_quantity, read_while_putting, written_twice, keep_outside, shows_no_key, scan_in_scan, doubled_difference}
 use Rattle.star_admission.specs.Quote.{quote}
-use Rattle.star_admission.specs.Refusals.{Faulty, NotAForeignKey, OpenGroup, Overflow, reached}
+use Rattle.star_admission.specs.declared.reason.Reason.TheVariants.{Faulty, NotAForeignKey, OpenGroup, Overflow}
+use Rattle.star_admission.specs.Refusals.{reached}
 use Rattle.star_admission.specs.Admissible.{TooCostly, Refused, BadShow, first_refusal}
 
 -- ---- samples that only refusals want
@@ -89,7 +90,7 @@ scan_in_scan_quoted = refl
 -- nothing is reached through a read, so no columns are named
 doubled_difference_refused : first_refusal great_prices 10 doubled_difference
     ≡ Some (Refused
-    (12, Overflow (record { low = neg_ℤ (pos 18000000000000000000); high = pos 0 }) []))
+    (12, Overflow (neg_ℤ (pos 18000000000000000000)) (pos 0) []))
 unfolding column_of is_i64 reached first_answer
 doubled_difference_refused = refl
 
@@ -97,8 +98,11 @@ doubled_difference_refused = refl
 first_lines_refused : first_refusal one_line_more 11 first_lines
     ≡ Some (Refused (
       7,
-      Overflow (record { low = pos 0; high = pos 9900000000000000000 })
-          ((LoExtendedprice, only (pos 900000000000000000)) ∷ []),
+      Overflow (pos 0) (pos 9900000000000000000) (record {
+        column = LoExtendedprice;
+        low = pos 900000000000000000;
+        high = pos 900000000000000000;
+      } ∷ []),
     ))
 unfolding column_of is_i64 reached first_answer
 first_lines_refused = refl
@@ -110,8 +114,11 @@ first_lines_accepted = refl
 squared_price_refused : first_refusal widest_price 5 squared_price
     ≡ Some (Refused (
       3,
-      Overflow (record { low = pos 250000; high = pos 999999999999999998000000000000000001 })
-          ((LoExtendedprice, record { low = pos 500; high = pos 999999999999999999 }) ∷ []),
+      Overflow (pos 250000) (pos 999999999999999998000000000000000001) (record {
+        column = LoExtendedprice;
+        low = pos 500;
+        high = pos 999999999999999999;
+      } ∷ []),
     ))
 unfolding column_of is_i64 reached first_answer
 squared_price_refused = refl

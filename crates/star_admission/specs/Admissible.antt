@@ -6,7 +6,7 @@ use Rattle.star_program.specs.declared.program.Parts.{Parts}
 use Rattle.star_program.specs.World.{World}
 use Rattle.star_program.specs.Shown.{shown_fault}
 use Rattle.star_admission.specs.Quote.{quote}
-use Rattle.star_admission.specs.Refusals.{Reason}
+use Rattle.star_admission.specs.declared.reason.Reason.{Reason}
 use Rattle.star_admission.specs.Standing.{instructions_of, reason_of}
 
 -- no instruction in its context has a reason to refuse it, and the report names what is there

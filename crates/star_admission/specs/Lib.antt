@@ -3,6 +3,7 @@ pub mod Tallies
 pub mod Quote
 pub mod Contexts
 pub mod Refusals
+pub mod ReasonTexts
 pub mod Standing
 pub mod Told
 pub mod Admissible

@@ -19,17 +19,9 @@ use Rattle.star_program.specs.Faults.{unless, group_at, target_of, fault_of}
 use Rattle.star_admission.specs.Ranges.{Reach, Known, KnownNumber, origin_at, kinds_known}
 use Rattle.star_admission.specs.Tallies.{Share, reach_of, sum_range}
 use Rattle.star_admission.specs.Contexts.{Context, result_known, after_op}
-
--- why an instruction is refused
-pub data Reason : Type 0 where
-  -- by the kinds of its operands
-  Faulty : Fault → Reason
-  -- a find by a number that isn't a foreign key to its table
-  NotAForeignKey : Reason
-  -- a read of a group that is still put to
-  OpenGroup : Reason
-  -- a range that leaves 64 bits, with the columns that it is computed from and their bounds
-  Overflow : Range → List (ColumnId × Range) → Reason
+use Rattle.star_admission.specs.declared.reason.Reached.{Reached}
+use Rattle.star_admission.specs.declared.reason.Reason.{Reason}
+use Rattle.star_admission.specs.declared.reason.Reason.TheVariants.{Faulty, NotAForeignKey, OpenGroup, Overflow}
 
 abbrev pub refuses : Bool → Reason → Option Reason
 refuses true reason = Some reason
@@ -48,13 +40,17 @@ refers_to t (Some c) = is_some_table t (references c)
 
 -- ---- ranges
 
--- the columns that are reached, in their order, with their bounds
-unfoldable pub reached : World → Reach → List (ColumnId × Range)
-reached w reach = map (λ c. (c, w.bounds c)) (filter reach COLUMNS)
+-- a column with its bounds
+abbrev pub with_bounds : World → ColumnId → Reached
+with_bounds w c = record { column = c; low = (w.bounds c).low; high = (w.bounds c).high }
+
+-- the columns that are reached, in their order
+unfoldable pub reached : World → Reach → List Reached
+reached w reach = map (with_bounds w) (filter reach COLUMNS)
 
 -- a range leaves 64 bits
 abbrev pub overflow : World → Range → Reach → Option Reason
-overflow w r reach = refuses (not (fits_i64 r)) (Overflow r (reached w reach))
+overflow w r reach = refuses (not (fits_i64 r)) (Overflow r.low r.high (reached w reach))
 
 abbrev pub overflow_of : World → Known → Option Reason
 overflow_of w (KnownNumber r reach origin) = overflow w r reach

@@ -2,11 +2,10 @@
 
 ghost use Rattle.std.specs.List.{last_or};
 ghost use Rattle.std.specs.Option.{option_map};
-ghost use Rattle.std.specs.Prelude.{◌≡◌, ◌↔◌, ◌≤◌, ◌<◌, ◌^◌, ◌∷◌, ℕ, All, List, None, Some};
+ghost use Rattle.std.specs.Prelude.{◌≡◌, ◌↔◌, ◌≤◌, ◌<◌, ◌^◌, ◌∷◌, ℕ, ℤ, All, List, None, Some};
 ghost use Rattle.star_common.specs.First.{first_answer};
-ghost use Rattle.star_schema.specs.declared.column.ColumnId.{ColumnId};
 ghost use Rattle.star_schema.specs.declared.table.TableId.{TableId};
-ghost use Rattle.star_interval.specs.Range.{Range};
+ghost use Rattle.star_interval.specs.Range.{FitsI64};
 ghost use Rattle.star_program.specs.declared.op.Op.TheVariants.{Put};
 ghost use Rattle.star_program.specs.declared.program.Parts.{Parts};
 ghost use Rattle.star_program.specs.Code.{Code, Then};
@@ -25,7 +24,8 @@ ghost use Rattle.star_admission.specs.Meetings.{IsMetWithinQuote};
 ghost use Rattle.star_admission.specs.Moments.{AtEveryMoment, Throughout};
 ghost use Rattle.star_admission.specs.Quote.{quote};
 ghost use Rattle.star_admission.specs.Private.Forward.{first_reason, none_open};
-ghost use Rattle.star_admission.specs.Refusals.{Overflow};
+ghost use Rattle.star_admission.specs.declared.reason.Reached.{Reached};
+ghost use Rattle.star_admission.specs.declared.reason.Reason.TheVariants.{Overflow};
 ghost use Rattle.star_admission.specs.Standing.{instructions_of, reason_of};
 ghost use Rattle.star_admission.specs.Tallies.{Shares};
 ghost use Rattle.star_admission.specs.Told.{AreTold};
@@ -75,20 +75,20 @@ pub fn instructions_are_met_within_the_quote()
 {}
 
 /// Each bound that a refusal tells fits 128 bits, of a program within its limits: of a range, where no
-/// more visits are allowed than any run may make; of the columns that it is computed from; and the
-/// visits that are quoted, where no table has 2^32 rows. The program's numbers are of 64 bits, and so
-/// are the bounds of the columns.
+/// more visits are allowed than any run may make; and the visits that are quoted, where no table has
+/// 2^32 rows. Those of the columns that a range is computed from fit 64 bits. The program's numbers
+/// are of 64 bits, and so are the bounds of the columns of numbers.
 pub fn told_bounds_fit_128_bits()
-    ensures range { (w : World) (most : ℕ) (parts : Parts) (at : ℕ) (range : Range)
-        (columns : List (ColumnId × Range))
+    ensures range { (w : World) (most : ℕ) (parts : Parts) (at : ℕ) (low high : ℤ)
+        (columns : List Reached)
         → IsWithinLimits parts → most ≤ 10 ^ 15 → AreI64 w parts
-        → first_refusal w most parts ≡ Some (Refused (at, Overflow range columns))
-        → FitsI128 range }
-    ensures columns { (w : World) (most : ℕ) (parts : Parts) (at : ℕ) (range : Range)
-        (columns : List (ColumnId × Range))
+        → first_refusal w most parts ≡ Some (Refused (at, Overflow low high columns))
+        → FitsI128 (record { low = low; high = high }) }
+    ensures columns { (w : World) (most : ℕ) (parts : Parts) (at : ℕ) (low high : ℤ)
+        (columns : List Reached)
         → AreI64 w parts
-        → first_refusal w most parts ≡ Some (Refused (at, Overflow range columns))
-        → All (λ column. FitsI128 column.1) columns }
+        → first_refusal w most parts ≡ Some (Refused (at, Overflow low high columns))
+        → All (λ column. FitsI64 (record { low = column.low; high = column.high })) columns }
     ensures visits { (w : World) (most : ℕ) (parts : Parts) (visits : ℕ)
         → IsWithinLimits parts → ((t : TableId) → w.size t < 2 ^ 32)
         → first_refusal w most parts ≡ Some (TooCostly visits) → visits < 2 ^ 128 }

@@ -6,3 +6,6 @@
 #![tactic(auto)]
 
 pub mod law;
+mod reason;
+
+pub use reason::{Reached, ReachedColumns, Reason};

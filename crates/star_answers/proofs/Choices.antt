@@ -8,10 +8,11 @@ use Rattle.std.proofs.lemmas.Bool.{and_parts}
 use Rattle.std.proofs.lemmas.List.Elements.{filter-append}
 use Rattle.std.proofs.lemmas.List.Sorted.{IsPermutation-refl, IsPermutation-trans}
 use Rattle.star_schema.specs.declared.table.TableId.{TableId}
-use Rattle.star_schema.specs.declared.table.TableId.TheVariants.{Date, Customer, Supplier, Part, Lineorder}
+use Rattle.star_schema.specs.declared.table.TableId.TheVariants.{Lineorder}
 use Rattle.star_schema.specs.Order.{value_cmp}
 use Rattle.star_schema.specs.Schema.{is_table, key_of, references, table_of}
 use Rattle.star_schema.proofs.KeyColumns.{foreign_key}
+use Rattle.star_schema.proofs.Same.{table_same, table_itself}
 use Rattle.star_plan.specs.declared.tree.Join.{Join}
 use Rattle.star_plan.specs.Joins.{is_foreign, is_lone_key, refers}
 use Rattle.star_plan.specs.Meaning.{Joined, Row, Tables, joined, matches, only_row, partners, value_in, value_of, with_row}
@@ -21,27 +22,14 @@ use Rattle.star_answers.proofs.Reorderings.{crossed, each_reordered, reordered}
 
 -- ---- tables
 
-pub same_table : (s t : TableId) → is_table s t ≡ true → s ≡ t
-same_table Date Date e = refl
-same_table Customer Customer e = refl
-same_table Supplier Supplier e = refl
-same_table Part Part e = refl
-same_table Lineorder Lineorder e = refl
-same_table _ _ e = cc
-
-pub table_itself : (t : TableId) → is_table t t ≡ true
-table_itself Date = refl
-table_itself Customer = refl
-table_itself Supplier = refl
-table_itself Part = refl
-table_itself Lineorder = refl
-
 pub table_turned : (s t : TableId) → is_table s t ≡ false → is_table t s ≡ false
 table_turned s t e = by (is_table t s) refl
   where
     by : (b : Bool) → is_table t s ≡ b → is_table t s ≡ false
     by false h = h
-    by true h = absurd (true≢false (sym (table_itself t) ∙ ap (λ u. is_table u t) (same_table t s h) ∙ e))
+    by true h =
+        absurd (true≢false
+        (sym (table_itself t) ∙ ap (λ u. is_table u t) (table_same t s h) ∙ e))
 
 -- the table is among these
 abbrev pub is_among : TableId → List TableId → Bool
@@ -121,7 +109,7 @@ beside_turned row s t a b apart = λ i u. at u i
     by false false r h = refl
 
     at : (u : TableId) → (if is_table u t then b else (if is_table u s then a else row u)) ≡ (if is_table u s then a else (if is_table u t then b else row u))
-    at u = by (is_table u t) (is_table u s) (row u) (λ p q. true≢false (sym (table_itself s) ∙ ap (is_table s) (sym (same_table u s q) ∙ same_table u t p) ∙ apart))
+    at u = by (is_table u t) (is_table u s) (row u) (λ p q. true≢false (sym (table_itself s) ∙ ap (is_table s) (sym (table_same u s q) ∙ table_same u t p) ∙ apart))
 
 module _ (ts : Tables) where
   abbrev SameChoices : List TableId → List TableId → Type 0
@@ -240,7 +228,7 @@ module _ (ts : Tables) where
 
 refers_to : (o : Option TableId) (t : TableId) → refers o t ≡ true → o ≡ Some t
 refers_to None t e = absurd (cc)
-refers_to (Some s) t e = ap Some (same_table s t e)
+refers_to (Some s) t e = ap Some (table_same s t e)
 
 -- lineorder has no lone key
 no_key_of_fact : (j : Join) → is_foreign j.foreign j.key ≡ true → is_table Lineorder (table_of j.key) ≡ false
@@ -250,7 +238,7 @@ no_key_of_fact j e = by (is_table Lineorder (table_of j.key)) refl
     by false h = h
     by true h =
         let lone = (and_parts (refers (references j.foreign) (table_of j.key)) (is_lone_key j.key (key_of (table_of j.key))) e).1 in
-        let wrong : is_lone_key j.key (key_of Lineorder) ≡ true = subst (λ t. is_lone_key j.key (key_of t) ≡ true) (sym (same_table Lineorder (table_of j.key) h)) lone in
+        let wrong : is_lone_key j.key (key_of Lineorder) ≡ true = subst (λ t. is_lone_key j.key (key_of t) ≡ true) (sym (table_same Lineorder (table_of j.key) h)) lone in
         absurd (cc)
 
 not_true : (b : Bool) → not b ≡ true → b ≡ false

@@ -5,7 +5,6 @@ use Rattle.star_schema.specs.Database.{rows_in}
 use Rattle.star_schema.specs.Loadable.{database_of}
 use Rattle.star_schema.specs.Order.{row_cmp, value_cmp}
 use Rattle.star_query.specs.Tree.{Tree}
-use Rattle.star_query.specs.Views.{tree_view}
 use Rattle.star_query.proofs.Verdicts.{one_meaning}
 use Rattle.star_plan.specs.Meaning.{Tables}
 use Rattle.star_program.specs.declared.outcome.Cell.{Cell}
@@ -25,8 +24,8 @@ one_answer ts q names others rows more h k =
 
 pub one_report : (texts : TableId → List ℕ) (query a b : List ℕ) → IsReport texts query a → IsReport texts query b → a ≡ b
 one_report texts query a b h k =
-    let same : tree_view h.tree ≡ tree_view k.tree = one_meaning query (tree_view h.tree) (tree_view k.tree) h.means k.means in
+    let same : h.tree ≡ k.tree = one_meaning query h.tree k.tree h.means k.means in
     let ts = rows_in (database_of texts) in
-    let moved : IsAnswer ts (tree_view k.tree) h.names h.rows = subst (λ q. IsAnswer ts q h.names h.rows) same h.answer in
-    let one = one_answer ts (tree_view k.tree) h.names k.names h.rows k.rows moved k.answer in
+    let moved : IsAnswer ts k.tree h.names h.rows = subst (λ q. IsAnswer ts q h.names h.rows) same h.answer in
+    let one = one_answer ts k.tree h.names k.names h.rows k.rows moved k.answer in
     h.printed ∙ (λ i. report_text (one.0 i) (one.1 i)) ∙ sym k.printed

@@ -14,10 +14,8 @@ use Rattle.star_schema.specs.declared.column.ColumnId.{ColumnId}
 use Rattle.star_schema.specs.declared.column.ColumnId.TheVariants.{DDatekey, CCustkey, SSuppkey, PPartkey, LoOrderkey}
 use Rattle.star_schema.specs.Schema.{column_of, is_table, table_name, table_of}
 use Rattle.star_schema.proofs.NamesApart.{found_named}
-use Rattle.star_query.specs.declared.tree.Name.{Name}
-use Rattle.star_query.specs.declared.tree.Condition.{Condition}
-use Rattle.star_query.specs.declared.tree.Condition.TheVariants as condition
-use Rattle.star_query.specs.Views.{name_view}
+use Rattle.star_query.specs.Tree as tree
+use Rattle.star_query.specs.Tree.{Condition, Name}
 use Rattle.star_plan.specs.declared.tree.Join.{Join}
 use Rattle.star_plan.specs.declared.joins.Pair.{Pair}
 use Rattle.star_plan.specs.Joins.{join_by, join_of, joins_of, pairs_of, where_pairs}
@@ -28,7 +26,8 @@ use Rattle.star_plan.specs.WellNamed.{IsThere, is_in_from, same_name}
 use Rattle.star_plan.proofs.Known.{Reaches, each_left, each_right}
 use Rattle.star_plan.proofs.Options.{first_or_second}
 use Rattle.star_answers.specs.Rows.{tables_of}
-use Rattle.star_answers.proofs.Choices.{AreApart, dimensions_of, is_among, or_nor, same_table, table_itself}
+use Rattle.star_answers.proofs.Choices.{AreApart, dimensions_of, is_among, or_nor}
+use Rattle.star_schema.proofs.Same.{table_same, table_itself}
 use Rattle.star_answers.proofs.OwnConditions.{join_made}
 
 -- ---- lists of tables
@@ -49,7 +48,7 @@ cut_at t [] e = absurd (cc)
 cut_at t (u ∷ us) e = by (is_table t u) refl e (cut_at t us)
   where
     by : (b : Bool) → is_table t u ≡ b → (b || is_among t us) ≡ true → (is_among t us ≡ true → Cut t us) → Cut t (u ∷ us)
-    by true h e rest = record { front = []; back = us; whole = λ i. sym (same_table t u h) i ∷ us }
+    by true h e rest = record { front = []; back = us; whole = λ i. sym (table_same t u h) i ∷ us }
     by false h e rest = let c = rest e in record { front = u ∷ c.front; back = c.back; whole = ap (λ l. u ∷ l) c.whole }
 
 middle_apart : (t : TableId) (front back : List TableId) → AreApart (front ++ t ∷ back) → (is_among t (front ++ back) ≡ false) × AreApart (front ++ back)
@@ -60,7 +59,7 @@ middle_apart t (u ∷ front) back apart =
     let first = or_nor (is_among u front) (is_table u t || is_among u back) among in
     let second = or_nor (is_table u t) (is_among u back) first.1 in
     let other : is_among u (front ++ back) ≡ false = list_any-append (is_table u) front back ∙ (λ i. first.0 i || second.1 i) in
-    let turned : is_table t u ≡ false = by_test (is_table t u) refl (λ h. true≢false (sym (table_itself u) ∙ ap (is_table u) (sym (same_table t u h)) ∙ second.0)) in
+    let turned : is_table t u ≡ false = by_test (is_table t u) refl (λ h. true≢false (sym (table_itself u) ∙ ap (is_table u) (sym (table_same t u h)) ∙ second.0)) in
     ((λ i. turned i || rest.0 i), (other, rest.1))
   where
     by_test : (b : Bool) → is_table t u ≡ b → (is_table t u ≡ true → ⊥) → is_table t u ≡ false
@@ -90,7 +89,7 @@ same_tables (x ∷ xs) ys a b same =
     (IsPermutation-trans (x ∷ xs) (x ∷ (c.front ++ c.back)) (c.front ++ x ∷ c.back) (IsPermutation-cons x xs (c.front ++ c.back) rest) (IsPermutation-sym (c.front ++ x ∷ c.back) (x ∷ (c.front ++ c.back)) (IsPermutation-middle c.front x c.back)))
   where
     by : (zs : List TableId) (t : TableId) (p : Bool) → is_table t x ≡ p → is_among x xs ≡ false → is_among x zs ≡ false → (is_table t x || is_among t xs) ≡ (is_table t x || is_among t zs) → is_among t xs ≡ is_among t zs
-    by zs t true h none free e = let is = same_table t x h in ap (λ u. is_among u xs) is ∙ none ∙ sym free ∙ ap (λ u. is_among u zs) (sym is)
+    by zs t true h none free e = let is = table_same t x h in ap (λ u. is_among u xs) is ∙ none ∙ sym free ∙ ap (λ u. is_among u zs) (sym is)
     by zs t false h none free e = sym (ap (λ p. p || is_among t xs) h) ∙ e ∙ ap (λ p. p || is_among t zs) h
 
 -- ---- the names of FROM
@@ -109,26 +108,26 @@ names_tell Lineorder Date = refl
 names_tell Lineorder _ = refl
 
 -- what a name stands for has this name
-table_named : (n : Name) (u : TableId) → table_at n ≡ Some u → table_name u ≡ n.text.items
+table_named : (n : Name) (u : TableId) → table_at n ≡ Some u → table_name u ≡ n.text
 unfolding table_called
-table_named n u e = found_named table_name n.text.items TABLES u e
+table_named n u e = found_named table_name n.text TABLES u e
 
 abbrev pub AreTables : List Name → Type 0
 AreTables names = AllByRecursion (λ n. IsThere (table_at n)) names
 
-pub among_named : (names : List Name) (t : TableId) → AreTables names → is_among t (tables_of (map name_view names)) ≡ has_name names (table_name t)
+pub among_named : (names : List Name) (t : TableId) → AreTables names → is_among t (tables_of names) ≡ has_name names (table_name t)
 unfolding has_name
 among_named [] t all = refl
 among_named (n ∷ ns) t all =
     let u = all.0.0 in
-    let here : is_table t u ≡ pointwise nat_eq n.text.items (table_name t) = sym (names_tell t u) ∙ ap (λ text. pointwise nat_eq text (table_name t)) (table_named n u all.0.1) in
-    (λ i. is_among t (option_to_list (all.0.1 i) ++ tables_of (map name_view ns))) ∙ (λ i. here i || among_named ns t all.1 i)
+    let here : is_table t u ≡ pointwise nat_eq n.text (table_name t) = sym (names_tell t u) ∙ ap (λ text. pointwise nat_eq text (table_name t)) (table_named n u all.0.1) in
+    (λ i. is_among t (option_to_list (all.0.1 i) ++ tables_of ns)) ∙ (λ i. here i || among_named ns t all.1 i)
 
-not_again : (n : Name) (u : TableId) (ns : List Name) → table_at n ≡ Some u → AreTables ns → AllByRecursion (λ m. same_name n m ≡ false) ns → is_among u (tables_of (map name_view ns)) ≡ false
+not_again : (n : Name) (u : TableId) (ns : List Name) → table_at n ≡ Some u → AreTables ns → AllByRecursion (λ m. same_name n m ≡ false) ns → is_among u (tables_of ns) ≡ false
 not_again n u [] e all others = refl
 not_again n u (m ∷ ms) e all others =
     let v = all.0.0 in
-    (λ i. is_among u (option_to_list (all.0.1 i) ++ tables_of (map name_view ms)))
+    (λ i. is_among u (option_to_list (all.0.1 i) ++ tables_of ms))
     ∙ (λ i. by (is_table u v) refl i || not_again n u ms e all.1 others.1 i)
   where
     by : (b : Bool) → is_table u all.0.0 ≡ b → is_table u all.0.0 ≡ false
@@ -136,15 +135,15 @@ not_again n u (m ∷ ms) e all others =
     by true h =
         let v = all.0.0 in
         let texts : same_name n m ≡ pointwise nat_eq (table_name u) (table_name u) =
-        λ i. pointwise nat_eq (sym (table_named n u e) i) ((sym (table_named m v all.0.1) ∙ ap table_name (sym (same_table u v h))) i) in
+        λ i. pointwise nat_eq (sym (table_named n u e) i) ((sym (table_named m v all.0.1) ∙ ap table_name (sym (table_same u v h))) i) in
         absurd (true≢false (sym (texts ∙ names_tell u u ∙ table_itself u) ∙ others.0))
 
-pub named_apart : (names : List Name) → AreTables names → IsDistinct same_name names → AreApart (tables_of (map name_view names))
+pub named_apart : (names : List Name) → AreTables names → IsDistinct same_name names → AreApart (tables_of names)
 unfolding IsDistinct
 named_apart [] all once = tt
 named_apart (n ∷ ns) all once =
     let u = all.0.0 in
-    subst (λ o. AreApart (option_to_list o ++ tables_of (map name_view ns))) (sym all.0.1) (not_again n u ns all.0.1 all.1 once.0, named_apart ns all.1 once.1)
+    subst (λ o. AreApart (option_to_list o ++ tables_of ns)) (sym all.0.1) (not_again n u ns all.0.1 all.1 once.0, named_apart ns all.1 once.1)
 
 -- ---- the dimensions that are joined
 
@@ -190,15 +189,15 @@ pair_named tables m n a b = by (join_of m n) refl
     by (Some j) e = (key m n j e a b, tt)
 
 joins_named : (tables : List Name) (b : Bool) (q : Condition) → AllByRecursion (λ u. is_in_from tables u.column ≡ true) (condition_uses q) → AllByRecursion (IsNamed tables) (joins_of (pairs_of b q))
-joins_named tables b (condition.And' p c r d) all =
+joins_named tables b (tree.both c d) all =
     every_join (IsNamed tables) (pairs_of b c) (pairs_of b d) (joins_named tables b c (each_left _ (condition_uses c) (condition_uses d) all)) (joins_named tables b d (each_right _ (condition_uses c) (condition_uses d) all))
-joins_named tables b (condition.Or' p c r d) all =
+joins_named tables b (tree.either c d) all =
     every_join (IsNamed tables) (pairs_of false c) (pairs_of false d) (joins_named tables false c (each_left _ (condition_uses c) (condition_uses d) all)) (joins_named tables false d (each_right _ (condition_uses c) (condition_uses d) all))
-joins_named tables b (condition.Not' p c) all = joins_named tables false c all
-joins_named tables true (condition.Pair m n) all = pair_named tables (column_at m) (column_at n) all.0 all.1.0
-joins_named tables false (condition.Pair m n) all = tt
-joins_named tables b (condition.Compare n s l) all = tt
-joins_named tables b (condition.Between n from upto) all = tt
+joins_named tables b (tree.negation c) all = joins_named tables false c all
+joins_named tables true (tree.pair m n) all = pair_named tables (column_at m) (column_at n) all.0 all.1.0
+joins_named tables false (tree.pair m n) all = tt
+joins_named tables b (tree.compare n s l) all = tt
+joins_named tables b (tree.between n from upto) all = tt
 
 pub where_named : (tables : List Name) (o : Option Condition) → AllByRecursion (λ u. is_in_from tables u.column ≡ true) (where_uses o) → AllByRecursion (IsNamed tables) (joins_of (where_pairs o))
 where_named tables None all = tt
@@ -209,14 +208,14 @@ named_among tables [] t all e = absurd (cc)
 named_among tables (j ∷ js) t all e = by (is_table t (table_of j.key)) refl e (named_among tables js t all.1)
   where
     by : (b : Bool) → is_table t (table_of j.key) ≡ b → (b || is_among t (dimensions_of js)) ≡ true → (is_among t (dimensions_of js) ≡ true → has_name tables (table_name t) ≡ true) → has_name tables (table_name t) ≡ true
-    by true h e rest = subst (λ u. has_name tables (table_name u) ≡ true) (sym (same_table t (table_of j.key) h)) all.0
+    by true h e rest = subst (λ u. has_name tables (table_name u) ≡ true) (sym (table_same t (table_of j.key) h)) all.0
     by false h e rest = rest e
 
 -- FROM names lineorder and the joined dimensions, and nothing else
 pub from_tables : (tables : List Name) (js : List Join) → AreTables tables → IsDistinct same_name tables → has_name tables (table_name Lineorder) ≡ true → Reaches tables js → AllByRecursion (IsNamed tables) js
-    → AreApart (Lineorder ∷ dimensions_of js) → IsPermutation (tables_of (map name_view tables)) (Lineorder ∷ dimensions_of js)
+    → AreApart (Lineorder ∷ dimensions_of js) → IsPermutation (tables_of tables) (Lineorder ∷ dimensions_of js)
 from_tables tables js there once fact reach named apart =
-    same_tables (tables_of (map name_view tables)) (Lineorder ∷ dimensions_of js) (named_apart tables there once) apart
+    same_tables (tables_of tables) (Lineorder ∷ dimensions_of js) (named_apart tables there once) apart
     (λ t. among_named tables t there ∙ same_test (has_name tables (table_name t)) (is_among t (Lineorder ∷ dimensions_of js)) (onto t) (back t))
   where
     onto : (t : TableId) → has_name tables (table_name t) ≡ true → is_among t (Lineorder ∷ dimensions_of js) ≡ true
@@ -229,5 +228,5 @@ from_tables tables js there once fact reach named apart =
     back t e = by (is_table t Lineorder) refl e
       where
         by : (b : Bool) → is_table t Lineorder ≡ b → (b || is_among t (dimensions_of js)) ≡ true → has_name tables (table_name t) ≡ true
-        by true h e = subst (λ u. has_name tables (table_name u) ≡ true) (sym (same_table t Lineorder h)) fact
+        by true h e = subst (λ u. has_name tables (table_name u) ≡ true) (sym (table_same t Lineorder h)) fact
         by false h e = named_among tables js t named e

@@ -3,9 +3,8 @@ use Rattle.std.specs.Prelude.{◌≡◌, ℕ, List}
 use Rattle.star_schema.specs.declared.table.TableId.{TableId}
 use Rattle.star_schema.specs.Database.{rows_in}
 use Rattle.star_schema.specs.Loadable.{database_of}
-use Rattle.star_query.specs.declared.tree.Tree as declared
 use Rattle.star_query.specs.Derives.{Means}
-use Rattle.star_query.specs.Views.{tree_view}
+use Rattle.star_query.specs.Tree.{Tree}
 use Rattle.star_plan.specs.WellNamed.{IsWellNamed}
 use Rattle.star_program.specs.declared.outcome.Cell.{Cell}
 use Rattle.star_report.specs.Report.{report_text}
@@ -14,10 +13,10 @@ use Rattle.star_answers.specs.Answers.{IsAnswer}
 -- the text means a query that is well named, and the report is its printed answer over
 -- the rows that the five texts hold
 pub record IsReport (texts : TableId → List ℕ) (query report : List ℕ) : Type 0 where
-  pub tree : declared.Tree
-  pub means : Means query (tree_view tree)
+  pub tree : Tree
+  pub means : Means query tree
   pub named : IsWellNamed tree
   pub names : List (List ℕ)
   pub rows : List (List Cell)
-  pub answer : IsAnswer (rows_in (database_of texts)) (tree_view tree) names rows
+  pub answer : IsAnswer (rows_in (database_of texts)) tree names rows
   pub printed : report ≡ report_text names rows

@@ -8,10 +8,10 @@ use Rattle.star_schema.specs.declared.table.TableId.{TableId}
 use Rattle.star_schema.specs.declared.column.ColumnId.{ColumnId}
 use Rattle.star_schema.specs.Groups.{Entry}
 use Rattle.star_schema.specs.Order.{value_cmp}
-use Rattle.star_schema.specs.Tables.{Value, Number, Text}
-use Rattle.star_query.specs.Tree.{Name, Literal, number, text, Expression, column, constant, add, sub, mul, Condition, either, both, negation, pair, compare, between, Measure, count, fold, Item, plain, aggregate, Tree}
+use Rattle.star_schema.specs.Tables.{Value, Number}
+use Rattle.star_query.specs.Tree.{Name, Expression, column, constant, add, sub, mul, Condition, either, both, negation, pair, compare, between, Measure, count, fold, Item, plain, aggregate, Tree}
 use Rattle.star_plan.specs.Meaning.{Joined, Tables, number_of, tests, value_of, with_row}
-use Rattle.star_plan.specs.Names.{column_called, table_called}
+use Rattle.star_plan.specs.Names.{column_at, literal_value, table_at}
 
 -- ---- the product
 
@@ -27,7 +27,7 @@ product ts tables = with_choices ts tables (λ t. [])
 
 -- the tables that FROM names, in its order
 abbrev pub tables_of : List Name → List TableId
-tables_of names = flat_map (λ n. option_to_list (table_called n.text)) names
+tables_of names = flat_map (λ n. option_to_list (table_at n)) names
 
 -- ---- what WHERE says of a row
 
@@ -38,11 +38,7 @@ value_if (Some c) row = value_of c row
 
 -- the value of the column with this name
 abbrev pub value_named : Name → Joined → Value
-value_named n row = value_if (column_called n.text) row
-
-abbrev pub literal_value : Literal → Value
-literal_value (number z) = Number z
-literal_value (text bytes) = Text bytes
+value_named n row = value_if (column_at n) row
 
 -- numbers compare by value, texts by their bytes; BETWEEN has both its ends
 abbrev pub is_true : Condition → Joined → Bool

@@ -12,10 +12,8 @@ ghost use Rattle.star_schema.specs.Loadable.{database_of};
 ghost use Rattle.star_schema.specs.Order.{value_cmp};
 ghost use Rattle.star_schema.specs.Schema.{table_of};
 ghost use Rattle.star_schema.specs.Tables.{Value};
-ghost use Rattle.star_query.specs.declared.tree.Tree as parsed;
 ghost use Rattle.star_query.specs.Derives.{Means};
 ghost use Rattle.star_query.specs.Tree.{Tree};
-ghost use Rattle.star_query.specs.Views.{tree_view};
 ghost use Rattle.star_plan.specs.Meaning as plan;
 ghost use Rattle.star_plan.specs.Meaning.{Plan, Tables};
 ghost use Rattle.star_plan.specs.Resolved.{IsResolved};
@@ -45,21 +43,21 @@ pub fn groups_ignore_the_order_of_rows()
 /// is true, are the joined rows of its plan for which all its conjuncts hold, up to their order; and
 /// in that order too where FROM names lineorder first, and then the dimensions as they are joined.
 pub fn plans_select_the_rows_of_their_queries()
-    ensures rows { (tables : Tables) (query : parsed.Tree) (p : Plan)
+    ensures rows { (tables : Tables) (query : Tree) (p : Plan)
         → IsWellNamed query → IsResolved query p
-        → IsPermutation (selected tables (tree_view query)) (plan.selected tables p) }
-    ensures order { (tables : Tables) (query : parsed.Tree) (p : Plan)
+        → IsPermutation (selected tables query) (plan.selected tables p) }
+    ensures order { (tables : Tables) (query : Tree) (p : Plan)
         → IsWellNamed query → IsResolved query p
-        → tables_of (tree_view query).tables ≡ Lineorder ∷ map (λ j. table_of j.key) p.joins
-        → selected tables (tree_view query) ≡ plan.selected tables p }
+        → tables_of query.tables ≡ Lineorder ∷ map (λ j. table_of j.key) p.joins
+        → selected tables query ≡ plan.selected tables p }
 {}
 
 /// What a well named query answers is what its plan answers.
 pub fn plans_answer_their_queries()
-    ensures { (tables : Tables) (query : parsed.Tree) (p : Plan)
+    ensures { (tables : Tables) (query : Tree) (p : Plan)
         (names : List (List ℕ)) (rows : List (List Cell))
         → IsWellNamed query → IsResolved query p
-        → IsAnswer tables (tree_view query) names rows ↔ IsPlanAnswer tables p names rows }
+        → IsAnswer tables query names rows ↔ IsPlanAnswer tables p names rows }
 {}
 
 /// A query has one answer over given tables.
@@ -79,9 +77,9 @@ pub fn one_text_has_one_report()
 /// The printed answer of a plan is the report of the text that the plan was made of: what is known
 /// of a parsed query and of its plan is all that is asked.
 pub fn plans_have_the_reports_of_their_texts()
-    ensures { (texts : TableId → List ℕ) (text report : List ℕ) (query : parsed.Tree) (p : Plan)
+    ensures { (texts : TableId → List ℕ) (text report : List ℕ) (query : Tree) (p : Plan)
         (names : List (List ℕ)) (rows : List (List Cell))
-        → Means text (tree_view query) → IsWellNamed query → IsResolved query p
+        → Means text query → IsWellNamed query → IsResolved query p
         → IsPlanAnswer (rows_in (database_of texts)) p names rows
         → report ≡ report_text names rows → IsReport texts text report }
 {}

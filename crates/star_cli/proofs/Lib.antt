@@ -1,2 +1,4 @@
+mod NameLemmas
+mod Telling
 mod WorkedFaults
 pub mod Giving

@@ -1,11 +1,10 @@
 -- What a task asks of the bytes that were read for it.
-use Rattle.std.specs.Prelude.{◌≡◌, ◌⊎◌, ℕ, Bool, true, false, List, Result, Ok, Err, IfOk, OnOk}
+use Rattle.std.specs.Prelude.{◌≡◌, ◌⊎◌, ℕ, Bool, true, false, List, Result, Ok, Err, IfOk}
 use Rattle.star_schema.specs.declared.limits.Limits.{Limits}
 use Rattle.star_schema.specs.declared.limits.TheConstants.{MOST_ROWS, MOST_VISITS}
 use Rattle.star_schema.specs.declared.table.TableId.{TableId}
 use Rattle.star_catalogue.specs.Load.{text_of}
 use Rattle.star_engine.specs.declared.fault.EngineFault.{EngineFault}
-use Rattle.star_engine.specs.declared.fault.EngineFault.TheVariants as engine
 use Rattle.star_engine.specs.Answered.{Change, IsAnswered, IsUntouched}
 use Rattle.star_engine.specs.Bench.{AllFit, IsBench, SomeIsUnfit}
 use Rattle.star_engine.specs.Executions.{IsQuoteOf, IsToldOf, IsUntold}
@@ -15,6 +14,7 @@ use Rattle.star_engine.specs.Noted.{IsNoted}
 use Rattle.star_engine.specs.Queries.{IsExplained, IsNoQuery, IsQueryQuote, IsQueryTold, IsUnanswered}
 use Rattle.star_engine.specs.QuoteTexts.{IsQuoteText, IsUnquoted}
 use Rattle.star_engine.specs.Trials.{IsNoTrial, IsTrialReport}
+use Rattle.star_cli.specs.Lines.{IsFaultTold}
 use Rattle.star_cli.specs.declared.answers.Bytes.{Bytes}
 use Rattle.star_cli.specs.declared.words.Task.{Task}
 use Rattle.star_cli.specs.declared.words.Task.TheVariants.{Sample, Check, Bench, Query, Explain, Exec, Quote, Trial}
@@ -106,28 +106,17 @@ IsGiven (Trial folder file limits) bytes out notes result =
 
 -- ---- the exit status
 
-abbrev pub fault_status : EngineFault → ℕ
-fault_status (engine.Refused refusal) = 1
-fault_status (engine.Trial fault) = 1
-fault_status (engine.Load fault) = 3
-fault_status (engine.Query fault) = 4
-fault_status (engine.Plan fault) = 4
-fault_status (engine.Program fault) = 5
-fault_status (engine.Write sent) = 6
-fault_status engine.OutOfMemory = 7
+-- how the program ends behind what the engine answers: a query of the benchmark that is refused is
+-- no fault, and has no line of its own
+abbrev pub IsEnded : {E : Type 0} → Change E → Result Bool EngineFault → ℕ → Type 0
+IsEnded err (Ok true) status = IsUntouched err × (status ≡ 0)
+IsEnded err (Ok false) status = IsUntouched err × (status ≡ 1)
+IsEnded err (Err fault) status = IsFaultTold err fault status
 
--- a query of the benchmark that is refused is no fault
-abbrev pub status_of : Result Bool EngineFault → ℕ
-status_of (Ok true) = 0
-status_of (Ok false) = 1
-status_of (Err fault) = fault_status fault
-
--- what the engine answers, with its notes on standard error, gives the status; behind a fault more
--- may come there
+-- what the engine answers, with its notes on standard error, and behind them how the program ends
 pub record IsExit {S E : Type 0} (task : Task) (bytes : Bytes) (out : Change S) (err : Change E)
     (status : ℕ) : Type 0 where
   pub result : Result Bool EngineFault
   pub noted : E
   pub given : IsGiven task bytes out (record err { new = noted }) result
-  pub is_status : status ≡ status_of result
-  pub whole : OnOk result (err.new ≡ noted)
+  pub ended : IsEnded (record err { old = noted }) result status

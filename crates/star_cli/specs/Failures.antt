@@ -1,10 +1,13 @@
 -- What keeps a command from an answer, its line, and its exit status.
-use Rattle.std.specs.Prelude.{ℕ, List, Option, Some, None, codes}
+use Rattle.std.specs.Prelude.{◌≡◌, ◌==◌, ◌++◌, ◌⊎◌, ℕ, List, Bool, true, false, Option, Some, None, IfSome, codes}
 use Rattle.clap.specs.Values.{kind_of}
 use Rattle.clap.specs.declared.error.Error.{Error}
 use Rattle.clap.specs.declared.error.kind.ErrorKind.{ErrorKind}
 use Rattle.clap.specs.declared.error.kind.ErrorKind.TheVariants as kinds
 use Rattle.clap.specs.declared.error.kind.ErrorKind.TheVariants.{DisplayHelp, DisplayVersion}
+use Rattle.star_engine.specs.Answered.{Change, IsUntouched}
+use Rattle.star_cli.specs.Lines.{IsTold}
+use Rattle.star_cli.specs.Names.{shown_name}
 use Rattle.star_cli.specs.declared.failure.Failure.{Failure}
 use Rattle.star_cli.specs.declared.failure.Failure.TheVariants.{Words, NotText, EmptyFolder, NoTask, File, OutOfMemory}
 
@@ -16,13 +19,13 @@ failure_of_kind error kind = Words error
 abbrev pub failure_of_words : Error → Failure
 failure_of_words error = failure_of_kind error (kind_of error)
 
--- its line, where that is known: of the words it is the parser's, and of a file it holds a name
+-- its line, where that is known: of the words it is the parser's
 unfoldable pub failure_text : Failure → Option (List ℕ)
 failure_text (Words error) = None
 failure_text NotText = Some (codes "error: a word is not UTF-8\n")
 failure_text EmptyFolder = Some (codes "error: the folder's name is empty\n")
 failure_text NoTask = Some (codes "error: the words are no command\n")
-failure_text (File name) = None
+failure_text (File name) = Some (codes "file " ++ (shown_name name.now ++ codes "\n"))
 failure_text OutOfMemory = Some (codes "memory\n")
 
 -- ---- the exit status
@@ -40,3 +43,22 @@ status_of EmptyFolder = 2
 status_of NoTask = 2
 status_of (File name) = 6
 status_of OutOfMemory = 7
+
+-- ---- telling it
+
+-- its text: the line, where that is known
+abbrev pub IsTextOf : Failure → List ℕ → Type 0
+IsTextOf failure text = IfSome (failure_text failure) (λ line. text ≡ line)
+
+-- a text is told on standard output, or else on standard error; the other is as it was
+abbrev pub IsToldOn : {S E : Type 0} → Bool → Change S → Change E → List ℕ → Type 0
+IsToldOn true out err text = IsTold out text × IsUntouched err
+IsToldOn false out err text = IsUntouched out × IsTold err text
+
+-- a failure is told, on standard output where it is none, and gives its status; or want of memory
+-- where there is none for its text
+abbrev pub IsFailureTold : {S E : Type 0} → Failure → Change S → Change E → ℕ → Type 0
+IsFailureTold failure out err status = (told : Failure)
+    × ((told ≡ failure) ⊎ (told ≡ OutOfMemory))
+    × ((text : List ℕ) × IsTextOf told text × IsToldOn (status == 0) out err text)
+    × (status ≡ status_of told)

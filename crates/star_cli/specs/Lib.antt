@@ -1,3 +1,4 @@
 pub mod Answers
 pub mod Failures
 pub mod Lines
+pub mod Names

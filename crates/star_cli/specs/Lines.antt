@@ -1,8 +1,31 @@
--- The lines of faults on standard error.
-use Rattle.std.specs.Prelude.{◌++◌, ℕ, List, codes}
+-- The lines of faults, the exit status of each, and what a sink gains of a text that is told.
+use Rattle.std.specs.Prelude.{◌≡◌, ◌++◌, ◌⊎◌, ℕ, List, [], codes}
 use Rattle.star_engine.specs.declared.fault.EngineFault.{EngineFault}
+use Rattle.star_engine.specs.declared.fault.EngineFault.TheVariants as engine
+use Rattle.star_engine.specs.Answered.{Change, HasGained, HasGainedPart, IsUntouched}
 use Rattle.star_engine.specs.FaultTexts.{fault_text}
 
 -- of a fault of the engine
 unfoldable pub fault_line : EngineFault → List ℕ
 fault_line fault = fault_text fault ++ codes "\n"
+
+abbrev pub fault_status : EngineFault → ℕ
+fault_status (engine.Refused refusal) = 1
+fault_status (engine.Trial fault) = 1
+fault_status (engine.Load fault) = 3
+fault_status (engine.Query fault) = 4
+fault_status (engine.Plan fault) = 4
+fault_status (engine.Program fault) = 5
+fault_status (engine.Write sent) = 6
+fault_status engine.OutOfMemory = 7
+
+-- a sink has gained a whole text; or its first bytes, and is failed; nothing is written of no text
+abbrev pub IsTold : {S : Type 0} → Change S → List ℕ → Type 0
+IsTold sink text = ((text ≡ []) × IsUntouched sink)
+    ⊎ (HasGained sink text ⊎ ((sent : ℕ) × HasGainedPart sink text sent))
+
+-- a fault is told with its status, or want of memory where there is none for its line
+abbrev pub IsFaultTold : {S : Type 0} → Change S → EngineFault → ℕ → Type 0
+IsFaultTold err fault status = (told : EngineFault)
+    × ((told ≡ fault) ⊎ (told ≡ engine.OutOfMemory))
+    × IsTold err (fault_line told) × (status ≡ fault_status told)

@@ -1,11 +1,10 @@
 // The answer to a task, over the bytes that were read for it.
 
-ghost use Rattle.std.specs.Prelude.{◌≡◌};
-ghost use Rattle.star_cli.specs.Answers.{IsExit, IsGiven, fault_status};
+ghost use Rattle.star_cli.specs.Answers.{IsExit, IsGiven};
 ghost use Rattle.star_engine.specs.Answered.{change};
 
 use crate::calls;
-use crate::lines::{SinkWriter, tell_fault};
+use crate::lines::tell_fault;
 use crate::words::Task;
 use star_engine::{EngineFault, Texts};
 use star_schema::Sink;
@@ -43,21 +42,9 @@ fn give<S: Sink, N: Sink>(
     }
 }
 
-fn status(fault: &EngineFault) -> u8
-    ensures { result ≡ fault_status fault.now }
-{
-    match fault {
-        EngineFault::Refused(_) | EngineFault::Trial(_) => 1,
-        EngineFault::Load(_) => 3,
-        EngineFault::Query(_) | EngineFault::Plan(_) => 4,
-        EngineFault::Program(_) => 5,
-        EngineFault::Write { .. } => 6,
-        EngineFault::OutOfMemory => 7,
-    }
-}
-
 /// Writes what a task asks for on `out` and its notes on `err`, or tells on `err` why it can't, and
-/// gives the exit status. A line of a fault that can't be written changes no status.
+/// gives the exit status. A line of a fault that can't be written changes no status; one for which
+/// there is no memory is told as want of memory.
 pub fn answer<S: Sink, E: Sink>(
     alloc: Global,
     task: Task<'_>,
@@ -71,9 +58,6 @@ pub fn answer<S: Sink, E: Sink>(
     match give(alloc, task, bytes, out, err) {
         Ok(true) => 0,
         Ok(false) => 1,
-        Err(fault) => {
-            let _ = tell_fault(&mut SinkWriter { sink: err }, &fault);
-            status(&fault)
-        }
+        Err(fault) => tell_fault(alloc, err, &fault),
     }
 }

@@ -80,20 +80,12 @@ pub fn command<R: Files + AllocGlobal, W: Write, E: Write>(
     out: &mut W,
     err: &mut E,
 ) -> u8 {
+    let mut answers = Out::new(&mut *out);
+    let mut notes = Out::new(&mut *err);
     match prepare(rt, words) {
-        Ok((task, read)) => {
-            let mut answers = Out::new(&mut *out);
-            let mut notes = Out::new(&mut *err);
-            answer(rt.alloc(), task, &read.bytes(), &mut answers, &mut notes)
-        }
-        Err(failure) => told(failure, out, err),
+        Ok((task, read)) => answer(rt.alloc(), task, &read.bytes(), &mut answers, &mut notes),
+        Err(failure) => failure.tell(rt.alloc(), &mut answers, &mut notes),
     }
-}
-
-// Tells a failure, and gives its exit status.
-fn told(failure: Failure<'_>, out: &mut impl Write, err: &mut impl Write) -> u8 {
-    failure.tell(out, err);
-    failure.status()
 }
 
 // The words of the command line, without the program's own name.
@@ -122,6 +114,10 @@ pub fn run<R: Env + Files + AllocGlobal, W: Write, E: Write>(
 ) -> u8 {
     match read_words(rt) {
         Ok(words) => command(rt, words.as_slice(), out, err),
-        Err(error) => told(failure_of_words(&error), out, err),
+        Err(error) => failure_of_words(&error).tell(
+            rt.alloc(),
+            &mut Out::new(&mut *out),
+            &mut Out::new(&mut *err),
+        ),
     }
 }

@@ -1,15 +1,18 @@
 // Why a command ended without its whole answer.
 
-ghost use Rattle.std.specs.Prelude.{◌≡◌};
+ghost use Rattle.std.specs.Prelude.{◌≡◌, ◌==◌, IfOk, string_bytes};
 ghost use Rattle.star_common.specs.Memory.{TellsMemory};
-ghost use Rattle.star_cli.specs.Failures.{failure_of_words, failure_text, status_of, words_status};
+ghost use Rattle.star_engine.specs.Answered.{change};
+ghost use Rattle.star_cli.specs.Failures.{IsFailureTold, IsTextOf, IsToldOn, failure_of_words, failure_text, status_of, words_status};
 ghost use Rattle.star_cli.specs.declared.failure.Failure.TheVariants.{OutOfMemory};
 
+use crate::lines::{MEMORY_LINE, MEMORY_STATUS, tell};
+use crate::names::Shown;
 use clap::Error;
 use clap::error::ErrorKind;
-use std::alloc::AllocError;
+use star_schema::Sink;
+use std::alloc::{AllocError, Global};
 use std::fmt;
-use std::io::Write;
 
 /// Why a command ended without its whole answer.
 #[derive(Drop)]
@@ -47,19 +50,6 @@ impl<'a> From<Error> for Failure<'a> {
     }
 }
 
-// Writes a name so that it stays on one line: control characters and the backslash as Rust's
-// `escape_debug` does, any other character as it is.
-fn write_name<W: fmt::Write>(f: &mut fmt::Formatter<W>, name: &str) -> fmt::Result {
-    for letter in name.chars() {
-        if letter.is_control() || letter == '\\' {
-            write!(f, "{}", letter.escape_debug())?;
-        } else {
-            f.write_char(letter)?;
-        }
-    }
-    Ok(())
-}
-
 impl<'a> fmt::Display for Failure<'a> {
     ghost output = { failure_text };
 
@@ -70,12 +60,8 @@ impl<'a> fmt::Display for Failure<'a> {
             Failure::NotText => f.write_str("error: a word is not UTF-8\n"),
             Failure::EmptyFolder => f.write_str("error: the folder's name is empty\n"),
             Failure::NoTask => f.write_str("error: the words are no command\n"),
-            Failure::File(name) => {
-                f.write_str("file ")?;
-                write_name(f, name)?;
-                f.write_str("\n")
-            }
-            Failure::OutOfMemory => f.write_str("memory\n"),
+            Failure::File(name) => writeln!(f, "file {}", Shown(name)),
+            Failure::OutOfMemory => f.write_str(MEMORY_LINE),
         }
     }
 }
@@ -99,16 +85,48 @@ impl<'a> Failure<'a> {
             Failure::Words(error) => status_of_words(error.kind()),
             Failure::NotText | Failure::EmptyFolder | Failure::NoTask => 2,
             Failure::File(_) => 6,
-            Failure::OutOfMemory => 7,
+            Failure::OutOfMemory => MEMORY_STATUS,
         }
     }
 
-    /// Tells what happened: help and version on `out`, all else on `err`. What can't be written
-    /// changes no status.
-    pub(crate) fn tell(&self, out: &mut impl Write, err: &mut impl Write) {
-        let _ = match self {
-            Failure::Words(error) if !error.use_stderr() => write!(out, "{error}"),
-            failure => write!(err, "{failure}"),
-        };
+    // Its text: a line, but for the texts of the parser of the words.
+    fn text(&self, alloc: Global) -> Result<String, AllocError>
+        ensures { IfOk result (λ text. IsTextOf self.now (string_bytes text)) }
+    {
+        format!(in alloc; "{self}")
+    }
+
+    // Its text is told on `out` where the status is 0, and on `err` else.
+    fn tell_text<S: Sink, E: Sink>(&self, text: &[u8], out: &mut S, err: &mut E) -> u8
+        ensures told { IsToldOn (result == 0) (change S.contents S.is_failed out.old out.new)
+            (change E.contents E.is_failed err.old err.new) text.now }
+        ensures status { result ≡ status_of self.now }
+    {
+        match self.status() {
+            0 => {
+                tell(out, text);
+                0
+            }
+            status => {
+                tell(err, text);
+                status
+            }
+        }
+    }
+
+    /// Tells what happened, help and the version on `out` and all else on `err`, and gives the exit
+    /// status. What can't be written changes no status; a text for which there is no memory is told
+    /// as want of memory.
+    pub(crate) fn tell<S: Sink, E: Sink>(&self, alloc: Global, out: &mut S, err: &mut E) -> u8
+        ensures { IsFailureTold self.now (change S.contents S.is_failed out.old out.new)
+            (change E.contents E.is_failed err.old err.new) result }
+    {
+        match self.text(alloc) {
+            Ok(text) => self.tell_text(text.as_bytes(), out, err),
+            Err(_) => {
+                tell(err, MEMORY_LINE.as_bytes());
+                MEMORY_STATUS
+            }
+        }
     }
 }

@@ -1,7 +1,7 @@
 // The files that a command reads.
 
 use crate::failure::Failure;
-use star_engine::{FileFault, Tally, Texts, read_expected};
+use star_engine::{FileFault, Input, Texts, read_expected};
 use std::alloc::AllocError;
 use std::fs::{File, OpenFile};
 use std::io;
@@ -54,12 +54,12 @@ fn read_at_most<'a, R: Files + AllocGlobal>(
     name: &'a str,
     most: u64,
 ) -> Result<Vec<u8>, Failure<'a>> {
-    let mut file = File::open(rt, path).map_err(|error| failure_of_open(&error, name))?;
+    let file = File::open(rt, path).map_err(|error| failure_of_open(&error, name))?;
     let expected = told_size(&file);
     if expected > most {
         return Err(Failure::File(name));
     }
-    read_expected(rt.alloc(), &mut file, most, expected, &mut Tally::new()).map_err(
+    read_expected(rt.alloc(), &mut Input::new(file), most, expected).map_err(
         |fault| failure_of_read(fault, name),
     )
 }

@@ -8,6 +8,7 @@ mod commands;
 mod failure;
 mod files;
 mod lines;
+mod names;
 mod words;
 
 pub use crate::answers::{Bytes, answer};

@@ -1,38 +1,61 @@
-// The lines of faults on standard error.
+// The lines of faults, and how they are told.
 
-ghost use Rattle.std.specs.Prelude.{OnOk};
-ghost use Rattle.std.specs.Io.KnownBytes.{Appends};
-ghost use Rattle.star_cli.specs.Lines.{fault_line};
+ghost use Rattle.std.specs.Prelude.{◌≡◌, IfOk, string_bytes};
+ghost use Rattle.star_engine.specs.Answered.{change};
+ghost use Rattle.star_cli.specs.Lines.{IsFaultTold, IsTold, fault_line, fault_status};
 
 use star_engine::EngineFault;
+use star_report::write_whole;
 use star_schema::Sink;
-use std::io;
-use std::io::Write;
+use std::alloc::{AllocError, Global};
 
-/// A sink as a writer.
-#[derive(Drop)]
-pub(crate) struct SinkWriter<'s, S> {
-    pub(crate) sink: &'s mut S,
+/// The line where memory is refused, which takes none.
+pub(crate) const MEMORY_LINE: &str = "memory\n";
+
+/// The exit status where memory is refused.
+pub(crate) const MEMORY_STATUS: u8 = 7;
+
+/// Writes a text on a sink, as far as the sink takes it.
+pub(crate) fn tell<S: Sink>(sink: &mut S, text: &[u8])
+    ensures { IsTold (change S.contents S.is_failed sink.old sink.new) text.now }
+{
+    let _ = write_whole(sink, text);
 }
 
-impl<'s, S: Sink> Write for SinkWriter<'s, S> {
-    fn write(&mut self, text: &[u8]) -> io::Result<usize> {
-        match self.sink.write(text) {
-            Ok(count) => Ok(count),
-            Err(_) => Err(io::Error::from(io::ErrorKind::Other)),
+// The line of a fault.
+#[tactic(auto, unfolding(crate::specs::Lines::fault_line))]
+fn line_of(alloc: Global, fault: &EngineFault) -> Result<String, AllocError>
+    ensures { IfOk result (λ line. string_bytes line ≡ fault_line fault.now) }
+{
+    format!(in alloc; "{fault}\n")
+}
+
+fn status_of(fault: &EngineFault) -> u8
+    ensures { result ≡ fault_status fault.now }
+{
+    match fault {
+        EngineFault::Refused(_) | EngineFault::Trial(_) => 1,
+        EngineFault::Load(_) => 3,
+        EngineFault::Query(_) | EngineFault::Plan(_) => 4,
+        EngineFault::Program(_) => 5,
+        EngineFault::Write { .. } => 6,
+        EngineFault::OutOfMemory => MEMORY_STATUS,
+    }
+}
+
+/// Writes the line of a fault, and gives its exit status; those of want of memory where there is
+/// none for the line.
+pub(crate) fn tell_fault<S: Sink>(alloc: Global, err: &mut S, fault: &EngineFault) -> u8
+    ensures { IsFaultTold (change S.contents S.is_failed err.old err.new) fault.now result }
+{
+    match line_of(alloc, fault) {
+        Ok(line) => {
+            tell(err, line.as_bytes());
+            status_of(fault)
+        }
+        Err(_) => {
+            tell(err, MEMORY_LINE.as_bytes());
+            MEMORY_STATUS
         }
     }
-
-    fn flush(&mut self) -> io::Result<()> {
-        Ok(())
-    }
-}
-
-/// Writes the line of a fault.
-#[tactic(auto, unfolding(crate::specs::Lines::fault_line))]
-pub(crate) fn tell_fault<W: Write>(writer: &mut W, fault: &EngineFault) -> io::Result<()>
-    ensures { OnOk result
-        (Appends (W.contents writer.old) (W.contents writer.new) (fault_line fault.now)) }
-{
-    writeln!(writer, "{fault}")
 }

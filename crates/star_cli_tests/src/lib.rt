@@ -5,4 +5,6 @@
 #[cfg(test)]
 mod commands;
 #[cfg(test)]
+mod damaged;
+#[cfg(test)]
 mod surroundings;

@@ -176,6 +176,21 @@ fn helps_with_each_command(rt: HostRuntime) -> Result<(), Fail> {
             "  star check data\n",
         ),
         (
+            ["bench", "--help"].as_slice(),
+            "Usage: star bench <FOLDER>\n",
+            "  star bench data\n",
+        ),
+        (
+            ["query", "--help"].as_slice(),
+            "Usage: star query <FOLDER> <FILE>\n",
+            "  star query data revenue.sql\n",
+        ),
+        (
+            ["explain", "--help"].as_slice(),
+            "Usage: star explain <FILE>\n",
+            "  star explain revenue.sql\n",
+        ),
+        (
             ["exec", "--help"].as_slice(),
             "Usage: star exec <FOLDER> <FILE>\n",
             "  star exec data above.star\n",

@@ -6,6 +6,7 @@ pub mod Extremes
 pub mod Fronts
 pub mod Numbers
 pub mod Ordered
+pub mod Repeats
 pub mod Trees
 pub mod Views
 mod WorkedWidths

@@ -7,7 +7,8 @@ use Rattle.std.proofs.lemmas.List.Elements.{All-push, All-get_or, All-map, All-w
 use Rattle.std.proofs.lemmas.Simd.{map-map}
 use Rattle.std.proofs.lemmas.Option.{get_or_from_slice_get, slice_get-get_or, slice_get-map, slice_get_within}
 use Rattle.std.specs.Option.{option_map}
-use Rattle.star_column.specs.Private.Codes.{texts_at, AreCodes, AreNumbers, LeadBack}
+use Rattle.star_column.specs.Private.Codes.{AreCodes, AreNumbers, LeadBack}
+use Rattle.star_flat.specs.Repeated.{texts_at}
 use Rattle.star_column.specs.Private.Order.{IsOrderOf}
 use Rattle.star_column.specs.declared.distinct.Numbered.{Numbered}
 use Rattle.star_schema.specs.Dictionary.{codes_of, dictionary_of}

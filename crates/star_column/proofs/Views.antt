@@ -10,7 +10,8 @@ use Rattle.star_schema.specs.Dictionary.{codes_of, dictionary_of, low_in}
 use Rattle.star_schema.proofs.Dictionaries.{IsDictionary-dictionary_of}
 use Rattle.star_schema.proofs.TextPlaces.{low_in-place}
 use Rattle.star_interval.specs.Range.{Holds, Range}
-use Rattle.star_column.specs.Private.Codes.{AreCodes, texts_at}
+use Rattle.star_column.specs.Private.Codes.{AreCodes}
+use Rattle.star_flat.specs.Repeated.{texts_at}
 use Rattle.star_column.specs.Private.Words.{above}
 use Rattle.star_column.proofs.Differences.{packed_at}
 

@@ -6,10 +6,10 @@ ghost use Rattle.star_column.specs.Width.{bits_of};
 
 use crate::coding::{number_each, places_of};
 use crate::column::ColumnData;
-use crate::dictionary::{Dictionary, flatten};
+use crate::dictionary::Dictionary;
 use crate::view::ColumnView;
 use crate::words::Words;
-use star_flat::FlatTexts;
+use star_flat::RepeatedTexts;
 use star_interval::Interval;
 use std::alloc::{AllocError, Global};
 use std::marker::Model;
@@ -29,7 +29,8 @@ impl Model for TextColumn {
     ghost use Rattle.std.specs.Prelude.{◌≡◌};
     ghost use Rattle.star_schema.specs.Dictionary.{codes_of};
     ghost use Rattle.star_column.specs.Width.{bits_of};
-    ghost use Rattle.star_column.specs.Private.Codes.{texts_at, AreCodes};
+    ghost use Rattle.star_column.specs.Private.Codes.{AreCodes};
+    ghost use Rattle.star_flat.specs.Repeated.{texts_at};
     ghost use Rattle.star_column.specs.Private.Words.{numbers_in, width_of};
 
     ghost Value = { List (List ℕ) };
@@ -47,14 +48,15 @@ impl TextColumn {
         requires { length texts.now < 2 ^ 32 }
         ensures { IfOk result (λ column. column ≡ map (λ text. text.items) texts.now) }
     {
-        let flat = flatten(alloc, texts)?;
-        TextColumn::encode(alloc, &flat)
+        let repeated = repeated(alloc, texts)?;
+        TextColumn::encode(alloc, &repeated)
     }
 
     /// The column of these texts, of which there are at most 4,294,967,295. They are let go.
     ///
-    /// Only different texts are sorted: a row's text is looked up in a tree of the different ones.
-    pub fn from_flat(alloc: Global, texts: FlatTexts) -> Result<TextColumn, AllocError>
+    /// Only different texts are sorted: a text that is kept is looked up in a tree of the different
+    /// ones.
+    pub fn from_flat(alloc: Global, texts: RepeatedTexts) -> Result<TextColumn, AllocError>
         requires { length texts < 2 ^ 32 }
         ensures { IfOk result (λ column. column ≡ texts) }
     {
@@ -62,7 +64,7 @@ impl TextColumn {
     }
 
     // The column of these texts, which stay with the caller.
-    fn encode(alloc: Global, texts: &FlatTexts) -> Result<TextColumn, AllocError>
+    fn encode(alloc: Global, texts: &RepeatedTexts) -> Result<TextColumn, AllocError>
         requires { length texts.now < 2 ^ 32 }
         ensures { IfOk result (λ column. column ≡ texts.now) }
     {
@@ -127,6 +129,17 @@ impl TextColumn {
     {
         self.dictionary.high(text)
     }
+}
+
+/// These texts in flat storage.
+fn repeated(alloc: Global, texts: &[Vec<u8>]) -> Result<RepeatedTexts, AllocError>
+    ensures { IfOk result (λ repeated. repeated ≡ map (λ text. text.items) texts.now) }
+{
+    let mut repeated = RepeatedTexts::new(alloc);
+    for text in texts {
+        repeated.push(text.as_slice())?;
+    }
+    Ok(repeated)
 }
 
 /// The column of the codes.

@@ -92,7 +92,8 @@ impl Emitter {
     ) -> Result<(), AllocError>
         requires room { HasRoom self.old
             (spec.conjuncts_code joins.now (map condition_shown conditions.now)) }
-        requires spelled { list_all condition_is_spelled (map condition_shown conditions.now) ≡ true }
+        requires spelled { list_all condition_is_spelled
+            (map condition_shown conditions.now) ≡ true }
         ensures written { IfOk result (λ _. Wrote self.old self.new
             (spec.conjuncts_code joins.now (map condition_shown conditions.now))) }
     {

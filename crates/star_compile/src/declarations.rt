@@ -68,7 +68,8 @@ pub(crate) fn group(alloc: Global, tree: &PlanTree) -> Result<GroupDecl, AllocEr
 
 // The name under which a column of the group is shown.
 fn name(alloc: Global, tree: &PlanTree, column: GroupColumn) -> Result<Vec<u8>, AllocError>
-    requires there { is_column (length tree.now.keys.items) (length tree.now.aggregates.items) column ≡ true }
+    requires there { is_column
+        (length tree.now.keys.items) (length tree.now.aggregates.items) column ≡ true }
     ensures { IfOk result (λ name. name.items ≡ shown_name (shown tree.now) column) }
 {
     match column {

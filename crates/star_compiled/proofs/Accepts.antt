@@ -1,22 +1,20 @@
--- Nothing but a range that leaves 64 bits refuses the pieces of a compiled program.
-use Rattle.std.proofs.Common.{◌≡◌, ◌⊎◌, inl, inr, ℕ, ◌+◌, ◌≤◌, ◌<◌, Bool, true, false, List, Option, Some, None, refl, sym, ap, subst, ◌∙◌, arith}
-use Rattle.std.specs.Prelude.{ℤ, pos, ◌+ℤ◌, ◌-ℤ◌, ◌*ℤ◌, ◌&&◌, ◌||◌, not}
-use Rattle.std.specs.Option.{option_map}
-use Rattle.std.proofs.lemmas.Bool.{and_parts, lt-ltb}
-use Rattle.star_schema.specs.declared.table.TableId.{TableId}
-use Rattle.star_schema.specs.declared.table.TableId.TheVariants.{Lineorder}
+-- Nothing but a range that leaves 64 bits refuses the conditions and the expressions of a compiled
+-- program.
+use Rattle.std.proofs.Common.{◌≡◌, ℕ, ◌<◌, Bool, true, false, List, Option, Some, None, refl, sym, ap, subst, ◌∙◌}
+use Rattle.std.specs.Prelude.{ℤ, pos, ◌+ℤ◌, ◌-ℤ◌, ◌*ℤ◌, ◌&&◌}
+use Rattle.std.proofs.lemmas.Bool.{and_parts}
 use Rattle.star_schema.specs.declared.column.ColumnId.{ColumnId}
 use Rattle.star_schema.specs.declared.column.Kind.TheVariants as kind
-use Rattle.star_schema.specs.Schema.{is_table, kind_of, table_of}
+use Rattle.star_schema.specs.Schema.{kind_of, table_of}
 use Rattle.star_schema.specs.Tables.{Value, Number, Text, kind_of_value}
-use Rattle.star_schema.proofs.Same.{table_same, table_itself, column_same, column_itself}
+use Rattle.star_schema.proofs.Same.{column_itself}
 use Rattle.star_interval.specs.Range.{Range, only, corner_range, fits_i64}
 use Rattle.star_query.specs.declared.token.Relation.{Relation}
 use Rattle.star_query.specs.declared.token.Relation.TheVariants as sign
 use Rattle.star_plan.specs.declared.tree.Join.{Join}
 use Rattle.star_plan.specs.Meaning.{Condition, either, both, negation, compare, between, Expression, column, constant, add, sub, mul}
 use Rattle.star_plan.specs.Names.{same_kind}
-use Rattle.star_plan.specs.Sound.{joins_table, in_scope, condition_is_sound, expression_is_sound}
+use Rattle.star_plan.specs.Sound.{in_scope, condition_is_sound, expression_is_sound}
 use Rattle.star_plan.specs.Spelled.{value_is_spelled, condition_is_spelled}
 use Rattle.star_plan.specs.Fits.{range_of, nodes_fit}
 use Rattle.star_program.specs.declared.op.Edge.{Edge}
@@ -25,294 +23,44 @@ use Rattle.star_program.specs.declared.op.Operation.{Operation}
 use Rattle.star_program.specs.declared.op.Operation.TheVariants as operation
 use Rattle.star_program.specs.declared.op.Operator.{Operator}
 use Rattle.star_program.specs.declared.op.Operator.TheVariants as operator
-use Rattle.star_program.specs.declared.value.Kind.{Kind}
 use Rattle.star_program.specs.declared.value.Kind.TheVariants as kinds
-use Rattle.star_program.specs.declared.fault.Fault.TheVariants.{BadRegister, WrongKind, BadColumn}
+use Rattle.star_program.specs.declared.fault.Fault.TheVariants.{BadColumn}
 use Rattle.star_program.specs.Code.{Code}
-use Rattle.star_program.specs.Faults.{Kinds, unless, kind_fault, operand_fault, is_number, is_flag, is_row, is_ordered, is_row_of, compares_with, compare_fault, both_fault, binary_fault}
-use Rattle.star_program.specs.World.{World, is_column, is_text}
-use Rattle.star_admission.specs.Ranges.{Reach, no_reach, joined_reach, Known, KnownNumber, KnownText, KnownPlace, KnownRow, KnownFlag, known_kind, kinds_known, origin_at, given, loaded_known, answer_known, computed}
-use Rattle.star_admission.specs.Refusals.{Reason, NotAForeignKey, refuses, is_some_table, refers_to}
-use Rattle.star_compiled.specs.Compiled.{Env, Rest, loaded_in, found_in, one_more, with_loaded, with_found, write, binary_code, load_code, find_code, foreign_of, fact_code, row_code, place_code, column_from, column_code, start_of, end_of, beside, equal_code, test_code, between_code, condition_code, expression_code}
+use Rattle.star_program.specs.Faults.{Kinds, unless, is_number, is_flag, is_ordered, compares_with, compare_fault, both_fault, binary_fault}
+use Rattle.star_program.specs.World.{is_column, is_text}
+use Rattle.star_admission.specs.Ranges.{Reach, no_reach, joined_reach, Known, KnownNumber, KnownPlace, KnownFlag, known_kind, kinds_known, given, answer_known, computed}
+use Rattle.star_compiled.specs.Compiled.{Env, Rest, write, binary_code, column_code, start_of, end_of, beside, equal_code, test_code, between_code, condition_code, expression_code}
 use Rattle.star_compiled.proofs.Constants.{constant_fits, next_fits}
 use Rattle.star_compiled.proofs.ForeignKeys.{AreForeign}
 use Rattle.star_compiled.proofs.Joins.{holds_numbers, holds_texts}
-use Rattle.star_compiled.proofs.Entries.{loaded_split, found_split}
 use Rattle.star_compiled.proofs.Points.{Turn, both_none, known_fits, entry_same, entry_other}
 use Rattle.star_compiled.proofs.Points as points
-
-number_known : (w : World) (c : ColumnId) (b : Bool) → b ≡ false
-    → loaded_known w c b ≡ KnownNumber (w.bounds c) (is_column c) (Some c)
-number_known w c true e = absurd (cc)
-number_known w c false e = refl
-
-text_known : (w : World) (c : ColumnId) (b : Bool) → b ≡ true → loaded_known w c b ≡ KnownText c
-text_known w c true e = refl
-text_known w c false e = absurd (cc)
+use Rattle.star_compiled.proofs.AcceptsColumns.{number_known, text_known}
+use Rattle.star_compiled.proofs.AcceptsColumns as columns
 
 module _ (turn : Turn) where
   abbrev Point : Type 0
-  Point = points.Point turn
+  Point = columns.Point turn
 
-  abbrev pub Passed : {A : Type 0} → (Point → A → Type 0) → (Env → A → Code) → Point
-      → Option (ℕ × Reason) → Type 0
-  Passed = points.Passed turn
-
-  abbrev pub At : Known → Point → ℕ → Type 0
-  At = points.At turn
-
-  abbrev pub Room : Point → Code → Type 0
-  Room = points.Room turn
+  abbrev At : Known → Point → ℕ → Type 0
+  At = columns.At turn
 
   abbrev Suits : Operation → Known → Point → Type 0
-  Suits = points.Suits turn
+  Suits = columns.Suits turn
 
-  abbrev pub column_known : ColumnId → Known
-  column_known = points.column_known turn
+  abbrev column_known : ColumnId → Known
+  column_known = columns.column_known turn
 
-  -- there is room for the registers that are written
   abbrev Declared : Point → Type 0
-  Declared p = p.env.next ≤ turn.parts.registers
+  Declared = columns.Declared turn
 
-  -- how a piece is judged at a point, where there are registers for it and for what comes after it
-  abbrev pub Judges : {A : Type 0} → Bool → (Point → A → Type 0) → (Env → A → Code) → Point → Code
+  abbrev Judges : {A : Type 0} → Bool → (Point → A → Type 0) → (Env → A → Code) → Point → Code
       → Type 0
-  Judges b Says k p code =
-      Room p code → points.Judged turn b Says k p (points.answer turn p code)
+  Judges = columns.Judges turn
 
-  -- ---- operands
-
-  pub operand : (p : Point) (takes : Kind → Bool) (r : ℕ) (v : Known) → Declared p
-      → At v p r → takes (known_kind v) ≡ true
-      → operand_fault turn.parts.registers (kinds_known p.known) takes r ≡ None
-  operand p takes r v room at ok =
-      let below = at.0 in
-      both_none _ _
-      (ap (λ b. unless b BadRegister) (lt-ltb r turn.parts.registers (omega arith)))
-      (ap (λ o. kind_fault takes (option_map known_kind o)) at.1 ∙ ap (λ b. unless b WrongKind) ok)
-
-  two_of : (p : Point) (takes : Kind → Bool) (l r : ℕ) (a b : Known) → Declared p
-      → At a p l → At b p r → takes (known_kind a) ≡ true → takes (known_kind b) ≡ true
-      → both_fault turn.parts.registers (kinds_known p.known) takes l r ≡ None
-  two_of p takes l r a b room at_l at_r ok_l ok_r =
-      both_none _ _ (operand p takes l a room at_l ok_l) (operand p takes r b room at_r ok_r)
-
-  compares : (p : Point) (x r : ℕ) (a b : Known) → Declared p → At a p x → At b p r
-      → compares_with (Some (known_kind a)) (known_kind b) ≡ true
-      → operand_fault turn.parts.registers (kinds_known p.known)
-      (compares_with (kinds_known p.known x)) r
-      ≡ None
-  compares p x r a b room at_x at_r ok =
-      operand p (compares_with (kinds_known p.known x)) r b room at_r
-      (ap (λ o. compares_with (option_map known_kind o) (known_kind b)) at_x.1 ∙ ok)
-
-  comparable : (p : Point) (l r : ℕ) (a b : Known) → Declared p → At a p l → At b p r
-      → is_ordered (known_kind a) ≡ true → compares_with (Some (known_kind a)) (known_kind b) ≡ true
-      → compare_fault turn.parts.registers (kinds_known p.known) l r ≡ None
-  comparable p l r a b room at_l at_r ordered ok =
-      both_none _ _ (operand p is_ordered l a room at_l ordered)
-      (compares p l r a b room at_l at_r ok)
-
-  -- a register keeps what is known of it
-  still : {A : Type 0} (P : Point → A → Type 0) (k : Env → A → Code) (p : Point)
-      (o : Option (ℕ × Reason)) (a : Passed P k p o) (v : Known) (r : ℕ) → At v p r → At v a.after r
-  still P k p o a v r at =
-      let below = at.0 in let onward = a.onward in (omega arith, a.kept r at.0 ∙ at.1)
-
-  -- ---- an operation
-
-  written : (o : Operation) (v : Known) (p : Point) (k : Rest)
-      → (Declared p → Suits o v p)
-      → Judges (known_fits v) (At v) k p (write o p.env k)
-  written o v p k suits room =
-      points.assigned turn o v p (one_more p.env) k refl (suits (omega (arith, room)))
-      (λ e. points.knows_more turn p v (one_more p.env) refl refl refl) room
-
-  -- ---- columns and rows
-
-  loaded_knows : (c : ColumnId) (p : Point) → known_fits (column_known c) ≡ true
-      → points.Knows turn (with_loaded p.env c)
-      (points.known_after turn p (column_known c))
-      (points.written_after turn p)
-  loaded_knows c p fits =
-      let more = points.knows_more turn p (column_known c) (one_more p.env) refl refl
-      refl in
-      record {
-        fact = more.fact;
-        some = more.some;
-        columns = λ d r e. by d r (loaded_split p.env.loaded c p.env.next d r e);
-        rows = more.rows;
-        fresh = more.fresh;
-      }
-    where
-      by : (d : ColumnId) (r : ℕ)
-          → (loaded_in p.env.loaded d ≡ Some r) ⊎ ((is_column d c ≡ true) × (p.env.next ≡ r))
-          → (r < p.env.next + 1)
-          × (points.known_after turn p (column_known c) r ≡ Some (column_known d))
-          × (known_fits (column_known d) ≡ true)
-      by d r (inl e) =
-          let h = p.knows.columns d r e in (
-            omega (arith, h.0),
-            entry_other p.known p.env.next r (column_known c) h.0 ∙ h.1,
-            h.2,
-          )
-      by d r (inr e) =
-          let here : p.env.next ≡ r = e.1 in
-          let same : c ≡ d = sym (column_same d c e.0) in (
-            omega arith,
-            subst (λ q. points.known_after turn p (column_known c) q
-                ≡ Some (column_known d)) here
-                (entry_same p.known p.env.next (column_known c)
-                ∙ ap (λ x. Some (column_known x)) same),
-            ap (λ x. known_fits (column_known x)) (sym same) ∙ fits,
-          )
-
-  found_knows : (t : TableId) (p : Point)
-      → points.Knows turn (with_found p.env t)
-      (points.known_after turn p (KnownRow t)) (points.written_after turn p)
-  found_knows t p =
-      let more = points.knows_more turn p (KnownRow t) (one_more p.env) refl refl refl in
-      record {
-        fact = more.fact;
-        some = more.some;
-        columns = more.columns;
-        rows = λ q r e. by q r (found_split p.env.found t p.env.next q r e);
-        fresh = more.fresh;
-      }
-    where
-      by : (q : TableId) (r : ℕ)
-          → (found_in p.env.found q ≡ Some r) ⊎ ((is_table q t ≡ true) × (p.env.next ≡ r))
-          → (r < p.env.next + 1)
-          × (points.known_after turn p (KnownRow t) r ≡ Some (KnownRow q))
-      by q r (inl e) =
-          let h = p.knows.rows q r e in
-          (omega (arith, h.0), entry_other p.known p.env.next r (KnownRow t) h.0 ∙ h.1)
-      by q r (inr e) =
-          let here : p.env.next ≡ r = e.1 in (
-            omega arith,
-            subst
-                (λ x. points.known_after turn p (KnownRow t) x ≡ Some (KnownRow q)) here
-                (entry_same p.known p.env.next (KnownRow t)
-                ∙ ap (λ x. Some (KnownRow x)) (sym (table_same q t e.0))),
-          )
-
-  load_judged : (c : ColumnId) (row : ℕ) (p : Point) (k : Rest) → At (KnownRow (table_of c)) p row
-      → Judges (known_fits (column_known c)) (At (column_known c)) k p (load_code c row p.env k)
-  load_judged c row p k at room =
-      let below : Declared p = omega (arith, room) in
-      points.assigned turn (operation.Load c row) (column_known c) p
-      (with_loaded p.env c) k refl
-      (record {
-        place = λ t. refl;
-        operands = both_none _ _ (operand p is_row row (KnownRow (table_of c)) below at refl)
-            (ap (λ o. unless (is_row_of (table_of c) (option_map known_kind o)) BadColumn) at.1
-            ∙ ap (λ b. unless b BadColumn) (table_itself (table_of c)));
-        source = λ g t. refl;
-        makes = refl;
-      })
-      (loaded_knows c p) room
-
-  -- the register that has it already
-  known_here : (c : ColumnId) (p : Point) (k : Rest) (r : ℕ) → loaded_in p.env.loaded c ≡ Some r
-      → Judges (known_fits (column_known c)) (At (column_known c)) k p (k p.env r)
-  known_here c p k r e room =
-      let h = p.knows.columns c r e in
-      inl (points.here turn (At (column_known c)) k p r (h.0, h.1) room, h.2)
-
-  fact_judged : (c : ColumnId) → table_of c ≡ Lineorder → (p : Point) (k : Rest) (o : Option ℕ)
-      → loaded_in p.env.loaded c ≡ o
-      → Judges (known_fits (column_known c)) (At (column_known c)) k p (fact_code c p.env k o)
-  fact_judged c t p k (Some r) e room = known_here c p k r e room
-  fact_judged c t p k None e room =
-      load_judged c 0 p k (p.knows.some, p.knows.fact ∙ ap (λ x. Some (KnownRow x)) (sym t)) room
-
-  -- where the bounds of columns are of 64 bits
   module _ (js : List Join) (foreign : AreForeign js)
       (within : turn.Asked → (c : ColumnId) → is_text c ≡ false
       → fits_i64 (turn.world.bounds c) ≡ true) where
-    bounds_fit : turn.Asked → (c : ColumnId) (b : Bool) → is_text c ≡ b
-        → known_fits (loaded_known turn.world c b) ≡ true
-    bounds_fit s c true e = refl
-    bounds_fit s c false e = within s c e
-
-    fits : turn.Asked → (c : ColumnId) → known_fits (column_known c) ≡ true
-    fits s c = bounds_fit s c (is_text c) refl
-
-    foreign_known : (t : TableId) → joins_table js t ≡ true
-        → column_known (foreign_of js t)
-        ≡ KnownNumber (turn.world.bounds (foreign_of js t)) (is_column (foreign_of js t))
-        (Some (foreign_of js t))
-    foreign_known t j =
-        number_known turn.world (foreign_of js t) (is_text (foreign_of js t)) (foreign.number t j)
-
-    find_judged : (t : TableId) → joins_table js t ≡ true → (r : ℕ) (p : Point) (k : Rest)
-        → At (column_known (foreign_of js t)) p r
-        → Judges true (At (KnownRow t)) k p (find_code t r p.env k)
-    find_judged t j r p k at room =
-        let c = foreign_of js t in
-        let v = KnownNumber (turn.world.bounds c) (is_column c) (Some c) in
-        let key : At v p r = (at.0, at.1 ∙ ap Some (foreign_known t j)) in
-        points.assigned turn (operation.Find t r) (KnownRow t) p (with_found p.env t) k
-        refl
-        (record {
-          place = λ q. refl;
-          operands = operand p is_number r v (omega (arith, room)) key refl;
-          source = λ g q. ap (λ o. refuses (not (refers_to t (origin_at o))) NotAForeignKey) key.1
-              ∙ ap (λ o. refuses (not (is_some_table t o)) NotAForeignKey) (foreign.references t j)
-              ∙ ap (λ b. refuses (not b) NotAForeignKey) (table_itself t);
-          makes = refl;
-        })
-        (λ e. found_knows t p) room
-
-    row_judged : (t : TableId) → joins_table js t ≡ true → (p : Point) (k : Rest) (o : Option ℕ)
-        → found_in p.env.found t ≡ o
-        → Judges true (At (KnownRow t)) k p (row_code js t p.env k o)
-    row_judged t j p k (Some r) e room =
-        inl (points.here turn (At (KnownRow t)) k p r (p.knows.rows t r e) room, refl)
-    row_judged t j p k None e room =
-        let c = foreign_of js t in
-        let v = column_known c in
-        let l : Rest = λ e r. find_code t r e k in
-        points.judged_then turn (At v) (At (KnownRow t)) l k true true p _
-        (points.surely turn (At v) l (known_fits v) p _ (λ s. fits s c)
-        (fact_judged c (foreign.fact t j) p l (loaded_in p.env.loaded c) refl room))
-        (λ a. find_judged t j a.out a.after k a.says a.room)
-
-    place_judged : (c : ColumnId) (p : Point) (k : Rest) (b : Bool)
-        → is_table (table_of c) Lineorder ≡ b → (b || joins_table js (table_of c)) ≡ true
-        → Judges (known_fits (column_known c)) (At (column_known c)) k p (place_code js c p.env k b)
-    place_judged c p k true e j room =
-        load_judged c 0 p k (
-          p.knows.some,
-          p.knows.fact ∙ ap (λ x. Some (KnownRow x)) (sym (table_same (table_of c) Lineorder e)),
-        )
-        room
-    place_judged c p k false e j room =
-        let l : Rest = λ e r. load_code c r e k in
-        points.judged_then turn (At (KnownRow (table_of c))) (At (column_known c)) l k
-        true (known_fits (column_known c)) p _
-        (row_judged (table_of c) j p l (found_in p.env.found (table_of c)) refl room)
-        (λ a. load_judged c a.out a.after k a.says a.room)
-
-    column_from_judged : (c : ColumnId) (p : Point) (k : Rest) (o : Option ℕ)
-        → loaded_in p.env.loaded c ≡ o → in_scope js (table_of c) ≡ true
-        → Judges (known_fits (column_known c)) (At (column_known c)) k p
-        (column_from js c p.env k o)
-    column_from_judged c p k (Some r) e j room = known_here c p k r e room
-    column_from_judged c p k None e j room =
-        place_judged c p k (is_table (table_of c) Lineorder) refl j room
-
-    pub column_judged : (c : ColumnId) (p : Point) (k : Rest) → in_scope js (table_of c) ≡ true
-        → Judges (known_fits (column_known c)) (At (column_known c)) k p (column_code js c p.env k)
-    column_judged c p k j room = column_from_judged c p k (loaded_in p.env.loaded c) refl j room
-
-    -- of a condition or a key
-    pub column_passes : (c : ColumnId) (p : Point) (k : Rest) → in_scope js (table_of c) ≡ true
-        → Judges true (At (column_known c)) k p (column_code js c p.env k)
-    column_passes c p k j room =
-        points.surely turn (At (column_known c)) k (known_fits (column_known c)) p _
-        (λ s. fits s c) (column_judged c p k j room)
-
     -- ---- conditions
 
     -- a bound beside which a column's values are compared
@@ -379,7 +127,7 @@ module _ (turn : Turn) where
         → Judges true (At b.known) k p (write o p.env k)
     bound_judged c o b p k room =
         points.surely turn (At b.known) k (known_fits b.known) p _ b.lies
-        (written o b.known p k (λ h. b.suits p) room)
+        (columns.written turn o b.known p k (λ h. b.suits p) room)
 
     -- an operation on a column and a bound
     abbrev Uses : (c : ColumnId) (o : Operation) → Bounds c o → ℕ → (ℕ → Operation) → Type 0
@@ -394,8 +142,8 @@ module _ (turn : Turn) where
         let l : Rest = λ e m. write (used m) e k in
         points.judged_then turn (At b.known) (At KnownFlag) l k true true p _
         (bound_judged c o b p l room)
-        (λ a. written (used a.out) KnownFlag a.after k
-        (λ h. uses a.after a.out h (still (At b.known) l p _ a (column_known c) x at) a.says)
+        (λ a. columns.written turn (used a.out) KnownFlag a.after k
+        (λ h. uses a.after a.out h (columns.still turn (At b.known) l p _ a (column_known c) x at) a.says)
         a.room)
 
     -- an operator that compares
@@ -410,7 +158,7 @@ module _ (turn : Turn) where
     before_bound o is c edge b x = λ q m room at_x at_m. record {
       place = λ t. refl;
       operands = is.0 turn.parts.registers (kinds_known q.known) x m
-          ∙ comparable q x m (column_known c) b.known room at_x at_m b.column_ordered b.after;
+          ∙ columns.comparable turn q x m (column_known c) b.known room at_x at_m b.column_ordered b.after;
       source = λ g t. refl;
       makes = is.1 (q.known x) (q.known m);
     }
@@ -420,7 +168,7 @@ module _ (turn : Turn) where
     after_bound o is c edge b x = λ q m room at_x at_m. record {
       place = λ t. refl;
       operands = is.0 turn.parts.registers (kinds_known q.known) m x
-          ∙ comparable q m x b.known (column_known c) room at_m at_x b.ordered b.before;
+          ∙ columns.comparable turn q m x b.known (column_known c) room at_m at_x b.ordered b.before;
       source = λ g t. refl;
       makes = is.1 (q.known m) (q.known x);
     }
@@ -444,18 +192,18 @@ module _ (turn : Turn) where
         (bound_judged c from b p l room)
         (λ a. let m = a.out in
         let l2 : Rest = λ e q. write (operation.Within x m q) e k in
-        let at_x = still (At b.known) l p _ a (column_known c) x at in
+        let at_x = columns.still turn (At b.known) l p _ a (column_known c) x at in
         points.judged_then turn (At d.known) (At KnownFlag) l2 k true true a.after _
         (bound_judged c upto d a.after l2 a.room)
-        (λ z. written (operation.Within x m z.out) KnownFlag z.after k
-        (λ h. let there = still (At d.known) l2 a.after _ z (column_known c) x at_x in
-        let first = still (At d.known) l2 a.after _ z b.known m a.says in
+        (λ z. columns.written turn (operation.Within x m z.out) KnownFlag z.after k
+        (λ h. let there = columns.still turn (At d.known) l2 a.after _ z (column_known c) x at_x in
+        let first = columns.still turn (At d.known) l2 a.after _ z b.known m a.says in
         record {
           place = λ t. refl;
           operands = both_none _ _
-              (comparable z.after x m (column_known c) b.known h there first b.column_ordered
+              (columns.comparable turn z.after x m (column_known c) b.known h there first b.column_ordered
               b.after)
-              (compares z.after x z.out (column_known c) d.known h there z.says d.after);
+              (columns.compares turn z.after x z.out (column_known c) d.known h there z.says d.after);
           source = λ g t. refl;
           makes = refl;
         }) z.room))
@@ -473,10 +221,10 @@ module _ (turn : Turn) where
     not_judged : (y : ℕ) (p : Point) (k : Rest) → At KnownFlag p y
         → Judges true (At KnownFlag) k p (write (operation.Not y) p.env k)
     not_judged y p k at room =
-        written (operation.Not y) KnownFlag p k
+        columns.written turn (operation.Not y) KnownFlag p k
         (λ h. record {
           place = λ t. refl;
-          operands = operand p is_flag y KnownFlag h at refl;
+          operands = columns.operand turn p is_flag y KnownFlag h at refl;
           source = λ g t. refl;
           makes = refl;
         })
@@ -545,11 +293,11 @@ module _ (turn : Turn) where
         → At KnownFlag p x → At KnownFlag p y
         → Judges true (At KnownFlag) k p (write (operation.Binary o x y) p.env k)
     flags_judged o is x y p k at_x at_y room =
-        written (operation.Binary o x y) KnownFlag p k
+        columns.written turn (operation.Binary o x y) KnownFlag p k
         (λ h. record {
           place = λ t. refl;
           operands = is.takes turn.parts.registers (kinds_known p.known) x y
-              ∙ two_of p is_flag x y KnownFlag KnownFlag h at_x at_y refl refl;
+              ∙ columns.two_of turn p is_flag x y KnownFlag KnownFlag h at_x at_y refl refl;
           source = λ g t. refl;
           makes = is.makes (p.known x) (p.known y);
         })
@@ -573,7 +321,7 @@ module _ (turn : Turn) where
         points.judged_then turn (At KnownFlag) (At KnownFlag) m k true true x.after _
         (second x.after m x.room)
         (λ y. flags_judged o is x.out y.out y.after k
-        (still (At KnownFlag) m x.after _ y KnownFlag x.out x.says) y.says y.room))
+        (columns.still turn (At KnownFlag) m x.after _ y KnownFlag x.out x.says) y.says y.room))
 
     pub condition_judged : (c : Condition) → condition_is_sound js c ≡ true
         → (turn.Asked → condition_is_spelled c ≡ true) → JudgesFlag c
@@ -601,7 +349,7 @@ module _ (turn : Turn) where
         (same_kind (kind_of c) (kind_of_value v)) sound in
         let l : Rest = λ e x. test_code s c x v e k in
         points.judged_then turn (At (column_known c)) (At KnownFlag) l k true true p _
-        (column_passes c p l parts.0 room)
+        (columns.column_passes turn js foreign within c p l parts.0 room)
         (λ x. test_judged s c x.out v parts.1 said x.after k x.says x.room)
     condition_judged (between c from upto) sound said p k room =
         let parts = and_parts (in_scope js (table_of c))
@@ -613,7 +361,7 @@ module _ (turn : Turn) where
         (said s) in
         let l : Rest = λ e x. between_code c x from upto e k in
         points.judged_then turn (At (column_known c)) (At KnownFlag) l k true true p _
-        (column_passes c p l parts.0 room)
+        (columns.column_passes turn js foreign within c p l parts.0 room)
         (λ x. between_judged c x.out from upto kinds.0 kinds.1 (λ s. (says s).0) (λ s. (says s).1)
         x.after k x.says x.room)
 
@@ -659,11 +407,11 @@ module _ (turn : Turn) where
         let reach = joined_reach at_x.1.0 at_y.1.0 in
         points.weaker turn (At (KnownNumber r reach None)) (Ranged r) k (fits_i64 r) p _
         (λ q t h. ranged r reach None q t h)
-        (written (operation.Binary o x y) (KnownNumber r reach None) p k
+        (columns.written turn (operation.Binary o x y) (KnownNumber r reach None) p k
         (λ h. record {
           place = λ t. refl;
           operands = is.takes turn.parts.registers (kinds_known p.known) x y
-              ∙ two_of p is_number x y u v h (number_at p x a at_x) (number_at p y b at_y) refl
+              ∙ columns.two_of turn p is_number x y u v h (number_at p x a at_x) (number_at p y b at_y) refl
               refl;
           source = λ g t. refl;
           makes = is.makes (p.known x) (p.known y) ∙ λ i. computed z (at_x.1.2 i) (at_y.1.2 i);
@@ -697,7 +445,7 @@ module _ (turn : Turn) where
         (fits_i64 c) x.after _
         (second x.after m x.room)
         (λ y. let v = KnownNumber q x.says.1.0 x.says.1.1 in
-        let at_x = still (Ranged r) m x.after _ y v x.out (number_at x.after x.out q x.says) in
+        let at_x = columns.still turn (Ranged r) m x.after _ y v x.out (number_at x.after x.out q x.says) in
         operator_judged o z is x.out y.out q r y.after k
         (ranged q x.says.1.0 x.says.1.1 y.after x.out at_x) y.says y.room))
 
@@ -711,12 +459,12 @@ module _ (turn : Turn) where
         (fits_i64 r) p _ (λ q t h. ranged r (is_column c) (Some c) q t h)
         (subst (λ v. points.Judged turn (known_fits v) (At v) k p
         (points.answer turn p (column_code js c p.env k))) is
-        (column_judged c p k parts.0 room))
+        (columns.column_judged turn js foreign within c p k parts.0 room))
     expression_judged (constant z) sound p k room =
         points.weaker turn (At (given (only z))) (Ranged (only z)) k (fits_i64 (only z))
         p _
         (λ q t h. ranged (only z) no_reach None q t h)
-        (written (operation.Const z) (given (only z)) p k
+        (columns.written turn (operation.Const z) (given (only z)) p k
         (λ h. record { place = λ t. refl; operands = refl; source = λ g t. refl; makes = refl })
         room)
     expression_judged (add a b) sound p k room =

@@ -1,23 +1,21 @@
 -- What refuses the instructions of a compiled program: a range that leaves 64 bits, or nothing.
-use Rattle.std.proofs.Common.{◌≡◌, ◌⊎◌, inl, inr, ℕ, suc, ◌+◌, ◌*◌, ◌≤◌, ◌<◌, Bool, true, false, List, [], ◌∷◌, length, map, Option, Some, None, refl, sym, ap, subst, ◌∙◌, arith}
+use Rattle.std.proofs.Common.{◌≡◌, ◌⊎◌, inl, inr, ℕ, suc, ◌+◌, ◌*◌, ◌≤◌, ◌<◌, Bool, true, false, List, [], ◌∷◌, length, map, Option, None, refl, sym, ap, subst, ◌∙◌, arith}
 use Rattle.std.proofs.lemmas.Bool.{eq-eqb, ne_eqb, and_parts}
-use Rattle.std.specs.Prelude.{pos, ◌&&◌, ◌||◌, not, nat_eq, nat_lt, slice_index_or, if◌then◌else◌}
+use Rattle.std.specs.Prelude.{◌&&◌, ◌||◌, nat_eq, nat_lt, if◌then◌else◌}
 use Rattle.std.specs.List.{list_all}
 use Rattle.std.specs.Option.{option_map, option_or}
 use Rattle.star_schema.specs.declared.table.TableId.TheVariants.{Lineorder}
 use Rattle.star_schema.specs.declared.column.ColumnId.{ColumnId}
-use Rattle.star_schema.specs.declared.group.Aggregate.{Aggregate}
-use Rattle.star_schema.specs.declared.group.Aggregate.TheVariants as aggregates
 use Rattle.star_schema.specs.declared.column.Kind.{Kind}
 use Rattle.star_schema.specs.declared.column.Kind.TheVariants as kind
 use Rattle.star_schema.specs.Schema.{kind_of, table_of}
 use Rattle.star_schema.proofs.Same.{column_itself}
-use Rattle.star_interval.specs.Range.{Range, only, fits_i64}
+use Rattle.star_interval.specs.Range.{Range, fits_i64}
 use Rattle.star_interval.proofs.Ranges.{fits_i64_fits}
 use Rattle.star_plan.specs.Meaning.{Condition, Measure, counted, summed, least, greatest, aggregate_of, Plan, Expression}
 use Rattle.star_plan.specs.Sound.{in_scope, condition_is_sound, expression_is_sound, measure_is_sound, IsSound}
 use Rattle.star_plan.specs.Spelled.{condition_is_spelled}
-use Rattle.star_plan.specs.Fits.{range_of, nodes_fit, measure_fits, sum_fits, times_fits}
+use Rattle.star_plan.specs.Fits.{range_of, nodes_fit, measure_fits, sum_fits}
 use Rattle.star_program.specs.declared.fault.Fault.TheVariants.{BadRegister, BadGroup}
 use Rattle.star_program.specs.declared.group.GroupKey.TheVariants as key
 use Rattle.star_program.specs.declared.op.Op.TheVariants.{Keep, Put}
@@ -27,11 +25,12 @@ use Rattle.star_program.specs.Faults.{unless, operand_fault, is_number, is_flag,
 use Rattle.star_program.specs.Puts.{aligned}
 use Rattle.star_program.specs.Values.{with_entry}
 use Rattle.star_program.specs.World.{World, is_text}
-use Rattle.star_admission.specs.Contexts.{at_first, known_share}
-use Rattle.star_admission.specs.Ranges.{Reach, Known, KnownNumber, KnownRow, KnownFlag, known_kind, Table, kinds_known, given, loaded_known}
-use Rattle.star_admission.specs.Refusals.{Reason, Faulty, Overflow, refuses, reached, sum_overflow, sums_overflow}
+use Rattle.star_admission.specs.Contexts.{at_first}
+use Rattle.star_admission.specs.Ranges.{Known, KnownNumber, KnownRow, KnownFlag, known_kind, Table, kinds_known, loaded_known}
+use Rattle.star_admission.specs.declared.reason.Reason.{Reason}
+use Rattle.star_admission.specs.declared.reason.Reason.TheVariants.{Faulty}
+use Rattle.star_admission.specs.Refusals.{sums_overflow}
 use Rattle.star_admission.specs.Standing.{at_place}
-use Rattle.star_admission.specs.Tallies.{Share, sum_range, reach_of}
 use Rattle.star_admission.specs.Private.Forward.{first_reason, none_open, open_with}
 use Rattle.star_compiled.specs.Compiled.{Env, Rest, env_first, conjuncts_code, keys_code, values_code, put_code, turn_code, body_code, compiled, key_of_group, register_count}
 use Rattle.star_compiled.specs.Judged.{AreBoundsI64}
@@ -39,8 +38,9 @@ use Rattle.star_compiled.proofs.ForeignKeys.{AreForeign, are_foreign}
 use Rattle.star_compiled.proofs.Joins.{of_text}
 use Rattle.star_compiled.proofs.Points.{Turn, both_none, both_false, or_none_right, Overflows, in_turn}
 use Rattle.star_compiled.proofs.Points as points
+use Rattle.star_compiled.proofs.PutSums.{AreNumbers, SumsIf, one, ranges_of, shares_at, totals_judged}
 use Rattle.star_compiled.proofs.Accepts as pieces
-use Rattle.star_compiled.proofs.OneShare.{one_fits}
+use Rattle.star_compiled.proofs.AcceptsColumns as columns
 
 -- nothing refuses it and the ranges fit, or one leaves 64 bits and so the ranges don't fit where
 -- that is asked for
@@ -104,7 +104,7 @@ module _ (w : World) (p : Plan) (sound : IsSound p) (n : ℕ) (pending : ℕ →
 
   abbrev Judges : {A : Type 0} → Bool → (Point → A → Type 0) → (Env → A → Code) → Point → Code
       → Type 0
-  Judges = pieces.Judges turn
+  Judges = columns.Judges turn
 
   abbrev answer : Point → Code → Option (ℕ × Reason)
   answer = points.answer turn
@@ -134,7 +134,7 @@ module _ (w : World) (p : Plan) (sound : IsSound p) (n : ℕ) (pending : ℕ →
       → answer q (Then (Keep x) rest) ≡ answer (after_keep q) rest
   keep_goes q x rest room at =
       let fault : operand_fault f.registers (kinds_known q.known) is_flag x ≡ None =
-      pieces.operand turn q is_flag x KnownFlag room at refl in
+      columns.operand turn q is_flag x KnownFlag room at refl in
       λ i. option_or (at_place q.at (option_or (option_map Faulty (fault i)) None))
       (answer (after_keep q) rest)
 
@@ -213,7 +213,7 @@ module _ (w : World) (p : Plan) (sound : IsSound p) (n : ℕ) (pending : ℕ →
       let l : Rest = λ e x. keys_code p.joins cs e (λ e xs. k e (x ∷ xs)) in
       points.judged_then turn (At (column_known c)) (KeysStand (c ∷ cs)) l k true true
       q _
-      (pieces.column_passes turn p.joins foreign within c q l hs.0 room)
+      (columns.column_passes turn p.joins foreign within c q l hs.0 room)
       (λ x. with_one true (KeysStand cs) (KeysStand (c ∷ cs)) x.out k x.after _
       (λ a. let below = x.says.0 in let onward = a.onward in
       ((omega arith, a.kept x.out x.says.0 ∙ x.says.1), a.says))
@@ -224,33 +224,26 @@ module _ (w : World) (p : Plan) (sound : IsSound p) (n : ℕ) (pending : ℕ →
   RangesStand (a ∷ as') q (r ∷ rs) = Ranged a q r × RangesStand as' q rs
   RangesStand _ q _ = ⊥
 
-  abbrev ranges_of : List Measure → List Range
-  ranges_of [] = []
-  ranges_of (counted ∷ ms) = ranges_of ms
-  ranges_of (summed a ∷ ms) = range_of w.bounds a ∷ ranges_of ms
-  ranges_of (least a ∷ ms) = range_of w.bounds a ∷ ranges_of ms
-  ranges_of (greatest a ∷ ms) = range_of w.bounds a ∷ ranges_of ms
-
   abbrev JudgesValues : List Measure → Type 0
   JudgesValues ms =
       (q : Point) (k : Env → List ℕ → Code)
-      → Judges (list_all (measure_fits w.bounds) ms) (RangesStand (ranges_of ms)) k q
+      → Judges (list_all (measure_fits w.bounds) ms) (RangesStand (ranges_of w ms)) k q
       (values_code p.joins ms q.env k)
 
   -- one value and those of the aggregates after it
   value_judged : (a : Expression) (ms : List Measure) → expression_is_sound p.joins a ≡ true
       → JudgesValues ms → (q : Point) (k : Env → List ℕ → Code)
       → Judges (nodes_fit w.bounds a && list_all (measure_fits w.bounds) ms)
-      (RangesStand (range_of w.bounds a ∷ ranges_of ms)) k q
+      (RangesStand (range_of w.bounds a ∷ ranges_of w ms)) k q
       (values_code p.joins (summed a ∷ ms) q.env k)
   value_judged a ms h later q k room =
       let r = range_of w.bounds a in
       let l : Rest = λ e x. values_code p.joins ms e (λ e xs. k e (x ∷ xs)) in
-      points.judged_then turn (Ranged r) (RangesStand (r ∷ ranges_of ms)) l k
+      points.judged_then turn (Ranged r) (RangesStand (r ∷ ranges_of w ms)) l k
       (nodes_fit w.bounds a) (list_all (measure_fits w.bounds) ms) q _
       (pieces.expression_judged turn p.joins foreign within a h q l room)
-      (λ x. with_one (list_all (measure_fits w.bounds) ms) (RangesStand (ranges_of ms))
-      (RangesStand (r ∷ ranges_of ms)) x.out k x.after _
+      (λ x. with_one (list_all (measure_fits w.bounds) ms) (RangesStand (ranges_of w ms))
+      (RangesStand (r ∷ ranges_of w ms)) x.out k x.after _
       (λ y. let below = x.says.0 in let onward = y.onward in
       ((omega arith, (x.says.1.0, x.says.1.1, y.kept x.out x.says.0 ∙ x.says.1.2)), y.says))
       (later x.after (λ e xs. k e (x.out ∷ xs)) x.room))
@@ -288,21 +281,13 @@ module _ (w : World) (p : Plan) (sound : IsSound p) (n : ℕ) (pending : ℕ →
   keys_fit (c ∷ cs) (r ∷ rs) q room h =
       let later = keys_fit cs rs q room h.1 in (
         both_none _ _
-            (pieces.operand turn q (fits_key (key_of_group c)) r (column_known c) room
+            (columns.operand turn q (fits_key (key_of_group c)) r (column_known c) room
             h.0 (key_fits c (is_text c)))
             later.0,
         ap suc later.1,
       )
   keys_fit [] (r ∷ rs) q room h = absurd h
   keys_fit (c ∷ cs) [] q room h = absurd h
-
-  -- what is known of the values is a number in the range
-  abbrev AreNumbers : List Range → List (Option Known) → Type 0
-  AreNumbers [] [] = Unit {0}
-  AreNumbers (a ∷ as') (o ∷ os) =
-      ((reach : Reach) × (c : Option ColumnId) × (o ≡ Some (KnownNumber a reach c)))
-      × AreNumbers as' os
-  AreNumbers _ _ = ⊥
 
   numbers_fit : (as' : List Range) (vs : List ℕ) (q : Point) → q.env.next ≤ f.registers
       → RangesStand as' q vs
@@ -312,7 +297,7 @@ module _ (w : World) (p : Plan) (sound : IsSound p) (n : ℕ) (pending : ℕ →
   numbers_fit (a ∷ as') (r ∷ rs) q room h =
       let later = numbers_fit as' rs q room h.1 in (
         both_none _ _
-            (pieces.operand turn q is_number r (KnownNumber a h.0.1.0 h.0.1.1) room
+            (columns.operand turn q is_number r (KnownNumber a h.0.1.0 h.0.1.1) room
             (h.0.0, h.0.1.2) refl)
             later.0,
         (h.0.1, later.1),
@@ -321,90 +306,12 @@ module _ (w : World) (p : Plan) (sound : IsSound p) (n : ℕ) (pending : ℕ →
   numbers_fit [] (r ∷ rs) q room h = absurd h
   numbers_fit (a ∷ as') [] q room h = absurd h
 
-  value_counts : (ms : List Measure) → length (ranges_of ms) ≡ value_count (map aggregate_of ms)
+  value_counts : (ms : List Measure) → length (ranges_of w ms) ≡ value_count (map aggregate_of ms)
   value_counts [] = refl
   value_counts (counted ∷ ms) = value_counts ms
   value_counts (summed a ∷ ms) = ap suc (value_counts ms)
   value_counts (least a ∷ ms) = ap suc (value_counts ms)
   value_counts (greatest a ∷ ms) = ap suc (value_counts ms)
-
-  -- ---- the sums of a put
-
-  abbrev one : Option Known
-  one = Some (given (only (pos 1)))
-
-  abbrev shares_at : List (Option Known) → ℕ → List Share
-  shares_at ks a = known_share n (slice_index_or ks a None) ∷ []
-
-  sums_shift : (gs : List Aggregate) (a : ℕ) (t : ℕ → List Share)
-      → sums_overflow w gs (suc a) t ≡ sums_overflow w gs a (λ b. t (suc b))
-  sums_shift [] a t = refl
-  sums_shift (g ∷ gs) a t =
-      ap (λ o. option_or (sum_overflow w g (t (suc a))) o) (sums_shift gs (suc a) t)
-
-  -- none leaves 64 bits, or one does
-  abbrev SumsIf : Bool → Option Reason → Type 0
-  SumsIf true o = o ≡ None
-  SumsIf false o = (r : Range) × (cs : List (ColumnId × Range)) × (o ≡ Some (Overflow r cs))
-
-  sums_same : (b : Bool) (o q : Option Reason) → o ≡ q → SumsIf b q → SumsIf b o
-  sums_same b o q e h = subst (SumsIf b) (sym e) h
-
-  -- the first sum, and those after it
-  sums_then : (b c : Bool) (r : Range) (cs : List (ColumnId × Range)) (o : Option Reason)
-      → SumsIf c o → SumsIf (b && c) (option_or (refuses (not b) (Overflow r cs)) o)
-  sums_then true c r cs o h = h
-  sums_then false c r cs o h = (r, cs, refl)
-
-  abbrev share : Range → Reach → Share
-  share r reach = record { met = n; range = r; reach = reach }
-
-  sum_same : (r : Range) (reach : Reach) (c : Option ColumnId) (k : Option Known)
-      → k ≡ Some (KnownNumber r reach c)
-      → sum_overflow w aggregates.Sum (known_share n k ∷ [])
-      ≡ refuses (not (times_fits n r))
-      (Overflow (sum_range (share r reach ∷ [])) (reached w (reach_of (share r reach ∷ []))))
-  sum_same r reach c k e =
-      (λ j. sum_overflow w aggregates.Sum (known_share n (e j) ∷ []))
-      ∙ λ j. refuses (not (one_fits n r reach j))
-      (Overflow (sum_range (share r reach ∷ [])) (reached w (reach_of (share r reach ∷ []))))
-
-  abbrev SumsJudged : List Measure → List (Option Known) → Type 0
-  SumsJudged ms ks =
-      SumsIf (list_all (sum_fits n w.bounds) ms)
-      (sums_overflow w (map aggregate_of ms) 0 (shares_at (aligned one (map aggregate_of ms) ks)))
-
-  totals_judged : (ms : List Measure) (ks : List (Option Known)) → AreNumbers (ranges_of ms) ks
-      → SumsJudged ms ks
-  totals_judged [] ks h = refl
-  totals_judged (counted ∷ ms) ks h =
-      sums_same (list_all (sum_fits n w.bounds) ms) _ _
-      (sums_shift (map aggregate_of ms) 0
-      (shares_at (aligned one (map aggregate_of (counted ∷ ms)) ks)))
-      (totals_judged ms ks h)
-  totals_judged (summed a ∷ ms) (k ∷ ks) h =
-      let r = range_of w.bounds a in
-      let gs = map aggregate_of ms in
-      let all = shares_at (aligned one (map aggregate_of (summed a ∷ ms)) (k ∷ ks)) in
-      let b = list_all (sum_fits n w.bounds) ms in
-      let later = sums_same b _ _ (sums_shift gs 0 all) (totals_judged ms ks h.1) in
-      sums_same (times_fits n r && b) _ _
-      (ap (λ o. option_or o (sums_overflow w gs 1 all)) (sum_same r h.0.0 h.0.1 k h.0.2))
-      (sums_then (times_fits n r) b (sum_range (share r h.0.0 ∷ []))
-      (reached w (reach_of (share r h.0.0 ∷ []))) _ later)
-  totals_judged (least a ∷ ms) (k ∷ ks) h =
-      sums_same (list_all (sum_fits n w.bounds) ms) _ _
-      (sums_shift (map aggregate_of ms) 0
-      (shares_at (aligned one (map aggregate_of (least a ∷ ms)) (k ∷ ks))))
-      (totals_judged ms ks h.1)
-  totals_judged (greatest a ∷ ms) (k ∷ ks) h =
-      sums_same (list_all (sum_fits n w.bounds) ms) _ _
-      (sums_shift (map aggregate_of ms) 0
-      (shares_at (aligned one (map aggregate_of (greatest a ∷ ms)) (k ∷ ks))))
-      (totals_judged ms ks h.1)
-  totals_judged (summed a ∷ ms) [] h = absurd h
-  totals_judged (least a ∷ ms) [] h = absurd h
-  totals_judged (greatest a ∷ ms) [] h = absurd h
 
   -- ---- the put
 
@@ -415,20 +322,20 @@ module _ (w : World) (p : Plan) (sound : IsSound p) (n : ℕ) (pending : ℕ →
       inr ((at, h.0, h.1, e ∙ ap (λ x. option_or (at_place at x) None) h.2), λ s. refl)
 
   put_judged : (q : Point) (ks vs : List ℕ) → q.env.next ≤ f.registers → KeysStand p.keys q ks
-      → RangesStand (ranges_of p.measures) q vs
+      → RangesStand (ranges_of w p.measures) q vs
       → Accepted S (list_all (sum_fits n w.bounds) p.measures) (answer q (put_code ks q.env vs))
   put_judged q ks vs room at_k at_v =
       let gs = map aggregate_of p.measures in
       let keys = keys_fit p.keys ks q room at_k in
-      let numbers = numbers_fit (ranges_of p.measures) vs q room at_v in
+      let numbers = numbers_fit (ranges_of w p.measures) vs q room at_v in
       let placed : place_fault f true (Put 0 ks vs) ≡ None =
       λ j. unless (true && (eq-eqb (length ks) (length (map key_of_group p.keys)) keys.1 j
       && eq-eqb (length vs) (value_count gs) (numbers.2 ∙ value_counts p.measures) j)) BadGroup in
       let fault : fault_of f true None (kinds_known q.known) (Put 0 ks vs) ≡ None =
       both_none _ _ placed (both_none _ _ keys.0 numbers.0) in
-      let sums = sums_overflow w gs 0 (shares_at (aligned one gs (map q.known vs))) in
+      let sums = sums_overflow w gs 0 (shares_at w n (aligned (one w n) gs (map q.known vs))) in
       by_sums (list_all (sum_fits n w.bounds) p.measures) q.at sums _
-      (totals_judged p.measures (map q.known vs) numbers.1)
+      (totals_judged w n p.measures (map q.known vs) numbers.1)
       (λ j. option_or (at_place q.at (option_or (option_map Faulty (fault j)) sums)) None)
 
   -- ---- a turn
@@ -476,7 +383,7 @@ module _ (w : World) (p : Plan) (sound : IsSound p) (n : ℕ) (pending : ℕ →
       (conjuncts_judged p.conjuncts sound.conjuncts (λ s. s.1) first l room)
       (λ a. accepted_then (KeysStand p.keys) k true (nodes && sums) a.after _
       (keys_judged p.keys sound.keys a.after k a.room)
-      (λ b. accepted_then (RangesStand (ranges_of p.measures)) (put_code b.out) nodes sums b.after _
+      (λ b. accepted_then (RangesStand (ranges_of w p.measures)) (put_code b.out) nodes sums b.after _
       (values_judged p.measures sound.measures b.after (put_code b.out) b.room)
       (λ c. let space = c.room in
       put_judged c.after b.out c.out (omega arith)

@@ -13,41 +13,34 @@ lt_by true b = refl
 lt_by false true = refl
 lt_by false false = refl
 
+-- two tests of an order agree where they do at each of the three
+at_each : (p q : Ordering → Bool) → p Less ≡ q Less → p Equal ≡ q Equal → p Greater ≡ q Greater
+    → (o : Ordering) → p o ≡ q o
+at_each p q less equal greater Less = less
+at_each p q less equal greater Equal = equal
+at_each p q less equal greater Greater = greater
+
 -- the other way round
 pub lt_turned : (o : Ordering) → is_lt (ordering_reverse o) ≡ is_gt o
-lt_turned Less = refl
-lt_turned Equal = refl
-lt_turned Greater = refl
+lt_turned = at_each _ _ refl refl refl
 
 pub le_turned : (o : Ordering) → is_le (ordering_reverse o) ≡ is_ge o
-le_turned Less = refl
-le_turned Equal = refl
-le_turned Greater = refl
+le_turned = at_each _ _ refl refl refl
 
 pub le_not_lt : (o : Ordering) → is_le (ordering_reverse o) ≡ not (is_lt o)
-le_not_lt Less = refl
-le_not_lt Equal = refl
-le_not_lt Greater = refl
+le_not_lt = at_each _ _ refl refl refl
 
 pub gt_not_le : (o : Ordering) → not (is_le o) ≡ is_gt o
-gt_not_le Less = refl
-gt_not_le Equal = refl
-gt_not_le Greater = refl
+gt_not_le = at_each _ _ refl refl refl
 
 pub ge_not_lt : (o : Ordering) → not (is_lt o) ≡ is_ge o
-ge_not_lt Less = refl
-ge_not_lt Equal = refl
-ge_not_lt Greater = refl
+ge_not_lt = at_each _ _ refl refl refl
 
 pub eq_both : (o : Ordering) → not (is_lt o) && is_le o ≡ is_eq o
-eq_both Less = refl
-eq_both Equal = refl
-eq_both Greater = refl
+eq_both = at_each _ _ refl refl refl
 
 pub ne_is : (o : Ordering) → not (is_eq o) ≡ is_ne o
-ne_is Less = refl
-ne_is Equal = refl
-ne_is Greater = refl
+ne_is = at_each _ _ refl refl refl
 
 pub number_gt : (x a : ℤ) → is_lt (int_cmp a x) ≡ is_gt (int_cmp x a)
 number_gt x a = ap is_lt (int_cmp_total.antisymm a x) ∙ lt_turned (int_cmp x a)
@@ -79,9 +72,7 @@ nat_lt_by false true = refl
 nat_lt_by false false = refl
 
 eq_neither : (o : Ordering) → is_eq o ≡ not (is_lt o) && not (is_lt (ordering_reverse o))
-eq_neither Less = refl
-eq_neither Equal = refl
-eq_neither Greater = refl
+eq_neither = at_each _ _ refl refl refl
 
 pub nat_eq_by : (m n : ℕ) → is_eq (nat_cmp m n) ≡ not (nat_lt m n) && not (nat_lt n m)
 nat_eq_by m n =
@@ -99,24 +90,3 @@ pub code_eq : (m n : ℕ) (v u : List ℕ) → nat_lt m n ≡ is_lt (slice_cmp n
     → nat_lt n m ≡ is_lt (slice_cmp nat_cmp u v)
     → is_eq (slice_cmp nat_cmp v u) ≡ is_eq (nat_cmp m n)
 code_eq m n v u p q = text_eq_by v u ∙ sym (nat_eq_by m n ∙ λ i. not (p i) && not (q i))
-
--- an order is known by 'less' both ways round
-by_less : (o p : Ordering) → is_lt o ≡ is_lt p
-    → is_lt (ordering_reverse o) ≡ is_lt (ordering_reverse p) → o ≡ p
-by_less Less Less e f = refl
-by_less Equal Equal e f = refl
-by_less Greater Greater e f = refl
-by_less Less Equal e f = absurd (cc)
-by_less Less Greater e f = absurd (cc)
-by_less Equal Less e f = absurd (cc)
-by_less Equal Greater e f = absurd (cc)
-by_less Greater Less e f = absurd (cc)
-by_less Greater Equal e f = absurd (cc)
-
--- codes compare as their texts do
-pub code_cmp : (m n : ℕ) (v u : List ℕ) → nat_lt m n ≡ is_lt (slice_cmp nat_cmp v u)
-    → nat_lt n m ≡ is_lt (slice_cmp nat_cmp u v) → nat_cmp m n ≡ slice_cmp nat_cmp v u
-code_cmp m n v u p q =
-    by_less (nat_cmp m n) (slice_cmp nat_cmp v u) (nat_lt_by (nat_lt m n) (nat_eq m n) ∙ p)
-    (ap is_lt (sym (nat_cmp_total.antisymm n m)) ∙ nat_lt_by (nat_lt n m) (nat_eq n m) ∙ q
-    ∙ ap is_lt (nat_list_cmp_total.antisymm u v))

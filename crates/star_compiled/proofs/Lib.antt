@@ -1,4 +1,5 @@
 pub mod Entries
+pub mod Carried
 pub mod Flat
 pub mod Sizes
 pub mod Sayable
@@ -17,13 +18,16 @@ pub mod Answered
 pub mod HeldRows
 pub mod QueryAnswers
 mod Plans
-mod Texts
+mod RevenueTexts
+mod ProfitTexts
 mod Vectors
 mod ForeignKeys
 mod Constants
 mod Points
+mod AcceptsColumns
 mod Accepts
 mod OneShare
+mod PutSums
 mod AcceptsPlan
 mod Verdicts
 mod OutsideBounds

@@ -15,7 +15,8 @@ use Rattle.star_plan.specs.Fits.{Fits}
 use Rattle.star_program.specs.World.{World}
 use Rattle.star_program.proofs.Sample.{sample}
 use Rattle.star_admission.specs.Admissible.{Refused, first_refusal}
-use Rattle.star_admission.specs.Refusals.{Overflow, reached}
+use Rattle.star_admission.specs.declared.reason.Reason.TheVariants.{Overflow}
+use Rattle.star_admission.specs.Refusals.{reached}
 use Rattle.star_compiled.specs.Compiled.{compiled}
 
 -- ---- bounds
@@ -43,7 +44,7 @@ untaxed_fits : Fits 5 5 wide.bounds untaxed
 untaxed_fits = record { visits = omega arith; nodes = refl; sums = refl }
 
 untaxed_refused : first_refusal wide 5 (compiled untaxed)
-    ≡ Some (Refused (2, Overflow wide_range ((LoTax, wide_range) ∷ [])))
+    ≡ Some (Refused (2, Overflow (pos 0) (pos (2 ^ 63)) (record { column = LoTax; low = pos 0; high = pos (2 ^ 63) } ∷ [])))
 unfolding column_of first_answer is_i64 reached
 untaxed_refused = refl
 
@@ -57,6 +58,6 @@ below_all_fits : Fits 5 5 sample.bounds below_all
 below_all_fits = record { visits = omega arith; nodes = refl; sums = refl }
 
 below_all_refused : first_refusal sample 5 (compiled below_all)
-    ≡ Some (Refused (3, Overflow (only (pos (2 ^ 63))) []))
+    ≡ Some (Refused (3, Overflow (pos (2 ^ 63)) (pos (2 ^ 63)) []))
 unfolding column_of first_answer is_i64 reached
 below_all_refused = refl

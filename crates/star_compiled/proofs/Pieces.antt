@@ -4,6 +4,7 @@ use Rattle.std.proofs.lemmas.Bool.{eqb-true, eq-eqb, and_parts}
 use Rattle.std.proofs.lemmas.Option.{same_Some}
 use mathlib.Core.Logic.{inl, inr, ◌⊎◌}
 use Rattle.std.specs.Prelude.{ℤ, pos, ◌+ℤ◌, ◌-ℤ◌, ◌*ℤ◌, ◌&&◌, ◌||◌, not, nat_eq, nat_lt, if◌then◌else◌}
+use Rattle.std.specs.Option.{option_map, option_or}
 use Rattle.std.specs.Ordering.{int_cmp, nat_cmp, is_eq, is_lt, is_le}
 use Rattle.std.specs.Cmp.Lexicographic.{slice_cmp, nat_list_cmp_total}
 use Rattle.star_schema.specs.declared.table.TableId.{TableId}
@@ -35,8 +36,11 @@ use Rattle.star_program.specs.declared.value.Value.TheVariants.{Number, Place, R
 use Rattle.star_program.specs.Code.{Code}
 use Rattle.star_program.specs.World.{World, is_column, is_text}
 use Rattle.star_program.specs.Values.{Registers, with_entry, number_in, flag_in, row_in}
-use Rattle.star_program.specs.Faults.{fault_of}
-use Rattle.star_program.specs.Effects.{Store, Effect, sets, sets_answer, sets_found, answer_of, loaded, assigns, unless_fault, kinds_in}
+use Rattle.star_program.specs.declared.fault.TrapKind.{TrapKind}
+use Rattle.star_program.specs.declared.fault.TrapKind.TheVariants.{Wrong, Overflow}
+use Rattle.star_program.specs.Faults.{unless, fault_of}
+use Rattle.star_program.specs.Effects.{Store, Effect, answer_of, loaded, fits_register, unless_trap, kinds_in}
+use Rattle.star_program.specs.Private.Doing.{sets, sets_found, assigns}
 use Rattle.star_program.specs.Run.{End, Ended, follow, meaning}
 use Rattle.star_compiled.specs.Compiled.{Env, Rest, binary_code, loaded_in, found_in, one_more, with_loaded, with_found, write, load_code, find_code, foreign_of, fact_code, row_code, place_code, column_from, column_code, test_code, between_code, condition_code, expression_code}
 use Rattle.star_compiled.proofs.TurnRows.{Shows, IsTurn}
@@ -47,10 +51,18 @@ use Rattle.star_compiled.proofs.Comparisons.{number_gt, number_ge, number_upto, 
 -- ---- the end of a run, from its first instruction
 
 -- an instruction that ends the run without a trap has no fault
-pub no_fault : (o : Option Fault) (x : Effect) (n : ℕ) (next : Registers → Store → End) (e : Store)
-    → follow n (unless_fault o x) next ≡ Ended e → follow n x next ≡ Ended e
-no_fault None x n next e h = h
-no_fault (Some f) x n next e h = absurd (cc)
+pub no_fault : (o : Option Fault) (own : Option TrapKind) (x : Effect) (n : ℕ)
+    (next : Registers → Store → End) (e : Store)
+    → follow n (unless_trap (option_or (option_map Wrong o) own) x) next ≡ Ended e
+    → follow n (unless_trap own x) next ≡ Ended e
+no_fault None own x n next e h = h
+no_fault (Some f) own x n next e h = absurd (cc)
+
+no_trap : (b : Bool) (kind : TrapKind) (x : Effect) (n : ℕ) (next : Registers → Store → End)
+    (e : Store) → follow n (unless_trap (unless b kind) x) next ≡ Ended e
+    → follow n x next ≡ Ended e
+no_trap true kind x n next e h = h
+no_trap false kind x n next e h = absurd (cc)
 
 entry_same : (regs : Registers) (t : ℕ) (v : Value) → with_entry regs t v t ≡ Some v
 entry_same regs t v = ap (λ b. if b then Some v else regs t) (eq-eqb t t refl)
@@ -185,56 +197,36 @@ module _ (w : World) (f : Parts) (may : ℕ → Bool) (at : TableId → ℕ) whe
       → meaning w f may (write o env k) n true regs s ≡ Ended e → Reached (At v) k env regs s e
   wrote o v k env n regs s e knows d h =
       let next = meaning w f may (k (one_more env) env.next) (n + 1) true in
-      let g = no_fault (fault_of f true None (kinds_in regs) (Assign env.next o)) _ n next e h in
+      let g = no_fault (fault_of f true None (kinds_in regs) (Assign env.next o)) _ _ n next e h in
       is_set v k env n regs s e knows (subst (λ x. follow n x next ≡ Ended e) d g)
 
   -- ---- operators
 
-  -- where there is an answer, it is this
-  abbrev Gives : Operator → (l r : Option Value) → Value → Type 0
-  Gives o l r v = (x : Value) → answer_of o l r ≡ Some x → x ≡ v
-
-  answer_goes : (regs : Registers) (s : Store) (t : ℕ) (o : Option Value) (v : Value) (n : ℕ)
-      (next : Registers → Store → End) (e : Store)
-      → ((x : Value) → o ≡ Some x → x ≡ v) → follow n (sets_answer regs s t o) next ≡ Ended e
-      → follow n (sets regs s t v) next ≡ Ended e
-  answer_goes regs s t None v n next e gives h = absurd (cc)
-  answer_goes regs s t (Some x) v n next e gives h =
-      subst (λ x. follow n (sets regs s t x) next ≡ Ended e) (gives x refl) h
-
-  answered : (o : Operator) (l r : ℕ) (v : Value) (k : Rest) (env : Env) (n : ℕ) (regs : Registers)
+  answered : (o : Operator) (l r : ℕ) (k : Rest) (env : Env) (n : ℕ) (regs : Registers)
       (s e : Store) → Knows env regs
-      → Gives o (regs l) (regs r) v → meaning w f may (write (Binary o l r) env k) n true regs s
-      ≡ Ended e → Reached (At v) k env regs s e
-  answered o l r v k env n regs s e knows gives h =
+      → meaning w f may (write (Binary o l r) env k) n true regs s ≡ Ended e
+      → Reached (At (answer_of o (regs l) (regs r))) k env regs s e
+  answered o l r k env n regs s e knows h =
+      let v = answer_of o (regs l) (regs r) in
       let next = meaning w f may (k (one_more env) env.next) (n + 1) true in
       let g =
-      no_fault (fault_of f true None (kinds_in regs) (Assign env.next (Binary o l r))) _ n next e
+      no_fault (fault_of f true None (kinds_in regs) (Assign env.next (Binary o l r))) _ _ n next e
       h in
       is_set v k env n regs s e knows
-      (answer_goes regs s env.next (answer_of o (regs l) (regs r)) v n next e gives g)
+      (no_trap (fits_register v) Overflow (sets regs s env.next v) n next e g)
 
-  binary_runs : (left right : Env → Rest → Code) (o : Operator) (v u result : Value)
-      → Gives o (Some v) (Some u) result
-      → Runs (At v) left → Runs (At u) right → Runs (At result) (binary_code left right o)
-  binary_runs left right o v u result gives first second k env n regs s e knows h =
+  binary_runs : (left right : Env → Rest → Code) (o : Operator) (v u : Value)
+      → Runs (At v) left → Runs (At u) right
+      → Runs (At (answer_of o (Some v) (Some u))) (binary_code left right o)
+  binary_runs left right o v u first second k env n regs s e knows h =
       let p = first (λ e x. right e (λ e y. write (Binary o x y) e k)) env n regs s e knows h in
       let q =
       second (λ e y. write (Binary o p.out y) e k) p.env' p.n p.regs' p.s' e p.knows p.goes in
       let at_left = q.kept p.out p.says.0 ∙ p.says.1 in
-      let same : answer_of o (Some v) (Some u) ≡ answer_of o (q.regs' p.out) (q.regs' q.out) =
-      λ i. answer_of o (sym at_left i) (sym q.says.1 i) in
-      chained p (chained q (answered o p.out q.out result k q.env' q.n q.regs' q.s' e q.knows
-      (λ x is. gives x (same ∙ is)) q.goes))
-
-  flagged : (b : Bool) (x : Value) → Some (Flag b) ≡ Some x → x ≡ Flag b
-  flagged b x is = sym (same_Some (Flag b) x is)
-
-  -- a number that has 64 bits is the answer
-  fitted : (z : ℤ) (b : Bool) (x : Value) → (if b then Some (Number z) else None) ≡ Some x
-      → x ≡ Number z
-  fitted z true x is = sym (same_Some (Number z) x is)
-  fitted z false x is = absurd (cc)
+      let same : answer_of o (q.regs' p.out) (q.regs' q.out) ≡ answer_of o (Some v) (Some u) =
+      λ i. answer_of o (at_left i) (q.says.1 i) in
+      chained p (chained q (subst (λ x. Reached (At x) k q.env' q.regs' q.s' e) same
+      (answered o p.out q.out k q.env' q.n q.regs' q.s' e q.knows q.goes)))
 
   -- ---- columns and rows
 
@@ -316,7 +308,7 @@ module _ (w : World) (f : Parts) (may : ℕ → Bool) (at : TableId → ℕ) whe
         says = (omega arith, entry_same regs env.next v ∙ ap Some same);
         same = refl;
         goes =
-            no_fault (fault_of f true None (kinds_in regs) (Assign env.next (Load c row))) _ n
+            no_fault (fault_of f true None (kinds_in regs) (Assign env.next (Load c row))) _ _ n
             (meaning w f may (k (with_loaded env c) env.next) (n + 1) true) e h;
       }
 
@@ -376,7 +368,7 @@ module _ (w : World) (f : Parts) (may : ℕ → Bool) (at : TableId → ℕ) whe
               found_goes p.regs' p.s' p.env'.next t (w.find t (number_in (p.regs' p.out))) (at t)
               p.n next e is_key
               (no_fault (fault_of f true None (kinds_in p.regs')
-              (Assign p.env'.next (Find t p.out))) _ p.n next e p.goes);
+              (Assign p.env'.next (Find t p.out))) _ _ p.n next e p.goes);
         })
 
     place_runs : (c : ColumnId) (k : Rest) (env : Env) (b : Bool)
@@ -630,13 +622,11 @@ module _ (w : World) (f : Parts) (may : ℕ → Bool) (at : TableId → ℕ) whe
     condition_runs (either a b) ok =
         let oks = and_parts (condition_is_sound js a) (condition_is_sound js b) ok in
         binary_runs (condition_code js a) (condition_code js b) operator.Or (Flag (holds a row))
-        (Flag (holds b row)) (Flag (holds a row || holds b row))
-        (flagged (holds a row || holds b row)) (condition_runs a oks.0) (condition_runs b oks.1)
+        (Flag (holds b row)) (condition_runs a oks.0) (condition_runs b oks.1)
     condition_runs (both a b) ok =
         let oks = and_parts (condition_is_sound js a) (condition_is_sound js b) ok in
         binary_runs (condition_code js a) (condition_code js b) operator.And (Flag (holds a row))
-        (Flag (holds b row)) (Flag (holds a row && holds b row))
-        (flagged (holds a row && holds b row)) (condition_runs a oks.0) (condition_runs b oks.1)
+        (Flag (holds b row)) (condition_runs a oks.0) (condition_runs b oks.1)
     condition_runs (negation a) ok = λ k env n regs s e knows h.
         with_not (holds a row) k env regs s e
         (condition_runs a ok (λ e x. write (Not x) e k) env n regs s e knows h)
@@ -678,19 +668,13 @@ module _ (w : World) (f : Parts) (may : ℕ → Bool) (at : TableId → ℕ) whe
         λ k env n regs s e knows h. wrote (Const z) (Number z) k env n regs s e knows refl h
     expression_runs (add a b) ok =
         let oks = and_parts (expression_is_sound js a) (expression_is_sound js b) ok in
-        let z = number_at a row +ℤ number_at b row in
         binary_runs (expression_code js a) (expression_code js b) operator.Add
-        (Number (number_at a row)) (Number (number_at b row)) (Number z)
-        (fitted z (is_i64 z)) (expression_runs a oks.0) (expression_runs b oks.1)
+        (Number (number_at a row)) (Number (number_at b row)) (expression_runs a oks.0) (expression_runs b oks.1)
     expression_runs (sub a b) ok =
         let oks = and_parts (expression_is_sound js a) (expression_is_sound js b) ok in
-        let z = number_at a row -ℤ number_at b row in
         binary_runs (expression_code js a) (expression_code js b) operator.Sub
-        (Number (number_at a row)) (Number (number_at b row)) (Number z)
-        (fitted z (is_i64 z)) (expression_runs a oks.0) (expression_runs b oks.1)
+        (Number (number_at a row)) (Number (number_at b row)) (expression_runs a oks.0) (expression_runs b oks.1)
     expression_runs (mul a b) ok =
         let oks = and_parts (expression_is_sound js a) (expression_is_sound js b) ok in
-        let z = number_at a row *ℤ number_at b row in
         binary_runs (expression_code js a) (expression_code js b) operator.Mul
-        (Number (number_at a row)) (Number (number_at b row)) (Number z)
-        (fitted z (is_i64 z)) (expression_runs a oks.0) (expression_runs b oks.1)
+        (Number (number_at a row)) (Number (number_at b row)) (expression_runs a oks.0) (expression_runs b oks.1)

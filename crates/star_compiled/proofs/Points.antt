@@ -18,17 +18,17 @@ use Rattle.star_program.specs.Values.{with_entry}
 use Rattle.star_program.specs.World.{World, is_text}
 use Rattle.star_admission.specs.Contexts.{Context, operation_known, after_op}
 use Rattle.star_admission.specs.Ranges.{Known, KnownNumber, KnownRow, KnownText, KnownPlace, KnownFlag, Table, kinds_known, loaded_known}
-use Rattle.star_admission.specs.Refusals.{Reason, Overflow, Faulty, refuses, reached, overflow_of, op_reason, source_reason, target_again}
+use Rattle.star_admission.specs.declared.reason.Reached.{Reached}
+use Rattle.star_admission.specs.declared.reason.Reason.{Reason}
+use Rattle.star_admission.specs.declared.reason.Reason.TheVariants.{Overflow, Faulty}
+use Rattle.star_admission.specs.Refusals.{refuses, reached, overflow_of, op_reason, source_reason, target_again}
 use Rattle.star_admission.specs.Standing.{at_place}
 use Rattle.star_admission.specs.Tallies.{no_shares}
 use Rattle.star_admission.specs.Private.Forward.{first_reason, open_with}
+pub use Rattle.star_admission.proofs.Instructions.{both_none}
 use Rattle.star_compiled.specs.Compiled.{Env, loaded_in, found_in, register_count}
 
 -- ---- tests and options
-
-pub both_none : {A : Type 0} (o p : Option A) → o ≡ None → p ≡ None → option_or o p ≡ None
-both_none None p e f = f
-both_none (Some x) p e f = e
 
 pub or_none_right : {A : Type 0} (o : Option A) → option_or o None ≡ o
 or_none_right None = refl
@@ -58,7 +58,7 @@ known_fits _ = true
 
 fitting : (w : World) (v : Known) → known_fits v ≡ true → overflow_of w v ≡ None
 fitting w (KnownNumber r reach origin) e =
-    ap (λ b. refuses (not b) (Overflow r (reached w reach))) e
+    ap (λ b. refuses (not b) (Overflow r.low r.high (reached w reach))) e
 fitting w (KnownText c) e = refl
 fitting w (KnownPlace c) e = refl
 fitting w (KnownRow t) e = refl
@@ -67,8 +67,8 @@ fitting w KnownFlag e = refl
 -- an instruction's range leaves 64 bits
 abbrev pub Overflows : Option (ℕ × Reason) → Type 0
 Overflows o =
-    (at : ℕ) × (r : Range) × (columns : List (ColumnId × Range))
-    × (o ≡ Some (at, Overflow r columns))
+    (at : ℕ) × (r : Range) × (columns : List Reached)
+    × (o ≡ Some (at, Overflow r.low r.high columns))
 
 leaving : (w : World) (v : Known) (at : ℕ) (rest : Option (ℕ × Reason)) → known_fits v ≡ false
     → Overflows (option_or (at_place at (overflow_of w v)) rest)
@@ -76,7 +76,7 @@ leaving w (KnownNumber r reach origin) at rest e = (
   at,
   r,
   reached w reach,
-  ap (λ b. option_or (at_place at (refuses (not b) (Overflow r (reached w reach)))) rest) e,
+  ap (λ b. option_or (at_place at (refuses (not b) (Overflow r.low r.high (reached w reach)))) rest) e,
 )
 leaving w (KnownText c) at rest e = absurd (cc)
 leaving w (KnownPlace c) at rest e = absurd (cc)

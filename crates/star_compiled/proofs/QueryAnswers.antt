@@ -5,9 +5,8 @@ use Rattle.star_schema.specs.declared.table.TableId.{TableId}
 use Rattle.star_schema.specs.Database.{Database, rows_in}
 use Rattle.star_schema.specs.Loadable.{IsLoadable, IsSound, database_of}
 use Rattle.star_schema.specs.Tables.{IsRowOf}
-use Rattle.star_query.specs.declared.tree.Tree.{Tree}
 use Rattle.star_query.specs.Derives.{Means}
-use Rattle.star_query.specs.Views.{tree_view}
+use Rattle.star_query.specs.Tree.{Tree}
 use Rattle.star_plan.specs.Meaning.{Plan}
 use Rattle.star_plan.specs.Resolved.{IsResolved}
 use Rattle.star_plan.specs.WellNamed.{IsWellNamed}
@@ -35,7 +34,7 @@ answers_the_query database w query p rows world named resolved may s outcome run
 pub reports_the_query : ((database : Database) → IsSound database → IsWorldOf database
     (world_of database)) → (most : ℕ) (texts : TableId → List ℕ) (text : List ℕ) (query : Tree)
     (p : Plan)
-    → IsLoadable most texts → Means text (tree_view query) → IsWellNamed query → IsResolved query p
+    → IsLoadable most texts → Means text query → IsWellNamed query → IsResolved query p
     → ReportsTheQuery texts text p
 reports_the_query shown most texts text query p loadable means named resolved may s outcome run
     told =

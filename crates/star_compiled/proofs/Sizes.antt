@@ -1,14 +1,12 @@
 -- How long the body of a compiled program is: a column costs one instruction to load, and a
 -- dimension two more, once.
 use Rattle.std.proofs.Common.{◌≡◌, ℕ, zero, suc, ◌+◌, ◌*◌, ◌≤◌, Bool, true, false, List, [], ◌∷◌, ◌++◌, length, Option, Some, None, refl, ap, ◌∙◌, arith}
-use Rattle.std.specs.Prelude.{if◌then◌else◌}
 use Rattle.std.specs.List.{sum_by}
 use Rattle.std.proofs.lemmas.List.Sums.{sum_by-cons}
 use Rattle.star_schema.specs.declared.table.TableId.{TableId}
 use Rattle.star_schema.specs.declared.table.TableId.TheVariants.{Date, Customer, Supplier, Part, Lineorder}
 use Rattle.star_schema.specs.declared.column.ColumnId.{ColumnId}
 use Rattle.star_schema.specs.Schema.{is_table, table_of}
-use Rattle.star_schema.proofs.Same.{table_itself}
 use Rattle.star_schema.specs.Tables.{Value, Number, Text}
 use Rattle.star_query.specs.declared.token.Relation.{Relation}
 use Rattle.star_query.specs.declared.token.Relation.TheVariants as sign
@@ -24,12 +22,10 @@ use Rattle.star_program.specs.declared.op.Operator.TheVariants as operator
 use Rattle.star_program.specs.Code.{Code, Stop, Then, Each, code_size}
 use Rattle.star_program.specs.Faults.{target_of}
 use Rattle.star_compiled.specs.Compiled.{Env, Rest, Rests, before, beside, binary_code, column_code, start_of, end_of, equal_code, find_code, env_first, loaded_in, found_in, one_more, with_loaded, with_found, foreign_of, fact_code, row_code, place_code, column_from, test_code, between_code, condition_code, expression_code, conjuncts_code, keys_code, values_code, put_code, body_code, write, load_code, writes_one, register_count}
+use Rattle.star_compiled.specs.Looks.{one_if}
+use Rattle.star_compiled.proofs.Entries.{missing, unfound_falls}
 
 -- ---- tables whose rows are not found
-
-missing : Option ℕ → ℕ
-missing None = 1
-missing (Some r) = 0
 
 -- a sum over the five tables
 abbrev total : (TableId → ℕ) → ℕ
@@ -53,55 +49,18 @@ few_unfound es =
     let e = few_missing (found_in es Lineorder) in
     omega arith
 
-missing_chosen : (b : Bool) (r : ℕ) (o p : Option ℕ) → missing o ≤ missing p
-    → missing (if b then Some r else o) ≤ missing (if b then Some r else p)
-missing_chosen true r o p h = omega arith
-missing_chosen false r o p h = h
-
-none_missing : (b : Bool) (r : ℕ) → missing (if b then Some r else None) ≤ 1
-none_missing b r = few_missing (if b then Some r else None)
-
-one_missing : missing None ≡ 1
-unfolding missing
-one_missing = refl
-
-no_more : (es : List (TableId × ℕ)) (t : TableId) (n : ℕ) (q : TableId)
-    → missing (found_in (es ++ (t, n) ∷ []) q) ≤ missing (found_in es q)
-no_more [] t n q = let a = none_missing (is_table q t) n in let b = one_missing in omega arith
-no_more (x ∷ es) t n q =
-    missing_chosen (is_table q x.0) x.1 (found_in (es ++ (t, n) ∷ []) q) (found_in es q)
-    (no_more es t n q)
-
-chosen_missing : (b : Bool) (r : ℕ) (o : Option ℕ) → missing o ≡ 0
-    → missing (if b then Some r else o) ≡ 0
-unfolding missing
-chosen_missing true r o h = refl
-chosen_missing false r o h = h
-
-not_missing : (es : List (TableId × ℕ)) (t : TableId) (n : ℕ)
-    → missing (found_in (es ++ (t, n) ∷ []) t) ≡ 0
-unfolding missing
-not_missing [] t n = ap (λ b. missing (if b then Some n else None)) (table_itself t)
-not_missing (x ∷ es) t n =
-    chosen_missing (is_table t x.0) x.1 (found_in (es ++ (t, n) ∷ []) t) (not_missing es t n)
-
-falls : (f g : TableId → ℕ) (t : TableId) → ((s : TableId) → f s ≤ g s) → f t + 1 ≤ g t
+falls : (f g : TableId → ℕ) (t : TableId) → ((s : TableId) → one_if (is_table s t) + f s ≤ g s)
     → total f + 1 ≤ total g
-falls f g Date h less = omega (arith, h Customer, h Supplier, h Part, h Lineorder)
-falls f g Customer h less = omega (arith, h Date, h Supplier, h Part, h Lineorder)
-falls f g Supplier h less = omega (arith, h Date, h Customer, h Part, h Lineorder)
-falls f g Part h less = omega (arith, h Date, h Customer, h Supplier, h Lineorder)
-falls f g Lineorder h less = omega (arith, h Date, h Customer, h Supplier, h Part)
+falls f g Date h = omega (arith, h Date, h Customer, h Supplier, h Part, h Lineorder)
+falls f g _ h = omega (arith, h Date, h Customer, h Supplier, h Part, h Lineorder)
 
 -- a row that is found costs one table
 pub found_once : (es : List (TableId × ℕ)) (t : TableId) (n : ℕ) → found_in es t ≡ None
     → unfound (es ++ (t, n) ∷ []) + 1 ≤ unfound es
 unfolding unfound
 found_once es t n h =
-    let now = not_missing es t n in
-    let before : missing (found_in es t) ≡ 1 = ap missing h ∙ one_missing in
     falls (λ s. missing (found_in (es ++ (t, n) ∷ []) s)) (λ s. missing (found_in es s)) t
-    (no_more es t n) (omega arith)
+    (unfound_falls es t n h)
 
 -- ---- pieces
 
@@ -121,9 +80,9 @@ AddsLess n piece =
     (env : Env) (k : Rest) (m : ℕ) → Short m k
     → 1 + code_size (piece env k) ≤ n + m + 2 * unfound env.found
 
-of_binary : (left right : Env → Rest → Code) (o : Operator) (p q : ℕ) → AddsLess p left
-    → AddsLess q right → AddsLess (p + q) (binary_code left right o)
-of_binary left right o p q f g env k m h =
+of_binary : (left right : Env → Rest → Code) (o : Operator) (p q r : ℕ) → p + q ≡ r
+    → AddsLess p left → AddsLess q right → AddsLess r (binary_code left right o)
+of_binary left right o p q r sum f g env k m h =
     let whole =
     f env (λ e x. right e (λ e y. write (Binary o x y) e k)) (q + m)
     (λ e x.
@@ -236,19 +195,13 @@ module _ (js : List Join) where
   -- to the others or keeps it
   of_condition : (c : Condition) → AddsLess (6 * comparisons_of c) (condition_code js c)
   of_condition (either a b) env k m h =
-      let p = 6 * comparisons_of a in
-      let q = 6 * comparisons_of b in
-      let whole =
-      of_binary (condition_code js a) (condition_code js b) operator.Or p q (of_condition a)
-      (of_condition b) env k m h in
-      omega arith
+      of_binary (condition_code js a) (condition_code js b) operator.Or (6 * comparisons_of a)
+      (6 * comparisons_of b) (6 * (comparisons_of a + comparisons_of b)) (omega arith) (of_condition a)
+      (of_condition b) env k m h
   of_condition (both a b) env k m h =
-      let p = 6 * comparisons_of a in
-      let q = 6 * comparisons_of b in
-      let whole =
-      of_binary (condition_code js a) (condition_code js b) operator.And p q (of_condition a)
-      (of_condition b) env k m h in
-      omega arith
+      of_binary (condition_code js a) (condition_code js b) operator.And (6 * comparisons_of a)
+      (6 * comparisons_of b) (6 * (comparisons_of a + comparisons_of b)) (omega arith) (of_condition a)
+      (of_condition b) env k m h
   of_condition (negation a) env k m h =
       omega (
         arith,
@@ -273,26 +226,17 @@ module _ (js : List Join) where
   of_expression (column c) env k m h = omega (arith, of_column c env k m h)
   of_expression (constant z) env k m h = omega (arith, of_one (Const z) env k m h)
   of_expression (add a b) env k m h =
-      let p = 2 * operands_of a in
-      let q = 2 * operands_of b in
-      let whole =
-      of_binary (expression_code js a) (expression_code js b) operator.Add p q (of_expression a)
-      (of_expression b) env k m h in
-      omega arith
+      of_binary (expression_code js a) (expression_code js b) operator.Add (2 * operands_of a)
+      (2 * operands_of b) (2 * (operands_of a + operands_of b)) (omega arith) (of_expression a)
+      (of_expression b) env k m h
   of_expression (sub a b) env k m h =
-      let p = 2 * operands_of a in
-      let q = 2 * operands_of b in
-      let whole =
-      of_binary (expression_code js a) (expression_code js b) operator.Sub p q (of_expression a)
-      (of_expression b) env k m h in
-      omega arith
+      of_binary (expression_code js a) (expression_code js b) operator.Sub (2 * operands_of a)
+      (2 * operands_of b) (2 * (operands_of a + operands_of b)) (omega arith) (of_expression a)
+      (of_expression b) env k m h
   of_expression (mul a b) env k m h =
-      let p = 2 * operands_of a in
-      let q = 2 * operands_of b in
-      let whole =
-      of_binary (expression_code js a) (expression_code js b) operator.Mul p q (of_expression a)
-      (of_expression b) env k m h in
-      omega arith
+      of_binary (expression_code js a) (expression_code js b) operator.Mul (2 * operands_of a)
+      (2 * operands_of b) (2 * (operands_of a + operands_of b)) (omega arith) (of_expression a)
+      (of_expression b) env k m h
 
   of_conjuncts : (cs : List Condition) (env : Env) (k : Env → Code) (m : ℕ)
       → ((e : Env) → code_size (k e) ≤ m + 2 * unfound e.found)
@@ -318,31 +262,27 @@ module _ (js : List Join) where
   of_value : (a : Expression) → Adds (2 * operands_of a) (expression_code js a)
   of_value a env k m h = omega (arith, of_expression a env k m h)
 
+  of_measure : (x : Measure) (a : Expression) (ms : List Measure)
+      → measure_operands x ≡ operands_of a
+      → Adds (2 * sum_by measure_operands ms) (values_code js ms)
+      → Adds (2 * sum_by measure_operands (x ∷ ms)) (before (expression_code js a) (values_code js ms))
+  of_measure x a ms operands rest env k m h =
+      omega (
+        arith,
+        operands,
+        sum_by-cons measure_operands x ms,
+        of_before (expression_code js a) (values_code js ms) (2 * operands_of a)
+            (2 * sum_by measure_operands ms) (of_value a) rest env k m h,
+      )
+
   of_values : (ms : List Measure) → Adds (2 * sum_by measure_operands ms) (values_code js ms)
   of_values [] env k m h = omega (arith, h env [])
   of_values (counted ∷ ms) env k m h =
       omega (arith, sum_by-cons measure_operands counted ms, of_values ms env k m h)
-  of_values (summed a ∷ ms) env k m h =
-      omega (
-        arith,
-        sum_by-cons measure_operands (summed a) ms,
-        of_before (expression_code js a) (values_code js ms) (2 * operands_of a)
-            (2 * sum_by measure_operands ms) (of_value a) (of_values ms) env k m h,
-      )
-  of_values (least a ∷ ms) env k m h =
-      omega (
-        arith,
-        sum_by-cons measure_operands (least a) ms,
-        of_before (expression_code js a) (values_code js ms) (2 * operands_of a)
-            (2 * sum_by measure_operands ms) (of_value a) (of_values ms) env k m h,
-      )
+  of_values (summed a ∷ ms) env k m h = of_measure (summed a) a ms refl (of_values ms) env k m h
+  of_values (least a ∷ ms) env k m h = of_measure (least a) a ms refl (of_values ms) env k m h
   of_values (greatest a ∷ ms) env k m h =
-      omega (
-        arith,
-        sum_by-cons measure_operands (greatest a) ms,
-        of_before (expression_code js a) (values_code js ms) (2 * operands_of a)
-            (2 * sum_by measure_operands ms) (of_value a) (of_values ms) env k m h,
-      )
+      of_measure (greatest a) a ms refl (of_values ms) env k m h
 
 -- at most six instructions for each comparison, two for each operand and one for each key; ten for
 -- rows, one for the put and one for the scan

@@ -21,7 +21,8 @@ use Rattle.star_program.specs.declared.value.Value.TheVariants.{Number, Row}
 use Rattle.star_program.specs.Values.{Registers, with_entry, number_in, flag_in, key_in}
 use Rattle.star_program.specs.Faults.{group_at, fault_of}
 use Rattle.star_program.specs.Puts.{Update, aligned, overflows}
-use Rattle.star_program.specs.Effects.{Store, keeps, with_update, puts, update_of, puts_update, loaded, kinds_in}
+use Rattle.star_program.specs.Effects.{Store, with_update, update_of, loaded, kinds_in, effect_of}
+use Rattle.star_program.specs.Private.Doing.{keeps, puts}
 use Rattle.star_program.specs.Run.{End, Ended, Trapped, Limited, follow, after, begin, turns, scans, meaning}
 use Rattle.star_compiled.specs.Compiled.{Env, Rest, Rests, before, column_code, conjuncts_code, env_first, expression_code, keys_code, values_code, put_code, turn_code, body_code}
 use Rattle.star_compiled.specs.Answers.{coded, update_of_row}
@@ -72,7 +73,7 @@ module _ (w : World) (f : Parts) (may : ℕ → Bool) (at : TableId → ℕ) (p 
       (λ e x. Then (Keep x) (conjuncts_code p.joins cs e k)) env n regs s e knows h in
       let rest = conjuncts_code p.joins cs q.env' k in
       let g =
-      no_fault (fault_of f true None (kinds_in q.regs') (Keep q.out))
+      no_fault (fault_of f true None (kinds_in q.regs') (Keep q.out)) None
       (keeps q.regs' q.s' (flag_in (q.regs' q.out))) q.n (meaning w f may rest (q.n + 1) true) e
       q.goes in
       kept_after (holds c row && all_hold cs row) k env regs s e q
@@ -232,8 +233,8 @@ module _ (w : World) (f : Parts) (may : ℕ → Bool) (at : TableId → ℕ) (p 
   put_runs same_aggregates ok ks vs next n regs s e key_at value_at h =
       let d = group_at f 0 in
       let g =
-      no_fault (fault_of f true None (kinds_in regs) (Put 0 ks vs))
-      (puts_update d regs s 0 (update_of d regs ks vs)) n (meaning w f may Stop (n + 1) true) e h in
+      no_fault (fault_of f true None (kinds_in regs) (Put 0 ks vs)) _
+      (effect_of w f regs s (Put 0 ks vs)) n (meaning w f may Stop (n + 1) true) e h in
       put_goes regs s e (update_of d regs ks vs)
       (overflows d (s.updates_of 0) (update_of d regs ks vs)) n g
       ∙ λ i. with_update s.updates_of 0 (record {

@@ -13,7 +13,8 @@ use Rattle.star_plan.specs.Fits.{measure_fits, sum_fits, Fits}
 use Rattle.star_program.specs.World.{World}
 use Rattle.star_program.specs.Shown.{shown_fault}
 use Rattle.star_admission.specs.Admissible.{Refusal, TooCostly, Refused, BadShow, cost_refusal, first_refusal}
-use Rattle.star_admission.specs.Refusals.{Reason, Overflow}
+use Rattle.star_admission.specs.declared.reason.Reason.{Reason}
+use Rattle.star_admission.specs.declared.reason.Reason.TheVariants.{Overflow}
 use Rattle.star_admission.specs.Standing.{instructions_of, reason_of}
 use Rattle.star_admission.proofs.Forward.{first_standing}
 use Rattle.star_compiled.specs.Compiled.{compiled}
@@ -90,7 +91,7 @@ module _ (w : World) (most : ℕ) (p : Plan) where
     fit_when o (inl h) e = h.1
     fit_when o (inr h) e =
         let over = h.0 in
-        let bad : Some (Refused (over.0, Overflow over.1 over.2)) ≡ None =
+        let bad : Some (Refused (over.0, Overflow over.1.low over.1.high over.2)) ≡ None =
         sym (ap (option_map Refused) over.3) ∙ e in absurd (cc)
 
     pub accepted_fits : first_refusal w most (compiled p) ≡ None → Fits rows most w.bounds p
@@ -121,7 +122,7 @@ module _ (w : World) (most : ℕ) (p : Plan) where
         → IsOverflow (first_refusal w most (compiled p))
     over_when o (inl h) e wide = absurd (wide (accepted_fits (e ∙ ap (option_map Refused) h.0)))
     over_when o (inr h) e wide =
-        let over = h.0 in (over.0, over.1, over.2, e ∙ ap (option_map Refused) over.3)
+        let over = h.0 in (over.0, over.1.low, over.1.high, over.2, e ∙ ap (option_map Refused) over.3)
 
     pub overflows : rows ≤ most → (Fits rows most w.bounds p → ⊥)
         → IsOverflow (first_refusal w most (compiled p))

@@ -18,7 +18,8 @@ use Rattle.star_plan.specs.Fits.{Fits, sum_fits}
 use Rattle.star_program.specs.World.{World}
 use Rattle.star_program.proofs.Sample.{sample, great_prices}
 use Rattle.star_admission.specs.Admissible.{TooCostly, Refused, first_refusal}
-use Rattle.star_admission.specs.Refusals.{Overflow, reached}
+use Rattle.star_admission.specs.declared.reason.Reason.TheVariants.{Overflow}
+use Rattle.star_admission.specs.Refusals.{reached, with_bounds}
 use Rattle.star_compiled.specs.Compiled.{compiled}
 use Rattle.star_compiled.proofs.Plans.{q11}
 
@@ -42,9 +43,9 @@ discounted _ = only (pos 0)
 wide_product : first_refusal (record sample { bounds = discounted }) 5 (compiled q11)
     ≡ Some (Refused (
       18,
-      Overflow (record { low = pos 0; high = pos 10000000000000000000 })
-          ((LoExtendedprice, discounted LoExtendedprice)
-          ∷ (LoDiscount, discounted LoDiscount) ∷ []),
+      Overflow (pos 0) (pos 10000000000000000000)
+          (with_bounds (record sample { bounds = discounted }) LoExtendedprice
+          ∷ with_bounds (record sample { bounds = discounted }) LoDiscount ∷ []),
     ))
 unfolding column_of first_answer is_i64 reached
 wide_product = refl
@@ -86,8 +87,11 @@ eleven_lines_wide = refl
 eleven_lines : first_refusal one_line_more 11 (compiled first_line)
     ≡ Some (Refused (
       7,
-      Overflow (record { low = pos 0; high = pos 9900000000000000000 })
-          ((LoExtendedprice, only (pos 900000000000000000)) ∷ []),
+      Overflow (pos 0) (pos 9900000000000000000) (record {
+        column = LoExtendedprice;
+        low = pos 900000000000000000;
+        high = pos 900000000000000000;
+      } ∷ []),
     ))
 unfolding column_of first_answer is_i64 reached
 eleven_lines = refl

@@ -4,8 +4,7 @@ use Rattle.star_schema.specs.declared.column.ColumnId.{ColumnId}
 use Rattle.star_schema.specs.declared.table.TableId.{TableId}
 use Rattle.star_schema.specs.Loadable.{database_of}
 use Rattle.star_schema.specs.Tables.{Value, Number, Text}
-use Rattle.star_query.specs.declared.tree.Tree.{Tree}
-use Rattle.star_query.specs.Views.{tree_view}
+use Rattle.star_query.specs.Tree.{Tree}
 use Rattle.star_plan.specs.Meaning.{Joined, Plan, Tables, measured, selected, value_of}
 use Rattle.star_program.specs.declared.key.KeyValue.{KeyValue}
 use Rattle.star_program.specs.declared.key.KeyValue.TheVariants as key
@@ -50,7 +49,7 @@ AnswersThePlan ts w p = (may : ℕ → Bool) (s : Store) (outcome : Outcome)
 abbrev pub AnswersTheQuery : Tables → World → Tree → Plan → Type 0
 AnswersTheQuery ts w query p = (may : ℕ → Bool) (s : Store) (outcome : Outcome)
     → run_while w may (compiled p) ≡ Ended s → IsOutcome w (compiled p) s outcome
-    → IsAnswer ts (tree_view query) outcome.names outcome.rows
+    → IsAnswer ts query outcome.names outcome.rows
 
 -- over the rows of five texts, what is printed of an outcome is the report of a query's text
 abbrev pub ReportsTheQuery : (TableId → List ℕ) → List ℕ → Plan → Type 0

@@ -5,9 +5,8 @@ ghost use Rattle.star_schema.specs.declared.table.TableId.{TableId};
 ghost use Rattle.star_schema.specs.Database.{Database, rows_in};
 ghost use Rattle.star_schema.specs.Loadable.{IsLoadable};
 ghost use Rattle.star_schema.specs.Tables.{IsRowOf};
-ghost use Rattle.star_query.specs.declared.tree.Tree.{Tree};
 ghost use Rattle.star_query.specs.Derives.{Means};
-ghost use Rattle.star_query.specs.Views.{tree_view};
+ghost use Rattle.star_query.specs.Tree.{Tree};
 ghost use Rattle.star_plan.specs.Meaning.{Plan};
 ghost use Rattle.star_plan.specs.Resolved.{IsResolved};
 ghost use Rattle.star_plan.specs.Sound.{IsSound};
@@ -46,7 +45,7 @@ pub fn compiled_programs_answer_their_queries()
 /// text.
 pub fn compiled_programs_report_their_queries()
     ensures { (most : ℕ) (texts : TableId → List ℕ) (text : List ℕ) (query : Tree) (p : Plan)
-        → IsLoadable most texts → Means text (tree_view query)
+        → IsLoadable most texts → Means text query
         → IsWellNamed query → IsResolved query p → ReportsTheQuery texts text p }
 {
     sound_rows_have_a_world();

@@ -11,8 +11,6 @@ pub mod QueryFaults
 pub mod QueryAnswers
 pub mod ProgramTexts
 pub mod Quoting
-pub mod TreesInMemory
-pub mod FaultsOfNames
 pub mod Meanings
 pub mod ThirteenMeant
 pub mod BenchParts

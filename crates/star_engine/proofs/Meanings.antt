@@ -1,21 +1,16 @@
 -- What a text means, and that its names are well, where both compute.
 use Rattle.std.proofs.Common.{◌≡◌, ◌∙◌, ◌≤◌, ℕ, List, [], None, Result, Ok, Err, Bool, true, false, refl, length, ap, sym}
-use Rattle.std.specs.Global.{Global}
 use Rattle.star_query.specs.declared.fault.QueryFault.{QueryFault}
-use Rattle.star_query.specs.declared.tree.Tree as declared
 use Rattle.star_query.specs.Symbols.{Placed, symbols}
 use Rattle.star_query.specs.Cut.{cut_of}
 use Rattle.star_query.specs.Grammar.{Query, query_tree, one, plain, ungrouped}
 use Rattle.star_query.specs.Tree.{Name, Tree}
 use Rattle.star_query.specs.Derives.{Means}
-use Rattle.star_query.specs.Views.{tree_view}
 use Rattle.star_query.specs.Private.Machine.{Verdict, Whole, Bad}
 use Rattle.star_query.proofs.Verdicts.{derives, one_meaning, verdict_of}
 use Rattle.star_plan.specs.Faults.{plan_fault}
 use Rattle.star_plan.specs.WellNamed.{IsWellNamed}
 use Rattle.star_plan.proofs.Conditions.{well_named}
-use Rattle.star_engine.proofs.TreesInMemory.{tree_of}
-use Rattle.star_engine.proofs.FaultsOfNames.{fault_again}
 
 abbrev pub nameless : Name
 nameless = record { text = []; place = 0 }
@@ -64,7 +59,7 @@ pub record IsWorked (text : List ℕ) : Type 0 where
   pub short : length text ≤ 65536
   pub cut : is_cut (cut_of text) ≡ true
   pub whole : is_whole (verdict text) ≡ true
-  pub named : (heap : Global) → plan_fault (tree_of heap (meaning text)) ≡ None
+  pub named : plan_fault (meaning text) ≡ None
 
 pub means : (text : List ℕ) → IsWorked text → Means text (meaning text)
 means text w = record {
@@ -74,8 +69,7 @@ means text w = record {
   derives = derives (symbols (tokens_in (cut_of text))) (query_in (verdict text)) (whole_is (verdict text) w.whole);
 }
 
-pub are_named : (text : List ℕ) → IsWorked text → (tree : declared.Tree) → Means text (tree_view tree) → IsWellNamed tree
+pub are_named : (text : List ℕ) → IsWorked text → (tree : Tree) → Means text tree → IsWellNamed tree
 are_named text w tree other =
-    let same : meaning text ≡ tree_view tree = one_meaning text (meaning text) (tree_view tree) (means text w) other in
-    let heap = tree.items.alloc in
-    well_named tree (sym (fault_again heap tree) ∙ ap (λ t. plan_fault (tree_of heap t)) (sym same) ∙ w.named heap)
+    let same : meaning text ≡ tree = one_meaning text (meaning text) tree (means text w) other in
+    well_named tree (ap plan_fault (sym same) ∙ w.named)

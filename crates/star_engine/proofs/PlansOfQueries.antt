@@ -3,7 +3,6 @@ use Rattle.std.proofs.Common.{ℕ, List}
 use Rattle.star_query.proofs.Spelled.{meant_spelled}
 use Rattle.star_query.proofs.Within.{derived_within}
 use Rattle.star_query.specs.Limits as asked
-use Rattle.star_query.specs.Views.{tree_view}
 use Rattle.star_plan.specs.Limits.{IsWithinLimits}
 use Rattle.star_plan.specs.Meaning.{Plan}
 use Rattle.star_plan.specs.Sound.{IsSound}
@@ -12,8 +11,8 @@ use Rattle.star_plan.proofs.Conditions.{no_fault}
 use Rattle.star_plan.proofs.Kept.{kept_sound, kept_spelled, kept_within}
 use Rattle.star_engine.specs.Queries.{IsPlanOf}
 
-few : (query : List ℕ) (p : Plan) (h : IsPlanOf query p) → asked.IsWithinLimits (tree_view h.tree)
-few query p h = derived_within _ (tree_view h.tree) h.means.derives
+few : (query : List ℕ) (p : Plan) (h : IsPlanOf query p) → asked.IsWithinLimits h.tree
+few query p h = derived_within _ h.tree h.means.derives
 
 pub plan_within : (query : List ℕ) (p : Plan) → IsPlanOf query p → IsWithinLimits p
 plan_within query p h = kept_within h.tree p (few query p h) (no_fault h.tree h.named) h.resolved
@@ -23,4 +22,4 @@ plan_sound query p h = kept_sound h.tree p (no_fault h.tree h.named) h.resolved
 
 pub plan_spelled : (query : List ℕ) (p : Plan) → IsPlanOf query p → IsSpelled p
 plan_spelled query p h =
-    kept_spelled h.tree p (few query p h) (meant_spelled query (tree_view h.tree) h.means) h.resolved
+    kept_spelled h.tree p (few query p h) (meant_spelled query h.tree h.means) h.resolved

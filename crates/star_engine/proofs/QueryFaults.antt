@@ -3,9 +3,8 @@ use Rattle.std.proofs.Common.{◌≡◌, ℕ, List, Some, inl, inr}
 use Rattle.star_common.specs.Memory.{UnlessMemory}
 use Rattle.star_query.specs.declared.fault.QueryFault.{QueryFault}
 use Rattle.star_query.specs.declared.fault.QueryFault.TheVariants as parsing
-use Rattle.star_query.specs.declared.tree.Tree.{Tree}
 use Rattle.star_query.specs.Derives.{IsFirstFault, Means}
-use Rattle.star_query.specs.Views.{tree_view}
+use Rattle.star_query.specs.Tree.{Tree}
 use Rattle.star_plan.specs.declared.fault.PlanFault.{PlanFault}
 use Rattle.star_plan.specs.declared.fault.PlanFault.TheVariants as planning
 use Rattle.star_plan.specs.Faults.{plan_fault}
@@ -50,7 +49,7 @@ unparsed_none text (engine.Query fault) is = is
 unparsed_none text _ is = absurd is
 
 -- nor has one that means a query which is not well named
-pub unplanned_none : (text : List ℕ) (tree : Tree) → Means text (tree_view tree)
+pub unplanned_none : (text : List ℕ) (tree : Tree) → Means text tree
     → (fault : EngineFault) → IsUnplanned tree fault → IsNoQuery text fault
 unplanned_none text tree means (engine.Plan fault) is =
     record { tree = tree; means = means; first = is }

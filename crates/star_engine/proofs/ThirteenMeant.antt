@@ -2,12 +2,10 @@
 use Rattle.std.proofs.Common.{◌≡◌, Some, None, lit≤, refl}
 use Rattle.star_common.specs.First.{first_answer}
 use Rattle.star_schema.specs.Schema.{column_of, table_name}
-use Rattle.star_query.specs.declared.tree.Tree as parsed
 use Rattle.star_query.specs.Cut.{cut_from, reserved}
 use Rattle.star_query.specs.Derives.{Means}
 use Rattle.star_query.specs.Symbols.{reserved_words, spelling}
 use Rattle.star_query.specs.Tree.{Tree}
-use Rattle.star_query.specs.Views.{tree_view}
 use Rattle.star_query.proofs.FirstFaults.{no_fault as no_first_fault}
 use Rattle.star_plan.specs.Faults.{plan_fault}
 use Rattle.star_plan.specs.Names.{column_called, has_name, table_called}
@@ -24,25 +22,24 @@ use Rattle.star_engine.proofs.Meanings.{IsWorked, are_named, meaning, means}
 
 worked : (q : BenchmarkQuery) → IsWorked (query_text q)
 unfolding query_text cut_from reserved reserved_words spelling column_of column_called table_called has_name table_name first_answer function_word has_text
-worked Q11 = record { short = lit≤ tt; cut = refl; whole = refl; named = λ heap. refl }
-worked Q12 = record { short = lit≤ tt; cut = refl; whole = refl; named = λ heap. refl }
-worked Q13 = record { short = lit≤ tt; cut = refl; whole = refl; named = λ heap. refl }
-worked Q21 = record { short = lit≤ tt; cut = refl; whole = refl; named = λ heap. refl }
-worked Q22 = record { short = lit≤ tt; cut = refl; whole = refl; named = λ heap. refl }
-worked Q23 = record { short = lit≤ tt; cut = refl; whole = refl; named = λ heap. refl }
-worked Q31 = record { short = lit≤ tt; cut = refl; whole = refl; named = λ heap. refl }
-worked Q32 = record { short = lit≤ tt; cut = refl; whole = refl; named = λ heap. refl }
-worked Q33 = record { short = lit≤ tt; cut = refl; whole = refl; named = λ heap. refl }
-worked Q34 = record { short = lit≤ tt; cut = refl; whole = refl; named = λ heap. refl }
-worked Q41 = record { short = lit≤ tt; cut = refl; whole = refl; named = λ heap. refl }
-worked Q42 = record { short = lit≤ tt; cut = refl; whole = refl; named = λ heap. refl }
-worked Q43 = record { short = lit≤ tt; cut = refl; whole = refl; named = λ heap. refl }
+worked Q11 = record { short = lit≤ tt; cut = refl; whole = refl; named = refl }
+worked Q12 = record { short = lit≤ tt; cut = refl; whole = refl; named = refl }
+worked Q13 = record { short = lit≤ tt; cut = refl; whole = refl; named = refl }
+worked Q21 = record { short = lit≤ tt; cut = refl; whole = refl; named = refl }
+worked Q22 = record { short = lit≤ tt; cut = refl; whole = refl; named = refl }
+worked Q23 = record { short = lit≤ tt; cut = refl; whole = refl; named = refl }
+worked Q31 = record { short = lit≤ tt; cut = refl; whole = refl; named = refl }
+worked Q32 = record { short = lit≤ tt; cut = refl; whole = refl; named = refl }
+worked Q33 = record { short = lit≤ tt; cut = refl; whole = refl; named = refl }
+worked Q34 = record { short = lit≤ tt; cut = refl; whole = refl; named = refl }
+worked Q41 = record { short = lit≤ tt; cut = refl; whole = refl; named = refl }
+worked Q42 = record { short = lit≤ tt; cut = refl; whole = refl; named = refl }
+worked Q43 = record { short = lit≤ tt; cut = refl; whole = refl; named = refl }
 
 pub meant : (q : BenchmarkQuery) → (tree : Tree) × Means (query_text q) tree
 meant q = (meaning (query_text q), means (query_text q) (worked q))
 
-pub named : (q : BenchmarkQuery) (tree : parsed.Tree) → Means (query_text q) (tree_view tree)
-    → IsWellNamed tree
+pub named : (q : BenchmarkQuery) (tree : Tree) → Means (query_text q) tree → IsWellNamed tree
 named q tree is = are_named (query_text q) (worked q) tree is
 
 -- so none of them is at fault

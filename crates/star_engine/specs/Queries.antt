@@ -7,9 +7,8 @@ use Rattle.star_schema.specs.Database.{rows_in}
 use Rattle.star_schema.specs.Loadable.{IsLoadable, database_of}
 use Rattle.star_query.specs.declared.fault.QueryFault.{QueryFault}
 use Rattle.star_query.specs.declared.fault.QueryFault.TheVariants as parsing
-use Rattle.star_query.specs.declared.tree.Tree.{Tree}
 use Rattle.star_query.specs.Derives.{IsFirstFault, Means}
-use Rattle.star_query.specs.Views.{tree_view}
+use Rattle.star_query.specs.Tree.{Tree}
 use Rattle.star_plan.specs.declared.fault.PlanFault.{PlanFault}
 use Rattle.star_plan.specs.Faults.{plan_fault}
 use Rattle.star_plan.specs.Meaning.{Plan}
@@ -38,7 +37,7 @@ use Rattle.star_engine.specs.Notes.{counts_line, quote_line}
 -- the text means a well named query, and this is the query with its names resolved
 pub record IsPlanOf (query : List ℕ) (p : Plan) : Type 0 where
   pub tree : Tree
-  pub means : Means query (tree_view tree)
+  pub means : Means query tree
   pub named : IsWellNamed tree
   pub resolved : IsResolved tree p
 
@@ -67,7 +66,7 @@ pub record IsQueryFault (query : List ℕ) (fault : QueryFault) : Type 0 where
 -- the first fault of the names of a query that a text means
 pub record IsPlanFault (query : List ℕ) (fault : PlanFault) : Type 0 where
   pub tree : Tree
-  pub means : Means query (tree_view tree)
+  pub means : Means query tree
   pub first : plan_fault tree ≡ Some fault
 
 -- why a text is no well named query

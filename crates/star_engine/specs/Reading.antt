@@ -1,21 +1,24 @@
--- What a tally of reads is seen as.
+-- What the reads of a reader came to.
 use Rattle.std.specs.Prelude.{◌≡◌, Bool, false, ℕ}
-use Rattle.star_engine.specs.declared.reading.Tally.{Tally}
+use Rattle.star_engine.specs.declared.input.Input.{Input}
+
+abbrev pub reader_of : {R : Type 0} → Input R → R
+reader_of input = input.reader
 
 -- how many reads there were
-abbrev pub reads_of : Tally → ℕ
-reads_of tally = tally.reads
+abbrev pub reads_of : {R : Type 0} → Input R → ℕ
+reads_of input = input.reads
 
 -- how many bytes came, as far as 64 bits count
-abbrev pub came_of : Tally → ℕ
-came_of tally = tally.came
+abbrev pub came_of : {R : Type 0} → Input R → ℕ
+came_of input = input.came
 
 -- whether a read failed
-abbrev pub has_failed : Tally → Bool
-has_failed tally = tally.failed
+abbrev pub has_failed : {R : Type 0} → Input R → Bool
+has_failed input = input.failed
 
 -- nothing was read yet
-pub record IsFresh (tally : Tally) : Type 0 where
-  pub reads : reads_of tally ≡ 0
-  pub came : came_of tally ≡ 0
-  pub failed : has_failed tally ≡ false
+pub record IsFresh {R : Type 0} (input : Input R) : Type 0 where
+  pub reads : reads_of input ≡ 0
+  pub came : came_of input ≡ 0
+  pub failed : has_failed input ≡ false

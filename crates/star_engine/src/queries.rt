@@ -3,7 +3,7 @@
 ghost use Rattle.std.specs.Prelude.{MatchResult};
 ghost use Rattle.star_catalogue.specs.Load.{text_of};
 ghost use Rattle.star_query.specs.Derives.{Means};
-ghost use Rattle.star_query.specs.Shown.{shown, tree_of};
+ghost use Rattle.star_query.specs.Shown.{shown};
 ghost use Rattle.star_plan.specs.PlanTrees.{plan_tree};
 ghost use Rattle.star_plan.specs.Shown as planned;
 ghost use Rattle.star_engine.specs.Answered.{IsAnswered, change};
@@ -36,8 +36,8 @@ fn parse_query(alloc: Global, text: &[u8]) -> Result<Query, EngineFault>
 // A query with its names resolved.
 fn plan_query(alloc: Global, query: &Query) -> Result<Plan, EngineFault>
     ensures { MatchResult result
-        (λ plan. IsPlanOfTree (tree_of query.now) (planned.shown (plan_tree plan)))
-        (OrMemory (IsUnplanned (tree_of query.now))) }
+        (λ plan. IsPlanOfTree (shown query.now) (planned.shown (plan_tree plan)))
+        (OrMemory (IsUnplanned (shown query.now))) }
 {
     Ok(plan(alloc, query)?)
 }

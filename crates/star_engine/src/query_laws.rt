@@ -4,10 +4,8 @@ ghost use Rattle.std.specs.Prelude.{◌≡◌, ◌≢◌, ◌≤◌, ◌<◌, �
 ghost use Rattle.star_schema.specs.declared.table.TableId.{TableId};
 ghost use Rattle.star_schema.specs.Database.{rows_in};
 ghost use Rattle.star_schema.specs.Loadable.{IsLoadable, database_of};
-ghost use Rattle.star_query.specs.declared.tree.Tree as parsed;
 ghost use Rattle.star_query.specs.Derives.{Means};
 ghost use Rattle.star_query.specs.Tree.{Tree};
-ghost use Rattle.star_query.specs.Views.{tree_view};
 ghost use Rattle.star_plan.specs.Meaning.{Plan};
 ghost use Rattle.star_plan.specs.WellNamed.{IsWellNamed};
 ghost use Rattle.star_program.specs.Effects.{Store};
@@ -87,7 +85,7 @@ pub fn programs_of_queries_report_them()
 /// none of them is refused as it is read.
 pub fn the_thirteen_are_queries()
     ensures meant { (q : BenchmarkQuery) → (tree : Tree) × Means (query_text q) tree }
-    ensures named { (q : BenchmarkQuery) (tree : parsed.Tree)
-        → Means (query_text q) (tree_view tree) → IsWellNamed tree }
+    ensures named { (q : BenchmarkQuery) (tree : Tree)
+        → Means (query_text q) tree → IsWellNamed tree }
     ensures read { (q : BenchmarkQuery) (fault : EngineFault) → ¬ IsNoQuery (query_text q) fault }
 {}

@@ -1,12 +1,12 @@
 // Reading a file, a pipe or a device whole, under a bound on its bytes.
 
-ghost use Rattle.std.specs.Prelude.{◌≡◌, ◌≤◌, ◌<◌, ◌+◌, ◌-◌, ◌^◌, ◌++◌, ◌⊎◌, ℕ, List, [], true, false, Err, IfOk, IfErr, IfSome, OnErr, OnOk, min, length, take, vec_len};
-ghost use Rattle.std.specs.Io.{ReadsAtMost};
-ghost use Rattle.std.specs.Io.KnownBytes.{Consumes, IsAtEnd, ReadConsumes};
+ghost use Rattle.std.specs.Prelude.{◌≡◌, ◌≤◌, ◌<◌, ◌+◌, ◌++◌, ◌⊎◌, ℕ, List, [], true, Err, IfOk, IfSome, OnErr, OnOk, length, vec_len};
+ghost use Rattle.std.specs.Io.KnownBytes.{Consumes, IsAtEnd};
 ghost use Rattle.star_common.specs.Memory.{TellsMemory};
 ghost use Rattle.star_engine.specs.declared.reading.FileFault.TheVariants.{Memory};
-ghost use Rattle.star_engine.specs.Reading.{IsFresh, came_of, has_failed, reads_of};
+ghost use Rattle.star_engine.specs.Reading.{came_of, has_failed, reader_of, reads_of};
 
+use crate::input::Input;
 use std::alloc::{AllocError, Global};
 use std::io::Read;
 
@@ -33,80 +33,30 @@ impl From<AllocError> for FileFault {
     }
 }
 
-/// What some reads came to: how many there were, how many bytes they gave, and whether one failed.
-#[derive(Clone, Copy, Debug)]
-pub struct Tally {
-    reads: u64,
-    came: u64,
-    failed: bool,
-}
-
-impl Tally {
-    /// The tally of no reads.
-    pub fn new() -> Tally
-        ensures { IsFresh result }
-    {
-        Tally {
-            reads: 0,
-            came: 0,
-            failed: false,
-        }
-    }
-}
-
-// One read, with no second try where it fails.
-fn read_once<R: Read>(
-    reader: &mut R,
-    room: &mut [u8],
-    tally: &mut Tally,
-) -> Result<usize, FileFault>
-    ensures bound { ReadsAtMost result room.new }
-    ensures bytes { ReadConsumes (R.remaining reader.old) (R.remaining reader.new) result room.new }
-    ensures reads { reads_of tally.new ≤ reads_of tally.old + 1 }
-    ensures came { IfOk result
-        (λ count. came_of tally.new ≡ min (came_of tally.old + count) (2 ^ 64 - 1)) }
-    ensures unfailed { OnOk result (has_failed tally.new ≡ has_failed tally.old) }
-    ensures failed { OnErr result (has_failed tally.new ≡ true) }
-    ensures fault { IfErr result (λ fault. fault ≡ FileFault.Failed) }
-{
-    tally.reads = tally.reads.saturating_add(1);
-    match reader.read(room) {
-        Ok(count) => {
-            tally.came = tally.came.saturating_add(count as u64);
-            Ok(count)
-        }
-        Err(_) => {
-            tally.failed = true;
-            Err(FileFault::Failed)
-        }
-    }
-}
-
 // Adds the bytes of one more read, and gives how many there were.
 fn read_more<R: Read>(
-    reader: &mut R,
+    input: &mut Input<R>,
     bytes: &mut Vec<u8>,
     room: &mut [u8],
     limit: u64,
-    tally: &mut Tally,
 ) -> Result<usize, FileFault>
     requires room { 0 < length room.old }
     requires within { vec_len bytes.old ≤ limit }
     ensures room { length room.new ≡ length room.old }
     ensures grown { IfOk result (λ count. (more : List ℕ) × (length more ≡ count)
         × (bytes.new.items ≡ bytes.old.items ++ more)
-        × Consumes (R.remaining reader.old) (R.remaining reader.new) more) }
+        × Consumes (R.remaining (reader_of input.old)) (R.remaining (reader_of input.new)) more) }
     ensures within { OnOk result (vec_len bytes.new ≤ limit) }
-    ensures end { IfOk result (λ count. count ≡ 0 → IsAtEnd (R.remaining reader.new)) }
-    ensures reads { reads_of tally.new ≤ reads_of tally.old + 1 }
-    ensures came { OnOk result (vec_len bytes.old ≤ came_of tally.old
-        → vec_len bytes.new ≤ came_of tally.new) }
-    ensures unfailed { OnOk result (has_failed tally.new ≡ has_failed tally.old) }
-    ensures failed { result ≡ Err FileFault.Failed → vec_len bytes.old ≤ came_of tally.old
-        → (has_failed tally.new ≡ true) ⊎ (limit < came_of tally.new) }
-    ensures memory { result ≡ Err FileFault.Memory → has_failed tally.new ≡ has_failed tally.old }
+    ensures end { IfOk result (λ count. count ≡ 0 → IsAtEnd (R.remaining (reader_of input.new))) }
+    ensures reads { reads_of input.new ≤ reads_of input.old + 1 }
+    ensures came { OnOk result (vec_len bytes.old ≤ came_of input.old
+        → vec_len bytes.new ≤ came_of input.new) }
+    ensures unfailed { OnOk result (has_failed input.new ≡ has_failed input.old) }
+    ensures failed { result ≡ Err FileFault.Failed → vec_len bytes.old ≤ came_of input.old
+        → (has_failed input.new ≡ true) ⊎ (limit < came_of input.new) }
+    ensures memory { result ≡ Err FileFault.Memory → has_failed input.new ≡ has_failed input.old }
 {
-    let count = read_once(reader, room, tally)?;
+    let count = input.read(room)?;
     if limit - (bytes.len() as u64) < count as u64 {
         return Err(FileFault::Failed);
     }
@@ -131,26 +81,25 @@ fn reserve(alloc: Global, limit: u64, expected: u64) -> Result<Vec<u8>, AllocErr
 
 // All bytes of a reader, each read into the same room.
 fn read_all<R: Read>(
-    reader: &mut R,
+    input: &mut Input<R>,
     bytes: &mut Vec<u8>,
     room: &mut [u8],
     limit: u64,
-    tally: &mut Tally,
 ) -> Result<(), FileFault>
     requires room { 0 < length room.old }
     requires empty { bytes.old.items ≡ [] }
-    ensures bytes { OnOk result (Consumes (R.remaining reader.old) (R.remaining reader.new)
-        bytes.new.items) }
-    ensures end { OnOk result (IsAtEnd (R.remaining reader.new)) }
+    ensures bytes { OnOk result (Consumes (R.remaining (reader_of input.old))
+        (R.remaining (reader_of input.new)) bytes.new.items) }
+    ensures end { OnOk result (IsAtEnd (R.remaining (reader_of input.new))) }
     ensures within { OnOk result (vec_len bytes.new ≤ limit) }
-    ensures unfailed { OnOk result (has_failed tally.new ≡ has_failed tally.old) }
+    ensures unfailed { OnOk result (has_failed input.new ≡ has_failed input.old) }
     ensures failed { result ≡ Err FileFault.Failed
-        → (has_failed tally.new ≡ true) ⊎ (limit < came_of tally.new) }
-    ensures memory { result ≡ Err FileFault.Memory → has_failed tally.new ≡ has_failed tally.old }
-    ensures reads { reads_of tally.new ≤ reads_of tally.old + (limit + 1) }
+        → (has_failed input.new ≡ true) ⊎ (limit < came_of input.new) }
+    ensures memory { result ≡ Err FileFault.Memory → has_failed input.new ≡ has_failed input.old }
+    ensures reads { reads_of input.new ≤ reads_of input.old + (limit + 1) }
 {
     for _ in 0..u64::MAX {
-        if read_more(reader, bytes, room, limit, tally)? == 0 {
+        if read_more(input, bytes, room, limit)? == 0 {
             return Ok(());
         }
     }
@@ -159,40 +108,46 @@ fn read_all<R: Read>(
 
 /// All bytes of a reader, up to the first read that gives none; no more than `limit`. Room for the
 /// `expected` ones is made before any is read, as far as that is sensible: they are a hint alone.
-/// The tally, of no reads before, tells what the reads came to.
+/// No read is tried again, so there are at most `limit + 1`.
 pub fn read_expected<R: Read>(
     alloc: Global,
-    reader: &mut R,
+    input: &mut Input<R>,
     limit: u64,
     expected: u64,
-    tally: &mut Tally,
 ) -> Result<Vec<u8>, FileFault>
-    requires { IsFresh tally.old }
     ensures bytes { IfOk result (λ bytes.
-        IfSome (R.remaining reader.old) (λ all. bytes.items ≡ all)) }
-    ensures end { OnOk result (IsAtEnd (R.remaining reader.new)) }
+        IfSome (R.remaining (reader_of input.old)) (λ all. bytes.items ≡ all)) }
+    ensures end { OnOk result (IsAtEnd (R.remaining (reader_of input.new))) }
     ensures within { IfOk result (λ bytes. vec_len bytes ≤ limit) }
 
     // Where a read failed, the answer is `Failed`; and it comes for nothing else than it says.
-    ensures unfailed { OnOk result (has_failed tally.new ≡ false) }
+    ensures unfailed { OnOk result (has_failed input.new ≡ has_failed input.old) }
     ensures failed { result ≡ Err FileFault.Failed
-        → (has_failed tally.new ≡ true) ⊎ (limit < came_of tally.new) }
-    ensures memory { result ≡ Err FileFault.Memory → has_failed tally.new ≡ false }
-    ensures reads { reads_of tally.new ≤ limit + 1 }
+        → (has_failed input.new ≡ true) ⊎ (limit < came_of input.new) }
+    ensures memory { result ≡ Err FileFault.Memory → has_failed input.new ≡ has_failed input.old }
+    ensures reads { reads_of input.new ≤ reads_of input.old + (limit + 1) }
 {
     let mut bytes = reserve(alloc, limit, expected)?;
     let mut room = room_of(alloc, MOST_OF_A_READ)?;
-    read_all(reader, &mut bytes, room.as_mut_slice(), limit, tally)?;
+    read_all(input, &mut bytes, room.as_mut_slice(), limit)?;
     Ok(bytes)
 }
 
-/// All bytes of a reader, up to the first read that gives none; no more than `limit`. No read is
-/// tried again, so there are at most `limit + 1`, as the tally of `read_expected` tells.
-pub fn read_whole<R: Read>(alloc: Global, reader: &mut R, limit: u64) -> Result<Vec<u8>, FileFault>
+/// All bytes of a reader, as `read_expected` with no bytes that are expected.
+pub fn read_whole<R: Read>(
+    alloc: Global,
+    input: &mut Input<R>,
+    limit: u64,
+) -> Result<Vec<u8>, FileFault>
     ensures bytes { IfOk result (λ bytes.
-        IfSome (R.remaining reader.old) (λ all. bytes.items ≡ all)) }
-    ensures end { OnOk result (IsAtEnd (R.remaining reader.new)) }
+        IfSome (R.remaining (reader_of input.old)) (λ all. bytes.items ≡ all)) }
+    ensures end { OnOk result (IsAtEnd (R.remaining (reader_of input.new))) }
     ensures within { IfOk result (λ bytes. vec_len bytes ≤ limit) }
+    ensures unfailed { OnOk result (has_failed input.new ≡ has_failed input.old) }
+    ensures failed { result ≡ Err FileFault.Failed
+        → (has_failed input.new ≡ true) ⊎ (limit < came_of input.new) }
+    ensures memory { result ≡ Err FileFault.Memory → has_failed input.new ≡ has_failed input.old }
+    ensures reads { reads_of input.new ≤ reads_of input.old + (limit + 1) }
 {
-    read_expected(alloc, reader, limit, 0, &mut Tally::new())
+    read_expected(alloc, input, limit, 0)
 }

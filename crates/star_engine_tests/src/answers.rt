@@ -71,6 +71,23 @@ const OF_THE_SAMPLE: &[Case] = &[
     ),
 ];
 
+// As many items as a query has at most, and as many aggregates.
+const OF_MANY_ITEMS: &[Case] = &[(
+    concat!(
+        "select lo_tax, lo_tax, lo_tax, lo_tax, lo_tax, lo_tax, lo_tax, lo_tax, ",
+        "count(*) as a, count(*) as b, count(*) as c, count(*) as d, ",
+        "count(*) as e, count(*) as f, count(*) as g, sum(lo_tax) as h ",
+        "from lineorder group by lo_tax order by lo_tax desc",
+    ),
+    concat!(
+        "lo_tax|lo_tax|lo_tax|lo_tax|lo_tax|lo_tax|lo_tax|lo_tax|a|b|c|d|e|f|g|h\n",
+        "8|8|8|8|8|8|8|8|1|1|1|1|1|1|1|8\n4|4|4|4|4|4|4|4|1|1|1|1|1|1|1|4\n",
+        "2|2|2|2|2|2|2|2|1|1|1|1|1|1|1|2\n1|1|1|1|1|1|1|1|1|1|1|1|1|1|1|1\n",
+        "0|0|0|0|0|0|0|0|1|1|1|1|1|1|1|0\n",
+    ),
+    "quote 5\nvisits 5 lookups 0 updates 5\n",
+)];
+
 const OF_EMPTY_TABLES: &[Case] = &[(
     REVENUES,
     "d_year|s_region|revenue|n\nALL|ALL|NULL|0\n",
@@ -86,6 +103,7 @@ const OF_NO_ORDERS: &[Case] = &[(
 #[test]
 fn reports_with_notes(rt: HostRuntime) -> Result<(), Fail> {
     all_agree(rt.alloc(), &sample(), OF_THE_SAMPLE)?;
+    all_agree(rt.alloc(), &sample(), OF_MANY_ITEMS)?;
     all_agree(rt.alloc(), &NO_TEXTS, OF_EMPTY_TABLES)?;
     all_agree(rt.alloc(), &with_orders(b""), OF_NO_ORDERS)?;
     agrees(

@@ -1,6 +1,6 @@
 // Readers read whole: what comes, the bound, and reads that fail.
 
-use star_engine::{FileFault, Tally, read_expected, read_whole};
+use star_engine::{FileFault, Input, read_expected, read_whole};
 use star_fixtures::streams::Zeros;
 use std::alloc::{AllocError, Global};
 use std::test::Fail;
@@ -28,10 +28,8 @@ fn reads_texts_whole(rt: HostRuntime) -> Result<(), Fail> {
     ] {
         let expected = text.as_slice().get(..length).ok_or("length")?;
         for hint in [0, 1, limit, u64::MAX] {
-            let mut left = expected;
-            let mut tally = Tally::new();
-            let answer = read_expected(rt.alloc(), &mut left, limit, hint, &mut tally);
-            let bytes = kept(answer)?;
+            let mut input = Input::new(expected);
+            let bytes = kept(read_expected(rt.alloc(), &mut input, limit, hint))?;
             let same = bytes.as_ref().map(|bytes| bytes.as_slice() == expected);
             assert_eq!(rt; same, is_read.then_some(true), "{length} {limit} {hint}");
         }
@@ -45,7 +43,7 @@ fn zeros_read(
     limit: u64,
     mut zeros: Zeros,
 ) -> Result<(Option<usize>, u64), AllocError> {
-    let bytes = kept(read_whole(alloc, &mut zeros, limit))?;
+    let bytes = kept(read_whole(alloc, &mut Input::new(&mut zeros), limit))?;
     Ok((bytes.map(|bytes| bytes.len()), zeros.reads))
 }
 

@@ -59,18 +59,29 @@ fn reports_that_fail_are_told(rt: HostRuntime) -> Result<(), Fail> {
     Ok(())
 }
 
+const GROUPS: &str = "sum1|d_year|p_brand1\n980|1993|MFGR#121\n495|1994|MFGR#121\n";
+
+// A report of some rows that fails at each of its bytes, and is whole with them all.
 #[test]
-fn ten_bytes_are_told(rt: HostRuntime) -> Result<(), Fail> {
+fn reports_of_groups_are_told(rt: HostRuntime) -> Result<(), Fail> {
     let query = BenchmarkQuery::Q21.text().as_bytes();
-    let room = Room {
-        report: 10,
-        notes: AMPLE,
-    };
-    answered(rt.alloc(), &sample(), query, Limits::widest(), room)?.agree(
-        b"sum1|d_yea",
-        QUOTE.as_bytes(),
-        "write 10",
-    )
+    for count in 0..GROUPS.len() + 1 {
+        let fault = write_fault(rt.alloc(), count, GROUPS)?;
+        let notes = match count == GROUPS.len() {
+            true => "quote 5\nvisits 5 lookups 9 updates 2\n",
+            false => QUOTE,
+        };
+        let room = Room {
+            report: count,
+            notes: AMPLE,
+        };
+        answered(rt.alloc(), &sample(), query, Limits::widest(), room)?.agree(
+            first_bytes(GROUPS, count)?,
+            notes.as_bytes(),
+            fault.as_str(),
+        )?;
+    }
+    Ok(())
 }
 
 // The program of the first query of the benchmark.

@@ -1,11 +1,14 @@
 //! Lists in flat storage: of texts, one buffer for the bytes of all and one for where each ends; of
-//! numbers, words no wider than they need.
+//! texts many of which are equal, those and a place among them for each; of numbers, words no wider
+//! than they need.
 #![tactic(auto)]
 
 mod numbers;
+mod repeated;
 mod texts;
 mod words;
 
 pub use numbers::FlatNumbers;
+pub use repeated::RepeatedTexts;
 pub use texts::FlatTexts;
 pub use words::{SignedWord, SignedWords};

@@ -1,6 +1,6 @@
 // A list of numbers, in words as wide as they need.
 
-ghost use Rattle.std.specs.Prelude.{◌≡◌, ◌<◌, ◌++◌, ◌∷◌, [], OnErr, OnOk, Some, length, slice_get};
+ghost use Rattle.std.specs.Prelude.{◌≡◌, ◌<◌, ◌++◌, ◌∷◌, [], OnErr, OnOk, Some, length, slice_get, take};
 ghost use Rattle.star_flat.specs.Words.{numbers_in};
 
 use crate::words::SignedWords;
@@ -68,6 +68,13 @@ impl FlatNumbers {
         } else {
             self.push_wide(number)
         }
+    }
+
+    /// Keeps the first so many numbers alone.
+    pub(crate) fn truncate(&mut self, count: usize)
+        ensures { self.new ≡ take count self.old }
+    {
+        self.words.truncate(count);
     }
 
     /// Puts a number at the end in words as wide as it needs, or changes nothing where memory is

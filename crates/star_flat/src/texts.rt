@@ -1,7 +1,8 @@
 // A list of texts, one after another in one buffer.
 
 ghost use Rattle.std.specs.Prelude.{◌≡◌, ◌<◌, ◌++◌, ◌∷◌, ◌↔◌, [], IsTrue, Some, length, slice_get, OnOk, OnErr};
-ghost use Rattle.star_flat.specs.Private.Cut.{places, texts_from, start_of, IsCut};
+ghost use Rattle.star_flat.specs.Private.Cut.{texts_from, start_of, IsCut};
+ghost use Rattle.star_flat.specs.Repeated.{places};
 
 use crate::numbers::FlatNumbers;
 use std::alloc::{AllocError, Global};
@@ -17,7 +18,8 @@ pub struct FlatTexts {
 
 impl Model for FlatTexts {
     ghost use Rattle.std.specs.Prelude.{List, ℕ, length};
-    ghost use Rattle.star_flat.specs.Private.Cut.{places, texts_from, IsCut};
+    ghost use Rattle.star_flat.specs.Private.Cut.{texts_from, IsCut};
+    ghost use Rattle.star_flat.specs.Repeated.{places};
 
     ghost Value = { List (List ℕ) };
 

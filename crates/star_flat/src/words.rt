@@ -1,6 +1,6 @@
 // Signed words of 8, 16, 32 and 64 bits.
 
-ghost use Rattle.std.specs.Prelude.{◌≡◌, ◌<◌, ◌++◌, ◌∷◌, [], ℤ, true, All, FitsSigned, IfOk, MatchBool, MatchOption, OnErr, OnOk, Some, length, map, refl, slice_get, vec_capacity, vec_len};
+ghost use Rattle.std.specs.Prelude.{◌≡◌, ◌<◌, ◌++◌, ◌∷◌, [], ℤ, true, All, FitsSigned, IfOk, MatchBool, MatchOption, OnErr, OnOk, Some, length, map, refl, slice_get, take, vec_capacity, vec_len};
 ghost use Rattle.std.specs.Int.{w8, w16, w32, w64};
 ghost use Rattle.std.specs.Ordering.{int_cmp};
 ghost use Rattle.star_flat.specs.Words.{numbers_in};
@@ -188,6 +188,18 @@ impl SignedWords {
             SignedWords::Bits16(words) => push_to(words, number),
             SignedWords::Bits32(words) => push_to(words, number),
             SignedWords::Bits64(words) => push_to(words, number),
+        }
+    }
+
+    /// Keeps the first so many numbers alone.
+    pub(crate) fn truncate(&mut self, count: usize)
+        ensures { numbers_in self.new ≡ take count (numbers_in self.old) }
+    {
+        match self {
+            SignedWords::Bits8(words) => words.truncate(count),
+            SignedWords::Bits16(words) => words.truncate(count),
+            SignedWords::Bits32(words) => words.truncate(count),
+            SignedWords::Bits64(words) => words.truncate(count),
         }
     }
 

@@ -11,6 +11,7 @@ pub mod GroupKeys
 pub mod Contents
 pub mod Totals
 pub mod Rooms
+pub mod FlatRows
 pub mod GivenRows
 pub mod GivenGroups
 pub mod OwnGroups

@@ -1,6 +1,7 @@
 -- What the contracts of functions that are not public cite.
 pub mod Rows
 pub mod Given
+pub mod FlatRows
 pub mod Merged
 pub mod BasePut
 pub mod Coarser

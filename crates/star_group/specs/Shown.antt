@@ -1,5 +1,5 @@
 -- The rows that a store gives in the end.
-use Rattle.std.specs.Prelude.{◌≡◌, ℕ, List, Some, map, slice_get}
+use Rattle.std.specs.Prelude.{◌≡◌, ℕ, List, [], Some, map, slice_get, slice_index_or}
 use Rattle.star_schema.specs.Groups.{AreGroups, GroupRow as Row}
 use Rattle.star_program.specs.declared.key.KeyValue.{KeyValue}
 use Rattle.star_group.specs.declared.group_row.GroupRow.{GroupRow}
@@ -8,6 +8,10 @@ use Rattle.star_group.specs.Stores.{Put, Group}
 
 abbrev pub row_shown : GroupRow → Row KeyValue
 row_shown row = record { keys = row.keys; totals = row.aggregates }
+
+-- the row of a number from 0; past the last one there is nothing in it
+abbrev pub row_at : List GroupRow → ℕ → GroupRow
+row_at rows number = slice_index_or rows number (record { keys = []; aggregates = [] })
 
 -- the rows are the groups of the puts with their aggregates, each once
 pub record AreRows (d : Group) (puts : List Put) (rows : List GroupRow) : Type 0 where

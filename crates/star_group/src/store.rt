@@ -6,7 +6,7 @@ ghost use Rattle.star_group.specs.Stores.{Put, Group, HasRoom, group_declared, o
 ghost use Rattle.star_group.specs.Shown.{AreRows};
 
 use crate::rows::PutFault;
-use crate::{GroupRow, KeyValue};
+use crate::{GroupRows, KeyValue};
 use star_program::GroupDecl;
 use std::alloc::{AllocError, Global};
 
@@ -46,9 +46,9 @@ pub trait GroupStore: Drop {
             → result ≡ total_of (group self.now) puts aggregate };
 
     /// The groups of the puts with their aggregates, each once, in any order.
-    fn into_rows(self) -> Result<Vec<GroupRow>, AllocError>
+    fn into_rows(self) -> Result<GroupRows, AllocError>
         ensures { IfOk result (λ rows. (puts : List Put) → has self puts
-            → AreRows (group self) puts rows.items) };
+            → AreRows (group self) puts rows) };
 }
 
 /// A store that takes puts with no condition on their numbers, and refuses those that overflow.

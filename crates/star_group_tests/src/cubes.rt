@@ -45,16 +45,17 @@ fn cube_of_six_keys_and_one_put_has_64_rows(rt: HostRuntime) -> Result<(), Fail>
     Ok(())
 }
 
-// Whether a cube of no puts has one row, in which all keys are ALL and the sum is NULL.
+// Whether a cube of no puts has one row, in which all keys are ALL and the sum is NULL, and nothing
+// stands behind it.
 fn is_null_alone<S: GroupStore>(alloc: Global) -> Result<bool, AllocError> {
     let cube = sums::<S>(alloc, Shape::Cube, 2)?;
     let rows = cube.into_rows()?;
-    let [row] = rows.as_slice() else {
-        return Ok(false);
-    };
     Ok(
-        row.keys.as_slice() == [None, None].as_slice()
-            && row.aggregates.as_slice() == [None].as_slice(),
+        rows.len() == 1
+            && rows.keys(0) == [None, None].as_slice()
+            && rows.aggregates(0) == [None].as_slice()
+            && rows.keys(1).is_empty()
+            && rows.aggregates(1).is_empty(),
     )
 }
 

@@ -1,3 +1,4 @@
 pub mod Ranges
 pub mod Sums
 pub mod Products
+mod Worked

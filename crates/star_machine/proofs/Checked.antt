@@ -7,7 +7,8 @@ use Rattle.star_program.specs.declared.fault.TrapKind.TheVariants.{Wrong}
 use Rattle.star_program.specs.declared.op.Op.{Op}
 use Rattle.star_program.specs.declared.program.Parts.{Parts}
 use Rattle.star_program.specs.declared.value.Value.{Value}
-use Rattle.star_program.specs.Effects.{Store, Traps, act, does, kinds_in, unless_fault}
+use Rattle.star_program.specs.Effects.{Store, Traps, act, effect_of, kinds_in, result_trap, unless_trap}
+use Rattle.star_program.specs.Private.Doing.{does}
 use Rattle.star_program.specs.Faults.{fault_of, operands_fault, place_fault, target_fault, target_of}
 use Rattle.star_program.specs.Values.{kind_of_value}
 use Rattle.star_program.specs.World.{World}
@@ -30,8 +31,8 @@ module _ (parts : Parts) (inside : Bool) (xs : List (Option Value)) (op : Op) wh
       (or_none target operands (or_none (place_fault parts inside op) (option_or target operands) (sym same_fault ∙ fine)).1).1
 
   pub acts : (w : World) (s : Store) → fault_of parts inside None (kinds_of (option_map kind_of_value) xs) op ≡ None → does w parts (held xs) s op ≡ act w parts inside (held xs) s op
-  acts w s fine = ap (λ o. unless_fault o (does w parts (held xs) s op)) (sym fine ∙ same_fault)
+  acts w s fine = ap (λ o. unless_trap (option_or (option_map Wrong o) (result_trap w parts (held xs) s op)) (effect_of w parts (held xs) s op)) (sym fine ∙ same_fault)
 
   pub traps : (w : World) (s : Store) (fault : Fault) → fault_of parts inside None (kinds_of (option_map kind_of_value) xs) op ≡ Some fault
       → act w parts inside (held xs) s op ≡ Traps (Wrong fault)
-  traps w s fault wrong = ap (λ o. unless_fault o (does w parts (held xs) s op)) (sym same_fault ∙ wrong)
+  traps w s fault wrong = ap (λ o. unless_trap (option_or (option_map Wrong o) (result_trap w parts (held xs) s op)) (effect_of w parts (held xs) s op)) (sym same_fault ∙ wrong)

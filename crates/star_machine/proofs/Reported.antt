@@ -1,6 +1,8 @@
 -- The outcome of a run, from the sorted groups of a store.
-use Rattle.std.proofs.Common.{◌≡◌, suc, length, List, [], ◌∷◌, Some, get_or, slice_get, map, ap, sym, subst, refl, ◌∙◌}
+use Rattle.std.proofs.Common.{◌≡◌, arith, ℕ, suc, length, List, [], ◌∷◌, Some, get_or, slice_get, map, ap, sym, subst, refl, ◌∙◌}
 use Rattle.std.specs.List.{All, AllByRecursion, Contains}
+use Rattle.std.proofs.Math.ListN.{get_or-map}
+use Rattle.std.proofs.lemmas.List.{length-map}
 use Rattle.std.proofs.lemmas.List.Elements.{Contains-get_or}
 use Rattle.std.proofs.lemmas.Simd.{map-map}
 use Rattle.star_schema.specs.Database.{Database}
@@ -20,7 +22,7 @@ use Rattle.star_program.specs.Puts.{Update}
 use Rattle.star_group.specs.declared.eager.EagerStore.{EagerStore}
 use Rattle.star_group.specs.declared.group_row.GroupRow.{GroupRow}
 use Rattle.star_group.specs.Eager.{Has, group_of}
-use Rattle.star_group.specs.Shown.{AreRows as AreGroupRows, row_shown}
+use Rattle.star_group.specs.Shown.{AreRows as AreGroupRows, row_at, row_shown}
 use Rattle.star_group.specs.Stores.{Group, group_declared}
 use Rattle.star_machine.specs.Private.Decoded.{AreDecodable, AreSortedGroups, row_cells}
 use Rattle.star_machine.specs.Private.Runs.{HasDone}
@@ -42,6 +44,12 @@ pub rows_decodable : (db : Database) (d : GroupDecl) (sorts : List SortKey) (upd
     → All (λ row. AreDecodable db d.keys row.keys) rows
 rows_decodable db d sorts updates rows sound are = λ k row within.
     groups_decodable db d sorts updates rows sound are (row_shown (get_or rows k row)) (contains_mapped row_shown rows (get_or rows k row) (Contains-get_or rows k row within))
+
+pub decodable_by_number : (db : Database) (ds : List GroupKey) (left : List GroupRow) (numbers : List ℕ) → All (λ row. AreDecodable db ds row.keys) (map (row_at left) numbers)
+    → All (λ number. AreDecodable db ds (row_at left number).keys) numbers
+decodable_by_number db ds left numbers all = λ k d within.
+    let seen = length-map numbers (row_at left) in
+    subst (λ (row : GroupRow). AreDecodable db ds row.keys) (get_or-map (row_at left) numbers k d) (all k (row_at left d) (omega (arith, within, seen)))
 
 -- ---- the outcome
 

@@ -1,18 +1,19 @@
 -- Rows that were sorted.
-use Rattle.std.proofs.Common.{◌≡◌, ◌+◌, ◌<◌, ℕ, Bool, false, true≢false, List, [], ◌∷◌, length, get_or, map, arith, ap, sym, subst, refl, ◌∙◌}
+use Rattle.std.proofs.Common.{◌≡◌, ◌+◌, ◌<◌, ℕ, Bool, false, true≢false, List, [], ◌∷◌, ◌++◌, length, get_or, map, arith, ap, sym, subst, refl, ◌∙◌}
 use denote.Param.Members.{Mut}
 use denote.Ref.{Bor}
 use Rattle.std.specs.Prelude.{IsPermutation}
 use Rattle.std.specs.Cmp.{IsStrictWeakOrder, IsTotalOrder}
 use Rattle.std.specs.Fn.{Called, ComparesAs}
-use Rattle.std.specs.List.{Contains}
+use Rattle.std.specs.List.{Contains, range_with_len}
 use Rattle.std.specs.List.Sorted.{IsSortedBy, IsStrictlySortedBy}
 use Rattle.std.specs.Ordering.{is_lt, ordering_reverse}
 use Rattle.std.specs.declared.cmp.Ordering.{Ordering}
 use Rattle.std.specs.declared.cmp.Ordering.TheVariants.{Less, Equal, Greater}
 use Rattle.std.proofs.lemmas.Cmp.{on_total}
 use Rattle.std.proofs.lemmas.Fn.{always_returns_same}
-use Rattle.std.proofs.lemmas.List.{get_or-map, length-map}
+use Rattle.std.proofs.lemmas.List.{ext_get_or, get_or-map, length-map}
+use Rattle.std.proofs.lemmas.List.FromFn.{get_or-map-range_with_len, length-map-range_with_len, map-range_with_len_more}
 use Rattle.std.proofs.lemmas.List.Sorted.{Contains-permutation, IsPermutation-map, IsPermutation-sym, ranks_by}
 use Rattle.std.proofs.lemmas.Map.Keys.{IsDistinct-IsPermutation, apart_from_distinct, sorted_from_all_adjacent}
 use Rattle.star_schema.specs.declared.group.SortKey.{SortKey}
@@ -23,7 +24,7 @@ use Rattle.star_program.specs.declared.key.KeyValue.{KeyValue}
 use Rattle.star_program.specs.Keys.{value_cmp}
 use Rattle.star_group.specs.declared.group_row.GroupRow.{GroupRow}
 use Rattle.star_group.specs.OwnKeys.{key_eq}
-use Rattle.star_group.specs.Shown.{row_shown}
+use Rattle.star_group.specs.Shown.{row_at, row_shown}
 use Rattle.star_group.proofs.GroupKeys.{key_decides, key_equiv}
 use Rattle.star_machine.specs.Private.RowOrder.{AllHaveSameNulls, AreApart, keys_of_row, row_order}
 use Rattle.star_machine.proofs.RowOrders.{row_total, rows_level, same_order}
@@ -75,10 +76,52 @@ strictly sorts (row ∷ rows) up apart = sorted_from_all_adjacent (shown_total s
         let told = apart_from_distinct key_eq (map keys_of_row (row ∷ rows)) k (k + 1) row.keys apart (omega arith) (omega (arith, length-map (row ∷ rows) keys_of_row)) in
         true≢false (sym ((key_decides (get_or (map keys_of_row (row ∷ rows)) k row.keys) (get_or (map keys_of_row (row ∷ rows)) (k + 1) row.keys)).1 (first ∙ same ∙ sym second)) ∙ told)
 
-pub sorted_rows : (sorts : List SortKey) (old new : List GroupRow) → AreApart old → AllHaveSameNulls old → IsPermutation old new → IsSortedBy (λ a b. is_lt (shown_cmp sorts a b)) new
+-- a list that ascends by what is made of its elements: what is made of them ascends
+sorted_under : {X Y : Type 0} (f : X → Y) (lt : Y → Y → Bool) (xs : List X) → IsSortedBy (λ a b. lt (f a) (f b)) xs → IsSortedBy lt (map f xs)
+sorted_under f lt [] up = λ k d from next. absurd (omega (arith, next))
+sorted_under f lt (x ∷ xs) up = λ k d from next.
+    let within : k + 1 < length (x ∷ xs) = omega (arith, next, length-map (x ∷ xs) f) in
+    let first = get_or-map f (x ∷ xs) k x d (omega (arith, within)) in
+    let second = get_or-map f (x ∷ xs) (k + 1) x d within in
+    (λ i. lt (second i) (first i)) ∙ up k x from within
+
+sorted_rows : (sorts : List SortKey) (old new : List GroupRow) → AreApart old → AllHaveSameNulls old → IsPermutation old new → IsSortedBy (λ a b. is_lt (shown_cmp sorts a b)) new
     → AreInOrder value_cmp sorts (map row_shown new)
 sorted_rows sorts old new apart nulls moved up =
     let back = IsPermutation-sym old new moved in
     sorted_mapped row_shown (shown_cmp sorts) (row_cmp value_cmp sorts) new
     (λ a b in_a in_b. same_order sorts (row_shown a) (row_shown b) (nulls.each a b (Contains-permutation new old a back in_a) (Contains-permutation new old b back in_b)))
     (strictly sorts new up (IsDistinct-IsPermutation key_eq key_equiv.symm (map keys_of_row old) (map keys_of_row new) (IsPermutation-map keys_of_row old new moved) apart))
+
+-- ---- by number
+
+map_same : (ns : List ℕ) → map (λ n. n) ns ≡ ns
+map_same [] = refl
+map_same (n ∷ ns) = ap (λ ms. n ∷ ms) (map_same ns)
+
+pub range_more : (n : ℕ) → range_with_len 0 (n + 1) ≡ range_with_len 0 n ++ n ∷ []
+range_more n =
+    sym (map_same (range_with_len 0 (n + 1))) ∙ map-range_with_len_more (λ k. k) 0 n n (omega arith) ∙ ap (λ ns. ns ++ n ∷ []) (map_same (range_with_len 0 n))
+
+numbered : (rows : List GroupRow) → map (row_at rows) (range_with_len 0 (length rows)) ≡ rows
+numbered rows =
+    let none : GroupRow = record { keys = []; aggregates = [] } in
+    let long = length-map-range_with_len (row_at rows) 0 (length rows) in
+    ext_get_or none (map (row_at rows) (range_with_len 0 (length rows))) rows long
+    (λ i h. get_or-map-range_with_len (row_at rows) 0 (length rows) i i none (omega (arith, h, long)) (omega arith))
+
+pub rows_moved : (rows : List GroupRow) (numbers : List ℕ) → IsPermutation (range_with_len 0 (length rows)) numbers → IsPermutation rows (map (row_at rows) numbers)
+rows_moved rows numbers moved =
+    subst (λ xs. IsPermutation xs (map (row_at rows) numbers)) (numbered rows) (IsPermutation-map (row_at rows) (range_with_len 0 (length rows)) numbers moved)
+
+-- rows by their numbers
+abbrev pub number_cmp : List SortKey → List GroupRow → ℕ → ℕ → Ordering
+number_cmp sorts rows i j = shown_cmp sorts (row_at rows i) (row_at rows j)
+
+pub number_total : (sorts : List SortKey) (rows : List GroupRow) → IsTotalOrder (number_cmp sorts rows)
+number_total sorts rows = on_total (row_at rows) (shown_total sorts)
+
+pub sorted_by_number : (sorts : List SortKey) (rows : List GroupRow) (numbers : List ℕ) → AreApart rows → AllHaveSameNulls rows → IsPermutation (range_with_len 0 (length rows)) numbers
+    → IsSortedBy (λ i j. is_lt (number_cmp sorts rows i j)) numbers → AreInOrder value_cmp sorts (map row_shown (map (row_at rows) numbers))
+sorted_by_number sorts rows numbers apart nulls moved up =
+    sorted_rows sorts rows (map (row_at rows) numbers) apart nulls (rows_moved rows numbers moved) (sorted_under (row_at rows) (λ a b. is_lt (shown_cmp sorts a b)) numbers up)

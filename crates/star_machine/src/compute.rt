@@ -4,6 +4,7 @@ ghost use Rattle.std.specs.Prelude.{◌≡◌, ◌<◌, ◌+ℤ◌, ◌-ℤ◌, 
 ghost use Rattle.std.specs.Ordering.{int_cmp, is_eq, is_lt, is_le};
 ghost use Rattle.star_interval.specs.Range.{is_i64};
 ghost use Rattle.star_program.specs.Effects.{answer_of};
+ghost use Rattle.star_program.specs.Private.Doing.{fitting};
 ghost use Rattle.star_program.specs.Values.{number_in, flag_in, row_in, with_entry};
 ghost use Rattle.star_machine.specs.Private.Shown.{held};
 
@@ -122,7 +123,8 @@ pub(crate) fn answer(
     left: u16,
     right: u16,
 ) -> Option<Value>
-    ensures { result ≡ answer_of operator (held registers.now left) (held registers.now right) }
+    ensures { result
+        ≡ fitting (answer_of operator (held registers.now left) (held registers.now right)) }
 {
     match operator {
         Operator::Add => sum(registers, left, right).map(Value::Number),

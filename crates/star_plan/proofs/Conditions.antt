@@ -9,10 +9,7 @@ use Rattle.star_schema.specs.declared.table.TableId.TheVariants.{Lineorder}
 use Rattle.star_schema.specs.declared.column.ColumnId.{ColumnId}
 use Rattle.star_common.specs.First.{first_answer}
 use Rattle.star_schema.specs.Schema.{is_table, table_name, table_of}
-use Rattle.star_query.specs.declared.tree.Name.{Name}
-use Rattle.star_query.specs.declared.tree.Item.{Item}
-use Rattle.star_query.specs.declared.tree.Item.TheVariants as item
-use Rattle.star_query.specs.declared.tree.Tree.{Tree}
+use Rattle.star_query.specs.Tree.{Item, Name, Tree, aggregate, plain}
 use Rattle.star_plan.specs.declared.fault.PlanFault.{PlanFault}
 use Rattle.star_plan.specs.declared.tree.Join.{Join}
 use Rattle.star_plan.specs.declared.joins.Pair.{Pair}
@@ -145,15 +142,15 @@ of_table_none at b None e there = absurd (let wrong = there.1 in cc)
 of_table_none at b (Some t) e there = some_from b _ e
 
 table_there : (before : List Name) (n : Name) → table_fault before n ≡ None → IsThere (table_at n)
-table_there before n e = of_table_there n.place (has_name before n.text.items) (table_at n) e
+table_there before n e = of_table_there n.place (has_name before n.text) (table_at n) e
 
 table_fresh : (before : List Name) (n : Name) → table_fault before n ≡ None → IsFresh same_name before n
 unfolding has_name
-table_fresh before n e = of_table_fresh n.place (has_name before n.text.items) (table_at n) e
+table_fresh before n e = of_table_fresh n.place (has_name before n.text) (table_at n) e
 
 table_none : (before : List Name) (n : Name) → IsFresh same_name before n → IsThere (table_at n) → table_fault before n ≡ None
 unfolding has_name
-table_none before n fresh there = of_table_none n.place (has_name before n.text.items) (table_at n) fresh there
+table_none before n fresh there = of_table_none n.place (has_name before n.text) (table_at n) fresh there
 
 -- ---- the names of columns
 
@@ -229,11 +226,11 @@ of_missing_none ps at (Some t) e = none_from (is_table t Lineorder || is_joined 
 
 group_fresh : (before : List Name) (n : Name) → group_fault before n ≡ None → IsFresh same_name before n
 unfolding has_name
-group_fresh before n e = some_to (has_name before n.text.items) _ e
+group_fresh before n e = some_to (has_name before n.text) _ e
 
 group_none : (before : List Name) (n : Name) → IsFresh same_name before n → Unit {0} → group_fault before n ≡ None
 unfolding has_name
-group_none before n fresh u = some_from (has_name before n.text.items) _ fresh
+group_none before n fresh u = some_from (has_name before n.text) _ fresh
 
 each_unit : {X : Type 0} (xs : List X) → AllByRecursion (λ x. Unit {0}) xs
 each_unit [] = tt
@@ -243,21 +240,21 @@ each_unit (x ∷ xs) = (tt, each_unit xs)
 
 -- the names of the aggregates with one more item
 abbrev more_names : List (List ℕ) → Item → List (List ℕ)
-more_names names (item.Column n) = names
-more_names names (item.Aggregate a) = names ++ aggregate_name (length names + 1) a ∷ []
+more_names names (plain n) = names
+more_names names (aggregate a) = names ++ aggregate_name (length names + 1) a ∷ []
 
 names_last : (n : ℕ) (before : List Item) (i : Item) → names_from n (before ++ i ∷ []) ≡ names_from n before ++ names_from (n + length (names_from n before)) (i ∷ [])
 names_last n [] i = let none : n + 0 ≡ n = omega arith in rw none refl
-names_last n (item.Column y ∷ ys) i = names_last n ys i
-names_last n (item.Aggregate y ∷ ys) i =
+names_last n (plain y ∷ ys) i = names_last n ys i
+names_last n (aggregate y ∷ ys) i =
     let later : n + suc (length (names_from (n + 1) ys)) ≡ n + 1 + length (names_from (n + 1) ys) = omega arith in
     rw later (ap (λ names. aggregate_name n y ∷ names) (names_last (n + 1) ys i))
 
 names_more : (before : List Item) (i : Item) → aggregate_names (before ++ i ∷ []) ≡ more_names (aggregate_names before) i
-names_more before (item.Column n) = names_last 1 before (item.Column n) ∙ append-nil (aggregate_names before)
-names_more before (item.Aggregate a) =
+names_more before (plain n) = names_last 1 before (plain n) ∙ append-nil (aggregate_names before)
+names_more before (aggregate a) =
     let number : 1 + length (aggregate_names before) ≡ length (aggregate_names before) + 1 = omega arith in
-    names_last 1 before (item.Aggregate a) ∙ ap (λ k. aggregate_names before ++ aggregate_name k a ∷ []) number
+    names_last 1 before (aggregate a) ∙ ap (λ k. aggregate_names before ++ aggregate_name k a ∷ []) number
 
 -- the first fault of items after aggregates of these names
 abbrev items_fault : List Name → List (List ℕ) → List Item → Option PlanFault
@@ -291,13 +288,13 @@ fresh_text names name e = e
 items_to : (groups : List Name) (names : List (List ℕ)) (is' : List Item) → items_fault groups names is' ≡ None → AreShown groups names (names_from (length names + 1) is') is'
 unfolding IsDistinct
 items_to groups names [] e = record { grouped = tt; free = tt; fresh = tt; apart = tt }
-items_to groups names (item.Column n ∷ is') e =
-    let parts = or_none (item_fault_after groups names (item.Column n)) (items_fault groups names is') e in
+items_to groups names (plain n ∷ is') e =
+    let parts = or_none (item_fault_after groups names (plain n)) (items_fault groups names is') e in
     let rest = items_to groups names is' parts.1 in
-    record { grouped = (none_to (has_name groups n.text.items) _ parts.0, rest.grouped); free = rest.free; fresh = rest.fresh; apart = rest.apart }
-items_to groups names (item.Aggregate a ∷ is') e =
+    record { grouped = (none_to (has_name groups n.text) _ parts.0, rest.grouped); free = rest.free; fresh = rest.fresh; apart = rest.apart }
+items_to groups names (aggregate a ∷ is') e =
     let name = aggregate_name (length names + 1) a in
-    let parts = or_none (item_fault_after groups names (item.Aggregate a)) (items_fault groups (names ++ name ∷ []) is') e in
+    let parts = or_none (item_fault_after groups names (aggregate a)) (items_fault groups (names ++ name ∷ []) is') e in
     let neither = or_parts (has_text names name) (has_name groups name) (some_to _ _ parts.0) in
     let rest = subst (λ k. AreShown groups (names ++ name ∷ []) (names_from (k + 1) is') is') (one_longer names name) (items_to groups (names ++ name ∷ []) is' parts.1) in
     record {
@@ -314,15 +311,15 @@ neither_or false b e h = h
 items_none : (groups : List Name) (names : List (List ℕ)) (is' : List Item) → AreShown groups names (names_from (length names + 1) is') is' → items_fault groups names is' ≡ None
 unfolding IsDistinct
 items_none groups names [] shown = refl
-items_none groups names (item.Column n ∷ is') shown =
-    none_or (item_fault_after groups names (item.Column n)) (items_fault groups names is') (none_from (has_name groups n.text.items) _ shown.grouped.0)
+items_none groups names (plain n ∷ is') shown =
+    none_or (item_fault_after groups names (plain n)) (items_fault groups names is') (none_from (has_name groups n.text) _ shown.grouped.0)
     (items_none groups names is' (record { grouped = shown.grouped.1; free = shown.free; fresh = shown.fresh; apart = shown.apart }))
-items_none groups names (item.Aggregate a ∷ is') shown =
+items_none groups names (aggregate a ∷ is') shown =
     let name = aggregate_name (length names + 1) a in
     let own = names_from (length names + 1 + 1) is' in
     let rest : AreShown groups (names ++ name ∷ []) own is' =
     record { grouped = shown.grouped.1; free = shown.free.1; fresh = fresh_after same_text names name own shown.fresh.1 shown.apart.0; apart = shown.apart.1 } in
-    none_or (item_fault_after groups names (item.Aggregate a)) (items_fault groups (names ++ name ∷ []) is')
+    none_or (item_fault_after groups names (aggregate a)) (items_fault groups (names ++ name ∷ []) is')
     (some_from (has_text names name || has_name groups name) _ (neither_or _ _ (fresh_text names name shown.fresh.0) shown.free.0))
     (items_none groups (names ++ name ∷ []) is' (subst (λ k. AreShown groups (names ++ name ∷ []) (names_from (k + 1) is') is') (sym (one_longer names name)) rest))
 
@@ -338,10 +335,10 @@ some_none (n ∷ ns) e = refl
 
 pub well_named : (t : Tree) → plan_fault t ≡ None → IsWellNamed t
 well_named t none =
-    let tables = t.tables.items in
-    let groups = t.grouping.columns.items in
-    let items = t.items.items in
-    let keys = t.keys.items in
+    let tables = t.tables in
+    let groups = t.grouping.columns in
+    let items = t.items in
+    let keys = t.keys in
     let uses = uses_of t in
     let ps = where_pairs t.condition in
     let halves = or_none (naming_fault tables uses ps) (grouping_fault groups items keys) none in
@@ -369,15 +366,15 @@ well_named t none =
       aggregates = some_there (aggregate_names items) shown.1;
       names_once = are_shown.apart;
       names_free = are_shown.free;
-      order = each (λ k. key_fault groups (aggregate_names items) k ≡ None) (λ k. has_name groups k.name.text.items || has_text (aggregate_names items) k.name.text.items ≡ true) (λ k e. none_to _ _ e) keys (each_none (key_fault groups (aggregate_names items)) keys select.1);
+      order = each (λ k. key_fault groups (aggregate_names items) k ≡ None) (λ k. has_name groups k.name.text || has_text (aggregate_names items) k.name.text ≡ true) (λ k e. none_to _ _ e) keys (each_none (key_fault groups (aggregate_names items)) keys select.1);
     }
 
 pub no_fault : (t : Tree) → IsWellNamed t → plan_fault t ≡ None
 no_fault t w =
-    let tables = t.tables.items in
-    let groups = t.grouping.columns.items in
-    let items = t.items.items in
-    let keys = t.keys.items in
+    let tables = t.tables in
+    let groups = t.grouping.columns in
+    let items = t.items in
+    let keys = t.keys in
     let uses = uses_of t in
     let ps = where_pairs t.condition in
     let named : first_beside table_fault tables ≡ None = apart_from table_fault same_name (λ n. IsThere (table_at n)) table_none [] tables (fresh_first same_name tables) w.tables_once w.tables in
@@ -393,7 +390,7 @@ no_fault t w =
     same_faults groups [] items ∙ items_none groups [] items (record { grouped = w.grouped; free = w.names_free; fresh = fresh_first same_text (aggregate_names items); apart = w.names_once }) in
     let order : order_fault groups items keys ≡ None =
     none_each (key_fault groups (aggregate_names items)) keys
-    (each (λ k. has_name groups k.name.text.items || has_text (aggregate_names items) k.name.text.items ≡ true) (λ k. key_fault groups (aggregate_names items) k ≡ None) (λ k e. none_from _ _ e) keys w.order) in
+    (each (λ k. has_name groups k.name.text || has_text (aggregate_names items) k.name.text ≡ true) (λ k. key_fault groups (aggregate_names items) k ≡ None) (λ k e. none_from _ _ e) keys w.order) in
     none_or _ _
     (none_or _ _ (none_or _ _ named fact) (none_or _ _ columns (none_or _ _ (none_or _ _ pairs missing) kinds)))
     (none_or _ _ once (none_or _ _ (none_or _ _ shown (some_none (aggregate_names items) w.aggregates)) order))

@@ -1,15 +1,13 @@
 -- The plan of a well named query within the limits is sound and within the limits.
-use Rattle.std.proofs.Common.{◌≡◌, ◌∙◌, sym, ap, subst, ℕ, ◌+◌, ◌<◌, ◌≤◌, ◌^◌, true, List, [], ◌∷◌, Option, Some, None, length, map, arith}
+use Rattle.std.proofs.Common.{◌≡◌, ◌∙◌, sym, ap, subst, ℕ, ◌+◌, ◌<◌, ◌≤◌, ◌^◌, true, List, [], ◌∷◌, Option, Some, None, length, arith}
 use Rattle.std.specs.List.{list_all, sum_by}
-use Rattle.std.proofs.lemmas.List.{length-map}
 use Rattle.std.proofs.lemmas.List.Sums.{sum_by-cons}
 use Rattle.star_schema.specs.Schema.{table_of}
-use Rattle.star_query.specs.declared.tree.Tree.{Tree}
-use Rattle.star_query.specs.Views.{item_view, key_view, name_view, tree_view}
+use Rattle.star_query.specs.Tree as tree
+use Rattle.star_query.specs.Tree.{Tree}
 use Rattle.star_query.specs.Limits as asked
 use Rattle.star_query.specs.Spelled as spelled
 use Rattle.star_query.specs.Spelled.{is_name}
-use Rattle.star_query.specs.Tree as tree
 use Rattle.star_plan.specs.Joins.{is_foreign, joins_of, where_pairs}
 use Rattle.star_plan.specs.Meaning.{Plan}
 use Rattle.star_plan.specs.Names.{column_at}
@@ -37,23 +35,23 @@ few_aggregates [] = omega arith
 few_aggregates (tree.plain n ∷ is') = omega (arith, few_aggregates is', sum_by-cons asked.aggregates_in (tree.plain n) is')
 few_aggregates (tree.aggregate a ∷ is') = omega (arith, few_aggregates is', sum_by-cons asked.aggregates_in (tree.aggregate a) is')
 
-pub kept_within : (t : Tree) (p : Plan) → asked.IsWithinLimits (tree_view t) → plan_fault t ≡ None → IsResolved t p → IsWithinLimits p
+pub kept_within : (t : Tree) (p : Plan) → asked.IsWithinLimits t → plan_fault t ≡ None → IsResolved t p → IsWithinLimits p
 kept_within t p few named resolved =
     let there = parts t named in
     let conditions = where_comparisons t.condition p.conjuncts resolved.conjuncts in
-    let groups = all_counted column_at t.grouping.columns.items p.keys resolved.keys in
-    let measures = measures_counted t.items.items p.measures resolved.measures in
-    let operands = operands_counted t.items.items p.measures resolved.measures in
-    let items = items_counted t.grouping.columns.items 0 t.items.items p.items resolved.items in
-    let sorts = all_counted (resolved_key t.grouping.columns.items (aggregate_names t.items.items)) t.keys.items p.sorts resolved.sorts in
+    let groups = all_counted column_at t.grouping.columns p.keys resolved.keys in
+    let measures = measures_counted t.items p.measures resolved.measures in
+    let operands = operands_counted t.items p.measures resolved.measures in
+    let items = items_counted t.grouping.columns 0 t.items p.items resolved.items in
+    let sorts = all_counted (resolved_key t.grouping.columns (aggregate_names t.items)) t.keys p.sorts resolved.sorts in
     record {
       joins = subst (λ js. length js ≤ 4) (sym resolved.joins) (at_most_four (joins_of (where_pairs t.condition)) (where_foreign t.condition) there.apart);
       comparisons = omega (arith, conditions, few.comparisons);
-      keys = omega (arith, groups, few.columns, length-map t.grouping.columns.items name_view);
+      keys = omega (arith, groups, few.columns);
       measures = omega (arith, measures, few.aggregates);
       operands = omega (arith, operands, few.operands);
-      items = omega (arith, items, few.items, length-map t.items.items item_view);
-      sorts = omega (arith, sorts, few.keys, length-map t.keys.items key_view);
+      items = omega (arith, items, few.items);
+      sorts = omega (arith, sorts, few.keys);
     }
 
 pub kept_sound : (t : Tree) (p : Plan) → plan_fault t ≡ None → IsResolved t p → IsSound p
@@ -63,10 +61,10 @@ kept_sound t p named resolved =
     let conjuncts = conjuncts_there t there in
     let keys = keys_there t there in
     let measures = measures_there t there in
-    let keys_many : length p.keys ≡ length t.grouping.columns.items = all_counted column_at t.grouping.columns.items p.keys resolved.keys in
-    let measures_many : length p.measures ≡ sum_by asked.aggregates_in (map item_view t.items.items) = measures_counted t.items.items p.measures resolved.measures in
-    let names_many : length (aggregate_names t.items.items) ≡ sum_by asked.aggregates_in (map item_view t.items.items) = names_counted 1 t.items.items in
-    let names_same : length (aggregate_names t.items.items) ≡ length p.measures = names_many ∙ sym measures_many in
+    let keys_many : length p.keys ≡ length t.grouping.columns = all_counted column_at t.grouping.columns p.keys resolved.keys in
+    let measures_many : length p.measures ≡ sum_by asked.aggregates_in t.items = measures_counted t.items p.measures resolved.measures in
+    let names_many : length (aggregate_names t.items) ≡ sum_by asked.aggregates_in t.items = names_counted 1 t.items in
+    let names_same : length (aggregate_names t.items) ≡ length p.measures = names_many ∙ sym measures_many in
     record {
       joins = subst (λ qs. list_all (λ j. is_foreign j.foreign j.key) qs ≡ true) (sym resolved.joins) (where_foreign t.condition);
       distinct = subst (λ qs. are_distinct qs ≡ true) (sym resolved.joins) there.apart;
@@ -82,20 +80,20 @@ kept_sound t p named resolved =
       names = ap length resolved.names ∙ names_same;
       items =
           subst (λ n. list_all (is_column n (length p.measures)) p.items ≡ true) (sym keys_many)
-          (items_there t.grouping.columns.items 0 (length p.measures) t.items.items p.items (omega arith) resolved.items);
+          (items_there t.grouping.columns 0 (length p.measures) t.items p.items (omega arith) resolved.items);
       shown =
-          omega (arith, some_named (aggregate_names t.items.items) there.some, few_aggregates (map item_view t.items.items), length-map t.items.items item_view, items_counted t.grouping.columns.items 0 t.items.items p.items resolved.items);
+          omega (arith, some_named (aggregate_names t.items) there.some, few_aggregates t.items, items_counted t.grouping.columns 0 t.items p.items resolved.items);
       sorts =
           subst (λ n. list_all (λ s. is_column n (length p.measures) s.column) p.sorts ≡ true) (sym keys_many)
-          (subst (λ n. list_all (λ s. is_column (length t.grouping.columns.items) n s.column) p.sorts ≡ true) names_same
-          (sorts_there t.grouping.columns.items (aggregate_names t.items.items) t.keys.items p.sorts resolved.sorts));
+          (subst (λ n. list_all (λ s. is_column (length t.grouping.columns) n s.column) p.sorts ≡ true) names_same
+          (sorts_there t.grouping.columns (aggregate_names t.items) t.keys p.sorts resolved.sorts));
     }
 
-pub kept_spelled : (t : Tree) (p : Plan) → asked.IsWithinLimits (tree_view t) → spelled.IsSpelled (tree_view t) → IsResolved t p → IsSpelled p
+pub kept_spelled : (t : Tree) (p : Plan) → asked.IsWithinLimits t → spelled.IsSpelled t → IsResolved t p → IsSpelled p
 kept_spelled t p few good resolved =
-    let short : 1 + length t.items.items < 2 ^ 64 = omega (arith, few.items, length-map t.items.items item_view) in
+    let short : 1 + length t.items < 2 ^ 64 = omega (arith, few.items) in
     record {
-      names = ap (list_all is_name) resolved.names ∙ names_spelled 1 t.items.items short good.items;
+      names = ap (list_all is_name) resolved.names ∙ names_spelled 1 t.items short good.items;
       conjuncts = where_spelled t.condition p.conjuncts resolved.conjuncts good.condition;
-      measures = measures_spelled t.items.items p.measures resolved.measures good.items;
+      measures = measures_spelled t.items p.measures resolved.measures good.items;
     }

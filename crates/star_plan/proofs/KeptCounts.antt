@@ -1,5 +1,5 @@
 -- The counts of a plan are those of its query.
-use Rattle.std.proofs.Common.{◌≡◌, ◌∙◌, sym, ap, subst, ℕ, ◌+◌, ◌<◌, ◌≤◌, true, inl, inr, List, [], ◌∷◌, ◌++◌, Option, Some, None, length, map, nat_eq, option_map, arith, refl}
+use Rattle.std.proofs.Common.{◌≡◌, ◌∙◌, sym, ap, subst, ℕ, ◌+◌, ◌<◌, ◌≤◌, true, inl, inr, List, [], ◌∷◌, ◌++◌, Option, Some, None, length, nat_eq, option_map, arith, refl}
 use Rattle.std.specs.Cmp.Lexicographic.{pointwise}
 use Rattle.std.specs.List.{list_all, position, sum_by}
 use Rattle.std.specs.Option.{option_or}
@@ -11,22 +11,13 @@ use Rattle.star_schema.specs.declared.group.GroupColumn.TheVariants as group
 use Rattle.star_schema.specs.declared.group.SortKey as sorted
 use Rattle.star_query.specs.declared.token.Fold.{Fold}
 use Rattle.star_query.specs.declared.token.Fold.TheVariants as fold
-use Rattle.star_query.specs.declared.tree.Name.{Name}
-use Rattle.star_query.specs.declared.tree.Expression as of_expression
-use Rattle.star_query.specs.declared.tree.Expression.TheVariants as expression
-use Rattle.star_query.specs.declared.tree.Condition as of_condition
-use Rattle.star_query.specs.declared.tree.Condition.TheVariants as condition
-use Rattle.star_query.specs.declared.tree.Measure as of_measure
-use Rattle.star_query.specs.declared.tree.Measure.TheVariants as measure
-use Rattle.star_query.specs.declared.tree.Item.{Item}
-use Rattle.star_query.specs.declared.tree.Item.TheVariants as item
-use Rattle.star_query.specs.declared.tree.SortKey.{SortKey}
-use Rattle.star_query.specs.Views.{condition_view, expression_view, item_view, measure_view}
+use Rattle.star_query.specs.Tree as tree
+use Rattle.star_query.specs.Tree.{Item, Name, SortKey}
 use Rattle.star_query.specs.Limits as asked
 use Rattle.star_plan.specs.Meaning.{Condition, either, both, negation, compare, between, Expression, column, constant, add, sub, mul, Measure, counted}
-use Rattle.star_plan.specs.Names.{column_at}
+use Rattle.star_plan.specs.Names.{column_at, literal_value}
 use Rattle.star_plan.specs.Naming.{names_from}
-use Rattle.star_plan.specs.Shown.{folded, literal_value}
+use Rattle.star_plan.specs.Shown.{folded}
 use Rattle.star_plan.specs.Resolved.{aggregate_column, conjuncts_of, item_column, items_from, key_column, measures_of, option_all, resolved_condition, resolved_expression, resolved_key, resolved_measure, where_conjuncts}
 use Rattle.star_plan.specs.Limits.{comparisons_of, measure_operands, operands_of}
 use Rattle.star_plan.specs.Sound.{is_column}
@@ -37,16 +28,16 @@ sorted_by c k = record { column = c; direction = k.direction }
 
 -- ---- expressions and conditions
 
-expression_operands : (e : of_expression.Expression) (x : Expression) → resolved_expression e ≡ Some x → operands_of x ≡ asked.operands_of (expression_view e)
-expression_operands (expression.Column n) x e = let g = mapped_gave column (column_at n) x e in ap operands_of (sym g.2)
-expression_operands (expression.Number z) x e = let same : constant z ≡ x = cc in ap operands_of (sym same)
-expression_operands (expression.Add' p a q b) x e =
+expression_operands : (e : tree.Expression) (x : Expression) → resolved_expression e ≡ Some x → operands_of x ≡ asked.operands_of e
+expression_operands (tree.column n) x e = let g = mapped_gave column (column_at n) x e in ap operands_of (sym g.2)
+expression_operands (tree.constant z) x e = let same : constant z ≡ x = cc in ap operands_of (sym same)
+expression_operands (tree.add a b) x e =
     let g = both_gave add (resolved_expression a) (resolved_expression b) x e in
     ap operands_of (sym g.made) ∙ omega (arith, expression_operands a g.left g.first, expression_operands b g.right g.second)
-expression_operands (expression.Sub' p a q b) x e =
+expression_operands (tree.sub a b) x e =
     let g = both_gave sub (resolved_expression a) (resolved_expression b) x e in
     ap operands_of (sym g.made) ∙ omega (arith, expression_operands a g.left g.first, expression_operands b g.right g.second)
-expression_operands (expression.Mul' p a q b) x e =
+expression_operands (tree.mul a b) x e =
     let g = both_gave mul (resolved_expression a) (resolved_expression b) x e in
     ap operands_of (sym g.made) ∙ omega (arith, expression_operands a g.left g.first, expression_operands b g.right g.second)
 
@@ -55,76 +46,76 @@ folded_operands fold.Sum x = refl
 folded_operands fold.Min x = refl
 folded_operands fold.Max x = refl
 
-resolved_operands : (m : of_measure.Measure) (x : Measure) → resolved_measure m ≡ Some x → measure_operands x ≡ asked.measure_operands (measure_view m)
-resolved_operands measure.Count x e = let same : counted ≡ x = cc in ap measure_operands (sym same)
-resolved_operands (measure.Fold f y) x e =
+resolved_operands : (m : tree.Measure) (x : Measure) → resolved_measure m ≡ Some x → measure_operands x ≡ asked.measure_operands m
+resolved_operands tree.count x e = let same : counted ≡ x = cc in ap measure_operands (sym same)
+resolved_operands (tree.fold f y) x e =
     let g = mapped_gave (folded f) (resolved_expression y) x e in
     ap measure_operands (sym g.2) ∙ folded_operands f g.0 ∙ expression_operands y g.0 g.1
 
-condition_comparisons : (q : of_condition.Condition) (x : Condition) → resolved_condition q ≡ Some x → comparisons_of x ≡ asked.comparisons_of (condition_view q)
-condition_comparisons (condition.Or' p a q b) x e =
+condition_comparisons : (q : tree.Condition) (x : Condition) → resolved_condition q ≡ Some x → comparisons_of x ≡ asked.comparisons_of q
+condition_comparisons (tree.either a b) x e =
     let g = both_gave either (resolved_condition a) (resolved_condition b) x e in
     ap comparisons_of (sym g.made) ∙ omega (arith, condition_comparisons a g.left g.first, condition_comparisons b g.right g.second)
-condition_comparisons (condition.And' p a q b) x e =
+condition_comparisons (tree.both a b) x e =
     let g = both_gave both (resolved_condition a) (resolved_condition b) x e in
     ap comparisons_of (sym g.made) ∙ omega (arith, condition_comparisons a g.left g.first, condition_comparisons b g.right g.second)
-condition_comparisons (condition.Not' p a) x e =
+condition_comparisons (tree.negation a) x e =
     let g = mapped_gave negation (resolved_condition a) x e in
     ap comparisons_of (sym g.2) ∙ omega (arith, condition_comparisons a g.0 g.1)
-condition_comparisons (condition.Pair m n) x e = absurd (cc)
-condition_comparisons (condition.Compare n s l) x e =
+condition_comparisons (tree.pair m n) x e = absurd (cc)
+condition_comparisons (tree.compare n s l) x e =
     let g = mapped_gave (λ c. compare c s (literal_value l)) (column_at n) x e in ap comparisons_of (sym g.2)
-condition_comparisons (condition.Between n from upto) x e =
+condition_comparisons (tree.between n from upto) x e =
     let g = mapped_gave (λ c. between c (literal_value from) (literal_value upto)) (column_at n) x e in ap comparisons_of (sym g.2)
 
-lone_comparisons : (q : of_condition.Condition) (xs : List Condition) → option_map (λ x. x ∷ []) (resolved_condition q) ≡ Some xs
-    → sum_by comparisons_of xs ≤ asked.comparisons_of (condition_view q)
+lone_comparisons : (q : tree.Condition) (xs : List Condition) → option_map (λ x. x ∷ []) (resolved_condition q) ≡ Some xs
+    → sum_by comparisons_of xs ≤ asked.comparisons_of q
 lone_comparisons q xs e =
     let g = mapped_gave (λ (x : Condition). x ∷ []) (resolved_condition q) xs e in
-    subst (λ ys. sum_by comparisons_of ys ≤ asked.comparisons_of (condition_view q)) g.2 (omega (arith, condition_comparisons q g.0 g.1))
+    subst (λ ys. sum_by comparisons_of ys ≤ asked.comparisons_of q) g.2 (omega (arith, condition_comparisons q g.0 g.1))
 
-conjuncts_comparisons : (q : of_condition.Condition) (xs : List Condition) → conjuncts_of q ≡ Some xs → sum_by comparisons_of xs ≤ asked.comparisons_of (condition_view q)
-conjuncts_comparisons (condition.And' p a q b) xs e =
+conjuncts_comparisons : (q : tree.Condition) (xs : List Condition) → conjuncts_of q ≡ Some xs → sum_by comparisons_of xs ≤ asked.comparisons_of q
+conjuncts_comparisons (tree.both a b) xs e =
     let g = both_gave (λ ys zs. ys ++ zs) (conjuncts_of a) (conjuncts_of b) xs e in
-    subst (λ ys. sum_by comparisons_of ys ≤ asked.comparisons_of (condition_view (condition.And' p a q b))) g.made
+    subst (λ ys. sum_by comparisons_of ys ≤ asked.comparisons_of (tree.both a b)) g.made
     (omega (arith, sum_by-append comparisons_of g.left g.right, conjuncts_comparisons a g.left g.first, conjuncts_comparisons b g.right g.second))
-conjuncts_comparisons (condition.Pair m n) xs e =
+conjuncts_comparisons (tree.pair m n) xs e =
     let none : [] ≡ xs = cc in subst (λ ys. sum_by comparisons_of ys ≤ 1) none (omega arith)
-conjuncts_comparisons (condition.Or' p a q b) xs e = lone_comparisons (condition.Or' p a q b) xs e
-conjuncts_comparisons (condition.Not' p a) xs e = lone_comparisons (condition.Not' p a) xs e
-conjuncts_comparisons (condition.Compare n s l) xs e = lone_comparisons (condition.Compare n s l) xs e
-conjuncts_comparisons (condition.Between n from upto) xs e = lone_comparisons (condition.Between n from upto) xs e
+conjuncts_comparisons (tree.either a b) xs e = lone_comparisons (tree.either a b) xs e
+conjuncts_comparisons (tree.negation a) xs e = lone_comparisons (tree.negation a) xs e
+conjuncts_comparisons (tree.compare n s l) xs e = lone_comparisons (tree.compare n s l) xs e
+conjuncts_comparisons (tree.between n from upto) xs e = lone_comparisons (tree.between n from upto) xs e
 
-pub where_comparisons : (o : Option of_condition.Condition) (xs : List Condition) → where_conjuncts o ≡ Some xs
-    → sum_by comparisons_of xs ≤ asked.where_comparisons (option_map condition_view o)
+pub where_comparisons : (o : Option tree.Condition) (xs : List Condition) → where_conjuncts o ≡ Some xs
+    → sum_by comparisons_of xs ≤ asked.where_comparisons (o)
 where_comparisons None xs e = let none : [] ≡ xs = cc in subst (λ ys. sum_by comparisons_of ys ≤ 0) none (omega arith)
 where_comparisons (Some q) xs e = conjuncts_comparisons q xs e
 
 -- ---- aggregates
 
-pub measures_counted : (is' : List Item) (ms : List Measure) → measures_of is' ≡ Some ms → length ms ≡ sum_by asked.aggregates_in (map item_view is')
+pub measures_counted : (is' : List Item) (ms : List Measure) → measures_of is' ≡ Some ms → length ms ≡ sum_by asked.aggregates_in is'
 measures_counted [] ms e = let none : [] ≡ ms = cc in ap length (sym none)
-measures_counted (item.Column n ∷ is') ms e =
-    omega (arith, measures_counted is' ms e, sum_by-cons asked.aggregates_in (item_view (item.Column n)) (map item_view is'))
-measures_counted (item.Aggregate a ∷ is') ms e =
+measures_counted (tree.plain n ∷ is') ms e =
+    omega (arith, measures_counted is' ms e, sum_by-cons asked.aggregates_in (tree.plain n) is')
+measures_counted (tree.aggregate a ∷ is') ms e =
     let g = both_gave (λ m ms'. m ∷ ms') (resolved_measure a.measure) (measures_of is') ms e in
-    ap length (sym g.made) ∙ omega (arith, measures_counted is' g.right g.second, sum_by-cons asked.aggregates_in (item_view (item.Aggregate a)) (map item_view is'))
+    ap length (sym g.made) ∙ omega (arith, measures_counted is' g.right g.second, sum_by-cons asked.aggregates_in (tree.aggregate a) is')
 
-pub operands_counted : (is' : List Item) (ms : List Measure) → measures_of is' ≡ Some ms → sum_by measure_operands ms ≡ sum_by asked.item_operands (map item_view is')
+pub operands_counted : (is' : List Item) (ms : List Measure) → measures_of is' ≡ Some ms → sum_by measure_operands ms ≡ sum_by asked.item_operands is'
 operands_counted [] ms e = let none : [] ≡ ms = cc in ap (sum_by measure_operands) (sym none)
-operands_counted (item.Column n ∷ is') ms e =
-    omega (arith, operands_counted is' ms e, sum_by-cons asked.item_operands (item_view (item.Column n)) (map item_view is'))
-operands_counted (item.Aggregate a ∷ is') ms e =
+operands_counted (tree.plain n ∷ is') ms e =
+    omega (arith, operands_counted is' ms e, sum_by-cons asked.item_operands (tree.plain n) is')
+operands_counted (tree.aggregate a ∷ is') ms e =
     let g = both_gave (λ m ms'. m ∷ ms') (resolved_measure a.measure) (measures_of is') ms e in
     ap (sum_by measure_operands) (sym g.made)
-    ∙ omega (arith, sum_by-cons measure_operands g.left g.right, resolved_operands a.measure g.left g.first, operands_counted is' g.right g.second, sum_by-cons asked.item_operands (item_view (item.Aggregate a)) (map item_view is'))
+    ∙ omega (arith, sum_by-cons measure_operands g.left g.right, resolved_operands a.measure g.left g.first, operands_counted is' g.right g.second, sum_by-cons asked.item_operands (tree.aggregate a) is')
 
-pub names_counted : (number : ℕ) (is' : List Item) → length (names_from number is') ≡ sum_by asked.aggregates_in (map item_view is')
+pub names_counted : (number : ℕ) (is' : List Item) → length (names_from number is') ≡ sum_by asked.aggregates_in is'
 names_counted number [] = refl
-names_counted number (item.Column n ∷ is') =
-    omega (arith, names_counted number is', sum_by-cons asked.aggregates_in (item_view (item.Column n)) (map item_view is'))
-names_counted number (item.Aggregate a ∷ is') =
-    omega (arith, names_counted (number + 1) is', sum_by-cons asked.aggregates_in (item_view (item.Aggregate a)) (map item_view is'))
+names_counted number (tree.plain n ∷ is') =
+    omega (arith, names_counted number is', sum_by-cons asked.aggregates_in (tree.plain n) is')
+names_counted number (tree.aggregate a ∷ is') =
+    omega (arith, names_counted (number + 1) is', sum_by-cons asked.aggregates_in (tree.aggregate a) is')
 
 -- ---- groups, items and the order
 
@@ -136,21 +127,21 @@ all_counted f (x ∷ xs) ys e =
 
 pub items_counted : (groups : List Name) (before : ℕ) (is' : List Item) (cs : List GroupColumn) → items_from groups before is' ≡ Some cs → length cs ≡ length is'
 items_counted groups before [] cs e = let none : [] ≡ cs = cc in ap length (sym none)
-items_counted groups before (item.Column n ∷ is') cs e =
-    let g = both_gave (λ c cs'. c ∷ cs') (item_column groups before (item.Column n)) (items_from groups (before + 0) is') cs e in
+items_counted groups before (tree.plain n ∷ is') cs e =
+    let g = both_gave (λ c cs'. c ∷ cs') (item_column groups before (tree.plain n)) (items_from groups (before + 0) is') cs e in
     ap length (sym g.made) ∙ omega (arith, items_counted groups (before + 0) is' g.right g.second)
-items_counted groups before (item.Aggregate a ∷ is') cs e =
-    let g = both_gave (λ c cs'. c ∷ cs') (item_column groups before (item.Aggregate a)) (items_from groups (before + 1) is') cs e in
+items_counted groups before (tree.aggregate a ∷ is') cs e =
+    let g = both_gave (λ c cs'. c ∷ cs') (item_column groups before (tree.aggregate a)) (items_from groups (before + 1) is') cs e in
     ap length (sym g.made) ∙ omega (arith, items_counted groups (before + 1) is' g.right g.second)
 
 key_there : (groups : List Name) (text : List ℕ) (c : GroupColumn) (most : ℕ) → key_column groups text ≡ Some c → is_column (length groups) most c ≡ true
 key_there groups text c most e =
-    let g = mapped_gave (λ place. group.Key place) (position (λ n. pointwise nat_eq n.text.items text) groups) c e in
+    let g = mapped_gave (λ place. group.Key place) (position (λ n. pointwise nat_eq n.text text) groups) c e in
     subst (λ d. is_column (length groups) most d ≡ true) g.2 (lt-ltb _ _ (position_within groups g.0 g.1))
   where
-    position_within : (ns : List Name) (i : ℕ) → position (λ n. pointwise nat_eq n.text.items text) ns ≡ Some i → i < length ns
+    position_within : (ns : List Name) (i : ℕ) → position (λ n. pointwise nat_eq n.text text) ns ≡ Some i → i < length ns
     position_within [] i h = absurd (cc)
-    position_within (n ∷ ns) i h = let found = position-Some (λ m. pointwise nat_eq m.text.items text) (n ∷ ns) i n h in found.0
+    position_within (n ∷ ns) i h = let found = position-Some (λ m. pointwise nat_eq m.text text) (n ∷ ns) i n h in found.0
 
 aggregate_there : (keys : ℕ) (names : List (List ℕ)) (text : List ℕ) (c : GroupColumn) → aggregate_column names text ≡ Some c → is_column keys (length names) c ≡ true
 aggregate_there keys names text c e =
@@ -158,21 +149,21 @@ aggregate_there keys names text c e =
     let found = position-Some (λ t. pointwise nat_eq t text) names g.0 [] g.1 in
     subst (λ d. is_column keys (length names) d ≡ true) g.2 (lt-ltb _ _ found.0)
 
-pub items_there : (groups : List Name) (before most : ℕ) (is' : List Item) (cs : List GroupColumn) → before + sum_by asked.aggregates_in (map item_view is') ≤ most
+pub items_there : (groups : List Name) (before most : ℕ) (is' : List Item) (cs : List GroupColumn) → before + sum_by asked.aggregates_in is' ≤ most
     → items_from groups before is' ≡ Some cs → list_all (is_column (length groups) most) cs ≡ true
 items_there groups before most [] cs few e = let none : [] ≡ cs = cc in subst (λ ds. list_all (is_column (length groups) most) ds ≡ true) none refl
-items_there groups before most (item.Column n ∷ is') cs few e =
-    let g = both_gave (λ c cs'. c ∷ cs') (item_column groups before (item.Column n)) (items_from groups (before + 0) is') cs e in
+items_there groups before most (tree.plain n ∷ is') cs few e =
+    let g = both_gave (λ c cs'. c ∷ cs') (item_column groups before (tree.plain n)) (items_from groups (before + 0) is') cs e in
     subst (λ ds. list_all (is_column (length groups) most) ds ≡ true) g.made
-    (and_from _ _ (key_there groups n.text.items g.left most g.first)
-    (items_there groups (before + 0) most is' g.right (omega (arith, few, sum_by-cons asked.aggregates_in (item_view (item.Column n)) (map item_view is'))) g.second))
-items_there groups before most (item.Aggregate a ∷ is') cs few e =
-    let g = both_gave (λ c cs'. c ∷ cs') (item_column groups before (item.Aggregate a)) (items_from groups (before + 1) is') cs e in
+    (and_from _ _ (key_there groups n.text g.left most g.first)
+    (items_there groups (before + 0) most is' g.right (omega (arith, few, sum_by-cons asked.aggregates_in (tree.plain n) is')) g.second))
+items_there groups before most (tree.aggregate a ∷ is') cs few e =
+    let g = both_gave (λ c cs'. c ∷ cs') (item_column groups before (tree.aggregate a)) (items_from groups (before + 1) is') cs e in
     let here : group.Aggregate before ≡ g.left = (let first = g.first in cc) in
-    let below : before < most = omega (arith, few, sum_by-cons asked.aggregates_in (item_view (item.Aggregate a)) (map item_view is')) in
+    let below : before < most = omega (arith, few, sum_by-cons asked.aggregates_in (tree.aggregate a) is') in
     subst (λ ds. list_all (is_column (length groups) most) ds ≡ true) g.made
     (and_from _ _ (subst (λ d. is_column (length groups) most d ≡ true) here (lt-ltb _ _ below))
-    (items_there groups (before + 1) most is' g.right (omega (arith, few, sum_by-cons asked.aggregates_in (item_view (item.Aggregate a)) (map item_view is'))) g.second))
+    (items_there groups (before + 1) most is' g.right (omega (arith, few, sum_by-cons asked.aggregates_in (tree.aggregate a) is')) g.second))
 
 sort_there : (groups : List Name) (names : List (List ℕ)) (text : List ℕ) (c : GroupColumn) → option_or (key_column groups text) (aggregate_column names text) ≡ Some c
     → is_column (length groups) (length names) c ≡ true
@@ -184,7 +175,7 @@ pub sorts_there : (groups : List Name) (names : List (List ℕ)) (ks : List Sort
 sorts_there groups names [] ss e = let none : [] ≡ ss = cc in subst (λ ts. list_all (λ s. is_column (length groups) (length names) s.column) ts ≡ true) none refl
 sorts_there groups names (k ∷ ks) ss e =
     let g = both_gave (λ z zs. z ∷ zs) (resolved_key groups names k) (option_all (resolved_key groups names) ks) ss e in
-    let c = mapped_gave (λ (d : GroupColumn). sorted_by d k) (option_or (key_column groups k.name.text.items) (aggregate_column names k.name.text.items)) g.left g.first in
+    let c = mapped_gave (λ (d : GroupColumn). sorted_by d k) (option_or (key_column groups k.name.text) (aggregate_column names k.name.text)) g.left g.first in
     subst (λ ts. list_all (λ s. is_column (length groups) (length names) s.column) ts ≡ true) g.made
-    (and_from _ _ (subst (λ s. is_column (length groups) (length names) s.column ≡ true) c.2 (sort_there groups names k.name.text.items c.0 c.1))
+    (and_from _ _ (subst (λ s. is_column (length groups) (length names) s.column ≡ true) c.2 (sort_there groups names k.name.text c.0 c.1))
     (sorts_there groups names ks g.right g.second))

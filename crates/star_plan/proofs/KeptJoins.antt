@@ -8,8 +8,7 @@ use Rattle.star_schema.specs.declared.table.TableId.TheVariants.{Date, Customer,
 use Rattle.star_schema.specs.declared.column.ColumnId.{ColumnId}
 use Rattle.star_schema.specs.Schema.{is_table, key_of, references, table_of}
 use Rattle.star_schema.proofs.Same.{table_same}
-use Rattle.star_query.specs.declared.tree.Condition.{Condition}
-use Rattle.star_query.specs.declared.tree.Condition.TheVariants.{Or', And', Not', Pair as Compared, Compare, Between}
+use Rattle.star_query.specs.Tree.{Condition, between, both, compare, either, negation, pair}
 use Rattle.star_plan.specs.declared.tree.Join.{Join}
 use Rattle.star_plan.specs.declared.joins.Pair.{Pair}
 use Rattle.star_plan.specs.First.{first_after}
@@ -46,13 +45,13 @@ each_pair P [] ys l r = r
 each_pair P (x ∷ xs) ys l r = (l.0, each_pair P xs ys l.1 r)
 
 pairs_foreign : (b : Bool) (q : Condition) → AllByRecursion IsForeign (pairs_of b q)
-pairs_foreign b (And' p c q d) = each_pair IsForeign (pairs_of b c) (pairs_of b d) (pairs_foreign b c) (pairs_foreign b d)
-pairs_foreign b (Or' p c q d) = each_pair IsForeign (pairs_of false c) (pairs_of false d) (pairs_foreign false c) (pairs_foreign false d)
-pairs_foreign b (Not' p c) = pairs_foreign false c
-pairs_foreign true (Compared m n) = (λ j e. join_of_foreign (column_at m) (column_at n) j e, tt)
-pairs_foreign false (Compared m n) = (λ j e. absurd (cc), tt)
-pairs_foreign b (Compare n s l) = tt
-pairs_foreign b (Between n from upto) = tt
+pairs_foreign b (both c d) = each_pair IsForeign (pairs_of b c) (pairs_of b d) (pairs_foreign b c) (pairs_foreign b d)
+pairs_foreign b (either c d) = each_pair IsForeign (pairs_of false c) (pairs_of false d) (pairs_foreign false c) (pairs_foreign false d)
+pairs_foreign b (negation c) = pairs_foreign false c
+pairs_foreign true (pair m n) = (λ j e. join_of_foreign (column_at m) (column_at n) j e, tt)
+pairs_foreign false (pair m n) = (λ j e. absurd (cc), tt)
+pairs_foreign b (compare n s l) = tt
+pairs_foreign b (between n from upto) = tt
 
 joins_foreign : (ps : List Pair) → AllByRecursion IsForeign ps → list_all (λ j. is_foreign j.foreign j.key) (joins_of ps) ≡ true
 joins_foreign [] all = refl

@@ -1,5 +1,5 @@
 -- The names, numbers and texts of a plan are those of its query, or names made of a function's word and a number.
-use Rattle.std.proofs.Common.{◌≡◌, ◌∙◌, sym, ap, ℕ, ◌+◌, ◌<◌, ◌≤◌, ◌^◌, true, ◌&&◌, List, [], ◌∷◌, ◌++◌, Option, Some, None, length, map, option_map, arith, refl, length-append}
+use Rattle.std.proofs.Common.{◌≡◌, ◌∙◌, sym, ap, ℕ, ◌+◌, ◌<◌, ◌≤◌, ◌^◌, true, ◌&&◌, List, [], ◌∷◌, ◌++◌, Option, Some, None, length, option_map, arith, refl, length-append}
 use Rattle.std.specs.Prelude.{decimal}
 use Rattle.std.specs.List.{list_all}
 use Rattle.std.specs.Str.Parse.{AllDigits}
@@ -9,50 +9,39 @@ use Rattle.std.proofs.lemmas.Bool.{and_from, and_parts, le-leb, or_right}
 use Rattle.std.proofs.lemmas.List.Folds.{list_all-append}
 use Rattle.star_query.specs.declared.token.Fold.{Fold}
 use Rattle.star_query.specs.declared.token.Fold.TheVariants as fold
-use Rattle.star_query.specs.declared.tree.Name.{Name}
-use Rattle.star_query.specs.declared.tree.Aggregate.{Aggregate}
-use Rattle.star_query.specs.declared.tree.Literal.{Literal}
-use Rattle.star_query.specs.declared.tree.Literal.TheVariants as literal
-use Rattle.star_query.specs.declared.tree.Expression as of_expression
-use Rattle.star_query.specs.declared.tree.Expression.TheVariants as expression
-use Rattle.star_query.specs.declared.tree.Condition as of_condition
-use Rattle.star_query.specs.declared.tree.Condition.TheVariants as condition
-use Rattle.star_query.specs.declared.tree.Measure as of_measure
-use Rattle.star_query.specs.declared.tree.Measure.TheVariants as measure
-use Rattle.star_query.specs.declared.tree.Item.{Item}
-use Rattle.star_query.specs.declared.tree.Item.TheVariants as item
-use Rattle.star_query.specs.Views.{condition_view, expression_view, item_view, literal_view, measure_view, name_view}
+use Rattle.star_query.specs.Tree as tree
+use Rattle.star_query.specs.Tree.{Aggregate, Item, Literal, Name}
 use Rattle.star_query.specs.Cut.{begins_with_letter, is_letter, is_word_byte}
 use Rattle.star_query.specs.Spelled as asked
 use Rattle.star_query.specs.Spelled.{is_name}
 use Rattle.star_plan.specs.Meaning.{Condition, either, both, negation, compare, between, Expression, column, constant, add, sub, mul, Measure, counted}
-use Rattle.star_plan.specs.Names.{column_at}
+use Rattle.star_plan.specs.Names.{column_at, literal_value}
 use Rattle.star_plan.specs.Naming.{aggregate_name, default_name, function_word, names_from}
-use Rattle.star_plan.specs.Shown.{folded, literal_value}
+use Rattle.star_plan.specs.Shown.{folded}
 use Rattle.star_plan.specs.Resolved.{conjuncts_of, measures_of, resolved_condition, resolved_expression, resolved_measure, where_conjuncts}
 use Rattle.star_plan.specs.Spelled.{condition_is_spelled, expression_is_spelled, measure_is_spelled, value_is_spelled}
 use Rattle.star_plan.proofs.Options.{both_gave, mapped_gave}
 
 -- ---- numbers and texts
 
-value_spelled : (l : Literal) → asked.literal_is_spelled (literal_view l) ≡ true → value_is_spelled (literal_value l) ≡ true
-value_spelled (literal.Number z) e = e
-value_spelled (literal.Text bytes) e = e
+value_spelled : (l : Literal) → asked.literal_is_spelled l ≡ true → value_is_spelled (literal_value l) ≡ true
+value_spelled (tree.number z) e = e
+value_spelled (tree.text bytes) e = e
 
-expression_spelled : (e : of_expression.Expression) (x : Expression) → resolved_expression e ≡ Some x → asked.expression_is_spelled (expression_view e) ≡ true → expression_is_spelled x ≡ true
-expression_spelled (expression.Column n) x e good = let g = mapped_gave column (column_at n) x e in ap expression_is_spelled (sym g.2)
-expression_spelled (expression.Number z) x e good = let same : constant z ≡ x = cc in ap expression_is_spelled (sym same) ∙ good
-expression_spelled (expression.Add' p a q b) x e good =
+expression_spelled : (e : tree.Expression) (x : Expression) → resolved_expression e ≡ Some x → asked.expression_is_spelled e ≡ true → expression_is_spelled x ≡ true
+expression_spelled (tree.column n) x e good = let g = mapped_gave column (column_at n) x e in ap expression_is_spelled (sym g.2)
+expression_spelled (tree.constant z) x e good = let same : constant z ≡ x = cc in ap expression_is_spelled (sym same) ∙ good
+expression_spelled (tree.add a b) x e good =
     let g = both_gave add (resolved_expression a) (resolved_expression b) x e in
-    let parts = and_parts (asked.expression_is_spelled (expression_view a)) (asked.expression_is_spelled (expression_view b)) good in
+    let parts = and_parts (asked.expression_is_spelled a) (asked.expression_is_spelled b) good in
     ap expression_is_spelled (sym g.made) ∙ and_from _ _ (expression_spelled a g.left g.first parts.0) (expression_spelled b g.right g.second parts.1)
-expression_spelled (expression.Sub' p a q b) x e good =
+expression_spelled (tree.sub a b) x e good =
     let g = both_gave sub (resolved_expression a) (resolved_expression b) x e in
-    let parts = and_parts (asked.expression_is_spelled (expression_view a)) (asked.expression_is_spelled (expression_view b)) good in
+    let parts = and_parts (asked.expression_is_spelled a) (asked.expression_is_spelled b) good in
     ap expression_is_spelled (sym g.made) ∙ and_from _ _ (expression_spelled a g.left g.first parts.0) (expression_spelled b g.right g.second parts.1)
-expression_spelled (expression.Mul' p a q b) x e good =
+expression_spelled (tree.mul a b) x e good =
     let g = both_gave mul (resolved_expression a) (resolved_expression b) x e in
-    let parts = and_parts (asked.expression_is_spelled (expression_view a)) (asked.expression_is_spelled (expression_view b)) good in
+    let parts = and_parts (asked.expression_is_spelled a) (asked.expression_is_spelled b) good in
     ap expression_is_spelled (sym g.made) ∙ and_from _ _ (expression_spelled a g.left g.first parts.0) (expression_spelled b g.right g.second parts.1)
 
 folded_spelled : (f : Fold) (x : Expression) → measure_is_spelled (folded f x) ≡ expression_is_spelled x
@@ -60,63 +49,63 @@ folded_spelled fold.Sum x = refl
 folded_spelled fold.Min x = refl
 folded_spelled fold.Max x = refl
 
-resolved_spelled : (m : of_measure.Measure) (x : Measure) → resolved_measure m ≡ Some x → asked.measure_is_spelled (measure_view m) ≡ true → measure_is_spelled x ≡ true
-resolved_spelled measure.Count x e good = let same : counted ≡ x = cc in ap measure_is_spelled (sym same)
-resolved_spelled (measure.Fold f y) x e good =
+resolved_spelled : (m : tree.Measure) (x : Measure) → resolved_measure m ≡ Some x → asked.measure_is_spelled m ≡ true → measure_is_spelled x ≡ true
+resolved_spelled tree.count x e good = let same : counted ≡ x = cc in ap measure_is_spelled (sym same)
+resolved_spelled (tree.fold f y) x e good =
     let g = mapped_gave (folded f) (resolved_expression y) x e in
     ap measure_is_spelled (sym g.2) ∙ folded_spelled f g.0 ∙ expression_spelled y g.0 g.1 good
 
-pub measures_spelled : (is' : List Item) (ms : List Measure) → measures_of is' ≡ Some ms → list_all asked.item_is_spelled (map item_view is') ≡ true → list_all measure_is_spelled ms ≡ true
+pub measures_spelled : (is' : List Item) (ms : List Measure) → measures_of is' ≡ Some ms → list_all asked.item_is_spelled is' ≡ true → list_all measure_is_spelled ms ≡ true
 measures_spelled [] ms e good = let none : [] ≡ ms = cc in ap (list_all measure_is_spelled) (sym none)
-measures_spelled (item.Column n ∷ is') ms e good =
-    let parts = and_parts (is_name n.text.items) (list_all asked.item_is_spelled (map item_view is')) good in measures_spelled is' ms e parts.1
-measures_spelled (item.Aggregate a ∷ is') ms e good =
+measures_spelled (tree.plain n ∷ is') ms e good =
+    let parts = and_parts (is_name n.text) (list_all asked.item_is_spelled is') good in measures_spelled is' ms e parts.1
+measures_spelled (tree.aggregate a ∷ is') ms e good =
     let g = both_gave (λ m ms'. m ∷ ms') (resolved_measure a.measure) (measures_of is') ms e in
-    let parts = and_parts (asked.item_is_spelled (item_view (item.Aggregate a))) (list_all asked.item_is_spelled (map item_view is')) good in
-    let here = and_parts (asked.measure_is_spelled (measure_view a.measure)) (asked.alias_is_spelled (option_map name_view a.name)) parts.0 in
+    let parts = and_parts (asked.item_is_spelled (tree.aggregate a)) (list_all asked.item_is_spelled is') good in
+    let here = and_parts (asked.measure_is_spelled a.measure) (asked.alias_is_spelled (a.name)) parts.0 in
     ap (list_all measure_is_spelled) (sym g.made) ∙ and_from _ _ (resolved_spelled a.measure g.left g.first here.0) (measures_spelled is' g.right g.second parts.1)
 
-condition_spelled : (q : of_condition.Condition) (x : Condition) → resolved_condition q ≡ Some x → asked.condition_is_spelled (condition_view q) ≡ true → condition_is_spelled x ≡ true
-condition_spelled (condition.Or' p a q b) x e good =
+condition_spelled : (q : tree.Condition) (x : Condition) → resolved_condition q ≡ Some x → asked.condition_is_spelled q ≡ true → condition_is_spelled x ≡ true
+condition_spelled (tree.either a b) x e good =
     let g = both_gave either (resolved_condition a) (resolved_condition b) x e in
-    let parts = and_parts (asked.condition_is_spelled (condition_view a)) (asked.condition_is_spelled (condition_view b)) good in
+    let parts = and_parts (asked.condition_is_spelled a) (asked.condition_is_spelled b) good in
     ap condition_is_spelled (sym g.made) ∙ and_from _ _ (condition_spelled a g.left g.first parts.0) (condition_spelled b g.right g.second parts.1)
-condition_spelled (condition.And' p a q b) x e good =
+condition_spelled (tree.both a b) x e good =
     let g = both_gave both (resolved_condition a) (resolved_condition b) x e in
-    let parts = and_parts (asked.condition_is_spelled (condition_view a)) (asked.condition_is_spelled (condition_view b)) good in
+    let parts = and_parts (asked.condition_is_spelled a) (asked.condition_is_spelled b) good in
     ap condition_is_spelled (sym g.made) ∙ and_from _ _ (condition_spelled a g.left g.first parts.0) (condition_spelled b g.right g.second parts.1)
-condition_spelled (condition.Not' p a) x e good =
+condition_spelled (tree.negation a) x e good =
     let g = mapped_gave negation (resolved_condition a) x e in ap condition_is_spelled (sym g.2) ∙ condition_spelled a g.0 g.1 good
-condition_spelled (condition.Pair m n) x e good = absurd (cc)
-condition_spelled (condition.Compare n s l) x e good =
+condition_spelled (tree.pair m n) x e good = absurd (cc)
+condition_spelled (tree.compare n s l) x e good =
     let g = mapped_gave (λ c. compare c s (literal_value l)) (column_at n) x e in
-    let parts = and_parts (is_name n.text.items) (asked.literal_is_spelled (literal_view l)) good in
+    let parts = and_parts (is_name n.text) (asked.literal_is_spelled l) good in
     ap condition_is_spelled (sym g.2) ∙ value_spelled l parts.1
-condition_spelled (condition.Between n from upto) x e good =
+condition_spelled (tree.between n from upto) x e good =
     let g = mapped_gave (λ c. between c (literal_value from) (literal_value upto)) (column_at n) x e in
-    let parts = and_parts (is_name n.text.items) (asked.literal_is_spelled (literal_view from) && asked.literal_is_spelled (literal_view upto)) good in
-    let ends = and_parts (asked.literal_is_spelled (literal_view from)) (asked.literal_is_spelled (literal_view upto)) parts.1 in
+    let parts = and_parts (is_name n.text) (asked.literal_is_spelled from && asked.literal_is_spelled upto) good in
+    let ends = and_parts (asked.literal_is_spelled from) (asked.literal_is_spelled upto) parts.1 in
     ap condition_is_spelled (sym g.2) ∙ and_from _ _ (value_spelled from ends.0) (value_spelled upto ends.1)
 
-lone_spelled : (q : of_condition.Condition) (xs : List Condition) → option_map (λ x. x ∷ []) (resolved_condition q) ≡ Some xs → asked.condition_is_spelled (condition_view q) ≡ true
+lone_spelled : (q : tree.Condition) (xs : List Condition) → option_map (λ x. x ∷ []) (resolved_condition q) ≡ Some xs → asked.condition_is_spelled q ≡ true
     → list_all condition_is_spelled xs ≡ true
 lone_spelled q xs e good =
     let g = mapped_gave (λ (x : Condition). x ∷ []) (resolved_condition q) xs e in
     ap (list_all condition_is_spelled) (sym g.2) ∙ and_from _ _ (condition_spelled q g.0 g.1 good) refl
 
-conjuncts_spelled : (q : of_condition.Condition) (xs : List Condition) → conjuncts_of q ≡ Some xs → asked.condition_is_spelled (condition_view q) ≡ true → list_all condition_is_spelled xs ≡ true
-conjuncts_spelled (condition.And' p a q b) xs e good =
+conjuncts_spelled : (q : tree.Condition) (xs : List Condition) → conjuncts_of q ≡ Some xs → asked.condition_is_spelled q ≡ true → list_all condition_is_spelled xs ≡ true
+conjuncts_spelled (tree.both a b) xs e good =
     let g = both_gave (λ ys zs. ys ++ zs) (conjuncts_of a) (conjuncts_of b) xs e in
-    let parts = and_parts (asked.condition_is_spelled (condition_view a)) (asked.condition_is_spelled (condition_view b)) good in
+    let parts = and_parts (asked.condition_is_spelled a) (asked.condition_is_spelled b) good in
     ap (list_all condition_is_spelled) (sym g.made) ∙ list_all-append condition_is_spelled g.left g.right
     ∙ and_from _ _ (conjuncts_spelled a g.left g.first parts.0) (conjuncts_spelled b g.right g.second parts.1)
-conjuncts_spelled (condition.Pair m n) xs e good = let none : [] ≡ xs = cc in ap (list_all condition_is_spelled) (sym none)
-conjuncts_spelled (condition.Or' p a q b) xs e good = lone_spelled (condition.Or' p a q b) xs e good
-conjuncts_spelled (condition.Not' p a) xs e good = lone_spelled (condition.Not' p a) xs e good
-conjuncts_spelled (condition.Compare n s l) xs e good = lone_spelled (condition.Compare n s l) xs e good
-conjuncts_spelled (condition.Between n from upto) xs e good = lone_spelled (condition.Between n from upto) xs e good
+conjuncts_spelled (tree.pair m n) xs e good = let none : [] ≡ xs = cc in ap (list_all condition_is_spelled) (sym none)
+conjuncts_spelled (tree.either a b) xs e good = lone_spelled (tree.either a b) xs e good
+conjuncts_spelled (tree.negation a) xs e good = lone_spelled (tree.negation a) xs e good
+conjuncts_spelled (tree.compare n s l) xs e good = lone_spelled (tree.compare n s l) xs e good
+conjuncts_spelled (tree.between n from upto) xs e good = lone_spelled (tree.between n from upto) xs e good
 
-pub where_spelled : (o : Option of_condition.Condition) (xs : List Condition) → where_conjuncts o ≡ Some xs → asked.where_is_spelled (option_map condition_view o) ≡ true
+pub where_spelled : (o : Option tree.Condition) (xs : List Condition) → where_conjuncts o ≡ Some xs → asked.where_is_spelled (o) ≡ true
     → list_all condition_is_spelled xs ≡ true
 where_spelled None xs e good = let none : [] ≡ xs = cc in ap (list_all condition_is_spelled) (sym none)
 where_spelled (Some q) xs e good = conjuncts_spelled q xs e good
@@ -137,46 +126,46 @@ word_then_digits (c ∷ cs) ds begins word short digits few =
     let long : length ((c ∷ cs) ++ ds) ≤ 64 = omega (arith, length-append (c ∷ cs) ds) in
     and_from _ _ begins (and_from _ _ (list_all-append is_word_byte (c ∷ cs) ds ∙ and_from _ _ word digits) (le-leb _ 64 long))
 
-default_spelled : (m : of_measure.Measure) (n : ℕ) → n < 2 ^ 64 → is_name (default_name m n) ≡ true
+default_spelled : (m : tree.Measure) (n : ℕ) → n < 2 ^ 64 → is_name (default_name m n) ≡ true
 unfolding function_word
 default_spelled m n below = by_word (function_word m) (begins m) (letters m) (short m)
   where
     digits : list_all is_word_byte (decimal n) ≡ true
     digits = let numeral = decimal_is_IsNumeral n below in digits_spelled (decimal n) numeral.0.1
 
-    begins : (x : of_measure.Measure) → begins_with_letter (function_word x) ≡ true
-    begins measure.Count = refl
-    begins (measure.Fold fold.Sum e) = refl
-    begins (measure.Fold fold.Min e) = refl
-    begins (measure.Fold fold.Max e) = refl
+    begins : (x : tree.Measure) → begins_with_letter (function_word x) ≡ true
+    begins tree.count = refl
+    begins (tree.fold fold.Sum e) = refl
+    begins (tree.fold fold.Min e) = refl
+    begins (tree.fold fold.Max e) = refl
 
-    letters : (x : of_measure.Measure) → list_all is_word_byte (function_word x) ≡ true
-    letters measure.Count = refl
-    letters (measure.Fold fold.Sum e) = refl
-    letters (measure.Fold fold.Min e) = refl
-    letters (measure.Fold fold.Max e) = refl
+    letters : (x : tree.Measure) → list_all is_word_byte (function_word x) ≡ true
+    letters tree.count = refl
+    letters (tree.fold fold.Sum e) = refl
+    letters (tree.fold fold.Min e) = refl
+    letters (tree.fold fold.Max e) = refl
 
-    short : (x : of_measure.Measure) → length (function_word x) ≤ 5
-    short measure.Count = omega arith
-    short (measure.Fold fold.Sum e) = omega arith
-    short (measure.Fold fold.Min e) = omega arith
-    short (measure.Fold fold.Max e) = omega arith
+    short : (x : tree.Measure) → length (function_word x) ≤ 5
+    short tree.count = omega arith
+    short (tree.fold fold.Sum e) = omega arith
+    short (tree.fold fold.Min e) = omega arith
+    short (tree.fold fold.Max e) = omega arith
 
     by_word : (word : List ℕ) → begins_with_letter word ≡ true → list_all is_word_byte word ≡ true → length word ≤ 5 → is_name (word ++ decimal n) ≡ true
     by_word word b l s = word_then_digits word (decimal n) b l s digits (length-decimal-le 20 n (omega arith) (omega arith) below)
 
-name_spelled : (n : ℕ) (a : Aggregate) → n < 2 ^ 64 → asked.alias_is_spelled (option_map name_view a.name) ≡ true → is_name (aggregate_name n a) ≡ true
+name_spelled : (n : ℕ) (a : Aggregate) → n < 2 ^ 64 → asked.alias_is_spelled (a.name) ≡ true → is_name (aggregate_name n a) ≡ true
 name_spelled n a d good = go a.name refl good
   where
-    go : (o : Option Name) → a.name ≡ o → asked.alias_is_spelled (option_map name_view o) ≡ true → is_name (aggregate_name n a) ≡ true
+    go : (o : Option Name) → a.name ≡ o → asked.alias_is_spelled (o) ≡ true → is_name (aggregate_name n a) ≡ true
     go None h e = rw h (default_spelled a.measure n d)
     go (Some own) h e = rw h e
 
-pub names_spelled : (number : ℕ) (is' : List Item) → number + length is' < 2 ^ 64 → list_all asked.item_is_spelled (map item_view is') ≡ true → list_all is_name (names_from number is') ≡ true
+pub names_spelled : (number : ℕ) (is' : List Item) → number + length is' < 2 ^ 64 → list_all asked.item_is_spelled is' ≡ true → list_all is_name (names_from number is') ≡ true
 names_spelled number [] few good = refl
-names_spelled number (item.Column n ∷ is') few good =
-    let parts = and_parts (is_name n.text.items) (list_all asked.item_is_spelled (map item_view is')) good in names_spelled number is' (omega arith) parts.1
-names_spelled number (item.Aggregate a ∷ is') few good =
-    let parts = and_parts (asked.item_is_spelled (item_view (item.Aggregate a))) (list_all asked.item_is_spelled (map item_view is')) good in
-    let here = and_parts (asked.measure_is_spelled (measure_view a.measure)) (asked.alias_is_spelled (option_map name_view a.name)) parts.0 in
+names_spelled number (tree.plain n ∷ is') few good =
+    let parts = and_parts (is_name n.text) (list_all asked.item_is_spelled is') good in names_spelled number is' (omega arith) parts.1
+names_spelled number (tree.aggregate a ∷ is') few good =
+    let parts = and_parts (asked.item_is_spelled (tree.aggregate a)) (list_all asked.item_is_spelled is') good in
+    let here = and_parts (asked.measure_is_spelled a.measure) (asked.alias_is_spelled (a.name)) parts.0 in
     and_from _ _ (name_spelled number a (omega arith) here.1) (names_spelled (number + 1) is' (omega arith) parts.1)

@@ -18,30 +18,20 @@ use Rattle.star_schema.specs.Schema.{is_table, kind_of, table_name, table_of}
 use Rattle.star_schema.proofs.NamesApart.{table_by_name}
 use Rattle.star_query.specs.declared.token.Fold.{Fold}
 use Rattle.star_query.specs.declared.token.Fold.TheVariants as fold
-use Rattle.star_query.specs.declared.tree.Name.{Name}
-use Rattle.star_query.specs.declared.tree.Literal.{Literal}
-use Rattle.star_query.specs.declared.tree.Literal.TheVariants as literal
-use Rattle.star_query.specs.declared.tree.Expression as of_expression
-use Rattle.star_query.specs.declared.tree.Expression.TheVariants as expression
-use Rattle.star_query.specs.declared.tree.Condition as of_condition
-use Rattle.star_query.specs.declared.tree.Condition.TheVariants as condition
-use Rattle.star_query.specs.declared.tree.Measure as of_measure
-use Rattle.star_query.specs.declared.tree.Measure.TheVariants as measure
-use Rattle.star_query.specs.declared.tree.Item.{Item}
-use Rattle.star_query.specs.declared.tree.Item.TheVariants as item
-use Rattle.star_query.specs.declared.tree.SortKey.{SortKey}
+use Rattle.star_query.specs.Tree as tree
+use Rattle.star_query.specs.Tree.{Item, Literal, Name, SortKey}
 use Rattle.star_plan.specs.declared.tree.Join.{Join}
 use Rattle.star_plan.specs.declared.uses.Use.{Use}
 use Rattle.star_plan.specs.declared.joins.Pair.{Pair}
 use Rattle.star_plan.specs.First.{first_after}
 use Rattle.star_plan.specs.Meaning.{Condition, either, both, negation, Expression, column, constant, add, sub, mul, Measure, counted, compare, between}
-use Rattle.star_plan.specs.Names.{column_at, has_name, is_of, same_kind, table_called}
+use Rattle.star_plan.specs.Names.{column_at, has_name, is_of, literal_value, same_kind, table_called}
 use Rattle.star_plan.specs.Uses.{condition_uses, expression_uses, groups_uses, items_uses, kind_of_literal, measure_uses, where_uses}
 use Rattle.star_plan.specs.Joins.{is_joined, joins_of, pairs_of, where_pairs}
 use Rattle.star_plan.specs.Naming.{has_text}
 use Rattle.star_plan.specs.Faults.{item_fault, key_fault, kind_fault, missing_fault, pair_fault, scope_fault, of_column, of_missing}
 use Rattle.star_plan.specs.Resolved.{aggregate_column, conjuncts_of, where_conjuncts, items_from, key_column, measures_of, option_all, option_both, resolved_condition, resolved_expression, resolved_key, resolved_measure}
-use Rattle.star_plan.specs.Shown.{folded, literal_value}
+use Rattle.star_plan.specs.Shown.{folded}
 use Rattle.star_plan.specs.Sound.{condition_is_sound, expression_is_sound, in_scope, joins_table, measure_is_sound}
 
 -- the table by its own name
@@ -101,24 +91,24 @@ AreFit us = AllByRecursion (λ u. kind_fault u ≡ None) us
 abbrev pub Reaches : List Name → List Join → Type 0
 Reaches tables js = (c : ColumnId) → has_name tables (table_name (table_of c)) ≡ true → in_scope js (table_of c) ≡ true
 
-abbrev KnownExpression : List Join → of_expression.Expression → Type 0
+abbrev KnownExpression : List Join → tree.Expression → Type 0
 KnownExpression js e = (x : Expression) × (resolved_expression e ≡ Some x) × (expression_is_sound js x ≡ true)
 
-expression_known : (tables : List Name) (js : List Join) → Reaches tables js → (e : of_expression.Expression) → AreScoped tables (expression_uses e) → AreFit (expression_uses e) → KnownExpression js e
-expression_known tables js reach (expression.Column n) scoped fit =
+expression_known : (tables : List Name) (js : List Join) → Reaches tables js → (e : tree.Expression) → AreScoped tables (expression_uses e) → AreFit (expression_uses e) → KnownExpression js e
+expression_known tables js reach (tree.column n) scoped fit =
     let s = scope_known tables n.place (column_at n) scoped.0 in
     let k : is_of kind.Number (column_at n) ≡ true = kind_known (record { column = column_at n; fits = is_of kind.Number (column_at n); at = n.place }) fit.0 in
     (column s.0, ap (option_map column) s.1, and_from _ _ (reach s.0 s.2) (rw s.1 at k))
-expression_known tables js reach (expression.Number z) scoped fit = (constant z, refl, refl)
-expression_known tables js reach (expression.Add' p a q b) scoped fit =
+expression_known tables js reach (tree.constant z) scoped fit = (constant z, refl, refl)
+expression_known tables js reach (tree.add a b) scoped fit =
     let l = expression_known tables js reach a (each_left _ (expression_uses a) (expression_uses b) scoped) (each_left _ (expression_uses a) (expression_uses b) fit) in
     let r = expression_known tables js reach b (each_right _ (expression_uses a) (expression_uses b) scoped) (each_right _ (expression_uses a) (expression_uses b) fit) in
     (add l.0 r.0, λ i. option_both add (l.1 i) (r.1 i), and_from _ _ l.2 r.2)
-expression_known tables js reach (expression.Sub' p a q b) scoped fit =
+expression_known tables js reach (tree.sub a b) scoped fit =
     let l = expression_known tables js reach a (each_left _ (expression_uses a) (expression_uses b) scoped) (each_left _ (expression_uses a) (expression_uses b) fit) in
     let r = expression_known tables js reach b (each_right _ (expression_uses a) (expression_uses b) scoped) (each_right _ (expression_uses a) (expression_uses b) fit) in
     (sub l.0 r.0, λ i. option_both sub (l.1 i) (r.1 i), and_from _ _ l.2 r.2)
-expression_known tables js reach (expression.Mul' p a q b) scoped fit =
+expression_known tables js reach (tree.mul a b) scoped fit =
     let l = expression_known tables js reach a (each_left _ (expression_uses a) (expression_uses b) scoped) (each_left _ (expression_uses a) (expression_uses b) fit) in
     let r = expression_known tables js reach b (each_right _ (expression_uses a) (expression_uses b) scoped) (each_right _ (expression_uses a) (expression_uses b) fit) in
     (mul l.0 r.0, λ i. option_both mul (l.1 i) (r.1 i), and_from _ _ l.2 r.2)
@@ -128,17 +118,17 @@ folded_sound js fold.Sum x e = e
 folded_sound js fold.Min x e = e
 folded_sound js fold.Max x e = e
 
-measure_known : (tables : List Name) (js : List Join) → Reaches tables js → (m : of_measure.Measure) → AreScoped tables (measure_uses m) → AreFit (measure_uses m)
+measure_known : (tables : List Name) (js : List Join) → Reaches tables js → (m : tree.Measure) → AreScoped tables (measure_uses m) → AreFit (measure_uses m)
     → (x : Measure) × (resolved_measure m ≡ Some x) × (measure_is_sound js x ≡ true)
-measure_known tables js reach measure.Count scoped fit = (counted, refl, refl)
-measure_known tables js reach (measure.Fold f e) scoped fit =
+measure_known tables js reach tree.count scoped fit = (counted, refl, refl)
+measure_known tables js reach (tree.fold f e) scoped fit =
     let x = expression_known tables js reach e scoped fit in (folded f x.0, ap (option_map (folded f)) x.1, folded_sound js f x.0 x.2)
 
 pub measures_known : (tables : List Name) (js : List Join) → Reaches tables js → (is' : List Item) → AreScoped tables (items_uses is') → AreFit (items_uses is')
     → (ms : List Measure) × (measures_of is' ≡ Some ms) × (list_all (measure_is_sound js) ms ≡ true)
 measures_known tables js reach [] scoped fit = ([], refl, refl)
-measures_known tables js reach (item.Column n ∷ is') scoped fit = measures_known tables js reach is' scoped.1 fit.1
-measures_known tables js reach (item.Aggregate a ∷ is') scoped fit =
+measures_known tables js reach (tree.plain n ∷ is') scoped fit = measures_known tables js reach is' scoped.1 fit.1
+measures_known tables js reach (tree.aggregate a ∷ is') scoped fit =
     let m = measure_known tables js reach a.measure (each_left _ (measure_uses a.measure) (items_uses is') scoped) (each_left _ (measure_uses a.measure) (items_uses is') fit) in
     let ms = measures_known tables js reach is' (each_right _ (measure_uses a.measure) (items_uses is') scoped) (each_right _ (measure_uses a.measure) (items_uses is') fit) in
     (m.0 ∷ ms.0, λ i. option_both (λ x xs. x ∷ xs) (m.1 i) (ms.1 i), and_from _ _ m.2 ms.2)
@@ -150,29 +140,29 @@ abbrev AreJoins : List Pair → Type 0
 AreJoins ps = AllByRecursion (λ p. (j : Join) × (p.join ≡ Some j)) ps
 
 value_kind : (l : Literal) (c : ColumnId) → is_of (kind_of_literal l) (Some c) ≡ true → same_kind (kind_of c) (kind_of_value (literal_value l)) ≡ true
-value_kind (literal.Number z) c e = e
-value_kind (literal.Text bs) c e = e
+value_kind (tree.number z) c e = e
+value_kind (tree.text bs) c e = e
 
-condition_known : (tables : List Name) (js : List Join) → Reaches tables js → (q : of_condition.Condition)
+condition_known : (tables : List Name) (js : List Join) → Reaches tables js → (q : tree.Condition)
     → AreJoins (pairs_of false q) → AreScoped tables (condition_uses q) → AreFit (condition_uses q)
     → (x : Condition) × (resolved_condition q ≡ Some x) × (condition_is_sound js x ≡ true)
-condition_known tables js reach (condition.Or' p a q b) pairs scoped fit =
+condition_known tables js reach (tree.either a b) pairs scoped fit =
     let l = condition_known tables js reach a (each_left _ (pairs_of false a) (pairs_of false b) pairs) (each_left _ (condition_uses a) (condition_uses b) scoped) (each_left _ (condition_uses a) (condition_uses b) fit) in
     let r = condition_known tables js reach b (each_right _ (pairs_of false a) (pairs_of false b) pairs) (each_right _ (condition_uses a) (condition_uses b) scoped) (each_right _ (condition_uses a) (condition_uses b) fit) in
     (either l.0 r.0, λ i. option_both either (l.1 i) (r.1 i), and_from _ _ l.2 r.2)
-condition_known tables js reach (condition.And' p a q b) pairs scoped fit =
+condition_known tables js reach (tree.both a b) pairs scoped fit =
     let l = condition_known tables js reach a (each_left _ (pairs_of false a) (pairs_of false b) pairs) (each_left _ (condition_uses a) (condition_uses b) scoped) (each_left _ (condition_uses a) (condition_uses b) fit) in
     let r = condition_known tables js reach b (each_right _ (pairs_of false a) (pairs_of false b) pairs) (each_right _ (condition_uses a) (condition_uses b) scoped) (each_right _ (condition_uses a) (condition_uses b) fit) in
     (both l.0 r.0, λ i. option_both both (l.1 i) (r.1 i), and_from _ _ l.2 r.2)
-condition_known tables js reach (condition.Not' p a) pairs scoped fit =
+condition_known tables js reach (tree.negation a) pairs scoped fit =
     let x = condition_known tables js reach a pairs scoped fit in
     (negation x.0, ap (option_map negation) x.1, x.2)
-condition_known tables js reach (condition.Pair m n) pairs scoped fit = absurd (let j = pairs.0.1 in cc)
-condition_known tables js reach (condition.Compare n s l) pairs scoped fit =
+condition_known tables js reach (tree.pair m n) pairs scoped fit = absurd (let j = pairs.0.1 in cc)
+condition_known tables js reach (tree.compare n s l) pairs scoped fit =
     let c = scope_known tables n.place (column_at n) scoped.0 in
     let k : is_of (kind_of_literal l) (column_at n) ≡ true = kind_known (record { column = column_at n; fits = is_of (kind_of_literal l) (column_at n); at = n.place }) fit.0 in
     (compare c.0 s (literal_value l), ap (option_map (λ d. compare d s (literal_value l))) c.1, and_from _ _ (reach c.0 c.2) (value_kind l c.0 (rw c.1 at k)))
-condition_known tables js reach (condition.Between n from upto) pairs scoped fit =
+condition_known tables js reach (tree.between n from upto) pairs scoped fit =
     let c = scope_known tables n.place (column_at n) scoped.0 in
     let k : (is_of (kind_of_literal from) (column_at n) && is_of (kind_of_literal upto) (column_at n)) ≡ true =
     kind_known (record { column = column_at n; fits = is_of (kind_of_literal from) (column_at n) && is_of (kind_of_literal upto) (column_at n); at = n.place }) fit.0 in
@@ -182,30 +172,30 @@ condition_known tables js reach (condition.Between n from upto) pairs scoped fit
       and_from _ _ (reach c.0 c.2) (and_from _ _ (value_kind from c.0 ks.0) (value_kind upto c.0 ks.1)),
     )
 
-abbrev KnownConjuncts : List Join → of_condition.Condition → Type 0
+abbrev KnownConjuncts : List Join → tree.Condition → Type 0
 KnownConjuncts js q = (xs : List Condition) × (conjuncts_of q ≡ Some xs) × (list_all (condition_is_sound js) xs ≡ true)
 
 lone_known : (js : List Join) (o : Option Condition) (x : Condition) → o ≡ Some x → condition_is_sound js x ≡ true
     → (xs : List Condition) × (option_map (λ y. y ∷ []) o ≡ Some xs) × (list_all (condition_is_sound js) xs ≡ true)
 lone_known js o x e sound = (x ∷ [], ap (option_map (λ y. y ∷ [])) e, and_from _ _ sound refl)
 
-conjuncts_known : (tables : List Name) (js : List Join) → Reaches tables js → (q : of_condition.Condition)
+conjuncts_known : (tables : List Name) (js : List Join) → Reaches tables js → (q : tree.Condition)
     → AreJoins (pairs_of true q) → AreScoped tables (condition_uses q) → AreFit (condition_uses q) → KnownConjuncts js q
-conjuncts_known tables js reach (condition.And' p a q b) pairs scoped fit =
+conjuncts_known tables js reach (tree.both a b) pairs scoped fit =
     let l = conjuncts_known tables js reach a (each_left _ (pairs_of true a) (pairs_of true b) pairs) (each_left _ (condition_uses a) (condition_uses b) scoped) (each_left _ (condition_uses a) (condition_uses b) fit) in
     let r = conjuncts_known tables js reach b (each_right _ (pairs_of true a) (pairs_of true b) pairs) (each_right _ (condition_uses a) (condition_uses b) scoped) (each_right _ (condition_uses a) (condition_uses b) fit) in
     (l.0 ++ r.0, λ i. option_both (λ xs ys. xs ++ ys) (l.1 i) (r.1 i), list_all-append (condition_is_sound js) l.0 r.0 ∙ and_from _ _ l.2 r.2)
-conjuncts_known tables js reach (condition.Pair m n) pairs scoped fit = ([], refl, refl)
-conjuncts_known tables js reach (condition.Or' p a q b) pairs scoped fit =
-    let x = condition_known tables js reach (condition.Or' p a q b) pairs scoped fit in lone_known js _ x.0 x.1 x.2
-conjuncts_known tables js reach (condition.Not' p a) pairs scoped fit =
-    let x = condition_known tables js reach (condition.Not' p a) pairs scoped fit in lone_known js _ x.0 x.1 x.2
-conjuncts_known tables js reach (condition.Compare n s l) pairs scoped fit =
-    let x = condition_known tables js reach (condition.Compare n s l) pairs scoped fit in lone_known js _ x.0 x.1 x.2
-conjuncts_known tables js reach (condition.Between n from upto) pairs scoped fit =
-    let x = condition_known tables js reach (condition.Between n from upto) pairs scoped fit in lone_known js _ x.0 x.1 x.2
+conjuncts_known tables js reach (tree.pair m n) pairs scoped fit = ([], refl, refl)
+conjuncts_known tables js reach (tree.either a b) pairs scoped fit =
+    let x = condition_known tables js reach (tree.either a b) pairs scoped fit in lone_known js _ x.0 x.1 x.2
+conjuncts_known tables js reach (tree.negation a) pairs scoped fit =
+    let x = condition_known tables js reach (tree.negation a) pairs scoped fit in lone_known js _ x.0 x.1 x.2
+conjuncts_known tables js reach (tree.compare n s l) pairs scoped fit =
+    let x = condition_known tables js reach (tree.compare n s l) pairs scoped fit in lone_known js _ x.0 x.1 x.2
+conjuncts_known tables js reach (tree.between n from upto) pairs scoped fit =
+    let x = condition_known tables js reach (tree.between n from upto) pairs scoped fit in lone_known js _ x.0 x.1 x.2
 
-pub where_known : (tables : List Name) (js : List Join) → Reaches tables js → (o : Option of_condition.Condition)
+pub where_known : (tables : List Name) (js : List Join) → Reaches tables js → (o : Option tree.Condition)
     → AllByRecursion (λ p. (j : Join) × (p.join ≡ Some j)) (where_pairs o) → AllByRecursion (λ u. scope_fault tables u ≡ None) (where_uses o) → AllByRecursion (λ u. kind_fault u ≡ None) (where_uses o)
     → (xs : List Condition) × (where_conjuncts o ≡ Some xs) × (list_all (condition_is_sound js) xs ≡ true)
 where_known tables js reach None pairs scoped fit = ([], refl, refl)
@@ -234,7 +224,7 @@ position_known p xs e = (prefix_len (λ x. not (p x)) xs, rw (lt-ltb _ _ (prefix
 
 key_column_known : (groups : List Name) (text : List ℕ) → has_name groups text ≡ true → (c : GroupColumn) × (key_column groups text ≡ Some c)
 unfolding has_name
-key_column_known groups text e = let i = position_known (λ n. pointwise nat_eq n.text.items text) groups e in (group.Key i.0, ap (option_map (λ place. group.Key place)) i.1)
+key_column_known groups text e = let i = position_known (λ n. pointwise nat_eq n.text text) groups e in (group.Key i.0, ap (option_map (λ place. group.Key place)) i.1)
 
 aggregate_column_known : (names : List (List ℕ)) (text : List ℕ) → has_text names text ≡ true → (c : GroupColumn) × (aggregate_column names text ≡ Some c)
 unfolding has_text
@@ -242,8 +232,8 @@ aggregate_column_known names text e = let i = position_known (λ t. pointwise na
 
 -- a plain column is grouped
 abbrev pub IsGrouped : List Name → Item → Type 0
-IsGrouped groups (item.Column n) = has_name groups n.text.items ≡ true
-IsGrouped groups (item.Aggregate a) = Unit {0}
+IsGrouped groups (tree.plain n) = has_name groups n.text ≡ true
+IsGrouped groups (tree.aggregate a) = Unit {0}
 
 named_of : {A : Type 0} (b : Bool) (x : A) → (if b then None else Some x) ≡ None → b ≡ true
 named_of true x e = refl
@@ -251,17 +241,17 @@ named_of false x e = absurd (cc)
 
 pub grouped : (groups : List Name) (before is' : List Item) → first_after (item_fault groups) before is' ≡ None → AllByRecursion (IsGrouped groups) is'
 grouped groups before [] e = tt
-grouped groups before (item.Column n ∷ is') e =
-    let parts = or_none _ _ e in (named_of (has_name groups n.text.items) _ parts.0, grouped groups (before ++ item.Column n ∷ []) is' parts.1)
-grouped groups before (item.Aggregate a ∷ is') e = let parts = or_none _ _ e in (tt, grouped groups (before ++ item.Aggregate a ∷ []) is' parts.1)
+grouped groups before (tree.plain n ∷ is') e =
+    let parts = or_none _ _ e in (named_of (has_name groups n.text) _ parts.0, grouped groups (before ++ tree.plain n ∷ []) is' parts.1)
+grouped groups before (tree.aggregate a ∷ is') e = let parts = or_none _ _ e in (tt, grouped groups (before ++ tree.aggregate a ∷ []) is' parts.1)
 
 pub items_known : (groups : List Name) (before : ℕ) (is' : List Item) → AllByRecursion (IsGrouped groups) is' → (cs : List GroupColumn) × (items_from groups before is' ≡ Some cs)
 items_known groups before [] all = ([], refl)
-items_known groups before (item.Column n ∷ is') all =
-    let c = key_column_known groups n.text.items all.0 in
+items_known groups before (tree.plain n ∷ is') all =
+    let c = key_column_known groups n.text all.0 in
     let cs = items_known groups (before + 0) is' all.1 in
     (c.0 ∷ cs.0, λ i. option_both (λ x xs. x ∷ xs) (c.1 i) (cs.1 i))
-items_known groups before (item.Aggregate a ∷ is') all =
+items_known groups before (tree.aggregate a ∷ is') all =
     let cs = items_known groups (before + 1) is' all.1 in
     (group.Aggregate before ∷ cs.0, λ i. option_both (λ x xs. x ∷ xs) (Some (group.Aggregate before)) (cs.1 i))
 
@@ -281,8 +271,8 @@ pub order_known : (groups : List Name) (names : List (List ℕ)) (ks : List Sort
     → (ss : List sorted.SortKey) × (option_all (resolved_key groups names) ks ≡ Some ss)
 order_known groups names [] all = ([], refl)
 order_known groups names (k ∷ ks) all =
-    let b = or_cases (has_name groups k.name.text.items) (has_text names k.name.text.items) (named_of _ _ all.0) in
-    let c = order_column groups names k.name.text.items b in
+    let b = or_cases (has_name groups k.name.text) (has_text names k.name.text) (named_of _ _ all.0) in
+    let c = order_column groups names k.name.text b in
     let ss = order_known groups names ks all.1 in (
       record { column = c.0; direction = k.direction } ∷ ss.0,
       λ i. option_both (λ x xs. x ∷ xs) (option_map (λ d. record { column = d; direction = k.direction }) (c.1 i)) (ss.1 i),
@@ -314,14 +304,14 @@ named_reached : (ps : List Pair) (t : TableId) (tables : List Name) → has_name
     → (is_table t Lineorder || is_joined ps t) ≡ true
 unfolding has_name
 named_reached ps t [] e all = absurd (cc)
-named_reached ps t (n ∷ ns) e all = go (pointwise nat_eq n.text.items (table_name t)) refl e (λ more. named_reached ps t ns more all.1)
+named_reached ps t (n ∷ ns) e all = go (pointwise nat_eq n.text (table_name t)) refl e (λ more. named_reached ps t ns more all.1)
   where
-    go : (b : Bool) → pointwise nat_eq n.text.items (table_name t) ≡ b → list_any (λ m. pointwise nat_eq m.text.items (table_name t)) (n ∷ ns) ≡ true
-        → (list_any (λ m. pointwise nat_eq m.text.items (table_name t)) ns ≡ true → (is_table t Lineorder || is_joined ps t) ≡ true) → (is_table t Lineorder || is_joined ps t) ≡ true
+    go : (b : Bool) → pointwise nat_eq n.text (table_name t) ≡ b → list_any (λ m. pointwise nat_eq m.text (table_name t)) (n ∷ ns) ≡ true
+        → (list_any (λ m. pointwise nat_eq m.text (table_name t)) ns ≡ true → (is_table t Lineorder || is_joined ps t) ≡ true) → (is_table t Lineorder || is_joined ps t) ≡ true
     go true h e rest =
-        let same : n.text.items ≡ table_name t = same_text n.text.items (table_name t) (sym h) in
-        let here : table_called n.text.items ≡ Some t = rw same (called t) in
-        missing_known ps n.place (table_called n.text.items) t here all.0
+        let same : n.text ≡ table_name t = same_text n.text (table_name t) (sym h) in
+        let here : table_called n.text ≡ Some t = rw same (called t) in
+        missing_known ps n.place (table_called n.text) t here all.0
     go false h e rest = rest (rw h at e)
 
 pub reaches : (tables : List Name) (ps : List Pair) → first_answer (missing_fault ps) tables ≡ None → Reaches tables (joins_of ps)

@@ -2,9 +2,9 @@ pub mod Aggregates
 pub mod Calls
 pub mod Exits
 pub mod Firsts
+pub mod Viewed
 pub mod Known
 pub mod Options
-pub mod Texts
 pub mod Whole
 pub mod KeptJoins
 pub mod KeptCounts

@@ -48,17 +48,23 @@ some_with : {B : Type 0} (done : List B) (y : B) (rest : Option (List B)) → wi
 some_with done y None = refl
 some_with done y (Some ys) = ap Some (sym (append_assoc done (y ∷ []) ys))
 
-pub all_missing : {A B : Type 0} (f : A → Option B) (xs : List A) (i : ℕ) (x : A) (done : List B) → i < length xs → x ≡ get_or xs i x
-    → with_rest done (option_all f (drop i xs)) ≡ option_all f xs → None ≡ f x → None ≡ option_all f xs
-all_missing f xs i x done within at so_far missing = none_with done (f x) (option_all f (drop (i + 1) xs)) missing ∙ (rw (drop_here xs i x within at) at so_far)
+pub all_missing : {X A B : Type 0} (v : X → A) (f : A → Option B) (xs : List X) (i : ℕ) (x : X) (done : List B)
+    → i < length xs → x ≡ get_or xs i x
+    → with_rest done (option_all f (map v (drop i xs))) ≡ option_all f (map v xs) → None ≡ f (v x)
+    → None ≡ option_all f (map v xs)
+all_missing v f xs i x done within at so_far missing =
+    none_with done (f (v x)) (option_all f (map v (drop (i + 1) xs))) missing ∙ (rw (drop_here xs i x within at) at so_far)
 
-pub all_more : {A B : Type 0} (f : A → Option B) (xs : List A) (i : ℕ) (x : A) (done : List B) (y : B) → i < length xs → x ≡ get_or xs i x
-    → with_rest done (option_all f (drop i xs)) ≡ option_all f xs → Some y ≡ f x → with_rest (done ++ y ∷ []) (option_all f (drop (i + 1) xs)) ≡ option_all f xs
-all_more f xs i x done y within at so_far found = sym (some_with done y (option_all f (drop (i + 1) xs))) ∙ (rw (drop_here xs i x within at, ← found) at so_far)
+pub all_more : {X A B : Type 0} (v : X → A) (f : A → Option B) (xs : List X) (i : ℕ) (x : X) (done : List B) (y : B)
+    → i < length xs → x ≡ get_or xs i x
+    → with_rest done (option_all f (map v (drop i xs))) ≡ option_all f (map v xs) → Some y ≡ f (v x)
+    → with_rest (done ++ y ∷ []) (option_all f (map v (drop (i + 1) xs))) ≡ option_all f (map v xs)
+all_more v f xs i x done y within at so_far found =
+    sym (some_with done y (option_all f (map v (drop (i + 1) xs)))) ∙ (rw (drop_here xs i x within at, ← found) at so_far)
 
-pub all_whole : {A B : Type 0} (f : A → Option B) (xs : List A) (i : ℕ) (done : List B) → length xs ≤ i
-    → with_rest done (option_all f (drop i xs)) ≡ option_all f xs → Some done ≡ option_all f xs
-all_whole f xs i done past so_far = ap Some (sym (append-nil done)) ∙ (rw (drop_past xs i past) at so_far)
+pub all_whole : {X A B : Type 0} (v : X → A) (f : A → Option B) (xs : List X) (i : ℕ) (done : List B) → length xs ≤ i
+    → with_rest done (option_all f (map v (drop i xs))) ≡ option_all f (map v xs) → Some done ≡ option_all f (map v xs)
+all_whole v f xs i done past so_far = ap Some (sym (append-nil done)) ∙ (rw (drop_past xs i past) at so_far)
 
 pub all_first : {A B : Type 0} (f : A → Option B) (xs : List A) → with_rest [] (option_all f xs) ≡ option_all f xs
 all_first f xs = go (option_all f xs)

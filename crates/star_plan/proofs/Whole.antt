@@ -7,7 +7,7 @@ use Rattle.star_schema.specs.declared.group.GroupColumn.{GroupColumn}
 use Rattle.star_schema.specs.declared.group.SortKey.{SortKey}
 use Rattle.star_common.specs.First.{first_answer}
 use Rattle.star_schema.specs.Schema.{table_of}
-use Rattle.star_query.specs.declared.tree.Tree.{Tree}
+use Rattle.star_query.specs.Tree.{Tree}
 use Rattle.star_plan.specs.declared.tree.Join.{Join}
 use Rattle.star_plan.specs.First.{first_beside}
 use Rattle.star_plan.specs.Meaning.{Condition, Measure}
@@ -23,21 +23,21 @@ use Rattle.star_plan.proofs.KeptJoins.{distinct}
 
 -- what well named says of each part
 pub record Parts (t : Tree) : Type 0 where
-  pub scoped : AllByRecursion (λ u. scope_fault t.tables.items u ≡ None) (uses_of t)
+  pub scoped : AllByRecursion (λ u. scope_fault t.tables u ≡ None) (uses_of t)
   pub fit : AllByRecursion (λ u. kind_fault u ≡ None) (uses_of t)
   pub pairs : AllByRecursion (λ p. (j : Join) × (p.join ≡ Some j)) (where_pairs t.condition)
-  pub reach : Reaches t.tables.items (joins_of (where_pairs t.condition))
-  pub items : AllByRecursion (IsGrouped t.grouping.columns.items) t.items.items
+  pub reach : Reaches t.tables (joins_of (where_pairs t.condition))
+  pub items : AllByRecursion (IsGrouped t.grouping.columns) t.items
   pub apart : are_distinct (joins_of (where_pairs t.condition)) ≡ true
-  pub some : aggregates_fault (aggregate_names t.items.items) ≡ None
-  pub order : AllByRecursion (λ k. key_fault t.grouping.columns.items (aggregate_names t.items.items) k ≡ None) t.keys.items
+  pub some : aggregates_fault (aggregate_names t.items) ≡ None
+  pub order : AllByRecursion (λ k. key_fault t.grouping.columns (aggregate_names t.items) k ≡ None) t.keys
 
 pub parts : (t : Tree) → plan_fault t ≡ None → Parts t
 parts t none =
-    let tables = t.tables.items in
-    let groups = t.grouping.columns.items in
-    let items = t.items.items in
-    let keys = t.keys.items in
+    let tables = t.tables in
+    let groups = t.grouping.columns in
+    let items = t.items in
+    let keys = t.keys in
     let ps = where_pairs t.condition in
     let halves = or_none (naming_fault tables (uses_of t) ps) (grouping_fault groups items keys) none in
     let names = or_none (from_fault tables) (option_or (first_answer (scope_fault tables) (uses_of t)) (option_or (join_fault tables ps) (first_answer kind_fault (uses_of t)))) halves.0 in
@@ -60,26 +60,26 @@ parts t none =
 
 pub conjuncts_there : (t : Tree) → Parts t → (xs : List Condition) × (where_conjuncts t.condition ≡ Some xs) × (list_all (condition_is_sound (joins_of (where_pairs t.condition))) xs ≡ true)
 conjuncts_there t p =
-    where_known t.tables.items (joins_of (where_pairs t.condition)) p.reach t.condition p.pairs
-    (each_left _ (where_uses t.condition) (groups_uses t.grouping.columns.items) (each_right _ (items_uses t.items.items) (where_uses t.condition ++ groups_uses t.grouping.columns.items) p.scoped))
-    (each_left _ (where_uses t.condition) (groups_uses t.grouping.columns.items) (each_right _ (items_uses t.items.items) (where_uses t.condition ++ groups_uses t.grouping.columns.items) p.fit))
+    where_known t.tables (joins_of (where_pairs t.condition)) p.reach t.condition p.pairs
+    (each_left _ (where_uses t.condition) (groups_uses t.grouping.columns) (each_right _ (items_uses t.items) (where_uses t.condition ++ groups_uses t.grouping.columns) p.scoped))
+    (each_left _ (where_uses t.condition) (groups_uses t.grouping.columns) (each_right _ (items_uses t.items) (where_uses t.condition ++ groups_uses t.grouping.columns) p.fit))
 
-pub keys_there : (t : Tree) → Parts t → (cs : List ColumnId) × (option_all column_at t.grouping.columns.items ≡ Some cs) × (list_all (λ c. in_scope (joins_of (where_pairs t.condition)) (table_of c)) cs ≡ true)
+pub keys_there : (t : Tree) → Parts t → (cs : List ColumnId) × (option_all column_at t.grouping.columns ≡ Some cs) × (list_all (λ c. in_scope (joins_of (where_pairs t.condition)) (table_of c)) cs ≡ true)
 keys_there t p =
-    groups_known t.tables.items (joins_of (where_pairs t.condition)) p.reach t.grouping.columns.items
-    (each_right _ (where_uses t.condition) (groups_uses t.grouping.columns.items) (each_right _ (items_uses t.items.items) (where_uses t.condition ++ groups_uses t.grouping.columns.items) p.scoped))
+    groups_known t.tables (joins_of (where_pairs t.condition)) p.reach t.grouping.columns
+    (each_right _ (where_uses t.condition) (groups_uses t.grouping.columns) (each_right _ (items_uses t.items) (where_uses t.condition ++ groups_uses t.grouping.columns) p.scoped))
 
-pub measures_there : (t : Tree) → Parts t → (ms : List Measure) × (measures_of t.items.items ≡ Some ms) × (list_all (measure_is_sound (joins_of (where_pairs t.condition))) ms ≡ true)
+pub measures_there : (t : Tree) → Parts t → (ms : List Measure) × (measures_of t.items ≡ Some ms) × (list_all (measure_is_sound (joins_of (where_pairs t.condition))) ms ≡ true)
 measures_there t p =
-    measures_known t.tables.items (joins_of (where_pairs t.condition)) p.reach t.items.items
-    (each_left _ (items_uses t.items.items) (where_uses t.condition ++ groups_uses t.grouping.columns.items) p.scoped)
-    (each_left _ (items_uses t.items.items) (where_uses t.condition ++ groups_uses t.grouping.columns.items) p.fit)
+    measures_known t.tables (joins_of (where_pairs t.condition)) p.reach t.items
+    (each_left _ (items_uses t.items) (where_uses t.condition ++ groups_uses t.grouping.columns) p.scoped)
+    (each_left _ (items_uses t.items) (where_uses t.condition ++ groups_uses t.grouping.columns) p.fit)
 
-pub items_there : (t : Tree) → Parts t → (cs : List GroupColumn) × (items_from t.grouping.columns.items 0 t.items.items ≡ Some cs)
-items_there t p = items_known t.grouping.columns.items 0 t.items.items p.items
+pub items_there : (t : Tree) → Parts t → (cs : List GroupColumn) × (items_from t.grouping.columns 0 t.items ≡ Some cs)
+items_there t p = items_known t.grouping.columns 0 t.items p.items
 
-pub order_there : (t : Tree) → Parts t → (ss : List SortKey) × (option_all (resolved_key t.grouping.columns.items (aggregate_names t.items.items)) t.keys.items ≡ Some ss)
-order_there t p = order_known t.grouping.columns.items (aggregate_names t.items.items) t.keys.items p.order
+pub order_there : (t : Tree) → Parts t → (ss : List SortKey) × (option_all (resolved_key t.grouping.columns (aggregate_names t.items)) t.keys ≡ Some ss)
+order_there t p = order_known t.grouping.columns (aggregate_names t.items) t.keys p.order
 
 -- what is there isn't missing
 pub impossible : {A B : Type 0} (f : A → B) (o : Option A) (wanted : Option B) (b : B) → option_map f o ≡ wanted → o ≡ None → wanted ≡ Some b → ⊥

@@ -6,12 +6,7 @@ use Rattle.star_schema.specs.declared.table.TableId.TheVariants.{Lineorder}
 use Rattle.star_schema.specs.declared.column.ColumnId.{ColumnId}
 use Rattle.star_common.specs.First.{first_answer}
 use Rattle.star_schema.specs.Schema.{is_table, table_name, table_of}
-use Rattle.star_query.specs.declared.tree.Name.{Name}
-use Rattle.star_query.specs.declared.tree.Aggregate.{Aggregate}
-use Rattle.star_query.specs.declared.tree.Item.{Item}
-use Rattle.star_query.specs.declared.tree.Item.TheVariants as item
-use Rattle.star_query.specs.declared.tree.SortKey.{SortKey}
-use Rattle.star_query.specs.declared.tree.Tree.{Tree}
+use Rattle.star_query.specs.Tree.{Aggregate, Item, Name, SortKey, Tree, aggregate, plain}
 use Rattle.star_plan.specs.declared.fault.PlanFault.{PlanFault}
 use Rattle.star_plan.specs.declared.fault.PlanFault.TheVariants.{UnknownName, NoFactTable, TableTwice, TableNotNamed, JoinMissing, JoinTwice, NotAKeyPair, WrongKind, NotGrouped, DuplicateGroup, UnknownOrderKey, DuplicateAlias, NoAggregate}
 use Rattle.star_plan.specs.declared.tree.Join.{Join}
@@ -31,7 +26,7 @@ of_table at repeated (Some t) = if repeated then Some (TableTwice at) else None
 
 -- a name is no table's, or stands there before
 abbrev pub table_fault : List Name → Name → Option PlanFault
-table_fault before n = of_table n.place (has_name before n.text.items) (table_at n)
+table_fault before n = of_table n.place (has_name before n.text) (table_at n)
 
 abbrev pub fact_fault : List Name → Option PlanFault
 fact_fault tables = if has_name tables (table_name Lineorder) then None else Some NoFactTable
@@ -71,7 +66,7 @@ missing_fault pairs n = of_missing pairs n.place (table_at n)
 -- ---- groups, items and the order
 
 abbrev pub group_fault : List Name → Name → Option PlanFault
-group_fault before n = if has_name before n.text.items then Some (DuplicateGroup n.place) else None
+group_fault before n = if has_name before n.text then Some (DuplicateGroup n.place) else None
 
 -- an aggregate's name is that of one before it, or a group column's
 abbrev pub alias_fault : List Name → List (List ℕ) → Aggregate → Option PlanFault
@@ -81,12 +76,12 @@ alias_fault groups names a =
 
 -- a plain column isn't in GROUP BY
 abbrev pub column_fault : List Name → Name → Option PlanFault
-column_fault groups n = if has_name groups n.text.items then None else Some (NotGrouped n.place)
+column_fault groups n = if has_name groups n.text then None else Some (NotGrouped n.place)
 
 -- an item after aggregates of these names
 abbrev pub item_fault_after : List Name → List (List ℕ) → Item → Option PlanFault
-item_fault_after groups names (item.Column n) = column_fault groups n
-item_fault_after groups names (item.Aggregate a) = alias_fault groups names a
+item_fault_after groups names (plain n) = column_fault groups n
+item_fault_after groups names (aggregate a) = alias_fault groups names a
 
 -- an item after others
 abbrev pub item_fault : List Name → List Item → Item → Option PlanFault
@@ -99,7 +94,7 @@ aggregates_fault (name ∷ names) = None
 -- a sort key is neither a group column nor an aggregate's name
 abbrev pub key_fault : List Name → List (List ℕ) → SortKey → Option PlanFault
 key_fault groups names k =
-    if has_name groups k.name.text.items || has_text names k.name.text.items then None else Some (UnknownOrderKey k.name.place)
+    if has_name groups k.name.text || has_text names k.name.text then None else Some (UnknownOrderKey k.name.place)
 
 -- ---- the first fault of a query
 
@@ -131,5 +126,5 @@ grouping_fault groups items keys =
 -- the first fault in: FROM, the names of columns, the joins, the kinds of columns, GROUP BY, the items, ORDER BY
 abbrev pub plan_fault : Tree → Option PlanFault
 plan_fault t =
-    option_or (naming_fault t.tables.items (uses_of t) (where_pairs t.condition))
-    (grouping_fault t.grouping.columns.items t.items.items t.keys.items)
+    option_or (naming_fault t.tables (uses_of t) (where_pairs t.condition))
+    (grouping_fault t.grouping.columns t.items t.keys)

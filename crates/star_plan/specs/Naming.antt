@@ -2,26 +2,21 @@
 use Rattle.std.specs.Prelude.{ℕ, ◌+◌, Bool, List, [], ◌∷◌, ◌++◌, Option, Some, None, codes, decimal, nat_eq}
 use Rattle.std.specs.List.{list_any}
 use Rattle.std.specs.Cmp.Lexicographic.{pointwise}
-use Rattle.star_query.specs.declared.token.Fold.TheVariants as fold
-use Rattle.star_query.specs.declared.tree.Name.{Name}
-use Rattle.star_query.specs.declared.tree.Aggregate.{Aggregate}
-use Rattle.star_query.specs.declared.tree.Measure.{Measure}
-use Rattle.star_query.specs.declared.tree.Measure.TheVariants as measure
-use Rattle.star_query.specs.declared.tree.Item.{Item}
-use Rattle.star_query.specs.declared.tree.Item.TheVariants as item
+use Rattle.star_query.specs.declared.token.Fold.TheVariants.{Sum, Min, Max}
+use Rattle.star_query.specs.Tree.{Aggregate, Item, Measure, Name, aggregate, count, fold, plain}
 
 unfoldable pub function_word : Measure → List ℕ
-function_word measure.Count = codes "count"
-function_word (measure.Fold fold.Sum e) = codes "sum"
-function_word (measure.Fold fold.Min e) = codes "min"
-function_word (measure.Fold fold.Max e) = codes "max"
+function_word count = codes "count"
+function_word (fold Sum e) = codes "sum"
+function_word (fold Min e) = codes "min"
+function_word (fold Max e) = codes "max"
 
 abbrev pub default_name : Measure → ℕ → List ℕ
 default_name m number = function_word m ++ decimal number
 
 abbrev named : Measure → ℕ → Option Name → List ℕ
 named m number None = default_name m number
-named m number (Some n) = n.text.items
+named m number (Some n) = n.text
 
 -- an aggregate with no name of its own is named by its function and its number among the aggregates
 abbrev pub aggregate_name : ℕ → Aggregate → List ℕ
@@ -29,8 +24,8 @@ aggregate_name number a = named a.measure number a.name
 
 abbrev pub names_from : ℕ → List Item → List (List ℕ)
 names_from number [] = []
-names_from number (item.Column n ∷ is') = names_from number is'
-names_from number (item.Aggregate a ∷ is') = aggregate_name number a ∷ names_from (number + 1) is'
+names_from number (plain n ∷ is') = names_from number is'
+names_from number (aggregate a ∷ is') = aggregate_name number a ∷ names_from (number + 1) is'
 
 -- the names of the aggregates, which are numbered from 1
 abbrev pub aggregate_names : List Item → List (List ℕ)

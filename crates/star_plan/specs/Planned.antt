@@ -1,7 +1,6 @@
 -- Which plans there are.
-use Rattle.star_query.specs.declared.tree.Tree.{Tree}
+use Rattle.star_query.specs.Tree.{Tree}
 use Rattle.star_query.specs.Meant.{IsMeant}
-use Rattle.star_query.specs.Views.{tree_view}
 use Rattle.star_plan.specs.Meaning.{Plan}
 use Rattle.star_plan.specs.Resolved.{IsResolved}
 use Rattle.star_plan.specs.WellNamed.{IsWellNamed}
@@ -10,6 +9,6 @@ use Rattle.star_plan.specs.WellNamed.{IsWellNamed}
 -- are spelled as the grammar spells them
 pub record IsPlanned (p : Plan) : Type 0 where
   pub tree : Tree
-  pub meant : ∥ IsMeant (tree_view tree) ∥₁
+  pub meant : ∥ IsMeant tree ∥₁
   pub named : IsWellNamed tree
   pub resolved : IsResolved tree p

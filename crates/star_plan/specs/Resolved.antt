@@ -6,24 +6,14 @@ use Rattle.std.specs.Option.{option_or}
 use Rattle.star_schema.specs.declared.group.GroupColumn.{GroupColumn}
 use Rattle.star_schema.specs.declared.group.GroupColumn.TheVariants as group
 use Rattle.star_schema.specs.declared.group.SortKey.{SortKey}
-use Rattle.star_query.specs.declared.tree.Name.{Name}
+use Rattle.star_query.specs.Tree as tree
+use Rattle.star_query.specs.Tree.{Item, Literal, Name, Tree}
 use Rattle.star_query.specs.declared.token.Relation.{Relation}
-use Rattle.star_query.specs.declared.tree.Literal.{Literal}
-use Rattle.star_query.specs.declared.tree.Expression as of_expression
-use Rattle.star_query.specs.declared.tree.Expression.TheVariants as expression
-use Rattle.star_query.specs.declared.tree.Condition as of_condition
-use Rattle.star_query.specs.declared.tree.Condition.TheVariants as condition
-use Rattle.star_query.specs.declared.tree.Measure as of_measure
-use Rattle.star_query.specs.declared.tree.Measure.TheVariants as measure
-use Rattle.star_query.specs.declared.tree.Item.{Item}
-use Rattle.star_query.specs.declared.tree.Item.TheVariants as item
-use Rattle.star_query.specs.declared.tree.SortKey as of_key
-use Rattle.star_query.specs.declared.tree.Tree.{Tree}
 use Rattle.star_plan.specs.Meaning.{Condition, either, both, negation, compare, between, Expression, column, constant, add, sub, mul, Measure, counted, Plan}
-use Rattle.star_plan.specs.Names.{column_at}
+use Rattle.star_plan.specs.Names.{column_at, literal_value}
 use Rattle.star_plan.specs.Joins.{joins_of, where_pairs}
 use Rattle.star_plan.specs.Naming.{aggregate_names}
-use Rattle.star_plan.specs.Shown.{folded, literal_value}
+use Rattle.star_plan.specs.Shown.{folded}
 
 -- both values by an operation, or none where one is missing
 abbrev pub option_both : {A B C : Type 0} → (A → B → C) → Option A → Option B → Option C
@@ -37,16 +27,16 @@ option_all f (x ∷ xs) = option_both (λ y ys. y ∷ ys) (f x) (option_all f xs
 
 -- ---- expressions and conditions
 
-abbrev pub resolved_expression : of_expression.Expression → Option Expression
-resolved_expression (expression.Column n) = option_map column (column_at n)
-resolved_expression (expression.Number z) = Some (constant z)
-resolved_expression (expression.Add' p a q b) = option_both add (resolved_expression a) (resolved_expression b)
-resolved_expression (expression.Sub' p a q b) = option_both sub (resolved_expression a) (resolved_expression b)
-resolved_expression (expression.Mul' p a q b) = option_both mul (resolved_expression a) (resolved_expression b)
+abbrev pub resolved_expression : tree.Expression → Option Expression
+resolved_expression (tree.column n) = option_map column (column_at n)
+resolved_expression (tree.constant z) = Some (constant z)
+resolved_expression (tree.add a b) = option_both add (resolved_expression a) (resolved_expression b)
+resolved_expression (tree.sub a b) = option_both sub (resolved_expression a) (resolved_expression b)
+resolved_expression (tree.mul a b) = option_both mul (resolved_expression a) (resolved_expression b)
 
-abbrev pub resolved_measure : of_measure.Measure → Option Measure
-resolved_measure measure.Count = Some counted
-resolved_measure (measure.Fold f e) = option_map (folded f) (resolved_expression e)
+abbrev pub resolved_measure : tree.Measure → Option Measure
+resolved_measure tree.count = Some counted
+resolved_measure (tree.fold f e) = option_map (folded f) (resolved_expression e)
 
 abbrev pub resolved_compare : Name → Relation → Literal → Option Condition
 resolved_compare n s l = option_map (λ c. compare c s (literal_value l)) (column_at n)
@@ -55,21 +45,21 @@ abbrev pub resolved_between : Name → Literal → Literal → Option Condition
 resolved_between n from upto = option_map (λ c. between c (literal_value from) (literal_value upto)) (column_at n)
 
 -- none where two columns are compared in it
-abbrev pub resolved_condition : of_condition.Condition → Option Condition
-resolved_condition (condition.Or' p a q b) = option_both either (resolved_condition a) (resolved_condition b)
-resolved_condition (condition.And' p a q b) = option_both both (resolved_condition a) (resolved_condition b)
-resolved_condition (condition.Not' p a) = option_map negation (resolved_condition a)
-resolved_condition (condition.Pair m n) = None
-resolved_condition (condition.Compare n s l) = resolved_compare n s l
-resolved_condition (condition.Between n from upto) = resolved_between n from upto
+abbrev pub resolved_condition : tree.Condition → Option Condition
+resolved_condition (tree.either a b) = option_both either (resolved_condition a) (resolved_condition b)
+resolved_condition (tree.both a b) = option_both both (resolved_condition a) (resolved_condition b)
+resolved_condition (tree.negation a) = option_map negation (resolved_condition a)
+resolved_condition (tree.pair m n) = None
+resolved_condition (tree.compare n s l) = resolved_compare n s l
+resolved_condition (tree.between n from upto) = resolved_between n from upto
 
 -- the conjuncts that don't compare two columns, from the left
-abbrev pub conjuncts_of : of_condition.Condition → Option (List Condition)
-conjuncts_of (condition.And' p a q b) = option_both (λ xs ys. xs ++ ys) (conjuncts_of a) (conjuncts_of b)
-conjuncts_of (condition.Pair m n) = Some []
+abbrev pub conjuncts_of : tree.Condition → Option (List Condition)
+conjuncts_of (tree.both a b) = option_both (λ xs ys. xs ++ ys) (conjuncts_of a) (conjuncts_of b)
+conjuncts_of (tree.pair m n) = Some []
 conjuncts_of c = option_map (λ x. x ∷ []) (resolved_condition c)
 
-abbrev pub where_conjuncts : Option of_condition.Condition → Option (List Condition)
+abbrev pub where_conjuncts : Option tree.Condition → Option (List Condition)
 where_conjuncts None = Some []
 where_conjuncts (Some c) = conjuncts_of c
 
@@ -77,34 +67,34 @@ where_conjuncts (Some c) = conjuncts_of c
 
 abbrev pub measures_of : List Item → Option (List Measure)
 measures_of [] = Some []
-measures_of (item.Column n ∷ is') = measures_of is'
-measures_of (item.Aggregate a ∷ is') = option_both (λ m ms. m ∷ ms) (resolved_measure a.measure) (measures_of is')
+measures_of (tree.plain n ∷ is') = measures_of is'
+measures_of (tree.aggregate a ∷ is') = option_both (λ m ms. m ∷ ms) (resolved_measure a.measure) (measures_of is')
 
 -- the group column that reads so
 abbrev pub key_column : List Name → List ℕ → Option GroupColumn
-key_column groups text = option_map (λ place. group.Key place) (position (λ n. pointwise nat_eq n.text.items text) groups)
+key_column groups text = option_map (λ place. group.Key place) (position (λ n. pointwise nat_eq n.text text) groups)
 
 -- the aggregate that is named so
 abbrev pub aggregate_column : List (List ℕ) → List ℕ → Option GroupColumn
 aggregate_column names text = option_map (λ place. group.Aggregate place) (position (λ name. pointwise nat_eq name text) names)
 
 abbrev pub aggregates_in : Item → ℕ
-aggregates_in (item.Column n) = 0
-aggregates_in (item.Aggregate a) = 1
+aggregates_in (tree.plain n) = 0
+aggregates_in (tree.aggregate a) = 1
 
 -- what an item shows, where so many aggregates come before it
 abbrev pub item_column : List Name → ℕ → Item → Option GroupColumn
-item_column groups before (item.Column n) = key_column groups n.text.items
-item_column groups before (item.Aggregate a) = Some (group.Aggregate before)
+item_column groups before (tree.plain n) = key_column groups n.text
+item_column groups before (tree.aggregate a) = Some (group.Aggregate before)
 
 abbrev pub items_from : List Name → ℕ → List Item → Option (List GroupColumn)
 items_from groups before [] = Some []
 items_from groups before (i ∷ is') = option_both (λ c cs. c ∷ cs) (item_column groups before i) (items_from groups (before + aggregates_in i) is')
 
-abbrev pub resolved_key : List Name → List (List ℕ) → of_key.SortKey → Option SortKey
+abbrev pub resolved_key : List Name → List (List ℕ) → tree.SortKey → Option SortKey
 resolved_key groups names k =
     option_map (λ c. record { column = c; direction = k.direction })
-    (option_or (key_column groups k.name.text.items) (aggregate_column names k.name.text.items))
+    (option_or (key_column groups k.name.text) (aggregate_column names k.name.text))
 
 -- ---- a query
 
@@ -113,8 +103,8 @@ pub record IsResolved (t : Tree) (p : Plan) : Type 0 where
   pub joins : p.joins ≡ joins_of (where_pairs t.condition)
   pub conjuncts : where_conjuncts t.condition ≡ Some p.conjuncts
   pub shape : p.shape ≡ t.grouping.shape
-  pub keys : option_all column_at t.grouping.columns.items ≡ Some p.keys
-  pub measures : measures_of t.items.items ≡ Some p.measures
-  pub names : p.names ≡ aggregate_names t.items.items
-  pub items : items_from t.grouping.columns.items 0 t.items.items ≡ Some p.items
-  pub sorts : option_all (resolved_key t.grouping.columns.items (aggregate_names t.items.items)) t.keys.items ≡ Some p.sorts
+  pub keys : option_all column_at t.grouping.columns ≡ Some p.keys
+  pub measures : measures_of t.items ≡ Some p.measures
+  pub names : p.names ≡ aggregate_names t.items
+  pub items : items_from t.grouping.columns 0 t.items ≡ Some p.items
+  pub sorts : option_all (resolved_key t.grouping.columns (aggregate_names t.items)) t.keys ≡ Some p.sorts

@@ -1,10 +1,10 @@
 -- The trees of plans as the resolved queries that they hold.
 use Rattle.std.specs.Prelude.{ℕ, List, map}
-use Rattle.star_schema.specs.Tables.{Value, Number, Text}
-use Rattle.star_query.specs.declared.tree.Literal.{Literal}
-use Rattle.star_query.specs.declared.tree.Literal.TheVariants as literal
+use Rattle.star_schema.specs.Tables.{Value}
 use Rattle.star_query.specs.declared.token.Fold.{Fold}
 use Rattle.star_query.specs.declared.token.Fold.TheVariants as fold
+use Rattle.star_query.specs.declared.tree.Literal.{Literal}
+use Rattle.star_query.specs.Views.{literal_view}
 use Rattle.star_plan.specs.declared.tree.Condition as of_condition
 use Rattle.star_plan.specs.declared.tree.Condition.TheVariants as condition
 use Rattle.star_plan.specs.declared.tree.Expression as of_expression
@@ -14,17 +14,18 @@ use Rattle.star_plan.specs.declared.tree.Measure.TheVariants as measure
 use Rattle.star_plan.specs.declared.tree.Aggregate.{Aggregate}
 use Rattle.star_plan.specs.declared.tree.PlanTree.{PlanTree}
 use Rattle.star_plan.specs.Meaning.{Condition, either, both, negation, compare, between, Expression, column, constant, add, sub, mul, Measure, counted, summed, least, greatest, Plan}
+use Rattle.star_plan.specs.Names.{literal_value}
 
-abbrev pub literal_value : Literal → Value
-literal_value (literal.Number z) = Number z
-literal_value (literal.Text bytes) = Text bytes.items
+-- the value that a literal stands for
+abbrev pub literal_shown : Literal → Value
+literal_shown l = literal_value (literal_view l)
 
 abbrev pub condition_shown : of_condition.Condition → Condition
 condition_shown (condition.Or' p a q b) = either (condition_shown a) (condition_shown b)
 condition_shown (condition.And' p a q b) = both (condition_shown a) (condition_shown b)
 condition_shown (condition.Not' p a) = negation (condition_shown a)
-condition_shown (condition.Compare c s l) = compare c s (literal_value l)
-condition_shown (condition.Between c from upto) = between c (literal_value from) (literal_value upto)
+condition_shown (condition.Compare c s l) = compare c s (literal_shown l)
+condition_shown (condition.Between c from upto) = between c (literal_shown from) (literal_shown upto)
 
 abbrev pub expression_shown : of_expression.Expression → Expression
 expression_shown (expression.Column c) = column c

@@ -3,18 +3,7 @@ use Rattle.std.specs.Prelude.{true, ◌&&◌, List, [], ◌∷◌, ◌++◌, Opt
 use Rattle.std.specs.List.{flat_map}
 use Rattle.star_schema.specs.declared.column.Kind.{Kind}
 use Rattle.star_schema.specs.declared.column.Kind.TheVariants as kind
-use Rattle.star_query.specs.declared.tree.Name.{Name}
-use Rattle.star_query.specs.declared.tree.Literal.{Literal}
-use Rattle.star_query.specs.declared.tree.Literal.TheVariants as literal
-use Rattle.star_query.specs.declared.tree.Expression.{Expression}
-use Rattle.star_query.specs.declared.tree.Expression.TheVariants.{Column, Number, Add', Sub', Mul'}
-use Rattle.star_query.specs.declared.tree.Condition.{Condition}
-use Rattle.star_query.specs.declared.tree.Condition.TheVariants.{Or', And', Not', Pair, Compare, Between}
-use Rattle.star_query.specs.declared.tree.Measure.{Measure}
-use Rattle.star_query.specs.declared.tree.Measure.TheVariants as measure
-use Rattle.star_query.specs.declared.tree.Item.{Item}
-use Rattle.star_query.specs.declared.tree.Item.TheVariants as item
-use Rattle.star_query.specs.declared.tree.Tree.{Tree}
+use Rattle.star_query.specs.Tree.{Condition, Expression, Item, Literal, Measure, Name, Tree, add, aggregate, between, both, column, compare, constant, count, either, fold, mul, negation, number, pair, plain, sub, text}
 use Rattle.star_plan.specs.declared.uses.Use.{Use}
 use Rattle.star_plan.specs.Names.{column_at, is_of}
 
@@ -26,36 +15,36 @@ abbrev pub use_as : Kind → Name → Use
 use_as k n = record { column = column_at n; fits = is_of k (column_at n); at = n.place }
 
 abbrev pub kind_of_literal : Literal → Kind
-kind_of_literal (literal.Number z) = kind.Number
-kind_of_literal (literal.Text bytes) = kind.Text
+kind_of_literal (number z) = kind.Number
+kind_of_literal (text bytes) = kind.Text
 
 abbrev pub use_between : Literal → Literal → Name → Use
 use_between a b n = record { column = column_at n; fits = is_of (kind_of_literal a) (column_at n) && is_of (kind_of_literal b) (column_at n); at = n.place }
 
 -- inside an aggregate stand numbers alone
 abbrev pub expression_uses : Expression → List Use
-expression_uses (Column n) = use_as kind.Number n ∷ []
-expression_uses (Number z) = []
-expression_uses (Add' p a q b) = expression_uses a ++ expression_uses b
-expression_uses (Sub' p a q b) = expression_uses a ++ expression_uses b
-expression_uses (Mul' p a q b) = expression_uses a ++ expression_uses b
+expression_uses (column n) = use_as kind.Number n ∷ []
+expression_uses (constant z) = []
+expression_uses (add a b) = expression_uses a ++ expression_uses b
+expression_uses (sub a b) = expression_uses a ++ expression_uses b
+expression_uses (mul a b) = expression_uses a ++ expression_uses b
 
 abbrev pub measure_uses : Measure → List Use
-measure_uses measure.Count = []
-measure_uses (measure.Fold f e) = expression_uses e
+measure_uses count = []
+measure_uses (fold f e) = expression_uses e
 
 abbrev pub item_uses : Item → List Use
-item_uses (item.Column n) = any_use n ∷ []
-item_uses (item.Aggregate a) = measure_uses a.measure
+item_uses (plain n) = any_use n ∷ []
+item_uses (aggregate a) = measure_uses a.measure
 
 -- a column stands beside literals of its kind
 abbrev pub condition_uses : Condition → List Use
-condition_uses (Or' p a q b) = condition_uses a ++ condition_uses b
-condition_uses (And' p a q b) = condition_uses a ++ condition_uses b
-condition_uses (Not' p a) = condition_uses a
-condition_uses (Pair a b) = any_use a ∷ any_use b ∷ []
-condition_uses (Compare n s l) = use_as (kind_of_literal l) n ∷ []
-condition_uses (Between n from upto) = use_between from upto n ∷ []
+condition_uses (either a b) = condition_uses a ++ condition_uses b
+condition_uses (both a b) = condition_uses a ++ condition_uses b
+condition_uses (negation a) = condition_uses a
+condition_uses (pair a b) = any_use a ∷ any_use b ∷ []
+condition_uses (compare n s l) = use_as (kind_of_literal l) n ∷ []
+condition_uses (between n from upto) = use_between from upto n ∷ []
 
 abbrev pub where_uses : Option Condition → List Use
 where_uses None = []
@@ -69,4 +58,4 @@ groups_uses names = map any_use names
 
 -- those of SELECT, of WHERE and of GROUP BY
 abbrev pub uses_of : Tree → List Use
-uses_of t = items_uses t.items.items ++ (where_uses t.condition ++ groups_uses t.grouping.columns.items)
+uses_of t = items_uses t.items ++ (where_uses t.condition ++ groups_uses t.grouping.columns)

@@ -6,10 +6,7 @@ use Rattle.star_schema.specs.declared.table.TableId.{TableId}
 use Rattle.star_schema.specs.declared.table.TableId.TheVariants.{Lineorder}
 use Rattle.star_schema.specs.declared.column.ColumnId.{ColumnId}
 use Rattle.star_schema.specs.Schema.{is_table, table_name, table_of}
-use Rattle.star_query.specs.declared.tree.Name.{Name}
-use Rattle.star_query.specs.declared.tree.Item.{Item}
-use Rattle.star_query.specs.declared.tree.Item.TheVariants as item
-use Rattle.star_query.specs.declared.tree.Tree.{Tree}
+use Rattle.star_query.specs.Tree.{Item, Name, Tree, aggregate, plain}
 use Rattle.star_plan.specs.declared.joins.Pair.{Pair}
 use Rattle.star_plan.specs.Names.{has_name, table_at}
 use Rattle.star_plan.specs.Uses.{uses_of}
@@ -25,7 +22,7 @@ abbrev pub same_text : List ℕ → List ℕ → Bool
 same_text a b = pointwise nat_eq a b
 
 abbrev pub same_name : Name → Name → Bool
-same_name m n = same_text m.text.items n.text.items
+same_name m n = same_text m.text n.text
 
 -- the table of the column is in FROM
 abbrev pub is_in_from : List Name → Option ColumnId → Bool
@@ -39,28 +36,28 @@ is_reached pairs (Some t) = is_table t Lineorder || is_joined pairs t
 
 -- a plain column is in GROUP BY
 abbrev pub is_grouped : List Name → Item → Bool
-is_grouped groups (item.Column n) = has_name groups n.text.items
-is_grouped groups (item.Aggregate a) = true
+is_grouped groups (plain n) = has_name groups n.text
+is_grouped groups (aggregate a) = true
 
 pub record IsWellNamed (t : Tree) : Type 0 where
   -- FROM names tables, none of them twice, and lineorder
-  pub tables : AllByRecursion (λ n. IsThere (table_at n)) t.tables.items
-  pub tables_once : IsDistinct same_name t.tables.items
-  pub fact : has_name t.tables.items (table_name Lineorder) ≡ true
+  pub tables : AllByRecursion (λ n. IsThere (table_at n)) t.tables
+  pub tables_once : IsDistinct same_name t.tables
+  pub fact : has_name t.tables (table_name Lineorder) ≡ true
   -- SELECT, WHERE and GROUP BY name columns, of tables in FROM, each of the kind that is asked of it where it stands
   pub columns : AllByRecursion (λ u. IsThere u.column) (uses_of t)
-  pub scope : AllByRecursion (λ u. is_in_from t.tables.items u.column ≡ true) (uses_of t)
+  pub scope : AllByRecursion (λ u. is_in_from t.tables u.column ≡ true) (uses_of t)
   pub kinds : AllByRecursion (λ u. u.fits ≡ true) (uses_of t)
   -- where two columns are compared, they join lineorder with a dimension: no dimension twice, and each that FROM names
   pub joins : AllByRecursion (λ p. IsThere p.join) (where_pairs t.condition)
   pub joined_once : are_distinct (joins_of (where_pairs t.condition)) ≡ true
-  pub joined : AllByRecursion (λ n. is_reached (where_pairs t.condition) (table_at n) ≡ true) t.tables.items
+  pub joined : AllByRecursion (λ n. is_reached (where_pairs t.condition) (table_at n) ≡ true) t.tables
   -- GROUP BY names no column twice, and each plain column of SELECT
-  pub groups_once : IsDistinct same_name t.grouping.columns.items
-  pub grouped : AllByRecursion (λ i. is_grouped t.grouping.columns.items i ≡ true) t.items.items
+  pub groups_once : IsDistinct same_name t.grouping.columns
+  pub grouped : AllByRecursion (λ i. is_grouped t.grouping.columns i ≡ true) t.items
   -- there is an aggregate, and no two of them have one name, nor one and a group column
-  pub aggregates : 1 ≤ length (aggregate_names t.items.items)
-  pub names_once : IsDistinct same_text (aggregate_names t.items.items)
-  pub names_free : AllByRecursion (λ name. has_name t.grouping.columns.items name ≡ false) (aggregate_names t.items.items)
+  pub aggregates : 1 ≤ length (aggregate_names t.items)
+  pub names_once : IsDistinct same_text (aggregate_names t.items)
+  pub names_free : AllByRecursion (λ name. has_name t.grouping.columns name ≡ false) (aggregate_names t.items)
   -- ORDER BY names group columns and aggregates
-  pub order : AllByRecursion (λ k. has_name t.grouping.columns.items k.name.text.items || has_text (aggregate_names t.items.items) k.name.text.items ≡ true) t.keys.items
+  pub order : AllByRecursion (λ k. has_name t.grouping.columns k.name.text || has_text (aggregate_names t.items) k.name.text ≡ true) t.keys

@@ -1,9 +1,10 @@
 // The comparisons of two columns in a query's condition.
 
-ghost use Rattle.std.specs.Prelude.{◌≡◌, ◌++◌, OnOk, IfOk};
+ghost use Rattle.std.specs.Prelude.{◌≡◌, ◌++◌, OnOk, IfOk, map, option_map};
 ghost use Rattle.std.specs.Result.{result_err};
 ghost use Rattle.star_schema.specs.Schema as schema;
 ghost use Rattle.star_common.specs.First.{first_answer};
+ghost use Rattle.star_query.specs.Views.{condition_view, name_view};
 ghost use Rattle.star_plan.specs.First.{first_beside};
 ghost use Rattle.star_plan.specs.Joins as spec;
 ghost use Rattle.star_plan.specs.Faults.{join_fault, missing_fault, pair_fault};
@@ -80,7 +81,7 @@ fn add_pairs(
     is_conjunct: bool,
     condition: &Condition,
 ) -> Result<(), AllocError>
-    ensures { OnOk result (pairs.new.items ≡ pairs.old.items ++ spec.pairs_of is_conjunct condition.now) }
+    ensures { OnOk result (pairs.new.items ≡ pairs.old.items ++ spec.pairs_of is_conjunct (condition_view condition.now)) }
 {
     match condition {
         Condition::And(left, right) => {
@@ -111,7 +112,7 @@ pub(crate) fn pairs_of(
     alloc: Global,
     condition: &Option<Condition>,
 ) -> Result<Vec<Pair>, AllocError>
-    ensures { IfOk result (λ pairs. pairs.items ≡ spec.where_pairs condition.now) }
+    ensures { IfOk result (λ pairs. pairs.items ≡ spec.where_pairs (option_map condition_view condition.now)) }
 {
     let mut pairs = Vec::new(alloc);
     if let Some(condition) = condition {
@@ -183,7 +184,7 @@ fn check_pairs(pairs: &[Pair]) -> Result<(), PlanFault>
 
 // Whether a name of FROM is lineorder's, or a dimension's that is joined.
 fn check_dimension(pairs: &[Pair], name: &Name) -> Result<(), PlanFault>
-    ensures { result_err result ≡ missing_fault pairs.now name.now }
+    ensures { result_err result ≡ missing_fault pairs.now (name_view name.now) }
 {
     match table_at(name) {
         Some(table) if table != TableId::Lineorder && !is_joined(pairs, table) => {
@@ -193,10 +194,10 @@ fn check_dimension(pairs: &[Pair], name: &Name) -> Result<(), PlanFault>
     }
 }
 
-#[tactic(auto, using(crate::proofs::Firsts::answer_passed, crate::proofs::Firsts::answer_whole))]
+#[tactic(auto, using(crate::proofs::Viewed::answer_passed, crate::proofs::Viewed::answer_whole))]
 // Whether each dimension of FROM is joined.
 fn check_dimensions(pairs: &[Pair], tables: &[Name]) -> Result<(), PlanFault>
-    ensures { result_err result ≡ first_answer (missing_fault pairs.now) tables.now }
+    ensures { result_err result ≡ first_answer (missing_fault pairs.now) (map name_view tables.now) }
 {
     for name in tables {
         check_dimension(pairs, name)?;
@@ -206,7 +207,7 @@ fn check_dimensions(pairs: &[Pair], tables: &[Name]) -> Result<(), PlanFault>
 
 /// Whether each comparison of two columns joins a dimension, and each dimension of FROM is joined once.
 pub(crate) fn check_joins(tables: &[Name], pairs: &[Pair]) -> Result<(), PlanFault>
-    ensures { result_err result ≡ join_fault tables.now pairs.now }
+    ensures { result_err result ≡ join_fault (map name_view tables.now) pairs.now }
 {
     check_pairs(pairs)?;
     check_dimensions(pairs, tables)

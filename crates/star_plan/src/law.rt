@@ -1,7 +1,7 @@
 //! Laws of plans: functions with no body, whose clauses are the laws.
 
 ghost use Rattle.std.specs.Prelude.{◌≡◌, ◌↔◌, None};
-ghost use Rattle.star_query.specs.declared.tree.Tree.{Tree};
+ghost use Rattle.star_query.specs.Tree.{Tree};
 ghost use Rattle.star_plan.specs.Faults.{plan_fault};
 ghost use Rattle.star_plan.specs.WellNamed.{IsWellNamed};
 

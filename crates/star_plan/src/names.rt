@@ -1,6 +1,9 @@
 // What the names of a query stand for.
 
-ghost use Rattle.std.specs.Prelude.{◌≡◌};
+ghost use Rattle.std.specs.Prelude.{◌≡◌, map, nat_eq};
+ghost use Rattle.std.specs.List.{list_any};
+ghost use Rattle.std.specs.Cmp.Lexicographic.{pointwise};
+ghost use Rattle.star_query.specs.Views.{name_view};
 ghost use Rattle.star_plan.specs.Names as spec;
 
 use star_query::Name;
@@ -8,24 +11,29 @@ use star_schema::{ColumnId, Kind, TableId, column_named, kind_of, table_named};
 
 /// The table that a name stands for, if there is one.
 pub(crate) fn table_at(name: &Name) -> Option<TableId>
-    ensures { result ≡ spec.table_at name.now }
+    ensures { result ≡ spec.table_at (name_view name.now) }
 {
     table_named(&name.text)
 }
 
 /// The column that a name stands for, if there is one.
 pub(crate) fn column_at(name: &Name) -> Option<ColumnId>
-    ensures { result ≡ spec.column_at name.now }
+    ensures { result ≡ spec.column_at (name_view name.now) }
 {
     column_named(&name.text)
 }
 
-/// Whether one of the names reads so.
-#[tactic(auto, unfolding(crate::specs::Names::has_name))]
-pub(crate) fn has_name(names: &[Name], text: &[u8]) -> bool
-    ensures { result ≡ spec.has_name names.now text.now }
+fn any_reads(names: &[Name], text: &[u8]) -> bool
+    ensures { result ≡ list_any (λ n. pointwise nat_eq n.text.items text.now) names.now }
 {
     names.iter().any(|name| name.text.as_slice() == text)
+}
+
+/// Whether one of the names reads so.
+pub(crate) fn has_name(names: &[Name], text: &[u8]) -> bool
+    ensures { result ≡ spec.has_name (map name_view names.now) text.now }
+{
+    any_reads(names, text)
 }
 
 /// Whether a column, if there is one, holds this kind of value.

@@ -1,9 +1,10 @@
 // How a plan is made: the faults in their order, and then the names resolved.
 
-ghost use Rattle.std.specs.Prelude.{◌≡◌, ◌≤◌, None, Some, IfErr, IfOk, length};
+ghost use Rattle.std.specs.Prelude.{◌≡◌, ◌≤◌, None, Some, IfErr, IfOk, length, map};
 ghost use Rattle.star_common.specs.Memory.{UnlessMemory};
 ghost use Rattle.star_query.specs.Maxima.{most_columns, most_items};
-ghost use Rattle.star_query.specs.Shown.{tree_of};
+ghost use Rattle.star_query.specs.Shown as asked;
+ghost use Rattle.star_query.specs.Views.{item_view, key_view, name_view, tree_view};
 ghost use Rattle.star_plan.specs.declared.fault.PlanFault.TheVariants.{OutOfMemory};
 ghost use Rattle.star_plan.specs.Private.Answers.{Tells};
 ghost use Rattle.star_plan.specs.Faults.{grouping_fault, naming_fault, plan_fault};
@@ -25,7 +26,7 @@ use star_query::{Item, Name, Query, SortKey, Tree};
 use std::alloc::{AllocError, Global};
 
 fn check_naming(tables: &[Name], uses: &[Use], pairs: &[Pair]) -> Result<(), PlanFault>
-    ensures { Tells (naming_fault tables.now uses.now pairs.now) result }
+    ensures { Tells (naming_fault (map name_view tables.now) uses.now pairs.now) result }
 {
     check_from(tables)?;
     check_scope(tables, uses)?;
@@ -40,7 +41,7 @@ fn check_grouping(
     keys: &[SortKey],
 ) -> Result<(), PlanFault>
     requires { length items.now ≤ most_items }
-    ensures { Tells (grouping_fault groups.now items.now keys.now) result }
+    ensures { Tells (grouping_fault (map name_view groups.now) (map item_view items.now) (map key_view keys.now)) result }
 {
     check_groups(groups)?;
     let names = check_select(alloc, groups, items)?;
@@ -50,7 +51,7 @@ fn check_grouping(
 // Whether the query is well named.
 fn check(alloc: Global, tree: &Tree) -> Result<(), PlanFault>
     requires { length tree.now.items.items ≤ most_items }
-    ensures { Tells (plan_fault tree.now) result }
+    ensures { Tells (plan_fault (tree_view tree.now)) result }
 {
     let uses = uses_of(alloc, tree)?;
     let pairs = pairs_of(alloc, &tree.condition)?;
@@ -62,8 +63,8 @@ fn check(alloc: Global, tree: &Tree) -> Result<(), PlanFault>
 fn resolve(alloc: Global, tree: &Tree) -> Result<PlanTree, AllocError>
     requires items { length tree.now.items.items ≤ most_items }
     requires groups { length tree.now.grouping.columns.items ≤ most_columns }
-    requires named { plan_fault tree.now ≡ None }
-    ensures { IfOk result (λ plan. IsResolved tree.now (shown plan)) }
+    requires named { plan_fault (tree_view tree.now) ≡ None }
+    ensures { IfOk result (λ plan. IsResolved (tree_view tree.now) (shown plan)) }
 {
     let groups = &tree.grouping.columns;
     let Some(conjuncts) = resolve_where(alloc, &tree.condition)? else {
@@ -96,11 +97,11 @@ fn resolve(alloc: Global, tree: &Tree) -> Result<PlanTree, AllocError>
 /// The plan of a query, exactly where the query is well named; else the first fault. Want of memory may come before it.
 pub fn plan(alloc: Global, query: &Query) -> Result<Plan, PlanFault>
     // Only a well named query has one.
-    ensures named { IfOk result (λ _. IsWellNamed (tree_of query.now)) }
+    ensures named { IfOk result (λ _. IsWellNamed (asked.shown query.now)) }
     // Its tree is the query's, with the names resolved.
-    ensures resolved { IfOk result (λ plan. IsResolved (tree_of query.now) (shown (plan_tree plan))) }
+    ensures resolved { IfOk result (λ plan. IsResolved (asked.shown query.now) (shown (plan_tree plan))) }
     // A refusal is the first fault.
-    ensures refused { IfErr result (λ fault. UnlessMemory OutOfMemory fault (plan_fault (tree_of query.now) ≡ Some fault)) }
+    ensures refused { IfErr result (λ fault. UnlessMemory OutOfMemory fault (plan_fault (asked.shown query.now) ≡ Some fault)) }
 {
     let query = query.tree();
     check(alloc, query)?;

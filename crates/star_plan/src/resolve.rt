@@ -7,6 +7,7 @@ ghost use Rattle.std.specs.Cmp.Lexicographic.{pointwise};
 ghost use Rattle.std.specs.List.{position};
 ghost use Rattle.star_schema.specs.declared.group.GroupColumn.TheVariants as group;
 ghost use Rattle.star_query.specs.Maxima.{most_columns, most_items};
+ghost use Rattle.star_query.specs.Views.{aggregate_view, condition_view, expression_view, item_view, key_view, literal_view, measure_view, name_view};
 ghost use Rattle.star_plan.specs.Meaning as meaning;
 ghost use Rattle.star_plan.specs.Names.{column_at};
 ghost use Rattle.star_plan.specs.Resolved as spec;
@@ -46,7 +47,7 @@ fn resolve_expression(
     alloc: Global,
     expression: &query::Expression,
 ) -> Result<Option<Expression>, AllocError>
-    ensures { IfOk result (λ found. option_map shown.expression_shown found ≡ spec.resolved_expression expression.now) }
+    ensures { IfOk result (λ found. option_map shown.expression_shown found ≡ spec.resolved_expression (expression_view expression.now)) }
 {
     match expression {
         query::Expression::Column(name) => Ok(column_at(name).map(Expression::Column)),
@@ -83,7 +84,7 @@ fn resolve_expression(
 
 /// What an aggregate computes.
 fn resolve_measure(alloc: Global, measure: &query::Measure) -> Result<Option<Measure>, AllocError>
-    ensures { IfOk result (λ found. option_map shown.measure_shown found ≡ spec.resolved_measure measure.now) }
+    ensures { IfOk result (λ found. option_map shown.measure_shown found ≡ spec.resolved_measure (measure_view measure.now)) }
 {
     match measure {
         query::Measure::Count => Ok(Some(Measure::Count)),
@@ -97,7 +98,7 @@ fn resolve_measure(alloc: Global, measure: &query::Measure) -> Result<Option<Mea
 }
 
 fn copy_literal(alloc: Global, literal: &Literal) -> Result<Literal, AllocError>
-    ensures { IfOk result (λ copy. shown.literal_value copy ≡ shown.literal_value literal.now) }
+    ensures { IfOk result (λ copy. literal_view copy ≡ literal_view literal.now) }
 {
     match literal {
         Literal::Number(number) => Ok(Literal::Number(*number)),
@@ -131,7 +132,7 @@ fn resolve_compare(
     relation: query::Relation,
     literal: &Literal,
 ) -> Result<Option<Condition>, AllocError>
-    ensures { IfOk result (λ found. option_map shown.condition_shown found ≡ spec.resolved_compare name.now relation literal.now) }
+    ensures { IfOk result (λ found. option_map shown.condition_shown found ≡ spec.resolved_compare (name_view name.now) relation (literal_view literal.now)) }
 {
     let Some(column) = column_at(name) else {
         return Ok(None);
@@ -146,7 +147,7 @@ fn resolve_between(
     from: &Literal,
     upto: &Literal,
 ) -> Result<Option<Condition>, AllocError>
-    ensures { IfOk result (λ found. option_map shown.condition_shown found ≡ spec.resolved_between name.now from.now upto.now) }
+    ensures { IfOk result (λ found. option_map shown.condition_shown found ≡ spec.resolved_between (name_view name.now) (literal_view from.now) (literal_view upto.now)) }
 {
     let Some(column) = column_at(name) else {
         return Ok(None);
@@ -162,7 +163,7 @@ fn resolve_condition(
     alloc: Global,
     condition: &query::Condition,
 ) -> Result<Option<Condition>, AllocError>
-    ensures { IfOk result (λ found. option_map shown.condition_shown found ≡ spec.resolved_condition condition.now) }
+    ensures { IfOk result (λ found. option_map shown.condition_shown found ≡ spec.resolved_condition (condition_view condition.now)) }
 {
     match condition {
         query::Condition::Or(left, right) => {
@@ -201,7 +202,7 @@ fn lone_conjunct(
     alloc: Global,
     condition: &query::Condition,
 ) -> Result<Option<Vec<Condition>>, AllocError>
-    ensures { IfOk result (λ found. option_map conditions_shown found ≡ option_map (λ c. c ∷ []) (spec.resolved_condition condition.now)) }
+    ensures { IfOk result (λ found. option_map conditions_shown found ≡ option_map (λ c. c ∷ []) (spec.resolved_condition (condition_view condition.now))) }
 {
     match resolve_condition(alloc, condition)? {
         None => Ok(None),
@@ -219,7 +220,7 @@ fn conjuncts_of(
     alloc: Global,
     condition: &query::Condition,
 ) -> Result<Option<Vec<Condition>>, AllocError>
-    ensures { IfOk result (λ found. option_map conditions_shown found ≡ spec.conjuncts_of condition.now) }
+    ensures { IfOk result (λ found. option_map conditions_shown found ≡ spec.conjuncts_of (condition_view condition.now)) }
 {
     match condition {
         query::Condition::And(left, right) => {
@@ -245,7 +246,7 @@ pub(crate) fn resolve_where(
     alloc: Global,
     condition: &Option<query::Condition>,
 ) -> Result<Option<Vec<Condition>>, AllocError>
-    ensures { IfOk result (λ found. option_map conditions_shown found ≡ spec.where_conjuncts condition.now) }
+    ensures { IfOk result (λ found. option_map conditions_shown found ≡ spec.where_conjuncts (option_map condition_view condition.now)) }
 {
     match condition {
         None => Ok(Some(Vec::new(alloc))),
@@ -259,7 +260,7 @@ pub(crate) fn resolve_groups(
     alloc: Global,
     groups: &[Name],
 ) -> Result<Option<Vec<ColumnId>>, AllocError>
-    ensures { IfOk result (λ found. option_map (λ keys. keys.items) found ≡ spec.option_all column_at groups.now) }
+    ensures { IfOk result (λ found. option_map (λ keys. keys.items) found ≡ spec.option_all column_at (map name_view groups.now)) }
 {
     let mut keys = Vec::new(alloc);
     for name in groups {
@@ -290,7 +291,7 @@ fn aggregate_place(aggregates: &[Aggregate], text: &[u8]) -> Option<usize>
 // The group column that reads so.
 fn key_column(groups: &[Name], text: &[u8]) -> Option<GroupColumn>
     requires { length groups.now ≤ most_columns }
-    ensures { result ≡ spec.key_column groups.now text.now }
+    ensures { result ≡ spec.key_column (map name_view groups.now) text.now }
 {
     match name_place(groups, text) {
         None => None,
@@ -312,7 +313,7 @@ fn aggregate_column(aggregates: &[Aggregate], text: &[u8]) -> Option<GroupColumn
 // What an item shows, where so many aggregates come before it.
 fn item_column(groups: &[Name], before: u16, item: &Item) -> Option<GroupColumn>
     requires { length groups.now ≤ most_columns }
-    ensures { result ≡ spec.item_column groups.now before item.now }
+    ensures { result ≡ spec.item_column (map name_view groups.now) before (item_view item.now) }
 {
     match item {
         Item::Column(name) => key_column(groups, &name.text),
@@ -321,7 +322,7 @@ fn item_column(groups: &[Name], before: u16, item: &Item) -> Option<GroupColumn>
 }
 
 fn aggregates_in(item: &Item) -> u16
-    ensures count { result ≡ spec.aggregates_in item.now }
+    ensures count { result ≡ spec.aggregates_in (item_view item.now) }
     ensures few { result ≤ 1 }
 {
     match item {
@@ -338,7 +339,7 @@ pub(crate) fn resolve_items(
 ) -> Result<Option<Vec<GroupColumn>>, AllocError>
     requires groups { length groups.now ≤ most_columns }
     requires items { length items.now ≤ most_items }
-    ensures { IfOk result (λ found. option_map (λ columns. columns.items) found ≡ spec.items_from groups.now 0 items.now) }
+    ensures { IfOk result (λ found. option_map (λ columns. columns.items) found ≡ spec.items_from (map name_view groups.now) 0 (map item_view items.now)) }
 {
     let mut columns = Vec::new(alloc);
     let mut before = 0;
@@ -355,7 +356,7 @@ pub(crate) fn resolve_items(
 fn group_column(groups: &[Name], aggregates: &[Aggregate], text: &[u8]) -> Option<GroupColumn>
     requires groups { length groups.now ≤ most_columns }
     requires aggregates { length aggregates.now ≤ most_items }
-    ensures { result ≡ option_or (spec.key_column groups.now text.now) (spec.aggregate_column (shown.names_shown aggregates.now) text.now) }
+    ensures { result ≡ option_or (spec.key_column (map name_view groups.now) text.now) (spec.aggregate_column (shown.names_shown aggregates.now) text.now) }
 {
     match key_column(groups, text) {
         Some(column) => Some(column),
@@ -366,7 +367,7 @@ fn group_column(groups: &[Name], aggregates: &[Aggregate], text: &[u8]) -> Optio
 fn sort_key(groups: &[Name], aggregates: &[Aggregate], key: &query::SortKey) -> Option<SortKey>
     requires groups { length groups.now ≤ most_columns }
     requires aggregates { length aggregates.now ≤ most_items }
-    ensures { result ≡ spec.resolved_key groups.now (shown.names_shown aggregates.now) key.now }
+    ensures { result ≡ spec.resolved_key (map name_view groups.now) (shown.names_shown aggregates.now) (key_view key.now) }
 {
     match group_column(groups, aggregates, &key.name.text) {
         None => None,
@@ -387,7 +388,7 @@ pub(crate) fn resolve_order(
 ) -> Result<Option<Vec<SortKey>>, AllocError>
     requires groups { length groups.now ≤ most_columns }
     requires aggregates { length aggregates.now ≤ most_items }
-    ensures { IfOk result (λ found. option_map (λ sorts. sorts.items) found ≡ spec.option_all (spec.resolved_key groups.now (shown.names_shown aggregates.now)) keys.now) }
+    ensures { IfOk result (λ found. option_map (λ sorts. sorts.items) found ≡ spec.option_all (spec.resolved_key (map name_view groups.now) (shown.names_shown aggregates.now)) (map key_view keys.now)) }
 {
     let mut sorts = Vec::new(alloc);
     for key in keys {
@@ -405,8 +406,8 @@ fn resolve_aggregate(
     number: usize,
     aggregate: &query::Aggregate,
 ) -> Result<Option<Aggregate>, AllocError>
-    ensures measure { IfOk result (λ found. option_map (λ a. shown.measure_shown a.measure) found ≡ spec.resolved_measure aggregate.now.measure) }
-    ensures name { IfOk result (λ found. IfSome found (λ a. a.name.items ≡ naming.aggregate_name number aggregate.now)) }
+    ensures measure { IfOk result (λ found. option_map (λ a. shown.measure_shown a.measure) found ≡ spec.resolved_measure (measure_view aggregate.now.measure)) }
+    ensures name { IfOk result (λ found. IfSome found (λ a. a.name.items ≡ naming.aggregate_name number (aggregate_view aggregate.now))) }
 {
     let Some(measure) = resolve_measure(alloc, &aggregate.measure)? else {
         return Ok(None);
@@ -421,8 +422,8 @@ pub(crate) fn resolve_aggregates(
     items: &[Item],
 ) -> Result<Option<Vec<Aggregate>>, AllocError>
     requires { length items.now ≤ most_items }
-    ensures measures { IfOk result (λ found. option_map (λ aggregates. shown.measures_shown aggregates.items) found ≡ spec.measures_of items.now) }
-    ensures names { IfOk result (λ found. IfSome found (λ aggregates. shown.names_shown aggregates.items ≡ naming.aggregate_names items.now)) }
+    ensures measures { IfOk result (λ found. option_map (λ aggregates. shown.measures_shown aggregates.items) found ≡ spec.measures_of (map item_view items.now)) }
+    ensures names { IfOk result (λ found. IfSome found (λ aggregates. shown.names_shown aggregates.items ≡ naming.aggregate_names (map item_view items.now))) }
     ensures few { IfOk result (λ found. IfSome found (λ aggregates. length aggregates.items ≤ length items.now)) }
 {
     let mut aggregates = Vec::new(alloc);

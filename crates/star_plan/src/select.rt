@@ -6,6 +6,7 @@ ghost use Rattle.std.specs.Cmp.Lexicographic.{pointwise};
 ghost use Rattle.std.specs.Result.{result_err};
 ghost use Rattle.star_common.specs.First.{first_answer};
 ghost use Rattle.star_query.specs.Maxima.{most_items};
+ghost use Rattle.star_query.specs.Views.{aggregate_view, item_view, key_view, measure_view, name_view};
 ghost use Rattle.star_plan.specs.First.{first_beside};
 ghost use Rattle.star_plan.specs.Naming as spec;
 ghost use Rattle.star_plan.specs.Faults as faults;
@@ -19,7 +20,7 @@ use std::alloc::{AllocError, Global};
 
 // Whether a name is a table's that isn't named before.
 fn check_table(before: &[Name], name: &Name) -> Result<(), PlanFault>
-    ensures { result_err result ≡ faults.table_fault before.now name.now }
+    ensures { result_err result ≡ faults.table_fault (map name_view before.now) (name_view name.now) }
 {
     match table_at(name) {
         None => Err(PlanFault::UnknownName { at: name.place }),
@@ -28,9 +29,9 @@ fn check_table(before: &[Name], name: &Name) -> Result<(), PlanFault>
     }
 }
 
-#[tactic(auto, using(crate::proofs::Firsts::beside_passed, crate::proofs::Firsts::beside_whole))]
+#[tactic(auto, using(crate::proofs::Viewed::beside_passed, crate::proofs::Viewed::beside_whole))]
 fn check_tables(tables: &[Name]) -> Result<(), PlanFault>
-    ensures { result_err result ≡ first_beside faults.table_fault tables.now }
+    ensures { result_err result ≡ first_beside faults.table_fault (map name_view tables.now) }
 {
     for place in 0..tables.len() {
         check_table(&tables[..place], &tables[place])?;
@@ -40,7 +41,7 @@ fn check_tables(tables: &[Name]) -> Result<(), PlanFault>
 
 /// Whether FROM names lineorder and other tables, each once.
 pub(crate) fn check_from(tables: &[Name]) -> Result<(), PlanFault>
-    ensures { result_err result ≡ faults.from_fault tables.now }
+    ensures { result_err result ≡ faults.from_fault (map name_view tables.now) }
 {
     check_tables(tables)?;
     if has_name(tables, name_of(TableId::Lineorder).as_bytes()) {
@@ -51,7 +52,7 @@ pub(crate) fn check_from(tables: &[Name]) -> Result<(), PlanFault>
 }
 
 fn check_group(before: &[Name], name: &Name) -> Result<(), PlanFault>
-    ensures { result_err result ≡ faults.group_fault before.now name.now }
+    ensures { result_err result ≡ faults.group_fault (map name_view before.now) (name_view name.now) }
 {
     if has_name(before, &name.text) {
         Err(PlanFault::DuplicateGroup { at: name.place })
@@ -60,10 +61,10 @@ fn check_group(before: &[Name], name: &Name) -> Result<(), PlanFault>
     }
 }
 
-#[tactic(auto, using(crate::proofs::Firsts::beside_passed, crate::proofs::Firsts::beside_whole))]
+#[tactic(auto, using(crate::proofs::Viewed::beside_passed, crate::proofs::Viewed::beside_whole))]
 /// Whether each group column is named once.
 pub(crate) fn check_groups(groups: &[Name]) -> Result<(), PlanFault>
-    ensures { result_err result ≡ first_beside faults.group_fault groups.now }
+    ensures { result_err result ≡ first_beside faults.group_fault (map name_view groups.now) }
 {
     for place in 0..groups.len() {
         check_group(&groups[..place], &groups[place])?;
@@ -74,7 +75,7 @@ pub(crate) fn check_groups(groups: &[Name]) -> Result<(), PlanFault>
 // The word of an aggregate's function.
 #[tactic(auto, unfolding(crate::specs::Naming::function_word))]
 fn function_word(measure: &Measure) -> &'static str
-    ensures { result.now ≡ spec.function_word measure.now }
+    ensures { result.now ≡ spec.function_word (measure_view measure.now) }
 {
     match measure {
         Measure::Count => "count",
@@ -85,7 +86,7 @@ fn function_word(measure: &Measure) -> &'static str
 }
 
 fn default_name(alloc: Global, measure: &Measure, number: usize) -> Result<Vec<u8>, AllocError>
-    ensures { IfOk result (λ name. name.items ≡ spec.default_name measure.now number) }
+    ensures { IfOk result (λ name. name.items ≡ spec.default_name (measure_view measure.now) number) }
 {
     let word = function_word(measure);
     let name = format!(in alloc; "{word}{number}")?;
@@ -98,7 +99,7 @@ pub(crate) fn aggregate_name(
     number: usize,
     aggregate: &Aggregate,
 ) -> Result<Vec<u8>, AllocError>
-    ensures { IfOk result (λ name. name.items ≡ spec.aggregate_name number aggregate.now) }
+    ensures { IfOk result (λ name. name.items ≡ spec.aggregate_name number (aggregate_view aggregate.now)) }
 {
     match &aggregate.name {
         Some(name) => name.text.clone(),
@@ -120,7 +121,7 @@ fn has_text(texts: &[Vec<u8>], text: &[u8]) -> bool
 }
 
 fn name_place(aggregate: &Aggregate) -> usize
-    ensures { result ≡ spec.name_place aggregate.now }
+    ensures { result ≡ spec.name_place (aggregate_view aggregate.now) }
 {
     match &aggregate.name {
         Some(name) => name.place,
@@ -130,7 +131,7 @@ fn name_place(aggregate: &Aggregate) -> usize
 
 // Whether a plain column is among the group columns.
 fn check_column(groups: &[Name], name: &Name) -> Result<(), PlanFault>
-    ensures { result_err result ≡ faults.column_fault groups.now name.now }
+    ensures { result_err result ≡ faults.column_fault (map name_view groups.now) (name_view name.now) }
 {
     if has_name(groups, &name.text) {
         Ok(())
@@ -146,8 +147,8 @@ fn check_alias(
     names: &[Vec<u8>],
     aggregate: &Aggregate,
 ) -> Result<Vec<u8>, PlanFault>
-    ensures told { Tells (faults.alias_fault groups.now (map (λ n. n.items) names.now) aggregate.now) result }
-    ensures named { IfOk result (λ name. name.items ≡ spec.aggregate_name (length names.now + 1) aggregate.now) }
+    ensures told { Tells (faults.alias_fault (map name_view groups.now) (map (λ n. n.items) names.now) (aggregate_view aggregate.now)) result }
+    ensures named { IfOk result (λ name. name.items ≡ spec.aggregate_name (length names.now + 1) (aggregate_view aggregate.now)) }
 {
     let name = aggregate_name(alloc, names.len() + 1, aggregate)?;
     if has_text(names, &name) || has_name(groups, &name) {
@@ -164,8 +165,8 @@ fn check_item(
     names: &mut Vec<Vec<u8>>,
     item: &Item,
 ) -> Result<(), PlanFault>
-    ensures told { Tells (faults.item_fault_after groups.now (map (λ n. n.items) names.old.items) item.now) result }
-    ensures named { OnOk result (map (λ n. n.items) names.new.items ≡ map (λ n. n.items) names.old.items ++ spec.names_from (length names.old.items + 1) (item.now ∷ [])) }
+    ensures told { Tells (faults.item_fault_after (map name_view groups.now) (map (λ n. n.items) names.old.items) (item_view item.now)) result }
+    ensures named { OnOk result (map (λ n. n.items) names.new.items ≡ map (λ n. n.items) names.old.items ++ spec.names_from (length names.old.items + 1) (item_view item.now ∷ [])) }
 {
     match item {
         Item::Column(name) => check_column(groups, name),
@@ -180,8 +181,8 @@ fn check_item(
 // The names of the aggregates, if each item is grouped or has a new name.
 fn check_items(alloc: Global, groups: &[Name], items: &[Item]) -> Result<Vec<Vec<u8>>, PlanFault>
     requires { length items.now ≤ most_items }
-    ensures told { Tells (first_beside (faults.item_fault groups.now) items.now) result }
-    ensures named { IfOk result (λ names. map (λ n. n.items) names.items ≡ spec.aggregate_names items.now) }
+    ensures told { Tells (first_beside (faults.item_fault (map name_view groups.now)) (map item_view items.now)) result }
+    ensures named { IfOk result (λ names. map (λ n. n.items) names.items ≡ spec.aggregate_names (map item_view items.now)) }
 {
     let mut names = Vec::new(alloc);
     for item in items {
@@ -197,8 +198,8 @@ pub(crate) fn check_select(
     items: &[Item],
 ) -> Result<Vec<Vec<u8>>, PlanFault>
     requires { length items.now ≤ most_items }
-    ensures told { Tells (faults.select_fault groups.now items.now) result }
-    ensures named { IfOk result (λ names. map (λ n. n.items) names.items ≡ spec.aggregate_names items.now) }
+    ensures told { Tells (faults.select_fault (map name_view groups.now) (map item_view items.now)) result }
+    ensures named { IfOk result (λ names. map (λ n. n.items) names.items ≡ spec.aggregate_names (map item_view items.now)) }
 {
     let names = check_items(alloc, groups, items)?;
     if names.is_empty() {
@@ -209,7 +210,7 @@ pub(crate) fn check_select(
 
 // Whether a sort key is a group column or an aggregate's name.
 fn check_key(groups: &[Name], names: &[Vec<u8>], key: &SortKey) -> Result<(), PlanFault>
-    ensures { result_err result ≡ faults.key_fault groups.now (map (λ n. n.items) names.now) key.now }
+    ensures { result_err result ≡ faults.key_fault (map name_view groups.now) (map (λ n. n.items) names.now) (key_view key.now) }
 {
     let name = &key.name;
     if has_name(groups, &name.text) || has_text(names, &name.text) {
@@ -220,13 +221,13 @@ fn check_key(groups: &[Name], names: &[Vec<u8>], key: &SortKey) -> Result<(), Pl
 }
 
 /// Whether each sort key is a group column or an aggregate's name.
-#[tactic(auto, using(crate::proofs::Firsts::answer_passed, crate::proofs::Firsts::answer_whole))]
+#[tactic(auto, using(crate::proofs::Viewed::answer_passed, crate::proofs::Viewed::answer_whole))]
 pub(crate) fn check_order(
     groups: &[Name],
     names: &[Vec<u8>],
     keys: &[SortKey],
 ) -> Result<(), PlanFault>
-    ensures { result_err result ≡ first_answer (faults.key_fault groups.now (map (λ n. n.items) names.now)) keys.now }
+    ensures { result_err result ≡ first_answer (faults.key_fault (map name_view groups.now) (map (λ n. n.items) names.now)) (map key_view keys.now) }
 {
     for key in keys {
         check_key(groups, names, key)?;

@@ -1,8 +1,9 @@
 // The columns that a query names, from the left.
 
-ghost use Rattle.std.specs.Prelude.{◌≡◌, ◌++◌, OnOk, IfOk};
+ghost use Rattle.std.specs.Prelude.{◌≡◌, ◌++◌, OnOk, IfOk, map};
 ghost use Rattle.std.specs.Result.{result_err};
 ghost use Rattle.star_common.specs.First.{first_answer};
+ghost use Rattle.star_query.specs.Views.{condition_view, expression_view, item_view, literal_view, measure_view, name_view, tree_view};
 ghost use Rattle.star_plan.specs.Uses as spec;
 ghost use Rattle.star_plan.specs.Faults.{kind_fault, scope_fault};
 
@@ -25,7 +26,7 @@ pub struct Use {
 impl Use {
     // A column of any kind.
     fn any(name: &Name) -> Use
-        ensures { result ≡ spec.any_use name.now }
+        ensures { result ≡ spec.any_use (name_view name.now) }
     {
         Use {
             column: column_at(name),
@@ -35,7 +36,7 @@ impl Use {
     }
 
     fn of_kind(kind: Kind, name: &Name) -> Use
-        ensures { result ≡ spec.use_as kind name.now }
+        ensures { result ≡ spec.use_as kind (name_view name.now) }
     {
         let column = column_at(name);
         Use {
@@ -46,7 +47,7 @@ impl Use {
     }
 
     fn between(from: &Literal, upto: &Literal, name: &Name) -> Use
-        ensures { result ≡ spec.use_between from.now upto.now name.now }
+        ensures { result ≡ spec.use_between (literal_view from.now) (literal_view upto.now) (name_view name.now) }
     {
         let column = column_at(name);
         Use {
@@ -57,7 +58,7 @@ impl Use {
     }
 
     fn scope_fault(&self, tables: &[Name]) -> Result<(), PlanFault>
-        ensures { result_err result ≡ scope_fault tables.now self.now }
+        ensures { result_err result ≡ scope_fault (map name_view tables.now) self.now }
     {
         match self.column {
             None => Err(PlanFault::UnknownName { at: self.at }),
@@ -80,7 +81,7 @@ impl Use {
 }
 
 fn kind_of_literal(literal: &Literal) -> Kind
-    ensures { result ≡ spec.kind_of_literal literal.now }
+    ensures { result ≡ spec.kind_of_literal (literal_view literal.now) }
 {
     match literal {
         Literal::Number(_) => Kind::Number,
@@ -89,7 +90,7 @@ fn kind_of_literal(literal: &Literal) -> Kind
 }
 
 fn add_expression(uses: &mut Vec<Use>, expression: &Expression) -> Result<(), AllocError>
-    ensures { OnOk result (uses.new.items ≡ uses.old.items ++ spec.expression_uses expression.now) }
+    ensures { OnOk result (uses.new.items ≡ uses.old.items ++ spec.expression_uses (expression_view expression.now)) }
 {
     match expression {
         Expression::Column(name) => {
@@ -107,7 +108,7 @@ fn add_expression(uses: &mut Vec<Use>, expression: &Expression) -> Result<(), Al
 }
 
 fn add_measure(uses: &mut Vec<Use>, measure: &Measure) -> Result<(), AllocError>
-    ensures { OnOk result (uses.new.items ≡ uses.old.items ++ spec.measure_uses measure.now) }
+    ensures { OnOk result (uses.new.items ≡ uses.old.items ++ spec.measure_uses (measure_view measure.now)) }
 {
     match measure {
         Measure::Count => Ok(()),
@@ -116,7 +117,7 @@ fn add_measure(uses: &mut Vec<Use>, measure: &Measure) -> Result<(), AllocError>
 }
 
 fn add_item(uses: &mut Vec<Use>, item: &Item) -> Result<(), AllocError>
-    ensures { OnOk result (uses.new.items ≡ uses.old.items ++ spec.item_uses item.now) }
+    ensures { OnOk result (uses.new.items ≡ uses.old.items ++ spec.item_uses (item_view item.now)) }
 {
     match item {
         Item::Column(name) => {
@@ -128,7 +129,7 @@ fn add_item(uses: &mut Vec<Use>, item: &Item) -> Result<(), AllocError>
 }
 
 fn add_condition(uses: &mut Vec<Use>, condition: &Condition) -> Result<(), AllocError>
-    ensures { OnOk result (uses.new.items ≡ uses.old.items ++ spec.condition_uses condition.now) }
+    ensures { OnOk result (uses.new.items ≡ uses.old.items ++ spec.condition_uses (condition_view condition.now)) }
 {
     match condition {
         Condition::Or(left, right) | Condition::And(left, right) => {
@@ -149,7 +150,7 @@ fn add_condition(uses: &mut Vec<Use>, condition: &Condition) -> Result<(), Alloc
 }
 
 fn add_items(uses: &mut Vec<Use>, items: &[Item]) -> Result<(), AllocError>
-    ensures { OnOk result (uses.new.items ≡ uses.old.items ++ spec.items_uses items.now) }
+    ensures { OnOk result (uses.new.items ≡ uses.old.items ++ spec.items_uses (map item_view items.now)) }
 {
     for item in items {
         add_item(uses, item)?;
@@ -158,7 +159,7 @@ fn add_items(uses: &mut Vec<Use>, items: &[Item]) -> Result<(), AllocError>
 }
 
 fn add_groups(uses: &mut Vec<Use>, names: &[Name]) -> Result<(), AllocError>
-    ensures { OnOk result (uses.new.items ≡ uses.old.items ++ spec.groups_uses names.now) }
+    ensures { OnOk result (uses.new.items ≡ uses.old.items ++ spec.groups_uses (map name_view names.now)) }
 {
     for name in names {
         uses.push(Use::any(name))?;
@@ -168,7 +169,7 @@ fn add_groups(uses: &mut Vec<Use>, names: &[Name]) -> Result<(), AllocError>
 
 /// The columns that a query names: in SELECT, in WHERE and in GROUP BY.
 pub(crate) fn uses_of(alloc: Global, tree: &Tree) -> Result<Vec<Use>, AllocError>
-    ensures { IfOk result (λ uses. uses.items ≡ spec.uses_of tree.now) }
+    ensures { IfOk result (λ uses. uses.items ≡ spec.uses_of (tree_view tree.now)) }
 {
     let mut uses = Vec::new(alloc);
     add_items(&mut uses, &tree.items)?;
@@ -182,7 +183,7 @@ pub(crate) fn uses_of(alloc: Global, tree: &Tree) -> Result<Vec<Use>, AllocError
 #[tactic(auto, using(crate::proofs::Firsts::answer_passed, crate::proofs::Firsts::answer_whole))]
 /// Whether each name is a column's whose table is named.
 pub(crate) fn check_scope(tables: &[Name], uses: &[Use]) -> Result<(), PlanFault>
-    ensures { result_err result ≡ first_answer (scope_fault tables.now) uses.now }
+    ensures { result_err result ≡ first_answer (scope_fault (map name_view tables.now)) uses.now }
 {
     for named in uses {
         named.scope_fault(tables)?;

@@ -1,7 +1,11 @@
 pub mod Sample
 pub mod Unless
 pub mod Steps
+mod WorkedFaults
+mod WorkedInstructions
+mod WorkedLimits
 mod WorkedRuns
+mod WorkedEffects
 mod WorkedCubes
 mod OwnGroups
 mod OutcomeCells

@@ -2,7 +2,7 @@
 use Rattle.std.proofs.Common.{◌≡◌, ℕ, zero, suc, ◌+◌, ◌<◌, Bool, true, false, List, [], ◌∷◌, ◌++◌, length, Option, Some, None, refl, sym, subst, inl, inr, arith}
 use Rattle.std.specs.Prelude.{◌&&◌, ℤ, All, Contains, map, nat_eq, nat_lt, replicate, slice_index_or, if◌then◌else◌}
 use Rattle.std.specs.List.{AllByRecursion, AllZip}
-use Rattle.std.specs.Option.{option_map}
+use Rattle.std.specs.Option.{option_map, option_or}
 use Rattle.std.proofs.lemmas.Bool.{ltb-true, and_parts, eqb-true}
 use Rattle.std.proofs.lemmas.List.Elements.{All-map, All-same, All-weaker, All-contains, All-contains_itself, All-from_recursion}
 use Rattle.star_common.proofs.Firsts.{or_none}
@@ -28,14 +28,16 @@ use Rattle.star_program.specs.declared.program.Parts.{Parts}
 use Rattle.star_program.specs.declared.program.Show.{Show}
 use Rattle.star_program.specs.Cells.{IsKeyCell, IsTotalCell, IsCellOf, AreCellsShown}
 use Rattle.star_program.specs.Code.{Code, Stop, Then, Each, code_size}
-use Rattle.star_program.specs.Effects.{Store, empty_store, Effect, GoesOn, EndsTurn, Traps, sets_answer, sets_found, answer_of, keeps, puts, update_of, assigns, does, unless_fault, kinds_in, act}
+use Rattle.star_program.specs.Effects.{Store, empty_store, Updates, marked, Effect, GoesOn, EndsTurn, Traps, update_of, result_trap, effect_of, unless_trap, kinds_in, act}
 use Rattle.star_program.specs.declared.fault.Fault.{Fault}
+use Rattle.star_program.specs.declared.fault.TrapKind.{TrapKind}
+use Rattle.star_program.specs.declared.fault.TrapKind.TheVariants.{Wrong}
 use Rattle.star_program.specs.declared.fault.Fault.TheVariants.{BadGroup}
 use Rattle.star_program.specs.Faults.{group_at, value_count, fits_key, kind_fault, keys_fault, numbers_fault, operand_fault, operands_fault, place_fault, fault_of}
 use Rattle.star_program.proofs.Unless.{unless_none}
 use Rattle.star_program.specs.Keys.{value_cmp}
 use Rattle.star_program.specs.Outcome.{decoded, decoded_keys, decoded_row, key_cell, total_cell, cell_of, shown_cells, IsOutcome}
-use Rattle.star_program.specs.Puts.{Update, overflows}
+use Rattle.star_program.specs.Puts.{Update}
 use Rattle.star_program.specs.Run.{End, Ended, Trapped, Limited, follow, after, visited, begin, turns, scans, meaning, meaning_of, unless_unshown, run_while}
 use Rattle.star_program.specs.Shown.{has_column, named_columns, first_unshown, reports, shown_fault}
 use Rattle.star_program.specs.declared.value.Value.{Value}
@@ -106,27 +108,20 @@ EndFits parts (Ended s) = Fit parts s
 EndFits parts (Trapped at trap) = Unit {0}
 EndFits parts Limited = Unit {0}
 
-answer_fits : (parts : Parts) (regs : Registers) (s : Store) (t : ℕ) (v : Option Value)
-    → Fit parts s → EffectFits parts (sets_answer regs s t v)
-answer_fits parts regs s t None fit = tt
-answer_fits parts regs s t (Some v) fit = fit
-
-found_fits : (parts : Parts) (regs : Registers) (s : Store) (t : ℕ) (q : TableId) (o : Option ℕ)
-    → Fit parts s → EffectFits parts (sets_found regs s t q o)
-found_fits parts regs s t q None fit = tt
-found_fits parts regs s t q (Some row) fit = fit
+unless_fits : (parts : Parts) (o : Option TrapKind) (e : Effect) → EffectFits parts e
+    → EffectFits parts (unless_trap o e)
+unless_fits parts None e fit = fit
+unless_fits parts (Some trap) e fit = tt
 
 kept_fits : (parts : Parts) (regs : Registers) (s : Store) (b : Bool) → Fit parts s
-    → EffectFits parts (keeps regs s b)
+    → EffectFits parts (if b then GoesOn regs s else EndsTurn s)
 kept_fits parts regs s true fit = fit
 kept_fits parts regs s false fit = fit
 
 assigned_fits : (w : World) (parts : Parts) (regs : Registers) (s : Store) (t : ℕ) (o : Operation)
-    → Fit parts s → EffectFits parts (assigns w parts regs s t o)
-assigned_fits w parts regs s t (Find q k) fit =
-    found_fits parts regs s t q (w.find q (number_in (regs k))) fit
-assigned_fits w parts regs s t (Binary o l r) fit =
-    answer_fits parts regs s t (answer_of o (regs l) (regs r)) fit
+    → Fit parts s → EffectFits parts (effect_of w parts regs s (Assign t o))
+assigned_fits w parts regs s t (Find q k) fit = fit
+assigned_fits w parts regs s t (Binary o l r) fit = fit
 assigned_fits w parts regs s t (Const n) fit = fit
 assigned_fits w parts regs s t (Edge e c text) fit = fit
 assigned_fits w parts regs s t (Load c r) fit = fit
@@ -134,10 +129,9 @@ assigned_fits w parts regs s t (Within x a b) fit = fit
 assigned_fits w parts regs s t (Not f) fit = fit
 assigned_fits w parts regs s t (Read g a n) fit = fit
 
-put_fits : (parts : Parts) (regs : Registers) (s : Store) (g : ℕ) (u : Update) (b : Bool)
-    → Fit parts s → KeysFit (group_at parts g).keys u.keys → EffectFits parts (puts regs s g u b)
-put_fits parts regs s g u true fit here = tt
-put_fits parts regs s g u false fit here = λ h. entry h (nat_eq h g) refl
+put_fits : (parts : Parts) (regs : Registers) (s : Store) (g : ℕ) (u : Update) → Fit parts s
+    → KeysFit (group_at parts g).keys u.keys → Fit parts (marked (Updates g u) s)
+put_fits parts regs s g u fit here = λ h. entry h (nat_eq h g) refl
   where
     entry : (h : ℕ) (b : Bool) → nat_eq h g ≡ b
         → AllByRecursion (λ v. KeysFit (group_at parts h).keys v.keys)
@@ -164,7 +158,7 @@ act_fits w parts inside regs s op fit =
     go op (fault_of parts inside None (kinds_in regs) op) refl
   where
     done : (p : Op) → fault_of parts inside None (kinds_in regs) p ≡ None
-        → EffectFits parts (does w parts regs s p)
+        → EffectFits parts (effect_of w parts regs s p)
     done (Assign t o) e = assigned_fits w parts regs s t o fit
     done (Keep f) e = kept_fits parts regs s (flag_in (regs f)) fit
     done (Put g ks vs) e =
@@ -173,12 +167,12 @@ act_fits w parts inside regs s op fit =
         let q = or_none (keys_fault parts.registers (kinds_in regs) (group_at parts g).keys ks)
         (numbers_fault parts.registers (kinds_in regs) vs) operands in
         put_fits parts regs s g (update_of (group_at parts g) regs ks vs)
-        (overflows (group_at parts g) (s.updates_of g) (update_of (group_at parts g) regs ks vs))
         fit (keys_fit parts.registers regs (group_at parts g).keys ks (as_many parts g ks vs inside p.0) q.0)
 
     go : (p : Op) (o : Option Fault) → fault_of parts inside None (kinds_in regs) p ≡ o
-        → EffectFits parts (unless_fault o (does w parts regs s p))
-    go p None e = done p e
+        → EffectFits parts
+        (unless_trap (option_or (option_map Wrong o) (result_trap w parts regs s p)) (effect_of w parts regs s p))
+    go p None e = unless_fits parts (result_trap w parts regs s p) (effect_of w parts regs s p) (done p e)
     go p (Some fault) e = tt
 
 after_fits : (parts : Parts) (e : End) (next : Store → End) → EndFits parts e

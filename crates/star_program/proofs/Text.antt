@@ -1,5 +1,6 @@
 -- Lemmas on the text of programs.
 mod WorkedTexts
+mod WorkedLines
 pub mod Positions
 pub mod LineLemmas
 pub mod WordLemmas

@@ -2,6 +2,7 @@
 pub mod StoredCode
 pub mod Smaller
 pub mod Followed
+pub mod Doing
 pub mod Returns
 pub mod Within
 pub mod Reading

@@ -10,7 +10,7 @@ ghost use Rattle.star_reader.specs.Private.Fronts.{IsFront};
 use crate::cell::{is_printable, parse_number};
 use crate::fault::ReadFault;
 use crate::front::{number_front, text_front};
-use star_flat::{FlatNumbers, FlatTexts};
+use star_flat::{FlatNumbers, RepeatedTexts};
 use star_schema::Kind;
 use std::alloc::{AllocError, Global};
 
@@ -18,7 +18,7 @@ use std::alloc::{AllocError, Global};
 #[derive(Drop)]
 pub enum RawColumn {
     Numbers(FlatNumbers),
-    Texts(FlatTexts),
+    Texts(RepeatedTexts),
 }
 
 // The fault of a cell of a column of texts, if it has one.
@@ -55,7 +55,7 @@ impl RawColumn {
     {
         match kind {
             Kind::Number => RawColumn::Numbers(FlatNumbers::new(alloc)),
-            Kind::Text => RawColumn::Texts(FlatTexts::new(alloc)),
+            Kind::Text => RawColumn::Texts(RepeatedTexts::new(alloc)),
         }
     }
 

@@ -15,64 +15,41 @@ both true true h = (h, h)
 both true false h = absurd cc
 both false q h = absurd cc
 
-field_lacks_bar : (text : List ℕ) → IsTrue (is_field text) → Lacks 124 text
-field_lacks_bar [] h = tt
-field_lacks_bar (b ∷ bs) h =
-    let parts = both (not (is_bar b || ends_line b)) (is_field bs) h in
+not_both : (p : Bool) → IsTrue p → IsTrue (not p) → ⊥
+not_both true h k = absurd cc
+not_both false h k = absurd cc
+
+-- a byte that parts fields or lines
+abbrev Parts : ℕ → Type 0
+Parts b = IsTrue (is_bar b || ends_line b)
+
+field_lacks : (b : ℕ) → Parts b → (text : List ℕ) → IsTrue (is_field text) → Lacks b text
+field_lacks b parts [] h = tt
+field_lacks b parts (x ∷ xs) h =
+    let each = both (not (is_bar x || ends_line x)) (is_field xs) h in
     let P : ℕ → Type 0 = λ n. IsTrue (not (is_bar n || ends_line n)) in
-    (λ e. let bad = subst P e parts.0 in cc, field_lacks_bar bs parts.1)
+    (λ e. not_both (is_bar b || ends_line b) parts (subst P e each.0), field_lacks b parts xs each.1)
 
-field_lacks_end : (text : List ℕ) → IsTrue (is_field text) → Lacks 10 text
-field_lacks_end [] h = tt
-field_lacks_end (b ∷ bs) h =
-    let parts = both (not (is_bar b || ends_line b)) (is_field bs) h in
-    let P : ℕ → Type 0 = λ n. IsTrue (not (is_bar n || ends_line n)) in
-    (λ e. let bad = subst P e parts.0 in cc, field_lacks_end bs parts.1)
-
--- a byte that no cell of a report has
-abbrev IsOutside : ℕ → Type 0
-IsOutside b =
-    (digit_value b < 10 → ⊥) × (45 ≡ b → ⊥) × (39 ≡ b → ⊥) × Lacks b (codes "ALL")
-    × Lacks b (codes "NULL") × ((text : List ℕ) → IsTrue (is_field text) → Lacks b text)
-
-cell_lacks : (b : ℕ) → IsOutside b → (kind : ColumnKind) (c : Cell) → IsCellOf kind c
-    → Lacks b (cell_text c)
+-- so does a cell: its words are fields, and such a byte is no digit
+cell_lacks : (b : ℕ) → Parts b → (digit_value b < 10 → ⊥) → (kind : ColumnKind) (c : Cell)
+    → IsCellOf kind c → Lacks b (cell_text c)
 unfolding cell_text
-cell_lacks b o NumberKey (cell.Number n) h = number_lacks b n h o.0 o.1
-cell_lacks b o NumberKey cell.All h = o.3
-cell_lacks b o TextKey (cell.Text text) h = text_lacks b text o.2 (o.5 text h)
-cell_lacks b o TextKey cell.All h = o.3
-cell_lacks b o Total (cell.Number n) h = number_lacks b n h o.0 o.1
-cell_lacks b o Total cell.Null h = o.4
-cell_lacks b o _ _ h = absurd h
+cell_lacks b parts digit NumberKey (cell.Number n) h =
+    number_lacks b n h digit (field_lacks b parts (codes "-") refl).0
+cell_lacks b parts digit NumberKey cell.All h = field_lacks b parts (codes "ALL") refl
+cell_lacks b parts digit TextKey (cell.Text text) h =
+    text_lacks b text (field_lacks b parts (codes "'") refl).0 (field_lacks b parts text h)
+cell_lacks b parts digit TextKey cell.All h = field_lacks b parts (codes "ALL") refl
+cell_lacks b parts digit Total (cell.Number n) h =
+    number_lacks b n h digit (field_lacks b parts (codes "-") refl).0
+cell_lacks b parts digit Total cell.Null h = field_lacks b parts (codes "NULL") refl
+cell_lacks b parts digit _ _ h = absurd h
 
 pub cell_lacks_bar : (kind : ColumnKind) (c : Cell) → IsCellOf kind c → Lacks 124 (cell_text c)
-cell_lacks_bar =
-    cell_lacks 124 (
-      λ h. absurd (omega arith),
-      λ h. absurd (omega arith),
-      λ h. absurd (omega arith),
-      (λ h. absurd (omega arith), (λ h. absurd (omega arith), (λ h. absurd (omega arith), tt))),
-      (
-        λ h. absurd (omega arith),
-        (λ h. absurd (omega arith), (λ h. absurd (omega arith), (λ h. absurd (omega arith), tt))),
-      ),
-      field_lacks_bar,
-    )
+cell_lacks_bar = cell_lacks 124 refl (λ h. absurd (omega arith))
 
 pub cell_lacks_end : (kind : ColumnKind) (c : Cell) → IsCellOf kind c → Lacks 10 (cell_text c)
-cell_lacks_end =
-    cell_lacks 10 (
-      λ h. absurd (omega arith),
-      λ h. absurd (omega arith),
-      λ h. absurd (omega arith),
-      (λ h. absurd (omega arith), (λ h. absurd (omega arith), (λ h. absurd (omega arith), tt))),
-      (
-        λ h. absurd (omega arith),
-        (λ h. absurd (omega arith), (λ h. absurd (omega arith), (λ h. absurd (omega arith), tt))),
-      ),
-      field_lacks_end,
-    )
+cell_lacks_end = cell_lacks 10 refl (λ h. absurd (omega arith))
 
 pub cell_same : (kind : ColumnKind) (c d : Cell) → IsCellOf kind c → IsCellOf kind d
     → cell_text c ≡ cell_text d → c ≡ d

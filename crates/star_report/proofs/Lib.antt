@@ -7,5 +7,6 @@ pub mod Quotes
 pub mod Cells
 pub mod Lines
 pub mod Worked
+mod WorkedColumns
 pub mod TableTexts
 pub mod OneOrder

@@ -1,4 +1,5 @@
--- The printed rows: a line of names and a line for each row, fields parted by bars (this project's profile; ALL: Gray et al. 1997, section 3.3).
+-- The printed rows: a line of names and a line for each row, fields parted by bars (this project's
+-- profile; ALL: Gray et al. 1997, section 3.3).
 use Rattle.std.specs.Prelude.{◌||◌, ◌++◌, if◌then◌else◌, Bool, ℕ, List, codes, map, nat_eq}
 use Rattle.std.specs.Cmp.Lexicographic.{pointwise}
 use Rattle.std.specs.Fmt.{signed_decimal}

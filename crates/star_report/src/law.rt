@@ -25,7 +25,8 @@ pub fn texts_of_tables_are_fields()
     ensures { (t : TableId) (text : List ℕ) → All (All IsFieldValue) (rows_of t text) }
 {}
 
-/// What a program has done has one outcome, and so one printed text: no two of its rows have the same keys, and they stand in the one order that there is.
+/// What a program has done has one outcome, and so one printed text: no two of its rows have the
+/// same keys, and they stand in the one order that there is.
 pub fn one_run_has_one_outcome()
     ensures { (world : World) (parts : Parts) (done : Store) (outcome other : Outcome)
         → IsOutcome world parts done outcome → IsOutcome world parts done other → outcome ≡ other }

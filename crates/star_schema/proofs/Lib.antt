@@ -3,6 +3,9 @@ pub mod Places
 pub mod KeyColumns
 mod WorkedGroups
 mod WorkedDictionaries
+mod WorkedTables
+mod WorkedKeys
+mod WorkedColumns
 pub mod Dictionaries
 pub mod Edges
 pub mod Extremes

@@ -3,8 +3,9 @@
 ghost use Rattle.std.specs.Prelude.{◌≡◌};
 ghost use Rattle.star_schema.specs.Schema.{kind_of};
 
+use crate::asserts::{check_load, check_same};
 use star_catalogue::{Catalogue, LoadFault, Texts, sample};
-use star_fixtures::samples::{loaded, outcome, outcome_within, replaced};
+use star_fixtures::samples::{loaded, outcome_within, replaced};
 use star_schema::{ColumnId, Kind, Sizes, TableId, table_of};
 use std::alloc::{AllocError, Global};
 use std::process::Abort;
@@ -50,26 +51,28 @@ fn check_edges(
 )
     requires { kind_of column ≡ Kind.Text }
 {
-    assert_eq!(rt;
-        (catalogue.low(column, text), catalogue.high(column, text)),
-        (low, high),
-        "{text:?}"
-    );
+    let edges = (catalogue.low(column, text), catalogue.high(column, text));
+    check_same(rt, edges, (low, high), &text);
 }
 
 #[tactic(auto, unfolding(star_schema::specs::Schema::column_of))]
 fn check_brands(rt: &impl Abort, catalogue: &Catalogue) {
     let brand = ColumnId::PBrand1;
-    assert_eq!(rt; catalogue.entries(brand), 3);
+    check_same(rt, catalogue.entries(brand), 3, &brand);
     for (expected, text) in [
         (0, b"MFGR#121".as_slice()),
         (1, b"MFGR#1440".as_slice()),
         (2, b"MFGR#2221".as_slice()),
     ] {
-        assert!(rt; is_code_of(catalogue, brand, expected, text), "{text:?}");
+        check_same(
+            rt,
+            is_code_of(catalogue, brand, expected, text),
+            true,
+            &text,
+        );
     }
     for (row, expected) in [(0, 0), (1, 2), (2, 1)] {
-        assert_eq!(rt; code(catalogue, brand, row), Some(expected));
+        check_same(rt, code(catalogue, brand, row), Some(expected), &row);
     }
 }
 
@@ -99,7 +102,7 @@ fn check_bounds(rt: &impl Abort, catalogue: &Catalogue, column: ColumnId, low: i
     requires { kind_of column ≡ Kind.Number }
 {
     let bounds = catalogue.bounds(column);
-    assert_eq!(rt; (bounds.low, bounds.high), (low, high));
+    check_same(rt, (bounds.low, bounds.high), (low, high), &column);
 }
 
 #[tactic(auto, unfolding(star_schema::specs::Schema::column_of))]
@@ -111,9 +114,14 @@ fn check_numbers(rt: &impl Abort, catalogue: &Catalogue) {
         part: 3,
         lineorder: 5,
     };
-    assert_eq!(rt; catalogue.sizes(), sizes);
+    check_same(rt, catalogue.sizes(), sizes, &"the sample");
     for (row, expected) in [(0, Some(10)), (4, Some(1)), (5, None)] {
-        assert_eq!(rt; number(catalogue, ColumnId::LoQuantity, row), expected);
+        check_same(
+            rt,
+            number(catalogue, ColumnId::LoQuantity, row),
+            expected,
+            &row,
+        );
     }
     check_bounds(rt, catalogue, ColumnId::LoExtendedprice, 500, 3000);
     for (column, bits) in [
@@ -122,7 +130,7 @@ fn check_numbers(rt: &impl Abort, catalogue: &Catalogue) {
         (ColumnId::DDatekey, 16),
         (ColumnId::PBrand1, 8),
     ] {
-        assert_eq!(rt; catalogue.bits(column), bits, "{column}");
+        check_same(rt, catalogue.bits(column), bits, &column);
     }
 }
 
@@ -148,7 +156,7 @@ fn check_changed(
         lineorder: lineorder.as_bytes(),
         ..texts
     };
-    assert_eq!(rt; outcome(alloc, &changed)?, expected, "{new}");
+    check_load(rt, alloc, &changed, expected, new)?;
     Ok(())
 }
 
@@ -175,7 +183,7 @@ fn a_great_price_is_kept_in_64_bits(rt: HostRuntime) -> Result<(), Fail> {
         ..texts
     };
     let catalogue = loaded(alloc, &changed)?;
-    assert_eq!(rt; bits_of_price(&catalogue), 64);
+    check_same(&rt, bits_of_price(&catalogue), 64, &"a great price");
     Ok(())
 }
 
@@ -220,16 +228,45 @@ fn an_absent_key_is_told(rt: HostRuntime) -> Result<(), Fail> {
     Ok(())
 }
 
-// The fault that comes first in faulty texts, and then each time with one more of them sound. The
-// late dates have another fault than the faulty ones.
-fn check_order<'a>(
-    rt: &impl Abort,
-    alloc: Global,
-    faulty: &Texts<'a>,
-    late: &'a [u8],
-    sound: &Texts<'a>,
-) -> Result<(), AllocError> {
-    let duplicate = |table, at_row| LoadFault::DuplicateKey { table, at_row };
+// The texts of the sample with the first OLD in each of them made NEW: two of dates, and one each of
+// customers, suppliers and parts.
+fn faulty_texts(alloc: Global) -> Result<Vec<String>, Fail> {
+    let texts = sample();
+    let mut faulty = Vec::new(alloc);
+    for (text, old, new) in [
+        (texts.date, "19940105|", "19930210|"),
+        (texts.date, "19971215|", "19940105|"),
+        (texts.customer, "2|", "x|"),
+        (texts.supplier, "2|S", "01|S"),
+        (texts.part, "3|m", "2|m"),
+    ] {
+        faulty.push(replaced(alloc, text, old, new)?)?;
+    }
+    Ok(faulty)
+}
+
+// The first of two texts where it is mended, else the second.
+fn mended_text<'a>(is_mended: bool, sound: &'a [u8], faulty: &'a [u8]) -> &'a [u8] {
+    if is_mended { sound } else { faulty }
+}
+
+// Faulty texts with so many of them sound, in the order of the tables.
+fn mended<'a>(faulty: &Texts<'a>, sound: &Texts<'a>, count: usize) -> Texts<'a> {
+    Texts {
+        date: mended_text(count > 0, sound.date, faulty.date),
+        customer: mended_text(count > 1, sound.customer, faulty.customer),
+        supplier: mended_text(count > 2, sound.supplier, faulty.supplier),
+        part: mended_text(count > 3, sound.part, faulty.part),
+        lineorder: faulty.lineorder,
+    }
+}
+
+fn duplicate(table: TableId, at_row: u32) -> LoadFault {
+    LoadFault::DuplicateKey { table, at_row }
+}
+
+// The fault that comes first in faulty texts, and then each time with one more of them sound.
+fn check_order(rt: &impl Abort, alloc: Global, faulty: &Texts<'_>) -> Result<(), AllocError> {
     let bad_number = LoadFault::BadNumber {
         table: TableId::Customer,
         at_row: 2,
@@ -239,79 +276,40 @@ fn check_order<'a>(
         table: TableId::Lineorder,
         at_row: 1,
     };
-    for (date, customer, supplier, part, fault) in [
-        (
-            faulty.date,
-            faulty.customer,
-            faulty.supplier,
-            faulty.part,
-            duplicate(TableId::Date, 2),
-        ),
-        (
-            late,
-            faulty.customer,
-            faulty.supplier,
-            faulty.part,
-            duplicate(TableId::Date, 3),
-        ),
-        (
-            sound.date,
-            faulty.customer,
-            faulty.supplier,
-            faulty.part,
-            bad_number,
-        ),
-        (
-            sound.date,
-            sound.customer,
-            faulty.supplier,
-            faulty.part,
-            duplicate(TableId::Supplier, 2),
-        ),
-        (
-            sound.date,
-            sound.customer,
-            sound.supplier,
-            faulty.part,
-            duplicate(TableId::Part, 3),
-        ),
-        (
-            sound.date,
-            sound.customer,
-            sound.supplier,
-            sound.part,
-            field_count,
-        ),
+    for (count, fault) in [
+        (0, duplicate(TableId::Date, 2)),
+        (1, bad_number),
+        (2, duplicate(TableId::Supplier, 2)),
+        (3, duplicate(TableId::Part, 3)),
+        (4, field_count),
     ] {
-        let texts = Texts {
-            date,
-            customer,
-            supplier,
-            part,
-            lineorder: faulty.lineorder,
-        };
-        assert_eq!(rt; outcome(alloc, &texts)?, Err(fault), "{fault}");
+        let texts = mended(faulty, &sample(), count);
+        check_load(rt, alloc, &texts, Err(fault), "tables")?;
     }
     Ok(())
 }
 
 #[test]
 fn tables_are_checked_in_their_order(rt: HostRuntime) -> Result<(), Fail> {
-    let alloc = rt.alloc();
-    let texts = sample();
-    let early = replaced(alloc, texts.date, "19940105|", "19930210|")?;
-    let late = replaced(alloc, texts.date, "19971215|", "19940105|")?;
-    let customer = replaced(alloc, texts.customer, "2|", "x|")?;
-    let supplier = replaced(alloc, texts.supplier, "2|S", "01|S")?;
-    let part = replaced(alloc, texts.part, "3|m", "2|m")?;
-    let faulty = Texts {
+    let faulty = faulty_texts(rt.alloc())?;
+    let [early, late, customer, supplier, part] = faulty.as_slice() else {
+        return Err(Fail::from("five texts"));
+    };
+    let texts = Texts {
         date: early.as_bytes(),
         customer: customer.as_bytes(),
         supplier: supplier.as_bytes(),
         part: part.as_bytes(),
         lineorder: b"x",
     };
-    check_order(&rt, alloc, &faulty, late.as_bytes(), &texts)?;
+    check_order(&rt, rt.alloc(), &texts)?;
+    // The late dates have another fault than the early ones.
+    let texts = Texts {
+        date: late.as_bytes(),
+        ..texts
+    };
+    let fault = duplicate(TableId::Date, 3);
+    check_load(&rt, rt.alloc(), &texts, Err(fault), "late")?;
     Ok(())
 }
 
@@ -322,17 +320,32 @@ fn a_full_table_is_loaded_and_one_row_more_is_not(rt: HostRuntime) -> Result<(),
     };
     for (rows, expected) in [(5, Ok(5)), (4, Err(fault))] {
         let got = outcome_within(rt.alloc(), &sample(), rows)?;
-        assert_eq!(rt; got, expected, "{rows} rows");
+        check_same(&rt, got, expected, &rows);
     }
     Ok(())
 }
 
 #[tactic(auto, unfolding(star_schema::specs::Schema::column_of))]
 fn check_empty(rt: &impl Abort, catalogue: &Catalogue) {
-    assert_eq!(rt; catalogue.rows(TableId::Lineorder), 0);
-    assert_eq!(rt; catalogue.find(TableId::Date, 0), None);
-    assert_eq!(rt; catalogue.entries(ColumnId::SRegion), 0);
-    assert_eq!(rt; catalogue.low(ColumnId::SRegion, b"ASIA"), 0);
+    check_same(
+        rt,
+        catalogue.rows(TableId::Lineorder),
+        0,
+        &TableId::Lineorder,
+    );
+    check_same(rt, catalogue.find(TableId::Date, 0), None, &TableId::Date);
+    check_same(
+        rt,
+        catalogue.entries(ColumnId::SRegion),
+        0,
+        &ColumnId::SRegion,
+    );
+    check_same(
+        rt,
+        catalogue.low(ColumnId::SRegion, b"ASIA"),
+        0,
+        &ColumnId::SRegion,
+    );
     check_bounds(rt, catalogue, ColumnId::LoTax, 0, 0);
 }
 

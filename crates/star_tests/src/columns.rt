@@ -2,7 +2,7 @@
 // call.
 
 use star_column::{ColumnData, NumberColumn, PackedColumn, TextColumn};
-use star_flat::{FlatNumbers, FlatTexts};
+use star_flat::{FlatNumbers, RepeatedTexts};
 use star_schema::law;
 use std::alloc::{AllocError, Global};
 use std::process::Abort;
@@ -164,14 +164,18 @@ fn numbers_are_packed_in_the_least_width(rt: HostRuntime) -> Result<(), Fail> {
 }
 
 // The column of fewer than a million texts.
-fn column_of(rt: &impl Abort, alloc: Global, texts: FlatTexts) -> Result<TextColumn, AllocError> {
+fn column_of(
+    rt: &impl Abort,
+    alloc: Global,
+    texts: RepeatedTexts,
+) -> Result<TextColumn, AllocError> {
     assert!(rt; texts.len() < 1_000_000);
     TextColumn::from_flat(alloc, texts)
 }
 
 // The texts that these numbers are as two bytes each: they stand in the order of the numbers.
-fn texts_of_numbers(alloc: Global, numbers: &[u16]) -> Result<FlatTexts, AllocError> {
-    let mut texts = FlatTexts::new(alloc);
+fn texts_of_numbers(alloc: Global, numbers: &[u16]) -> Result<RepeatedTexts, AllocError> {
+    let mut texts = RepeatedTexts::new(alloc);
     for number in numbers {
         texts.push(&number.to_be_bytes())?;
     }
@@ -235,7 +239,7 @@ fn texts_have_their_codes(rt: HostRuntime) -> Result<(), Fail> {
 
 // The column of these texts.
 fn built(rt: &impl Abort, alloc: Global, rows: &[&[u8]]) -> Result<TextColumn, AllocError> {
-    let mut texts = FlatTexts::new(alloc);
+    let mut texts = RepeatedTexts::new(alloc);
     for text in rows {
         texts.push(text)?;
     }
@@ -297,8 +301,8 @@ fn few_texts_have_their_edges(rt: HostRuntime) -> Result<(), Fail> {
 }
 
 // As many rows of different texts, the greatest first.
-fn different(alloc: Global, rows: u32) -> Result<FlatTexts, AllocError> {
-    let mut texts = FlatTexts::new(alloc);
+fn different(alloc: Global, rows: u32) -> Result<RepeatedTexts, AllocError> {
+    let mut texts = RepeatedTexts::new(alloc);
     for row in 0..rows {
         texts.push(&(u32::MAX - row).to_be_bytes())?;
     }

@@ -4,7 +4,7 @@ ghost use Rattle.std.specs.Prelude.{◌≡◌, ◌≤◌, ◌<◌, [], length, I
 ghost use Rattle.star_group.specs.Eager.{group_of, Has};
 ghost use Rattle.star_group.specs.Stores.{group_declared};
 
-use star_group::{EagerStore, GroupRow, GroupStore, KeyValue, PutFault, TryPut};
+use star_group::{EagerStore, GroupRows, GroupStore, KeyValue, PutFault, TryPut};
 use star_program::{Aggregates, GroupDecl, GroupKey, GroupKeys};
 use star_schema::{Aggregate, Shape};
 use std::alloc::{AllocError, Global};
@@ -56,10 +56,10 @@ fn store(
 // The keys of a row, and its aggregates.
 type Row = (&'static [Option<KeyValue>], &'static [Option<i64>]);
 
-fn has_row(rows: &[GroupRow], row: Row) -> bool {
+fn has_row(rows: &GroupRows, row: Row) -> bool {
     let (keys, aggregates) = row;
-    for given in rows {
-        if given.keys.as_slice() == keys && given.aggregates.as_slice() == aggregates {
+    for number in 0..rows.len() {
+        if rows.keys(number) == keys && rows.aggregates(number) == aggregates {
             return true;
         }
     }
@@ -70,7 +70,7 @@ fn has_row(rows: &[GroupRow], row: Row) -> bool {
 fn gives(store: EagerStore, count: usize, expected: &[Row]) -> Result<bool, AllocError> {
     let rows = store.into_rows()?;
     for row in expected {
-        if !has_row(rows.as_slice(), *row) {
+        if !has_row(&rows, *row) {
             return Ok(false);
         }
     }

@@ -3,8 +3,9 @@
 ghost use Rattle.std.specs.Prelude.{◌<◌, ◌^◌, IsSome};
 ghost use Rattle.star_schema.specs.Schema.{references};
 
+use crate::asserts::{check_load, check_same};
 use star_catalogue::{Catalogue, LoadFault, Texts, sample};
-use star_fixtures::samples::{loaded, outcome, replaced};
+use star_fixtures::samples::{loaded, replaced};
 use star_schema::{ColumnId, TableId, table_of};
 use std::alloc::{AllocError, Global};
 use std::fmt::Write;
@@ -13,18 +14,21 @@ use std::test::Fail;
 
 const MANY: u32 = 100_000;
 
+// The rows of keys in the sample.
+const KEYS: [(TableId, i64, Option<u32>); 8] = [
+    (TableId::Date, 19930210, Some(0)),
+    (TableId::Date, 19971215, Some(2)),
+    (TableId::Date, 1, None),
+    (TableId::Customer, 2, Some(1)),
+    (TableId::Supplier, 2, Some(1)),
+    (TableId::Supplier, 3, None),
+    (TableId::Part, 3, Some(2)),
+    (TableId::Lineorder, 1, None),
+];
+
 fn check_keys(rt: &impl Abort, catalogue: &Catalogue) {
-    for (table, key, row) in [
-        (TableId::Date, 19930210, Some(0)),
-        (TableId::Date, 19971215, Some(2)),
-        (TableId::Date, 1, None),
-        (TableId::Customer, 2, Some(1)),
-        (TableId::Supplier, 2, Some(1)),
-        (TableId::Supplier, 3, None),
-        (TableId::Part, 3, Some(2)),
-        (TableId::Lineorder, 1, None),
-    ] {
-        assert_eq!(rt; catalogue.find(table, key), row, "{table} {key}");
+    for (table, key, row) in KEYS {
+        check_same(rt, catalogue.find(table, key), row, &(table, key));
     }
 }
 
@@ -56,7 +60,7 @@ fn check_referred(rt: &impl Abort, catalogue: &Catalogue) {
             referred(catalogue, ColumnId::LoCommitdate, row),
         ];
         let rows = [customer, part, supplier, order_date, commit_date];
-        assert_eq!(rt; got, rows.map(Some), "of row {row}");
+        check_same(rt, got, rows.map(Some), &row);
     }
 }
 
@@ -97,19 +101,31 @@ fn lines_of(alloc: Global, step: u64, rows: u32) -> Result<String, AllocError>
     Ok(text)
 }
 
+// What is answered of so many lines of orders in such an order.
+fn check_lines(
+    rt: &impl Abort,
+    alloc: Global,
+    step: u64,
+    rows: u32,
+    expected: Result<u32, LoadFault>,
+    order: &str,
+) -> Result<(), AllocError>
+    requires { step < 2 ^ 32 }
+{
+    let lines = lines_of(alloc, step, rows)?;
+    let texts = one_row_each(lines.as_bytes());
+    check_load(rt, alloc, &texts, expected, order)
+}
+
 #[test]
 fn lines_of_orders_come_in_any_order(rt: HostRuntime) -> Result<(), Fail> {
-    let alloc = rt.alloc();
     let again = LoadFault::DuplicateKey {
         table: TableId::Lineorder,
         at_row: MANY + 1,
     };
     for (step, order) in [(1, "rising"), (100_002, "falling"), (40_503, "shuffled")] {
-        for (rows, expected) in [(MANY, Ok(MANY)), (MANY + 1, Err(again))] {
-            let lines = lines_of(alloc, step, rows)?;
-            let texts = one_row_each(lines.as_bytes());
-            assert_eq!(rt; outcome(alloc, &texts)?, expected, "{order}");
-        }
+        check_lines(&rt, rt.alloc(), step, MANY, Ok(MANY), order)?;
+        check_lines(&rt, rt.alloc(), step, MANY + 1, Err(again), order)?;
     }
     Ok(())
 }
@@ -133,10 +149,10 @@ fn many_customers(alloc: Global) -> Result<String, AllocError> {
 fn check_many_customers(rt: &impl Abort, catalogue: &Catalogue) {
     for row in 0..MANY {
         let key = key_of_customer(row);
-        assert_eq!(rt; catalogue.find(TableId::Customer, key), Some(row));
+        check_same(rt, catalogue.find(TableId::Customer, key), Some(row), &key);
     }
     for key in [-350_001, -349_999, 1, 349_994] {
-        assert_eq!(rt; catalogue.find(TableId::Customer, key), None);
+        check_same(rt, catalogue.find(TableId::Customer, key), None, &key);
     }
 }
 
@@ -173,7 +189,7 @@ fn keys_far_apart_are_found(rt: HostRuntime) -> Result<(), Fail> {
         (0, None),
         (i64::MAX, None),
     ] {
-        assert_eq!(rt; catalogue.find(TableId::Customer, key), row, "{key}");
+        check_same(&rt, catalogue.find(TableId::Customer, key), row, &key);
     }
     Ok(())
 }
@@ -189,6 +205,6 @@ fn a_duplicate_of_keys_far_apart_is_told(rt: HostRuntime) -> Result<(), Fail> {
         table: TableId::Customer,
         at_row: 3,
     };
-    assert_eq!(rt; outcome(rt.alloc(), &texts)?, Err(fault));
+    check_load(&rt, rt.alloc(), &texts, Err(fault), "again")?;
     Ok(())
 }

@@ -17,8 +17,3 @@ module _ {X Y : Type 0} (p : X → Bool) (f : X → Y) (xs : List X) (i : ℕ) (
   pub left_out : i < length xs → p (get_or xs i d) ≡ false
       → map f (filter p (drop i xs)) ≡ map f (filter p (drop (i + 1) xs))
   left_out lt e = next lt ∙ ap (λ b. map f (cond b (get_or xs i d ∷ filter p (drop (i + 1) xs)) (filter p (drop (i + 1) xs)))) e
-
-pub one_more : {X Y : Type 0} (f : X → Y) (xs : List X) (x : X) (ys : List Y)
-    → map f (xs ++ x ∷ []) ++ ys ≡ map f xs ++ f x ∷ ys
-one_more f [] x ys = refl
-one_more f (z ∷ xs) x ys = ap (λ zs. f z ∷ zs) (one_more f xs x ys)

@@ -14,7 +14,7 @@ use Rattle.star_program.specs.Limits.{IsSmall}
 use Rattle.star_program.specs.World.{World}
 use Rattle.star_admission.specs.Contexts.{Context, after_op, known_share, put_share}
 use Rattle.star_admission.specs.Ranges as ranges
-use Rattle.star_admission.specs.Refusals.{Reason}
+use Rattle.star_admission.specs.declared.reason.Reason.{Reason}
 use Rattle.star_admission.specs.Standing.{at_place}
 use Rattle.star_admission.specs.Tallies.{Share}
 use Rattle.star_verify.specs.declared.tally.Tally.{Tally}

@@ -5,7 +5,8 @@ use Rattle.std.specs.Prelude.{IfOk, MatchResult}
 use Rattle.star_schema.specs.declared.group.Aggregate.{Aggregate}
 use Rattle.star_program.specs.World.{World}
 use Rattle.star_admission.specs.Ranges as ranges
-use Rattle.star_admission.specs.Refusals.{Reason, overflow_of, sum_overflow, sums_overflow}
+use Rattle.star_admission.specs.declared.reason.Reason.{Reason}
+use Rattle.star_admission.specs.Refusals.{overflow_of, sum_overflow, sums_overflow}
 use Rattle.star_admission.specs.Tallies.{Share}
 use Rattle.star_verify.specs.declared.known.Beyond.{Beyond}
 use Rattle.star_verify.specs.declared.known.Known.{Known}

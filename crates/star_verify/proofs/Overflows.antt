@@ -1,26 +1,26 @@
 -- What arithmetic makes of two registers, and where it leaves 64 bits.
 use Rattle.std.proofs.Common.{◌≡◌, Bool, true, false, Option, Some, None, Result, ap, subst, ◌∙◌, refl}
 use Rattle.std.specs.Prelude.{ℤ, MatchResult, not}
-use Rattle.star_interval.specs.Interval.{wide_range_of}
 use Rattle.star_interval.specs.Range.{Range, FitsI64, corner_range, fits_i64}
 use Rattle.star_interval.proofs.Ranges.{fits_i64_fits}
 use Rattle.star_program.specs.World.{World}
 use Rattle.star_admission.specs.Ranges as ranges
-use Rattle.star_admission.specs.Refusals.{Overflow, overflow_of, reached, refuses}
+use Rattle.star_admission.specs.declared.reason.Reason.TheVariants.{Overflow}
+use Rattle.star_admission.specs.Refusals.{overflow_of, reached, refuses}
 use Rattle.star_verify.specs.declared.known.Beyond.{Beyond}
 use Rattle.star_verify.specs.declared.known.Known.{Known}
 use Rattle.star_verify.specs.Private.Shown.{reach_shown}
 
 module _ (w : World) (r : Range) (reach : ranges.Reach) where
   pub fitting : FitsI64 r → overflow_of w (ranges.KnownNumber r reach None) ≡ None
-  fitting fits = ap (λ b. refuses (not b) (Overflow r (reached w reach))) ((fits_i64_fits r).1 fits)
+  fitting fits = ap (λ b. refuses (not b) (Overflow r.low r.high (reached w reach))) ((fits_i64_fits r).1 fits)
 
   pub leaving : (FitsI64 r → ⊥)
-      → overflow_of w (ranges.KnownNumber r reach None) ≡ Some (Overflow r (reached w reach))
+      → overflow_of w (ranges.KnownNumber r reach None) ≡ Some (Overflow r.low r.high (reached w reach))
   leaving none = go (fits_i64 r) refl
     where
       go : (b : Bool) → fits_i64 r ≡ b
-          → refuses (not b) (Overflow r (reached w reach)) ≡ Some (Overflow r (reached w reach))
+          → refuses (not b) (Overflow r.low r.high (reached w reach)) ≡ Some (Overflow r.low r.high (reached w reach))
       go true e = absurd (none ((fits_i64_fits r).0 e))
       go false e = refl
 
@@ -40,9 +40,9 @@ computed_is operation b from to reach on_left on_right left right e f g h j k =
 -- what leaves 64 bits is told by its range and its columns
 pub overflow_as : (w : World) (result : Result Known Beyond) (k made : ranges.Known) → k ≡ made
     → MatchResult result (λ _. overflow_of w k ≡ None)
-    (λ beyond. overflow_of w k ≡ Some (Overflow (wide_range_of beyond.range) (reached w (reach_shown beyond.reach))))
+    (λ beyond. overflow_of w k ≡ Some (Overflow beyond.range.low beyond.range.high (reached w (reach_shown beyond.reach))))
     → MatchResult result (λ _. overflow_of w made ≡ None)
-    (λ beyond. overflow_of w made ≡ Some (Overflow (wide_range_of beyond.range) (reached w (reach_shown beyond.reach))))
+    (λ beyond. overflow_of w made ≡ Some (Overflow beyond.range.low beyond.range.high (reached w (reach_shown beyond.reach))))
 overflow_as w result k made e h =
     subst (λ (m : ranges.Known). MatchResult result (λ _. overflow_of w m ≡ None)
-    (λ beyond. overflow_of w m ≡ Some (Overflow (wide_range_of beyond.range) (reached w (reach_shown beyond.reach))))) e h
+    (λ beyond. overflow_of w m ≡ Some (Overflow beyond.range.low beyond.range.high (reached w (reach_shown beyond.reach))))) e h

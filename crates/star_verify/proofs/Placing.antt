@@ -1,5 +1,6 @@
 -- What is so of an instruction with which nothing is wrong by its kinds.
-use Rattle.std.proofs.Common.{◌≡◌, ◌<◌, ◌≤◌, ℕ, Bool, true, false, true≢false, List, length, Option, Some, None, Result, Ok, Err, refl, sym, arith}
+use Rattle.std.proofs.Common.{◌≡◌, ◌<◌, ◌≤◌, ℕ, Bool, true, false, List, length, Option, Some, None, Result, Ok, Err, refl, arith}
+use Rattle.std.proofs.lemmas.Bool.{and_parts}
 use Rattle.std.proofs.lemmas.Bool.Decides.{Decides-eqb, Decides-ltb}
 use Rattle.std.specs.Option.{option_map, option_or}
 use Rattle.std.specs.Prelude.{◌&&◌, ◌||◌, false, nat_eq, nat_lt}
@@ -11,16 +12,13 @@ use Rattle.star_program.specs.declared.op.Op.{Op}
 use Rattle.star_program.specs.declared.op.Op.TheVariants.{Put}
 use Rattle.star_program.specs.declared.program.Parts.{Parts}
 use Rattle.star_program.specs.Faults.{Kinds, fault_of, group_at, operands_fault, place_fault, target_fault, target_of, value_count}
-use Rattle.star_admission.specs.Refusals as refusals
+use Rattle.star_admission.specs.declared.reason.Reason.{Reason}
+use Rattle.star_admission.specs.declared.reason.Reason.TheVariants.{Faulty}
 use Rattle.star_verify.specs.declared.refusal.Refusal.{Refusal}
 use Rattle.star_verify.specs.declared.tally.Tally.{Tally}
 use Rattle.star_verify.specs.Private.Judged.{IsJudged}
 use Rattle.star_verify.specs.Private.Kept.{AreFew}
 use Rattle.star_verify.proofs.Marks.{or_none as none_or}
-
-and_true : (a b : Bool) → (a && b) ≡ true → (a ≡ true) × (b ≡ true)
-and_true true b e = (refl, e)
-and_true false b e = absurd (true≢false (sym e))
 
 pub fine_place : (parts : Parts) (inside : Bool) (again : Option Fault) (kinds : Kinds) (op : Op)
     → fault_of parts inside again kinds op ≡ None → place_fault parts inside op ≡ None
@@ -49,13 +47,13 @@ put_there parts inside g ks vs fine =
     let there = nat_lt g (length parts.groups) in
     let keys = nat_eq (length ks) (length (group_at parts g).keys) in
     let values = nat_eq (length vs) (value_count (group_at parts g).aggregates) in
-    let all = and_true there (keys && values) (unless_none (there && (keys && values)) BadGroup fine) in (
+    let all = and_parts there (keys && values) (unless_none (there && (keys && values)) BadGroup fine) in (
       (Decides-ltb g (length parts.groups)).0 all.0,
       (Decides-eqb (length vs) (value_count (group_at parts g).aggregates)).0
-          (and_true keys values all.1).1,
+          (and_parts keys values all.1).1,
     )
 
-pub no_fault : (o : Option Fault) → option_map refusals.Faulty o ≡ None → o ≡ None
+pub no_fault : (o : Option Fault) → option_map Faulty o ≡ None → o ≡ None
 no_fault None e = refl
 no_fault (Some fault) e = absurd (cc)
 
@@ -64,7 +62,7 @@ pub written_same : (written : ℕ → Bool) → (λ (q : ℕ). written q || fals
 written_same written = λ i q. none_or (written q) i
 
 -- what is kept where nothing is refused
-pub judged_so : (result : Result (Unit {0}) Refusal) (at : ℕ) (reason : Option refusals.Reason)
+pub judged_so : (result : Result (Unit {0}) Refusal) (at : ℕ) (reason : Option Reason)
     (A B : Type 0) → (A → B) → IsJudged result at reason A → IsJudged result at reason B
 judged_so (Ok u) at reason A B f h = (h.0, f h.1)
 judged_so (Err refusal) at reason A B f h = h

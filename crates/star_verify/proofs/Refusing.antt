@@ -13,7 +13,7 @@ use Rattle.star_admission.specs.Admissible.{cost_refusal, first_refusal}
 use Rattle.star_admission.specs.Contexts.{at_first}
 use Rattle.star_admission.specs.Private.Forward.{first_reason, none_open}
 use Rattle.star_admission.specs.Quote.{quote}
-use Rattle.star_admission.specs.Refusals as refusals
+use Rattle.star_admission.specs.declared.reason.Reason.{Reason}
 use Rattle.star_admission.specs.Standing.{instructions_of, reason_of}
 use Rattle.star_admission.proofs.Forward.{first_standing}
 use Rattle.star_verify.specs.declared.facts.Facts.{Facts}
@@ -21,7 +21,7 @@ use Rattle.star_verify.specs.declared.refusal.Refusal.{Refusal}
 use Rattle.star_verify.specs.declared.refusal.Refusal.TheVariants as told
 use Rattle.star_verify.specs.Private.Facts.{AreFacts}
 use Rattle.star_verify.specs.Private.Judged.{IsFirst}
-use Rattle.star_verify.specs.Shown.{reason_shown, refusal_shown}
+use Rattle.star_verify.specs.Shown.{refusal_shown}
 
 pub same_quote : (w : World) (facts : Facts) → AreFacts w facts → (parts : Parts) (visits : ℕ)
     → visits ≡ quote (size_of facts.sizes) parts → visits ≡ quote w.size parts
@@ -32,7 +32,7 @@ module _ (w : World) (most : ℕ) (parts : Parts) where
   abbrev visits : ℕ
   visits = quote w.size parts
 
-  abbrev later : Option (ℕ × refusals.Reason) → Option ℕ → Option admissible.Refusal
+  abbrev later : Option (ℕ × Reason) → Option ℕ → Option admissible.Refusal
   later reason line = option_or (option_map admissible.Refused reason) (option_map admissible.BadShow line)
 
   pub too_costly : most < visits → first_refusal w most parts ≡ Some (admissible.TooCostly visits)
@@ -41,7 +41,7 @@ module _ (w : World) (most : ℕ) (parts : Parts) where
       (lt-leb visits most over)
 
   -- within the limit, the instructions decide, and then the report
-  pub within : visits ≤ most → (reason : Option (ℕ × refusals.Reason)) (line : Option ℕ)
+  pub within : visits ≤ most → (reason : Option (ℕ × Reason)) (line : Option ℕ)
       → first_reason w parts none_open at_first 1 parts.body ≡ reason → shown_fault parts ≡ line
       → first_refusal w most parts ≡ later reason line
   within cheap reason line first shown =
@@ -56,6 +56,6 @@ module _ (w : World) (most : ℕ) (parts : Parts) where
       → UnlessMemory told.OutOfMemory refusal (first_refusal w most parts ≡ refusal_shown refusal)
   first_told told.OutOfMemory cheap is = inl refl
   first_told (told.Refused at reason) cheap is =
-      inr (within cheap (Some (at, reason_shown reason)) (shown_fault parts) is refl)
+      inr (within cheap (Some (at, reason)) (shown_fault parts) is refl)
   first_told (told.TooCostly n) cheap is = absurd is
   first_told (told.BadShow place) cheap is = absurd is

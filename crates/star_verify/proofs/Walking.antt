@@ -14,7 +14,7 @@ use Rattle.star_program.specs.World.{World}
 use Rattle.star_admission.specs.Contexts.{Context, after_op, after_scan, at_end, in_scan}
 use Rattle.star_admission.specs.Private.Forward.{code_puts_to, first_reason, open_with}
 use Rattle.star_admission.specs.Quote.{turns_met}
-use Rattle.star_admission.specs.Refusals as refusals
+use Rattle.star_admission.specs.declared.reason.Reason.{Reason}
 use Rattle.star_admission.specs.Refusals.{op_reason, scan_reason}
 use Rattle.star_admission.specs.Standing.{at_place}
 use Rattle.star_verify.specs.declared.instructions.Noted.{Noted}
@@ -52,7 +52,7 @@ turns_after size met (Scan table r body) rest = omega arith
 
 -- ---- what is first
 
-pub first_of : (refusal : Refusal) (p q : Option (ℕ × refusals.Reason)) → IsFirst refusal p
+pub first_of : (refusal : Refusal) (p q : Option (ℕ × Reason)) → IsFirst refusal p
     → IsFirst refusal (option_or p q)
 first_of told.OutOfMemory p q h = tt
 first_of (told.TooCostly n) p q h = absurd h
@@ -114,7 +114,7 @@ module _ (w : World) (parts : Parts) (pending : ℕ → Bool) (x : Context) (at 
       subst (λ s. IsWalked result (step_first w parts pending x at s rest)
       (Keeps parts registers noted (after_step w parts x s))) (sym is) (go result h)
     where
-      first : Option (ℕ × refusals.Reason)
+      first : Option (ℕ × Reason)
       first = scan_first w parts (open_with pending (Each table r body rest)) x at table r body
 
       there : Context
@@ -243,8 +243,8 @@ all_walked walk registers noted at left none so_far w x pending facts keeps plac
     )
 
 -- a scan whose register nothing refuses
-pub scan_entered : (result : Result ℕ Refusal) (at : ℕ) (reason : Option refusals.Reason)
-    (first : Option (ℕ × refusals.Reason)) (A : Type 0) → reason ≡ None → IsWalked result first A
+pub scan_entered : (result : Result ℕ Refusal) (at : ℕ) (reason : Option Reason)
+    (first : Option (ℕ × Reason)) (A : Type 0) → reason ≡ None → IsWalked result first A
     → IsWalked result (option_or (at_place at reason) first) A
 scan_entered result at reason first A none h =
     subst (λ o. IsWalked result (option_or (at_place at o) first) A) (sym none) h

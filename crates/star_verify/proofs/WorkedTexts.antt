@@ -1,15 +1,15 @@
 -- What refusals print as, and where their words are told apart.
-use Rattle.std.proofs.Common.{◌≡◌, ◌∷◌, [], arith, refl}
-use Rattle.std.proofs.lemmas.Int.{ints}
+use Rattle.std.proofs.Common.{◌≡◌, ◌∷◌, [], refl}
 use Rattle.std.specs.Fmt.{digits}
 use Rattle.std.specs.Prelude.{pos, neg_ℤ, codes}
 use Rattle.star_schema.specs.Schema.{column_of}
 use Rattle.star_schema.specs.declared.column.ColumnId.TheVariants.{LoExtendedprice, LoTax}
 use Rattle.star_program.specs.declared.fault.Fault.TheVariants.{WrittenTwice}
-use Rattle.star_verify.specs.declared.refusal.Reason.TheVariants.{Faulty, NotAForeignKey, Overflow}
+use Rattle.star_admission.specs.declared.reason.Reason.TheVariants.{Faulty, NotAForeignKey, Overflow}
 use Rattle.star_verify.specs.declared.refusal.Refusal.TheVariants.{TooCostly, Refused, BadShow}
 use Rattle.star_program.specs.TrapTexts.{wrong_text}
-use Rattle.star_verify.specs.RefusalTexts.{reason_text, refusal_text}
+use Rattle.star_admission.specs.ReasonTexts.{reason_text}
+use Rattle.star_verify.specs.RefusalTexts.{refusal_text}
 
 by_name : refusal_text (Refused 3 NotAForeignKey) ≡ codes "refused 65 NotAForeignKey at 3"
 unfolding digits refusal_text reason_text
@@ -19,23 +19,23 @@ by_its_target : refusal_text (Refused 2 (Faulty WrittenTwice)) ≡ codes "refuse
 unfolding digits refusal_text reason_text wrong_text
 by_its_target = refl
 
-of_no_column : refusal_text (Refused 12 (Overflow (record { low = neg_ℤ (pos 18000000000000000000); high = pos 0; ordered = omega (arith, ints) }) []))
+of_no_column : refusal_text (Refused 12 (Overflow (neg_ℤ (pos 18000000000000000000)) (pos 0) []))
     ≡ codes "refused 69 Overflow at 12: -18000000000000000000..0"
 unfolding digits refusal_text reason_text
 of_no_column = refl
 
 of_one_column : refusal_text
-    (Refused 7 (Overflow (record { low = pos 0; high = pos 9900000000000000000; ordered = omega (arith, ints) })
-    (record { column = LoExtendedprice; bounds = record { low = pos 900000000000000000; high = pos 900000000000000000; ordered = omega (arith, ints) } } ∷ [])))
+    (Refused 7 (Overflow (pos 0) (pos 9900000000000000000)
+    (record { column = LoExtendedprice; low = pos 900000000000000000; high = pos 900000000000000000 } ∷ [])))
     ≡ codes "refused 69 Overflow at 7: 0..9900000000000000000 from lo_extendedprice 900000000000000000..900000000000000000"
 unfolding digits refusal_text reason_text column_of
 of_one_column = refl
 
 -- a comma stands between columns, and `from` before the first alone
 of_two_columns : refusal_text
-    (Refused 4 (Overflow (record { low = pos 0; high = pos 9; ordered = omega (arith, ints) })
-    (record { column = LoExtendedprice; bounds = record { low = pos 0; high = pos 3; ordered = omega (arith, ints) } }
-    ∷ record { column = LoTax; bounds = record { low = pos 1; high = pos 3; ordered = omega (arith, ints) } } ∷ [])))
+    (Refused 4 (Overflow (pos 0) (pos 9)
+    (record { column = LoExtendedprice; low = pos 0; high = pos 3 }
+    ∷ record { column = LoTax; low = pos 1; high = pos 3 } ∷ [])))
     ≡ codes "refused 69 Overflow at 4: 0..9 from lo_extendedprice 0..3, lo_tax 1..3"
 unfolding digits refusal_text reason_text column_of
 of_two_columns = refl

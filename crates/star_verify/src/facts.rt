@@ -1,7 +1,7 @@
 // What a check needs of a catalogue: how many rows its tables have, and between what its numbers
 // lie.
 
-ghost use Rattle.std.specs.Prelude.{◌≡◌, IfOk, None, map, slice_index_or};
+ghost use Rattle.std.specs.Prelude.{◌≡◌, IfOk, None, slice_index_or};
 ghost use Rattle.star_schema.specs.Schema.{index_of};
 ghost use Rattle.star_interval.specs.Interval.{range_of};
 ghost use Rattle.star_world.specs.WorldOf.{world_of};
@@ -11,11 +11,10 @@ ghost use Rattle.star_admission.specs.Ranges as ranges;
 ghost use Rattle.star_admission.specs.Refusals as refusals;
 ghost use Rattle.star_verify.specs.Private.Facts.{AreFacts};
 ghost use Rattle.star_verify.specs.Private.Shown.{known_shown, reach_shown};
-ghost use Rattle.star_verify.specs.Shown.{reached_shown};
 
 use crate::known::Known;
 use crate::reach::Reach;
-use crate::refusal::{Reached, ReachedColumns};
+use star_admission::{Reached, ReachedColumns};
 use star_catalogue::Catalogue;
 use star_interval::Interval;
 use star_schema::{COLUMNS, ColumnId, Sizes, TableId, is_text, references};
@@ -62,6 +61,17 @@ impl Facts {
         self.bounds[column as usize]
     }
 
+    fn with_bounds(&self, column: ColumnId) -> Reached
+        ensures { (w : World) → AreFacts w self.now → result ≡ refusals.with_bounds w column }
+    {
+        let bounds = self.bounds(column);
+        Reached {
+            column,
+            low: bounds.low,
+            high: bounds.high,
+        }
+    }
+
     // What is known of a column's value in a row.
     pub(crate) fn loaded(&self, column: ColumnId) -> Known
         ensures { (w : World) → AreFacts w self.now
@@ -82,16 +92,12 @@ impl Facts {
     // Columns in their order, each with its bounds.
     pub(crate) fn reached(&self, alloc: Global, reach: Reach) -> Result<ReachedColumns, AllocError>
         ensures { (w : World) → AreFacts w self.now
-            → IfOk result (λ columns. map reached_shown columns
-            ≡ refusals.reached w (reach_shown reach)) }
+            → IfOk result (λ columns. columns ≡ refusals.reached w (reach_shown reach)) }
     {
         let mut columns = Vec::new(alloc);
         for column in &COLUMNS {
             if reach.has(*column) {
-                columns.push(Reached {
-                    column: *column,
-                    bounds: self.bounds(*column),
-                })?;
+                columns.push(self.with_bounds(*column))?;
             }
         }
         Ok(ReachedColumns::from_vec(columns))

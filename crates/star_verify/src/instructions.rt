@@ -10,7 +10,8 @@ ghost use Rattle.star_program.specs.World.{World};
 ghost use Rattle.star_admission.specs.Contexts.{Context, after_op};
 ghost use Rattle.star_admission.specs.Private.Forward.{open_with};
 ghost use Rattle.star_admission.specs.Ranges.{kinds_known};
-ghost use Rattle.star_admission.specs.Refusals.{Faulty, op_reason, range_reason, source_reason, target_again};
+ghost use Rattle.star_admission.specs.declared.reason.Reason.TheVariants.{Faulty};
+ghost use Rattle.star_admission.specs.Refusals.{op_reason, range_reason, source_reason, target_again};
 ghost use Rattle.star_verify.specs.Private.Facts.{AreFacts};
 ghost use Rattle.star_verify.specs.Private.Judged.{AreFewAt, IsFirst, IsJudged, IsPlaced, IsSized, Keeps};
 ghost use Rattle.star_verify.specs.Private.Kept.{AreFew, AreMarked, HasShares, flag_at};
@@ -21,11 +22,12 @@ ghost use Rattle.star_verify.specs.Shown.{IsReason};
 use crate::gifts::give;
 use crate::known::Beyond;
 use crate::operations::{check_source, make};
-use crate::refusal::{Reason, Refusal};
+use crate::refusal::Refusal;
 use crate::register::{Register, check_kinds, learn};
 use crate::subject::Subject;
 use crate::tally::Tally;
 use crate::totals::check_sums;
+use star_admission::Reason;
 use star_program::{Fault, Op, Operation, Parts, RegisterList, Step};
 
 // Which registers earlier instructions write, and what they give the aggregates of each group.
@@ -57,7 +59,8 @@ fn overflow(subject: &Subject<'_>, at: u16, beyond: Beyond) -> Refusal
         Ok(columns) => Refusal::Refused {
             at,
             reason: Reason::Overflow {
-                range: beyond.range,
+                low: beyond.range.low,
+                high: beyond.range.high,
                 columns,
             },
         },

@@ -2,11 +2,12 @@
 
 ghost use Rattle.std.specs.Prelude.{◌≡◌, ◌↔◌, None, Some, IfOk, IfErr, IsOk, MatchResult};
 ghost use Rattle.std.specs.Option.{option_map};
-ghost use Rattle.star_interval.specs.Interval.{bounds_of, range_of, wide_range_of};
+ghost use Rattle.star_interval.specs.Interval.{bounds_of, range_of};
 ghost use Rattle.star_interval.specs.Range.{FitsI64};
 ghost use Rattle.star_program.specs.World.{World};
 ghost use Rattle.star_admission.specs.Ranges as ranges;
 ghost use Rattle.star_admission.specs.Refusals as refusals;
+ghost use Rattle.star_admission.specs.declared.reason.Reason.TheVariants as reason;
 ghost use Rattle.star_verify.specs.Private.Shown.{known_shown, reach_shown};
 
 use crate::reach::Reach;
@@ -85,7 +86,7 @@ pub(crate) fn computed(range: Result<Interval, Wide>, reach: Reach) -> Result<Kn
         ≡ None)
         (λ beyond. refusals.overflow_of w
         (ranges.KnownNumber (bounds_of range) (reach_shown reach) None)
-        ≡ Some (refusals.Overflow (wide_range_of beyond.range)
+        ≡ Some (reason.Overflow beyond.range.low beyond.range.high
         (refusals.reached w (reach_shown beyond.reach)))) }
 {
     match range {
@@ -113,7 +114,7 @@ pub(crate) fn answer(
         ≡ None)
         (λ beyond. refusals.overflow_of w
         (ranges.answer_known operator (option_map known_shown left) (option_map known_shown right))
-        ≡ Some (refusals.Overflow (wide_range_of beyond.range)
+        ≡ Some (reason.Overflow beyond.range.low beyond.range.high
         (refusals.reached w (reach_shown beyond.reach)))) }
 {
     let from = range_at(left);

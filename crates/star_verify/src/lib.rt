@@ -19,6 +19,7 @@ mod verified;
 mod visits;
 mod walk;
 
-pub use refusal::{Reached, ReachedColumns, Reason, Refusal};
+pub use refusal::Refusal;
+pub use star_admission::{Reached, ReachedColumns, Reason};
 pub use verified::{Refused, Verified, verify};
 pub use visits::quote;

@@ -19,6 +19,7 @@ use Rattle.star_query.specs.Derives.{Means}
 use Rattle.star_query.proofs.Verdicts.{derives}
 use Rattle.star_plan.specs.Meaning.{Tables}
 use Rattle.star_plan.specs.Names.{column_called, table_called}
+use Rattle.star_plan.specs.Naming.{function_word}
 use Rattle.star_program.specs.declared.outcome.Cell.{Cell}
 use Rattle.star_program.specs.declared.outcome.Cell.TheVariants as cell
 use Rattle.star_report.specs.Report.{cell_text, line_text, report_text}
@@ -130,7 +131,7 @@ second_rows =
     ∷ (integer 495 ∷ integer 1994 ∷ cell.Text (codes "MFGR#121") ∷ []) ∷ []
 
 second_answer : IsAnswer sample second_query second_names second_rows
-unfolding column_of columns_of place_of pieces table_name column_called table_called are_groups each_mask has_empty_subset in_order is_group is_masked is_right is_there same_each same_value digits
+unfolding column_of columns_of place_of pieces table_name column_called table_called are_groups each_mask has_empty_subset in_order is_group is_masked is_right is_there same_each same_value function_word digits
 second_answer = record {
   headed = refl;
   groups =
@@ -230,7 +231,7 @@ cube_of_nothing = record {
 
 -- and without a cube no group is
 groups_of_nothing : IsAnswer no_tables second_query second_names []
-unfolding column_of columns_of place_of pieces table_name column_called table_called are_groups each_mask has_empty_subset in_order is_group is_masked is_right is_there same_each same_value digits
+unfolding column_of columns_of place_of pieces table_name column_called table_called are_groups each_mask has_empty_subset in_order is_group is_masked is_right is_there same_each same_value function_word digits
 groups_of_nothing = record { headed = refl; groups = []; each_group = checked_groups _ _ _ _ _ refl; in_order = checked_order _ _ refl; cells = refl }
 
 -- ---- another query of the benchmark: a dimension stands first in FROM, and texts of no row are asked for

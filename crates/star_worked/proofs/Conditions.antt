@@ -26,32 +26,21 @@ of_modes modes c = map (λ m. holds c (line (number 10) (text m))) modes
 
 -- ---- relations, at less, equal and greater
 
+abbrev every_relation : List Relation
+every_relation = Equal ∷ Unequal ∷ Less ∷ AtMost ∷ Greater ∷ AtLeast ∷ []
+
 abbrev near_ten : Relation → List Bool
 near_ten s = of_quantities (number 9 ∷ number 10 ∷ number 11 ∷ []) (compare LoQuantity s (number 10))
 
-equal : near_ten Equal ≡ false ∷ true ∷ false ∷ []
+relations : map near_ten every_relation
+    ≡ (false ∷ true ∷ false ∷ [])
+    ∷ (true ∷ false ∷ true ∷ [])
+    ∷ (true ∷ false ∷ false ∷ [])
+    ∷ (true ∷ true ∷ false ∷ [])
+    ∷ (false ∷ false ∷ true ∷ [])
+    ∷ (false ∷ true ∷ true ∷ []) ∷ []
 unfolding column_of place_of
-equal = refl
-
-unequal : near_ten Unequal ≡ true ∷ false ∷ true ∷ []
-unfolding column_of place_of
-unequal = refl
-
-less : near_ten Less ≡ true ∷ false ∷ false ∷ []
-unfolding column_of place_of
-less = refl
-
-at_most : near_ten AtMost ≡ true ∷ true ∷ false ∷ []
-unfolding column_of place_of
-at_most = refl
-
-greater : near_ten Greater ≡ false ∷ false ∷ true ∷ []
-unfolding column_of place_of
-greater = refl
-
-at_least : near_ten AtLeast ≡ false ∷ true ∷ true ∷ []
-unfolding column_of place_of
-at_least = refl
+relations = refl
 
 -- by value, also below 0
 less_below_zero : of_quantities (below_zero 11 ∷ below_zero 10 ∷ below_zero 9 ∷ number 0 ∷ number 11 ∷ []) (compare LoQuantity Less (below_zero 10))
@@ -63,29 +52,15 @@ less_below_zero = refl
 abbrev near_rail : Relation → List Bool
 near_rail s = of_modes (codes "RAI" ∷ codes "RAIL" ∷ codes "RAIL2" ∷ codes "R" ∷ codes "SHIP" ∷ codes "Rail" ∷ []) (compare LoShipmode s (text (codes "RAIL")))
 
-equal_texts : near_rail Equal ≡ false ∷ true ∷ false ∷ false ∷ false ∷ false ∷ []
+relations_of_texts : map near_rail every_relation
+    ≡ (false ∷ true ∷ false ∷ false ∷ false ∷ false ∷ [])
+    ∷ (true ∷ false ∷ true ∷ true ∷ true ∷ true ∷ [])
+    ∷ (true ∷ false ∷ false ∷ true ∷ false ∷ false ∷ [])
+    ∷ (true ∷ true ∷ false ∷ true ∷ false ∷ false ∷ [])
+    ∷ (false ∷ false ∷ true ∷ false ∷ true ∷ true ∷ [])
+    ∷ (false ∷ true ∷ true ∷ false ∷ true ∷ true ∷ []) ∷ []
 unfolding column_of place_of
-equal_texts = refl
-
-unequal_texts : near_rail Unequal ≡ true ∷ false ∷ true ∷ true ∷ true ∷ true ∷ []
-unfolding column_of place_of
-unequal_texts = refl
-
-lesser_texts : near_rail Less ≡ true ∷ false ∷ false ∷ true ∷ false ∷ false ∷ []
-unfolding column_of place_of
-lesser_texts = refl
-
-texts_at_most : near_rail AtMost ≡ true ∷ true ∷ false ∷ true ∷ false ∷ false ∷ []
-unfolding column_of place_of
-texts_at_most = refl
-
-greater_texts : near_rail Greater ≡ false ∷ false ∷ true ∷ false ∷ true ∷ true ∷ []
-unfolding column_of place_of
-greater_texts = refl
-
-texts_at_least : near_rail AtLeast ≡ false ∷ true ∷ true ∷ false ∷ true ∷ true ∷ []
-unfolding column_of place_of
-texts_at_least = refl
+relations_of_texts = refl
 
 -- a number in digits is less than another by its bytes
 digits_as_texts : of_modes (codes "10" ∷ codes "9" ∷ []) (compare LoShipmode Less (text (codes "9"))) ≡ true ∷ false ∷ []

@@ -5,8 +5,7 @@ use Rattle.std.specs.Option.{option_or}
 use Rattle.star_common.specs.First.{first_answer}
 use Rattle.star_schema.specs.declared.column.ColumnId.TheVariants.{DDatekey, LoOrderdate, LoCommitdate, CCustkey}
 use Rattle.star_schema.specs.Schema.{column_of, table_name}
-use Rattle.star_query.specs.declared.tree.Name.{Name}
-use Rattle.star_query.specs.declared.tree.Tree.{Tree}
+use Rattle.star_query.specs.Tree.{Name, Tree}
 use Rattle.star_plan.specs.declared.fault.PlanFault.TheVariants.{TableTwice, NotAKeyPair, JoinTwice}
 use Rattle.star_plan.specs.First.{first_beside}
 use Rattle.star_plan.specs.Names.{has_name, table_called}
@@ -37,12 +36,12 @@ not_a_key_pair : first_beside pair_fault (record { join = None; at = 43 } ∷ []
 not_a_key_pair = refl
 
 -- FROM names lineorder twice
-table_twice : (m n : Name) → m.text.items ≡ codes "lineorder" → n.text.items ≡ codes "lineorder" → first_beside table_fault (m ∷ n ∷ []) ≡ Some (TableTwice n.place)
+table_twice : (m n : Name) → m.text ≡ codes "lineorder" → n.text ≡ codes "lineorder" → first_beside table_fault (m ∷ n ∷ []) ≡ Some (TableTwice n.place)
 unfolding has_name table_called table_name
 table_twice m n e h = rw (e, h) refl
 
 -- and then the query has this fault, whatever else is wrong with it
-table_twice_first : (t : Tree) (m n : Name) → t.tables.items ≡ m ∷ n ∷ [] → m.text.items ≡ codes "lineorder" → n.text.items ≡ codes "lineorder" → plan_fault t ≡ Some (TableTwice n.place)
+table_twice_first : (t : Tree) (m n : Name) → t.tables ≡ m ∷ n ∷ [] → m.text ≡ codes "lineorder" → n.text ≡ codes "lineorder" → plan_fault t ≡ Some (TableTwice n.place)
 table_twice_first t m n from e h =
-    let first : first_beside table_fault t.tables.items ≡ Some (TableTwice n.place) = ap (first_beside table_fault) from ∙ table_twice m n e h in
-    ap (λ f. option_or (option_or (option_or f (fact_fault t.tables.items)) (option_or (first_answer (scope_fault t.tables.items) (uses_of t)) (option_or (join_fault t.tables.items (where_pairs t.condition)) (first_answer kind_fault (uses_of t))))) (grouping_fault t.grouping.columns.items t.items.items t.keys.items)) first
+    let first : first_beside table_fault t.tables ≡ Some (TableTwice n.place) = ap (first_beside table_fault) from ∙ table_twice m n e h in
+    ap (λ f. option_or (option_or (option_or f (fact_fault t.tables)) (option_or (first_answer (scope_fault t.tables) (uses_of t)) (option_or (join_fault t.tables (where_pairs t.condition)) (first_answer kind_fault (uses_of t))))) (grouping_fault t.grouping.columns t.items t.keys)) first

@@ -8,6 +8,7 @@ use Rattle.star_schema.specs.declared.group.GroupColumn.TheVariants.{Aggregate}
 use Rattle.star_interval.specs.Range.{Range, hull, is_i64, multiple_range, only}
 use Rattle.star_plan.specs.Meaning.{Plan, Expression, column, constant, add, sub, mul, Measure, summed, counted, least, greatest}
 use Rattle.star_plan.specs.Fits.{Fits, range_of, nodes_fit, measure_fits, sum_fits, times_fits}
+use Rattle.star_worked.proofs.Sample.{revenue, cost, tax, discount}
 
 -- ---- ranges
 
@@ -19,18 +20,6 @@ bounds LoDiscount = record { low = neg_ℤ (pos 2); high = pos 5 }
 bounds LoQuantity = only (pos (2 ^ 31))
 bounds LoExtendedprice = only (pos (2 ^ 32))
 bounds _ = only (pos 0)
-
-abbrev revenue : Expression
-revenue = column LoRevenue
-
-abbrev cost : Expression
-cost = column LoSupplycost
-
-abbrev tax : Expression
-tax = column LoTax
-
-abbrev discount : Expression
-discount = column LoDiscount
 
 abbrev minus : ℕ → Expression
 minus n = constant (neg_ℤ (pos n))

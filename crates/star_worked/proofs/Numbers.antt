@@ -2,7 +2,7 @@
 use Rattle.std.proofs.Common.{◌≡◌, List, [], ◌∷◌, Option, Some, None, refl}
 use Rattle.std.specs.Prelude.{ℤ, pos, neg_ℤ, codes, map}
 use Rattle.star_schema.specs.declared.table.TableId.TheVariants.{Lineorder}
-use Rattle.star_schema.specs.declared.column.ColumnId.TheVariants.{DYear, LoDiscount, LoRevenue, LoSupplycost, LoOrderdate, DDatekey}
+use Rattle.star_schema.specs.declared.column.ColumnId.TheVariants.{DYear}
 use Rattle.star_schema.specs.declared.group.Shape.TheVariants.{Plain}
 use Rattle.star_schema.specs.declared.group.GroupColumn.TheVariants.{Key, Aggregate}
 use Rattle.star_schema.specs.Groups.{Entry, members, totals_of}
@@ -10,23 +10,14 @@ use Rattle.star_schema.specs.Order.{value_cmp}
 use Rattle.star_schema.specs.Records.{pieces}
 use Rattle.star_schema.specs.Schema.{column_of, place_of, columns_of}
 use Rattle.star_schema.specs.Tables.{Value, row_of}
-use Rattle.star_plan.specs.Meaning.{Joined, Expression, column, constant, add, sub, mul, counted, summed, least, greatest, Plan, only_row, number_at, measured, aggregate_of, entry_of, selected}
-use Rattle.star_worked.proofs.Sample.{number, sample}
+use Rattle.star_plan.specs.Meaning.{Joined, constant, add, sub, mul, counted, summed, least, greatest, Plan, only_row, number_at, measured, aggregate_of, entry_of, selected}
+use Rattle.star_worked.proofs.Sample.{number, sample, by_order, revenue, cost, discount}
 
 -- ---- expressions
 
 -- a line with the revenue 980, the cost 600 and the discount 2
 abbrev line : Joined
 line = only_row Lineorder (row_of Lineorder (codes "1|1|1|1|2|19930210|2-HIGH|0|10|1000|3000|2|980|600|2|19940105|MAIL|"))
-
-abbrev revenue : Expression
-revenue = column LoRevenue
-
-abbrev cost : Expression
-cost = column LoSupplycost
-
-abbrev discount : Expression
-discount = column LoDiscount
 
 operands : map (λ e. number_at e line) (revenue ∷ constant (neg_ℤ (pos 3)) ∷ []) ≡ pos 980 ∷ neg_ℤ (pos 3) ∷ []
 unfolding column_of columns_of place_of pieces
@@ -52,7 +43,7 @@ measures_of_a_line = refl
 --     where lo_orderdate = d_datekey group by d_year
 abbrev by_year : Plan
 by_year = record {
-  joins = record { foreign = LoOrderdate; key = DDatekey } ∷ [];
+  joins = by_order ∷ [];
   conjuncts = [];
   shape = Plain;
   keys = DYear ∷ [];

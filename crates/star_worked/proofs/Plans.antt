@@ -2,7 +2,7 @@
 use Rattle.std.proofs.Common.{◌≡◌, ℕ, zero, suc, ◌≤◌, true, false, List, [], ◌∷◌, refl, arith}
 use Rattle.std.specs.Prelude.{pos, codes, map, replicate}
 use Rattle.star_schema.specs.declared.table.TableId.TheVariants.{Date, Part, Lineorder}
-use Rattle.star_schema.specs.declared.column.ColumnId.TheVariants.{DDatekey, DYear, CCustkey, PSize, PBrand1, PPartkey, LoPartkey, LoOrderdate, LoCommitdate, LoTax, LoShipmode}
+use Rattle.star_schema.specs.declared.column.ColumnId.TheVariants.{DDatekey, DYear, CCustkey, PSize, PBrand1, LoOrderdate, LoTax, LoShipmode}
 use Rattle.star_schema.specs.declared.group.Shape.TheVariants.{Plain}
 use Rattle.star_schema.specs.declared.group.Direction.TheVariants.{Ascending}
 use Rattle.star_schema.specs.declared.group.GroupColumn.TheVariants.{Key, Aggregate}
@@ -13,16 +13,7 @@ use Rattle.star_plan.specs.Joins.{is_foreign}
 use Rattle.star_plan.specs.Limits.{IsWithinLimits, comparisons_of, operands_of, measure_operands}
 use Rattle.star_plan.specs.Meaning.{Condition, either, both, negation, compare, between, Expression, column, constant, add, sub, mul, counted, summed, least, greatest, Plan}
 use Rattle.star_plan.specs.Sound.{IsSound, in_scope, condition_is_sound, expression_is_sound, measure_is_sound, are_distinct, is_column}
-use Rattle.star_worked.proofs.Sample.{number, text}
-
-abbrev by_order : Join
-by_order = record { foreign = LoOrderdate; key = DDatekey }
-
-abbrev by_commit : Join
-by_commit = record { foreign = LoCommitdate; key = DDatekey }
-
-abbrev of_part : Join
-of_part = record { foreign = LoPartkey; key = PPartkey }
+use Rattle.star_worked.proofs.Sample.{number, text, by_order, by_commit, of_part, tax}
 
 -- ---- sound: date is joined, and part isn't
 
@@ -56,9 +47,6 @@ conditions_sound : map (condition_is_sound dated)
     ≡ true ∷ false ∷ false ∷ true ∷ false ∷ false ∷ true ∷ false ∷ []
 unfolding column_of
 conditions_sound = refl
-
-abbrev tax : Expression
-tax = column LoTax
 
 -- texts are no numbers, and part isn't joined
 abbrev mode : Expression

@@ -3,7 +3,7 @@ use Rattle.std.proofs.Common.{◌≡◌, List, [], ◌∷◌, refl}
 use Rattle.std.specs.Prelude.{pos, neg_ℤ, codes, map}
 use Rattle.star_schema.specs.declared.table.TableId.TheVariants.{Date, Lineorder}
 use Rattle.star_schema.specs.declared.column.ColumnId.{ColumnId}
-use Rattle.star_schema.specs.declared.column.ColumnId.TheVariants.{DDatekey, DYear, CCustkey, CNation, SSuppkey, SRegion, SNation, PPartkey, PBrand1, PCategory, LoOrderkey, LoLinenumber, LoCustkey, LoPartkey, LoSuppkey, LoOrderdate, LoCommitdate, LoQuantity, LoDiscount, LoExtendedprice, LoRevenue, LoSupplycost}
+use Rattle.star_schema.specs.declared.column.ColumnId.TheVariants.{DYear, CNation, SRegion, SNation, PBrand1, PCategory, LoOrderkey, LoLinenumber, LoQuantity, LoDiscount, LoExtendedprice}
 use Rattle.star_schema.specs.declared.group.Shape.TheVariants.{Plain}
 use Rattle.star_schema.specs.declared.group.GroupColumn.TheVariants.{Aggregate}
 use Rattle.star_schema.specs.Records.{pieces}
@@ -12,22 +12,7 @@ use Rattle.star_schema.specs.Tables.{Value, row_of}
 use Rattle.star_query.specs.declared.token.Relation.TheVariants.{Equal, Less}
 use Rattle.star_plan.specs.declared.tree.Join.{Join}
 use Rattle.star_plan.specs.Meaning.{Tables, Condition, compare, between, column, sub, mul, Measure, counted, summed, Plan, value_of, joined, selected, entry_of}
-use Rattle.star_worked.proofs.Sample.{number, text, lines, sample}
-
-abbrev by_order : Join
-by_order = record { foreign = LoOrderdate; key = DDatekey }
-
-abbrev by_commit : Join
-by_commit = record { foreign = LoCommitdate; key = DDatekey }
-
-abbrev of_customer : Join
-of_customer = record { foreign = LoCustkey; key = CCustkey }
-
-abbrev of_part : Join
-of_part = record { foreign = LoPartkey; key = PPartkey }
-
-abbrev of_supplier : Join
-of_supplier = record { foreign = LoSuppkey; key = SSuppkey }
+use Rattle.star_worked.proofs.Sample.{number, text, lines, sample, by_order, by_commit, of_customer, of_part, of_supplier, revenue, cost}
 
 -- the values of some columns of each joined row
 abbrev seen : Tables → List Join → List ColumnId → List (List Value)
@@ -118,7 +103,7 @@ first_entries = refl
 abbrev profits : Plan
 profits =
     asking (by_order ∷ of_part ∷ of_supplier ∷ []) (compare PCategory Equal (text (codes "MFGR#12")) ∷ compare SRegion Equal (text (codes "AMERICA")) ∷ [])
-    (DYear ∷ PBrand1 ∷ []) (summed (sub (column LoRevenue) (column LoSupplycost)) ∷ counted ∷ [])
+    (DYear ∷ PBrand1 ∷ []) (summed (sub revenue cost) ∷ counted ∷ [])
 
 profit_entries : map (entry_of profits) (selected sample profits)
     ≡ record { keys = number 1993 ∷ text (codes "MFGR#121") ∷ []; values = pos 380 ∷ pos 1 ∷ [] }

@@ -1,9 +1,12 @@
--- A small star: five lines of orders, and what they refer to.
+-- A small star: five lines of orders, and what they refer to; and the joins and columns that worked
+-- queries over it name.
 use Rattle.std.proofs.Common.{ℕ, List, [], ◌∷◌}
 use Rattle.std.specs.Prelude.{pos, neg_ℤ, codes, map}
 use Rattle.star_schema.specs.declared.table.TableId.TheVariants.{Date, Customer, Supplier, Part, Lineorder}
+use Rattle.star_schema.specs.declared.column.ColumnId.TheVariants.{DDatekey, CCustkey, SSuppkey, PPartkey, LoCustkey, LoPartkey, LoSuppkey, LoOrderdate, LoCommitdate, LoRevenue, LoSupplycost, LoTax, LoDiscount}
 use Rattle.star_schema.specs.Tables.{Value, Number, Text, row_of}
-use Rattle.star_plan.specs.Meaning.{Row, Tables}
+use Rattle.star_plan.specs.declared.tree.Join.{Join}
+use Rattle.star_plan.specs.Meaning.{Row, Tables, Expression, column}
 
 abbrev pub number : ℕ → Value
 number n = Number (pos n)
@@ -56,3 +59,34 @@ sample Customer = customers
 sample Supplier = suppliers
 sample Part = parts
 sample Lineorder = lines
+
+-- ---- joins
+
+abbrev pub by_order : Join
+by_order = record { foreign = LoOrderdate; key = DDatekey }
+
+abbrev pub by_commit : Join
+by_commit = record { foreign = LoCommitdate; key = DDatekey }
+
+abbrev pub of_customer : Join
+of_customer = record { foreign = LoCustkey; key = CCustkey }
+
+abbrev pub of_part : Join
+of_part = record { foreign = LoPartkey; key = PPartkey }
+
+abbrev pub of_supplier : Join
+of_supplier = record { foreign = LoSuppkey; key = SSuppkey }
+
+-- ---- expressions
+
+abbrev pub revenue : Expression
+revenue = column LoRevenue
+
+abbrev pub cost : Expression
+cost = column LoSupplycost
+
+abbrev pub tax : Expression
+tax = column LoTax
+
+abbrev pub discount : Expression
+discount = column LoDiscount

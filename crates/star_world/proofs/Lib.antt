@@ -3,3 +3,4 @@ pub mod Loaded
 pub mod TextBounds
 mod Shown
 mod Worked
+mod WorkedCodes

@@ -5,7 +5,8 @@ use Rattle.star_program.specs.declared.program.Parts.{Parts}
 use Rattle.star_program.specs.Code.{Code, Stop, Then, Each, code_size}
 use Rattle.star_program.specs.World.{World}
 use Rattle.star_admission.specs.Contexts.{Context, after_op, in_scan, after_scan, at_end}
-use Rattle.star_admission.specs.Refusals.{Reason, op_reason, scan_reason}
+use Rattle.star_admission.specs.declared.reason.Reason.{Reason}
+use Rattle.star_admission.specs.Refusals.{op_reason, scan_reason}
 use Rattle.star_admission.specs.Standing.{op_puts_to, at_place}
 
 -- the code puts to a group

@@ -1,10 +1,7 @@
 -- What a column of texts keeps in place of its texts.
-use Rattle.std.specs.Prelude.{◌≡◌, ◌<◌, ◌^◌, ℕ, List, [], All, Contains, length, map, slice_get, slice_index, slice_index_or, Some}
+use Rattle.std.specs.Prelude.{◌≡◌, ◌<◌, ◌^◌, ℕ, List, All, Contains, length, slice_get, slice_index, Some}
+use Rattle.star_flat.specs.Repeated.{texts_at}
 use Rattle.star_schema.specs.Dictionary.{dictionary_of}
-
--- the texts that stand at these places of a list
-abbrev pub texts_at : List (List ℕ) → List ℕ → List (List ℕ)
-texts_at texts places = map (λ place. slice_index_or texts place []) places
 
 -- a dictionary and the codes of the rows: each a place in the dictionary, and each place the code
 -- of some row

@@ -1,6 +1,6 @@
 -- What the steps of an answer to a query make, and why there is none.
 use Rattle.std.specs.Prelude.{◌≡◌, ℕ, List, Some}
-use Rattle.star_query.specs.declared.tree.Tree.{Tree}
+use Rattle.star_query.specs.Tree.{Tree}
 use Rattle.star_plan.specs.Faults.{plan_fault}
 use Rattle.star_plan.specs.Meaning.{Plan}
 use Rattle.star_plan.specs.Resolved.{IsResolved}

@@ -10,7 +10,7 @@ use super::given::rows_given;
 use crate::cell::shown;
 use crate::rows::BLANK;
 use crate::store::GroupStore;
-use crate::{GroupRow, KeyValue};
+use crate::{GroupRows, KeyValue};
 use star_program::GroupDecl;
 use std::alloc::{AllocError, Global};
 use std::collections::BTreeMap;
@@ -51,7 +51,7 @@ impl GroupStore for DeferredStore {
         shown(self.aggregates[aggregate], self.total[aggregate])
     }
 
-    fn into_rows(self) -> Result<Vec<GroupRow>, AllocError> {
+    fn into_rows(self) -> Result<GroupRows, AllocError> {
         let base = self.rows;
         let aggregates = self.aggregates.as_slice();
         let rows = all_rows(

@@ -3,13 +3,15 @@
 ghost use Rattle.std.specs.Prelude.{◌≡◌, ◌≤◌, ◌<◌, length, take, Some, None, if◌then◌else◌, List, ℤ, Option, IfOk, IfSome, MatchOption, slice_get, slice_index_or};
 ghost use Rattle.indexmap.specs.IndexMap.{index_map_len, IsUnique};
 ghost use Rattle.star_group.specs.Private.Given as spec;
+ghost use Rattle.star_group.specs.Private.FlatRows.{Fits};
 ghost use Rattle.star_group.specs.Private.Given.{ShownBelow};
 ghost use Rattle.star_group.specs.OwnKeys.{key_eq};
 ghost use Rattle.star_program.specs.declared.key.KeyValue.{KeyValue as Value};
 
 use crate::cell::{Row, shown};
+use crate::group_rows::Gathered;
 use crate::own::{ALL, Key};
-use crate::{GroupRow, RowAggregates, RowKeys};
+use crate::{GroupRow, GroupRows, RowAggregates, RowKeys};
 use indexmap::IndexMap;
 use star_schema::{Aggregate, Shape};
 use std::alloc::{AllocError, Global};
@@ -48,7 +50,8 @@ fn shown_row(aggregates: &[Aggregate], row: &Row) -> Row
 pub(crate) fn row_given(count: usize, aggregates: &[Aggregate], key: &Key, row: &Row) -> GroupRow
     requires few_keys { count ≤ 6 }
     requires few { length aggregates.now ≤ 8 }
-    ensures { result ≡ spec.row_given count aggregates.now (key.now, row.now) }
+    ensures given { result ≡ spec.row_given count aggregates.now (key.now, row.now) }
+    ensures fits { Fits count (length aggregates.now) result }
 {
     GroupRow {
         keys: RowKeys::new(*key, count),
@@ -67,7 +70,8 @@ fn given_at(
     requires within { place < index_map_len rows.now }
     requires few_keys { count ≤ 6 }
     requires few { length aggregates.now ≤ 8 }
-    ensures { (e : List (Option Value) × List (Option ℤ)) → slice_get rows.now.entries place ≡ Some e → result ≡ (if spec.is_given shape count e.0 then Some (spec.row_given count aggregates.now e) else None) }
+    ensures fits { IfSome result (Fits count (length aggregates.now)) }
+    ensures given { (e : List (Option Value) × List (Option ℤ)) → slice_get rows.now.entries place ≡ Some e → result ≡ (if spec.is_given shape count e.0 then Some (spec.row_given count aggregates.now e) else None) }
 {
     match rows.get_index(place) {
         Some((key, row)) if is_given(shape, count, key) => {
@@ -84,17 +88,17 @@ pub(crate) fn rows_given(
     shape: Shape,
     count: usize,
     aggregates: &[Aggregate],
-) -> Result<Vec<GroupRow>, AllocError>
+) -> Result<GroupRows, AllocError>
     requires few_keys { count ≤ 6 }
     requires few { length aggregates.now ≤ 8 }
     ensures unique { IsUnique key_eq rows.now }
-    ensures given { IfOk result (λ given. given.items ≡ spec.rows_given shape count aggregates.now rows.now.entries) }
+    ensures given { IfOk result (λ given. given ≡ spec.rows_given shape count aggregates.now rows.now.entries) }
 {
-    let mut given = Vec::with_capacity(alloc, rows.len())?;
+    let mut given = Gathered::with_capacity(alloc, rows.len(), count, aggregates.len())?;
     for place in 0..rows.len() {
         if let Some(row) = given_at(rows, place, shape, count, aggregates) {
-            given.push(row)?;
+            given.push(&row)?;
         }
     }
-    Ok(given)
+    Ok(given.into_rows(count, aggregates.len()))
 }

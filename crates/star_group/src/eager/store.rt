@@ -14,7 +14,7 @@ use crate::cell::{Row, shown};
 use crate::own::{ALL, Key, fill_own};
 use crate::rows::{BLANK, PutFault, put_rows};
 use crate::store::{GroupStore, TryPut};
-use crate::{GroupRow, KeyValue};
+use crate::{GroupRows, KeyValue};
 use indexmap::IndexMap;
 use star_program::GroupDecl;
 use std::alloc::{AllocError, Global};
@@ -77,7 +77,7 @@ impl GroupStore for EagerStore {
         }
     }
 
-    fn into_rows(self) -> Result<Vec<GroupRow>, AllocError> {
+    fn into_rows(self) -> Result<GroupRows, AllocError> {
         rows_given(
             self.alloc,
             &self.rows,

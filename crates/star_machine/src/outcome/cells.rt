@@ -4,7 +4,7 @@ ghost use Rattle.std.specs.Prelude.{◌≡◌, ◌<◌, IfOk, All, length, map, 
 ghost use Rattle.std.specs.Option.{option_map};
 ghost use Rattle.star_schema.specs.declared.column.Kind.TheVariants as kind;
 ghost use Rattle.star_schema.specs.Schema.{kind_of};
-ghost use Rattle.star_group.specs.Shown.{row_shown};
+ghost use Rattle.star_group.specs.Shown.{row_at, row_shown};
 ghost use Rattle.star_program.specs.Outcome as outcome;
 ghost use Rattle.star_program.specs.Outcome.{cell_of, decoded, decoded_row};
 ghost use Rattle.star_program.specs.Shown.{has_column};
@@ -13,7 +13,7 @@ ghost use Rattle.star_world.specs.WorldOf.{column_dictionary, world_of};
 
 use super::order::part_at;
 use star_catalogue::Catalogue;
-use star_group::{GroupRow, KeyValue};
+use star_group::{GroupRows, KeyValue};
 use star_program::{Cell, GroupDecl, GroupKey, Items, Name, Show};
 use star_schema::{ColumnId, GroupColumn};
 use std::alloc::{AllocError, Global};
@@ -70,23 +70,25 @@ fn cell(
     alloc: Global,
     catalogue: &Catalogue,
     declared: &GroupDecl,
-    row: &GroupRow,
+    rows: &GroupRows,
+    number: usize,
     column: GroupColumn,
 ) -> Result<Cell, AllocError>
-    requires keys { AreDecodable catalogue.now declared.now.keys row.now.keys }
+    requires keys { AreDecodable catalogue.now declared.now.keys (row_at rows.now number).keys }
     requires column { has_column declared.now column ≡ true }
     ensures { IfOk result
         (λ cell. cell
-        ≡ cell_of (decoded_row (world_of catalogue.now) declared.now (row_shown row.now)) column) }
+        ≡ cell_of (decoded_row (world_of catalogue.now) declared.now
+        (row_shown (row_at rows.now number))) column) }
 {
     match column {
         GroupColumn::Key(place) => key_cell(
             alloc,
             catalogue,
             declared.keys.as_slice()[place as usize],
-            part_at(row.keys.as_slice(), place),
+            part_at(rows.keys(number), place),
         ),
-        GroupColumn::Aggregate(place) => Ok(total_cell(part_at(row.aggregates.as_slice(), place))),
+        GroupColumn::Aggregate(place) => Ok(total_cell(part_at(rows.aggregates(number), place))),
     }
 }
 
@@ -95,38 +97,43 @@ fn cells(
     alloc: Global,
     catalogue: &Catalogue,
     declared: &GroupDecl,
-    row: &GroupRow,
+    rows: &GroupRows,
+    number: usize,
     shows: &[Show],
 ) -> Result<Items<Cell>, AllocError>
-    requires keys { AreDecodable catalogue.now declared.now.keys row.now.keys }
+    requires keys { AreDecodable catalogue.now declared.now.keys (row_at rows.now number).keys }
     requires columns { All (λ show. has_column declared.now show.column ≡ true) shows.now }
     ensures { IfOk result
-        (λ cells. cells ≡ row_cells (world_of catalogue.now) declared.now shows.now row.now) }
+        (λ cells. cells ≡ row_cells (world_of catalogue.now) declared.now shows.now
+        (row_at rows.now number)) }
 {
     let mut cells = Vec::with_capacity(alloc, shows.len())?;
     for show in shows {
-        cells.push(cell(alloc, catalogue, declared, row, show.column)?)?;
+        cells.push(cell(alloc, catalogue, declared, rows, number, show.column)?)?;
     }
     Ok(Items::from_vec(cells))
 }
 
-// The cells of each row.
+// The cells of the rows of these numbers.
 pub(super) fn cell_rows(
     alloc: Global,
     catalogue: &Catalogue,
     declared: &GroupDecl,
-    rows: &[GroupRow],
+    rows: &GroupRows,
+    numbers: &[usize],
     shows: &[Show],
 ) -> Result<Items<Items<Cell>>, AllocError>
-    requires keys { All (λ row. AreDecodable catalogue.now declared.now.keys row.keys) rows.now }
+    requires keys { All (λ number. AreDecodable catalogue.now declared.now.keys
+        (row_at rows.now number).keys) numbers.now }
     requires columns { All (λ show. has_column declared.now show.column ≡ true) shows.now }
     ensures { IfOk result
         (λ table. table
-        ≡ map (row_cells (world_of catalogue.now) declared.now shows.now) rows.now) }
+        ≡ map (λ number. row_cells (world_of catalogue.now) declared.now shows.now
+        (row_at rows.now number)) numbers.now) }
 {
-    let mut table = Vec::with_capacity(alloc, rows.len())?;
-    for row in rows {
-        table.push(cells(alloc, catalogue, declared, row, shows)?)?;
+    let mut table = Vec::with_capacity(alloc, numbers.len())?;
+    for number in numbers {
+        table.push(cells(alloc, catalogue, declared, rows, *number, shows)?)?;
     }
     Ok(Items::from_vec(table))
 }

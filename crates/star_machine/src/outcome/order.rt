@@ -1,14 +1,16 @@
 // The order of a group's rows.
 
-ghost use Rattle.std.specs.Prelude.{◌≡◌, IsPermutation, None, map, slice_index_or};
+ghost use Rattle.std.specs.Prelude.{◌≡◌, IfOk, IsPermutation, None, map, slice_index_or};
 ghost use Rattle.std.specs.Cmp.Lexicographic.{slice_cmp};
+ghost use Rattle.std.specs.List.{range_with_len};
 ghost use Rattle.star_schema.specs.Order.{AreInOrder, key_cmp};
-ghost use Rattle.star_group.specs.Shown.{row_shown};
+ghost use Rattle.star_group.specs.Shown.{row_at, row_shown};
 ghost use Rattle.star_program.specs.Keys.{value_cmp};
 ghost use Rattle.star_machine.specs.Private.RowOrder.{AllHaveSameNulls, AreApart, column_order, sort_order, row_order};
 
-use star_group::{GroupRow, KeyValue};
+use star_group::{GroupRows, KeyValue};
 use star_schema::{Direction, GroupColumn, SortKey};
+use std::alloc::{AllocError, Global};
 use std::cmp::Ordering;
 
 // Values of one key, by number or by code.
@@ -60,48 +62,69 @@ pub(super) fn part_at<T: Copy>(parts: &[Option<T>], place: u16) -> Option<T>
     }
 }
 
-fn compare_at(column: GroupColumn, a: &GroupRow, b: &GroupRow) -> Ordering
-    ensures { result ≡ column_order column (row_shown a.now) (row_shown b.now) }
+fn compare_at(column: GroupColumn, rows: &GroupRows, a: usize, b: usize) -> Ordering
+    ensures { result ≡ column_order column
+        (row_shown (row_at rows.now a)) (row_shown (row_at rows.now b)) }
 {
     match column {
-        GroupColumn::Key(place) => compare_keys(
-            part_at(a.keys.as_slice(), place),
-            part_at(b.keys.as_slice(), place),
-        ),
+        GroupColumn::Key(place) => {
+            compare_keys(part_at(rows.keys(a), place), part_at(rows.keys(b), place))
+        }
         GroupColumn::Aggregate(place) => {
-            part_at(a.aggregates.as_slice(), place).cmp(&part_at(b.aggregates.as_slice(), place))
+            part_at(rows.aggregates(a), place).cmp(&part_at(rows.aggregates(b), place))
         }
     }
 }
 
-fn compare_by(sort: SortKey, a: &GroupRow, b: &GroupRow) -> Ordering
-    ensures { result ≡ sort_order sort (row_shown a.now) (row_shown b.now) }
+fn compare_by(sort: SortKey, rows: &GroupRows, a: usize, b: usize) -> Ordering
+    ensures { result ≡ sort_order sort
+        (row_shown (row_at rows.now a)) (row_shown (row_at rows.now b)) }
 {
     match sort.direction {
-        Direction::Ascending => compare_at(sort.column, a, b),
-        Direction::Descending => compare_at(sort.column, b, a),
+        Direction::Ascending => compare_at(sort.column, rows, a, b),
+        Direction::Descending => compare_at(sort.column, rows, b, a),
     }
 }
 
 // By the sort keys, and then by all keys of the rows.
-fn compare_rows(sorts: &[SortKey], a: &GroupRow, b: &GroupRow) -> Ordering
-    ensures { result ≡ row_order sorts.now (row_shown a.now) (row_shown b.now) }
+fn compare_rows(sorts: &[SortKey], rows: &GroupRows, a: usize, b: usize) -> Ordering
+    ensures { result ≡ row_order sorts.now
+        (row_shown (row_at rows.now a)) (row_shown (row_at rows.now b)) }
 {
     match sorts {
-        [] => compare_key_lists(a.keys.as_slice(), b.keys.as_slice()),
-        [sort, rest @ ..] => match compare_by(*sort, a, b) {
-            Ordering::Equal => compare_rows(rest, a, b),
+        [] => compare_key_lists(rows.keys(a), rows.keys(b)),
+        [sort, rest @ ..] => match compare_by(*sort, rows, a, b) {
+            Ordering::Equal => compare_rows(rest, rows, a, b),
             decided => decided,
         },
     }
 }
 
-// Sorts the rows of a group, in which no two have the same keys.
-pub(super) fn sort_rows(rows: &mut Vec<GroupRow>, sorts: &[SortKey])
-    requires apart { AreApart rows.old.items }
-    requires nulls { AllHaveSameNulls rows.old.items }
-    ensures same { IsPermutation rows.old.items rows.new.items }
-    ensures order { AreInOrder value_cmp sorts.now (map row_shown rows.new.items) }
+// So many numbers, from 0 on.
+fn numbers_below(alloc: Global, count: usize) -> Result<Vec<usize>, AllocError>
+    ensures { IfOk result (λ numbers. numbers.items ≡ range_with_len 0 count) }
 {
-    rows.sort_unstable_by(|a, b| compare_rows(sorts, a, b));
+    let mut numbers = Vec::with_capacity(alloc, count)?;
+    for number in 0..count {
+        numbers.push(number)?;
+    }
+    Ok(numbers)
+}
+
+// The numbers of the rows of a group, in which no two have the same keys, in the order of the rows.
+pub(super) fn sorted_numbers(
+    alloc: Global,
+    rows: &GroupRows,
+    sorts: &[SortKey],
+) -> Result<Vec<usize>, AllocError>
+    requires apart { AreApart rows.now }
+    requires nulls { AllHaveSameNulls rows.now }
+    ensures { IfOk result
+        (λ numbers. IsPermutation rows.now (map (row_at rows.now) numbers.items)
+        × AreInOrder value_cmp sorts.now
+        (map row_shown (map (row_at rows.now) numbers.items))) }
+{
+    let mut numbers = numbers_below(alloc, rows.len())?;
+    numbers.sort_unstable_by(|a, b| compare_rows(sorts, rows, *a, *b));
+    Ok(numbers)
 }

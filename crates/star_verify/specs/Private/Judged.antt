@@ -10,7 +10,7 @@ use Rattle.star_admission.specs.Contexts.{Context, in_scan}
 use Rattle.star_admission.specs.Admissible.{first_refusal}
 use Rattle.star_admission.specs.Private.Forward.{first_reason}
 use Rattle.star_admission.specs.Quote.{quote}
-use Rattle.star_admission.specs.Refusals as refusals
+use Rattle.star_admission.specs.declared.reason.Reason.{Reason}
 use Rattle.star_admission.specs.Refusals.{op_reason, scan_reason}
 use Rattle.star_admission.specs.Standing.{at_place}
 use Rattle.star_verify.specs.declared.instructions.Noted.{Noted}
@@ -20,12 +20,12 @@ use Rattle.star_verify.specs.declared.refusal.Refusal.TheVariants as told
 use Rattle.star_verify.specs.declared.register.Register.{Register}
 use Rattle.star_verify.specs.Private.Kept.{AreFew, HasShares, flag_at}
 use Rattle.star_verify.specs.Private.Shown.{known_in}
-use Rattle.star_verify.specs.Shown.{reason_shown, refusal_shown}
+use Rattle.star_verify.specs.Shown.{refusal_shown}
 
 -- this reason at this instruction, or want of memory
-abbrev pub IsFirst : Refusal → Option (ℕ × refusals.Reason) → Type 0
+abbrev pub IsFirst : Refusal → Option (ℕ × Reason) → Type 0
 IsFirst told.OutOfMemory found = Unit {0}
-IsFirst (told.Refused at reason) found = found ≡ Some (at, reason_shown reason)
+IsFirst (told.Refused at reason) found = found ≡ Some (at, reason)
 IsFirst _ found = ⊥
 
 -- ---- what is kept
@@ -55,19 +55,19 @@ AreFewAt noted at = AreFew noted.tallies.items (at * 10 ^ 15)
 -- ---- what is answered
 
 -- Ok where there is no reason, with what is kept then, else the reason
-abbrev pub IsJudged : Result (Unit {0}) Refusal → ℕ → Option refusals.Reason → Type 0 → Type 0
+abbrev pub IsJudged : Result (Unit {0}) Refusal → ℕ → Option Reason → Type 0 → Type 0
 IsJudged result at reason Kept =
     MatchResult result (λ _. (reason ≡ None) × Kept)
     (λ refusal. IsFirst refusal (at_place at reason))
 
 -- Ok where nothing refuses some code, with what is kept then, else what does first
-abbrev pub IsWalked : Result ℕ Refusal → Option (ℕ × refusals.Reason) → Type 0 → Type 0
+abbrev pub IsWalked : Result ℕ Refusal → Option (ℕ × Reason) → Type 0 → Type 0
 IsWalked result first Kept =
     MatchResult result (λ _. (first ≡ None) × Kept) (λ refusal. IsFirst refusal first)
 
 -- what refuses a scan or its body first
 abbrev pub scan_first : World → Parts → (ℕ → Bool) → Context → ℕ → TableId → ℕ → Code
-    → Option (ℕ × refusals.Reason)
+    → Option (ℕ × Reason)
 scan_first w parts pending x at table r body =
     option_or (at_place at (scan_reason parts x r))
     (first_reason w parts pending (in_scan w x table r) (at + 1) body)

@@ -1,10 +1,11 @@
 -- What is known of what an instruction makes, or what leaves 64 bits.
 use Rattle.std.specs.Prelude.{◌≡◌, ◌+◌, ◌<◌, ℕ, List, length, slice_index_or, Option, Some, None, Result, MatchResult}
 use Rattle.star_schema.specs.declared.group.Aggregate.{Aggregate}
-use Rattle.star_interval.specs.Interval.{wide_range_of}
 use Rattle.star_program.specs.World.{World}
 use Rattle.star_admission.specs.Ranges as ranges
-use Rattle.star_admission.specs.Refusals.{Reason, Overflow, overflow_of, reached}
+use Rattle.star_admission.specs.declared.reason.Reason.{Reason}
+use Rattle.star_admission.specs.declared.reason.Reason.TheVariants.{Overflow}
+use Rattle.star_admission.specs.Refusals.{overflow_of, reached}
 use Rattle.star_admission.specs.Tallies.{Share}
 use Rattle.star_verify.specs.declared.known.Beyond.{Beyond}
 use Rattle.star_verify.specs.declared.known.Known.{Known}
@@ -13,7 +14,7 @@ use Rattle.star_verify.specs.Private.Shown.{IsTally, known_shown, reach_shown}
 
 abbrev pub beyond_shown : World → Beyond → Reason
 beyond_shown w beyond =
-    Overflow (wide_range_of beyond.range) (reached w (reach_shown beyond.reach))
+    Overflow beyond.range.low beyond.range.high (reached w (reach_shown beyond.reach))
 
 -- Ok with what is known, which leaves 64 bits nowhere, else where it does
 abbrev pub IsMade : World → Result Known Beyond → ranges.Known → Type 0

@@ -10,7 +10,7 @@ use Rattle.star_program.specs.World.{World}
 use Rattle.star_admission.specs.Contexts.{Context, after_op, after_scan, at_end, in_scan}
 use Rattle.star_admission.specs.Private.Forward.{first_reason, open_with}
 use Rattle.star_admission.specs.Quote.{turns_met}
-use Rattle.star_admission.specs.Refusals as refusals
+use Rattle.star_admission.specs.declared.reason.Reason.{Reason}
 use Rattle.star_admission.specs.Refusals.{op_reason}
 use Rattle.star_admission.specs.Standing.{at_place}
 use Rattle.star_verify.specs.declared.instructions.Noted.{Noted}
@@ -25,7 +25,7 @@ use Rattle.star_verify.specs.Private.Kept.{AreMarked}
 
 -- what refuses it first, or what is in it, where such code follows
 abbrev pub step_first : World → Parts → (ℕ → Bool) → Context → ℕ → Step → Code
-    → Option (ℕ × refusals.Reason)
+    → Option (ℕ × Reason)
 step_first w parts pending x at (Act op) rest =
     at_place at (op_reason w parts (open_with pending rest) x op)
 step_first w parts pending x at (Scan table r body) rest =

@@ -5,7 +5,8 @@ use Rattle.star_admission.proofs.ToldColumns.{told_columns_fit}
 use Rattle.star_admission.proofs.law.told_bounds_fit_128_bits.Goals as goal
 
 pub returns-clause-range : goal.returns-clause-range
-returns-clause-range c = told_bounds_fit
+returns-clause-range c = λ w most parts at low high columns.
+    told_bounds_fit w most parts at (record { low = low; high = high }) columns
 
 pub returns-clause-columns : goal.returns-clause-columns
 returns-clause-columns c = told_columns_fit

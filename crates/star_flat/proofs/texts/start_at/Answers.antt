@@ -1,6 +1,7 @@
 use Rattle.std.proofs.Common.{◌≡◌, ◌<◌, ◌-◌, ℕ, List, zero, suc, Some, sym, length, arith, refl, slice_get, ◌∙◌}
 use Rattle.std.proofs.lemmas.Option.{get_or_from_slice_get, slice_get_within}
-use Rattle.star_flat.specs.Private.Cut.{places, start_of}
+use Rattle.star_flat.specs.Private.Cut.{start_of}
+use Rattle.star_flat.specs.Repeated.{places}
 use Rattle.star_flat.proofs.CutLemmas.{start_after}
 use Rattle.star_flat.proofs.texts.start_at.Goals as goal
 

@@ -1,5 +1,5 @@
 use Rattle.std.proofs.Common.{sym, rules, subst}
-use Rattle.star_program.specs.Effects.{assigns}
+use Rattle.star_program.specs.Private.Doing.{assigns}
 use Rattle.star_machine.specs.Private.Acts.{IsMade}
 use Rattle.star_machine.specs.Private.Shown.{held}
 use Rattle.star_world.specs.WorldOf.{world_of}

@@ -1,5 +1,5 @@
 use Rattle.std.proofs.Common.{sym, subst}
-use Rattle.star_program.specs.Effects.{does}
+use Rattle.star_program.specs.Private.Doing.{does}
 use Rattle.star_machine.specs.Private.Acts.{IsAnswer}
 use Rattle.star_machine.specs.Private.Shown.{held}
 use Rattle.star_world.specs.WorldOf.{world_of}

@@ -1,6 +1,7 @@
 use Rattle.std.proofs.Common.{◌+◌, sym, ap, rules, subst, ◌∙◌}
 use Rattle.star_machine.specs.Private.Acts.{IsStop}
-use Rattle.star_program.specs.Effects.{puts, update_of}
+use Rattle.star_program.specs.Effects.{update_of}
+use Rattle.star_program.specs.Private.Doing.{puts}
 use Rattle.star_program.specs.Faults.{group_at}
 use Rattle.star_machine.specs.Private.Shown.{held}
 use Rattle.star_machine.proofs.Fine.{sound_keys, sound_update}

@@ -1,19 +1,26 @@
-use Rattle.std.proofs.Common.{refl}
+use Rattle.std.proofs.Common.{ap, map, refl, sym, ◌∙◌}
+use Rattle.std.proofs.lemmas.Simd.{map-map}
+use Rattle.star_group.specs.Shown.{row_at}
 use Rattle.star_group.specs.Stores.{group_declared}
 use Rattle.star_program.specs.Faults.{group_at}
-use Rattle.star_machine.proofs.Reported.{is_outcome, keys_as_declared, left_counts}
+use Rattle.star_machine.specs.Private.Decoded.{row_cells}
+use Rattle.star_world.specs.WorldOf.{world_of}
+use Rattle.star_machine.proofs.Reported.{decodable_by_number, is_outcome, keys_as_declared, left_counts}
 use Rattle.star_machine.proofs.Shows.{shows_are_there}
 use Rattle.star_machine.proofs.outcome.outcome_of_rows.Goals as goal
 
-pub sorted_rows-sorted-requires : goal.sorted_rows-sorted-requires
-sorted_rows-sorted-requires c =
+pub order_of-requires : goal.order_of-requires
+order_of-requires c =
     let left = c.requires.left.1 in
-    (group_declared (group_at c.args.parts.now c.args.parts.now.report), c.requires.left.0.updates_of c.args.parts.now.report, left.are, left_counts c.args.catalogue.now c.args.parts.now c.requires.left.0 c.args.rows.items c.args.counts left)
+    (group_declared (group_at c.args.parts.now c.args.parts.now.report), c.requires.left.0.updates_of c.args.parts.now.report, left.are, left_counts c.args.catalogue.now c.args.parts.now c.requires.left.0 c.args.rows c.args.counts left)
 
 pub cell_rows-requires-clause-keys : goal.cell_rows-requires-clause-keys
 cell_rows-requires-clause-keys c =
-    keys_as_declared c.args.catalogue.now c.args.parts.now c.requires.left.0 c.args.rows.items c.args.counts c.in-Some.declared.now c.as_slice.result.now c.sorted_rows-sorted.result.items
-    c.requires.left.1 c.in-Some.ensures.group c.sorted_rows-sorted.ensures c.deref.result.now c.deref.ensures.value
+    let left = c.args.rows in
+    let sorted = map (row_at left) c.in_ok-numbers.numbers.items in
+    decodable_by_number c.args.catalogue.now c.in-Some.declared.now.keys left c.deref.result.now
+    (keys_as_declared c.args.catalogue.now c.args.parts.now c.requires.left.0 left c.args.counts c.in-Some.declared.now c.as_slice.result.now sorted
+    c.requires.left.1 c.in-Some.ensures.group c.in_ok-numbers.ensures (map (row_at left) c.deref.result.now) (ap (map (row_at left)) c.deref.ensures.value))
 
 pub cell_rows-requires-clause-columns : goal.cell_rows-requires-clause-columns
 cell_rows-requires-clause-columns c =
@@ -21,6 +28,11 @@ cell_rows-requires-clause-columns c =
 
 pub returns : goal.returns
 returns c = λ s left.
-    is_outcome c.args.catalogue.now c.args.parts.now s c.args.rows.items c.args.counts c.in-Some.declared.now c.as_slice.result.now c.sorted_rows-sorted.result.items
-    left c.in-Some.ensures.group c.sorted_rows-sorted.ensures c.deref.result.now c.as_slice-shows.result.now _
-    c.deref.ensures.value c.as_slice.ensures c.as_slice-shows.ensures c.in_ok-names.ensures c.in_ok-cell_rows.ensures refl refl refl
+    let rows = c.args.rows in
+    let numbers = c.deref.result.now in
+    let shows = c.as_slice-shows.result.now in
+    let declared = c.in-Some.declared.now in
+    is_outcome c.args.catalogue.now c.args.parts.now s rows c.args.counts declared c.as_slice.result.now (map (row_at rows) c.in_ok-numbers.numbers.items)
+    left c.in-Some.ensures.group c.in_ok-numbers.ensures (map (row_at rows) numbers) shows _
+    (ap (map (row_at rows)) c.deref.ensures.value) c.as_slice.ensures c.as_slice-shows.ensures c.in_ok-names.ensures
+    (c.in_ok-cell_rows.ensures ∙ sym (map-map (row_cells (world_of c.args.catalogue.now) declared shows) (row_at rows) numbers)) refl refl refl

@@ -1,7 +1,7 @@
-use Rattle.std.proofs.Common.{◌≡◌, drop}
-use Rattle.star_common.specs.First.{first_answer}
+use Rattle.star_query.specs.Views.{name_view}
 use Rattle.star_plan.specs.Faults.{missing_fault}
+use Rattle.star_plan.proofs.Viewed.{AnswerSoFar}
 use Rattle.star_plan.proofs.joins.check_dimensions.Given as goal
 
 abbrev pub invariant-loop-name : goal.invariant-loop-name
-invariant-loop-name l = first_answer (missing_fault l.pairs) (drop l.name-index l.tables) ≡ first_answer (missing_fault l.pairs) l.tables
+invariant-loop-name l = AnswerSoFar name_view (missing_fault l.pairs) l.tables l.name-index

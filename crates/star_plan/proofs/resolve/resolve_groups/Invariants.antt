@@ -1,8 +1,9 @@
-use Rattle.std.proofs.Common.{◌≡◌, drop}
+use Rattle.std.proofs.Common.{◌≡◌, drop, map}
+use Rattle.star_query.specs.Views.{name_view}
 use Rattle.star_plan.specs.Names.{column_at}
 use Rattle.star_plan.specs.Resolved.{option_all}
 use Rattle.star_plan.proofs.Options.{with_rest}
 use Rattle.star_plan.proofs.resolve.resolve_groups.Given as goal
 
 abbrev pub invariant-loop-name : goal.invariant-loop-name
-invariant-loop-name l = with_rest l.keys.items (option_all column_at (drop l.name-index l.groups)) ≡ option_all column_at l.groups
+invariant-loop-name l = with_rest l.keys.items (option_all column_at (map name_view (drop l.name-index l.groups))) ≡ option_all column_at (map name_view l.groups)

@@ -1,7 +1,7 @@
-use Rattle.std.proofs.Common.{◌≡◌, drop, take}
-use Rattle.star_plan.specs.First.{first_after, first_beside}
+use Rattle.star_query.specs.Views.{name_view}
 use Rattle.star_plan.specs.Faults.{table_fault}
+use Rattle.star_plan.proofs.Viewed.{BesideSoFar}
 use Rattle.star_plan.proofs.select.check_tables.Given as goal
 
 abbrev pub invariant-loop-place : goal.invariant-loop-place
-invariant-loop-place l = first_after table_fault (take l.place l.tables) (drop l.place l.tables) ≡ first_beside table_fault l.tables
+invariant-loop-place l = BesideSoFar name_view table_fault l.tables l.place

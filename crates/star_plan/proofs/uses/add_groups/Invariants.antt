@@ -1,6 +1,7 @@
-use Rattle.std.proofs.Common.{◌≡◌, ◌++◌, drop}
+use Rattle.std.proofs.Common.{◌≡◌, ◌++◌, drop, map}
+use Rattle.star_query.specs.Views.{name_view}
 use Rattle.star_plan.specs.Uses.{groups_uses}
 use Rattle.star_plan.proofs.uses.add_groups.Given as goal
 
 abbrev pub invariant-loop-name : goal.invariant-loop-name
-invariant-loop-name l = l.uses.items ++ groups_uses (drop l.name-index l.names) ≡ l.initial.uses.items ++ groups_uses l.names
+invariant-loop-name l = l.uses.items ++ groups_uses (map name_view (drop l.name-index l.names)) ≡ l.initial.uses.items ++ groups_uses (map name_view l.names)

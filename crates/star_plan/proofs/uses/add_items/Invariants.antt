@@ -1,6 +1,7 @@
-use Rattle.std.proofs.Common.{◌≡◌, ◌++◌, drop}
+use Rattle.std.proofs.Common.{◌≡◌, ◌++◌, drop, map}
+use Rattle.star_query.specs.Views.{item_view}
 use Rattle.star_plan.specs.Uses.{items_uses}
 use Rattle.star_plan.proofs.uses.add_items.Given as goal
 
 abbrev pub invariant-loop-item : goal.invariant-loop-item
-invariant-loop-item l = l.uses.items ++ items_uses (drop l.item-index l.items) ≡ l.initial.uses.items ++ items_uses l.items
+invariant-loop-item l = l.uses.items ++ items_uses (map item_view (drop l.item-index l.items)) ≡ l.initial.uses.items ++ items_uses (map item_view l.items)

@@ -3,7 +3,8 @@ use Rattle.std.specs.Prelude.{IsOk, Result}
 use Rattle.star_interval.specs.declared.Interval.{Interval}
 use Rattle.star_interval.specs.declared.Wide.{Wide}
 use Rattle.star_interval.specs.Interval.{bounds_of}
-use Rattle.star_admission.specs.Refusals.{Overflow, reached}
+use Rattle.star_admission.specs.declared.reason.Reason.TheVariants.{Overflow}
+use Rattle.star_admission.specs.Refusals.{reached}
 use Rattle.star_verify.specs.Private.Shown.{reach_shown}
 use Rattle.star_verify.proofs.Overflows.{fitting, leaving}
 use Rattle.star_verify.proofs.known.computed.Goals as goal
@@ -17,4 +18,4 @@ pub returns-in-Err-clause-overflow : goal.returns-in-Err-clause-overflow
 returns-in-Err-clause-overflow c = λ w.
     leaving w (bounds_of c.args.range) (reach_shown c.args.reach)
     (λ fits. let never : false ≡ true = subst (λ (x : Result Interval Wide). IsOk x) c.in-Err.is (c.requires.1 fits) in cc)
-    ∙ ap (λ (x : Result Interval Wide). Some (Overflow (bounds_of x) (reached w (reach_shown c.args.reach)))) c.in-Err.is
+    ∙ ap (λ (x : Result Interval Wide). Some (Overflow (bounds_of x).low (bounds_of x).high (reached w (reach_shown c.args.reach)))) c.in-Err.is

@@ -1,6 +1,6 @@
 use Rattle.std.proofs.Common.{arith}
 use Rattle.star_column.specs.Private.Words.{numbers_in}
-use Rattle.star_column.specs.Private.Codes.{texts_at}
+use Rattle.star_flat.specs.Repeated.{texts_at}
 use Rattle.star_schema.proofs.Dictionaries.{length-dictionary_of-le}
 use Rattle.star_column.proofs.Numbers.{code_stands, code_within, length-texts_at}
 use Rattle.star_column.proofs.text.TextColumn.code_at.Goals as goal

@@ -1,7 +1,7 @@
 use Rattle.std.proofs.Common.{sym, ap, ◌∙◌, length}
 use Rattle.std.specs.Int.RustNames.{unsigned_abs}
 use Rattle.std.proofs.lemmas.List.{length-map}
-use Rattle.star_flat.specs.Private.Cut.{places}
+use Rattle.star_flat.specs.Repeated.{places}
 use Rattle.star_flat.proofs.CutLemmas.{length-texts_from}
 use Rattle.star_flat.proofs.texts.FlatTexts.len.Goals as goal
 

@@ -1,5 +1,5 @@
 use Rattle.std.proofs.Common.{ap}
-use Rattle.star_flat.specs.Private.Cut.{places}
+use Rattle.star_flat.specs.Repeated.{places}
 use Rattle.star_flat.proofs.CutLemmas.{none_cut, no_texts}
 use Rattle.star_flat.proofs.texts.FlatTexts.new.Goals as goal
 

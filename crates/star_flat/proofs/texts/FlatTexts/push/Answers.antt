@@ -1,7 +1,8 @@
 use Rattle.std.proofs.Common.{◌≡◌, ◌++◌, ◌∷◌, [], ◌+◌, ◌<◌, ◌^◌, ap, ◌∙◌, length, length-append, arith, FitsSigned, pos, to_z, to_z-of_z, vec_len, w64}
 use Rattle.std.specs.Int.RustNames.{unsigned_abs}
 use Rattle.std.proofs.lemmas.List.{map-append}
-use Rattle.star_flat.specs.Private.Cut.{places, texts_from}
+use Rattle.star_flat.specs.Private.Cut.{texts_from}
+use Rattle.star_flat.specs.Repeated.{places}
 use Rattle.star_flat.proofs.CutLemmas.{cut_more, texts_more}
 use Rattle.star_flat.proofs.texts.FlatTexts.push.Goals as goal
 

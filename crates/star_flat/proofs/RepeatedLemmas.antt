@@ -1,0 +1,76 @@
+-- Texts that are told by their places among other texts.
+use Rattle.std.proofs.Common.{◌≡◌, ℕ, ◌+◌, ◌<◌, List, [], ◌∷◌, ◌++◌, Some, length, get_or, refl, sym, ap, ◌∙◌, arith, length-append, subst, ⊎_elim}
+use Rattle.std.specs.Prelude.{Result, Ok, Err, OnErr, OnOk}
+use Rattle.std.specs.List.{All, Contains, slice_get}
+use Rattle.std.proofs.lemmas.Bool.{cases_eq}
+use Rattle.std.proofs.lemmas.List.{get_or_append_left, get_or_push, map-append}
+use Rattle.std.proofs.lemmas.List.Elements.{All-head, All-push, All-tail, All-weaker, Contains-append_left, Contains-push}
+use Rattle.std.proofs.lemmas.Option.{get_or_from_slice_get, slice_get_within}
+use Rattle.star_flat.specs.Repeated.{AreRepeated, texts_at}
+
+-- what follows from what holds of each kind of answer
+pub either : {T E A B G : Type 0} (r : Result T E) → OnOk r A → OnErr r B → (A → G) → (B → G) → G
+either (Ok x) ok err f g = f ok
+either (Err e) ok err f g = g err
+
+pub either_of_two : {T E A B C G : Type 0} (r : Result T E) → OnOk r A → OnOk r B → OnErr r C
+    → (A → B → G) → (C → G) → G
+either_of_two (Ok x) a b err f g = f a b
+either_of_two (Err e) a b err f g = g err
+
+pub on_ok : {T E A G : Type 0} (r : Result T E) → OnOk r A → (A → G) → OnOk r G
+on_ok (Ok x) ok f = f ok
+on_ok (Err e) ok f = tt
+
+pub on_two : {T E A B G : Type 0} (r : Result T E) → OnOk r A → OnOk r B → (A → B → G) → OnOk r G
+on_two (Ok x) a b f = f a b
+on_two (Err e) a b f = tt
+
+module _ (ts : List (List ℕ)) (ps : List ℕ) (repeated : AreRepeated ts ps) where
+  -- one more row with a text that is kept
+  pub again : (p : ℕ) (t : List ℕ) → slice_get ts p ≡ Some t → AreRepeated ts (ps ++ p ∷ [])
+  again p t there = record {
+    within = All-push (λ p. p < length ts) ps p repeated.within (slice_get_within ts p t there);
+    met = λ q h. Contains-append_left ps (p ∷ []) q (repeated.met q h);
+    few = omega (arith, repeated.few, length-append ps (p ∷ []));
+  }
+
+  pub text_again : (p : ℕ) (t : List ℕ) → slice_get ts p ≡ Some t
+      → texts_at ts (ps ++ p ∷ []) ≡ texts_at ts ps ++ t ∷ []
+  text_again p t there =
+      map-append (λ q. get_or ts q []) ps (p ∷ [])
+      ∙ (λ i. texts_at ts ps ++ get_or_from_slice_get ts p t [] there i ∷ [])
+
+-- texts that are kept later change none
+same_texts : (ts us : List (List ℕ)) (ps : List ℕ) → All (λ p. p < length ts) ps
+    → texts_at (ts ++ us) ps ≡ texts_at ts ps
+same_texts ts us [] within = refl
+same_texts ts us (p ∷ ps) within =
+    λ i. get_or_append_left ts us [] p (All-head (λ q. q < length ts) p ps within) i
+    ∷ same_texts ts us ps (All-tail (λ q. q < length ts) p ps within) i
+
+module _ (ts : List (List ℕ)) (ps : List ℕ) (repeated : AreRepeated ts ps) (t : List ℕ) where
+  more : length (ts ++ t ∷ []) ≡ length ts + 1
+  more = length-append ts (t ∷ [])
+
+  -- one more row with a text that is kept for it
+  pub anew : AreRepeated (ts ++ t ∷ []) (ps ++ length ts ∷ [])
+  anew = record {
+    within = All-push (λ p. p < length (ts ++ t ∷ [])) ps (length ts)
+        (All-weaker (λ p. p < length ts) (λ p. p < length (ts ++ t ∷ []))
+        (λ p h. omega (arith, h, more)) ps repeated.within)
+        (omega (arith, more));
+    met = λ p h. ⊎_elim {C = Contains (ps ++ length ts ∷ []) p}
+        (λ last. subst (λ q. Contains (ps ++ length ts ∷ []) q) (sym last)
+        (Contains-push ps (length ts)))
+        (λ other. Contains-append_left ps (length ts ∷ []) p
+        (repeated.met p (omega (arith, h, more, other))))
+        (cases_eq p (length ts));
+    few = omega (arith, repeated.few, more, length-append ps (length ts ∷ []));
+  }
+
+  pub text_anew : texts_at (ts ++ t ∷ []) (ps ++ length ts ∷ []) ≡ texts_at ts ps ++ t ∷ []
+  text_anew =
+      map-append (λ q. get_or (ts ++ t ∷ []) q []) ps (length ts ∷ [])
+      ∙ (λ i. same_texts ts (t ∷ []) ps repeated.within i
+      ++ get_or_push ts t [] (length ts) refl i ∷ [])

@@ -1,0 +1,17 @@
+-- Texts that are told by their places among other texts.
+use Rattle.std.specs.Prelude.{◌≡◌, ◌<◌, ◌≤◌, ℕ, ℤ, List, [], All, Contains, length, map, slice_index_or}
+use Rattle.std.specs.Int.RustNames.{unsigned_abs}
+
+-- places that are kept as signed numbers
+abbrev pub places : List ℤ → List ℕ
+places numbers = map unsigned_abs numbers
+
+-- the texts that stand at these places of a list
+abbrev pub texts_at : List (List ℕ) → List ℕ → List (List ℕ)
+texts_at texts places = map (λ place. slice_index_or texts place []) places
+
+-- places among some texts: each is one, and there is none of which there is no row
+pub record AreRepeated (texts : List (List ℕ)) (places : List ℕ) : Type 0 where
+  pub within : All (λ place. place < length texts) places
+  pub met : (place : ℕ) → place < length texts → Contains places place
+  pub few : length texts ≤ length places

@@ -1,0 +1,116 @@
+-- Rows in flat storage: what stands at a number, and what is gathered.
+use Rattle.std.proofs.Common.{◌≡◌, ◌<◌, ◌*◌, ◌+◌, ℕ, zero, suc, ℤ, List, [], ◌∷◌, ◌++◌, Option, length, nat_lt, cond, Bool, true, false, rules, take, drop, ap, sym, refl, ◌∙◌, arith}
+use Rattle.std.specs.List.{flat_map, AllByRecursion}
+use Rattle.std.proofs.lemmas.Grind.{flat_map-append}
+use Rattle.std.proofs.lemmas.List.{drop-drop, get_or_past, length-append}
+use Rattle.std.proofs.Math.Nat.{add_comm, suc-mul, zero-mul}
+use Rattle.std.proofs.Math.Seq.{drop-append_seam, take-append_seam}
+use Rattle.star_program.specs.declared.key.KeyValue.{KeyValue}
+use Rattle.star_group.specs.declared.group_row.GroupRow.{GroupRow}
+use Rattle.star_group.specs.Private.FlatRows.{AreParts, Fits, rows_of}
+use Rattle.star_group.specs.Shown.{row_at}
+
+pub rows_length : (k a n : ℕ) (keys : List (Option KeyValue)) (numbers : List (Option ℤ)) → length (rows_of k a n keys numbers) ≡ n
+unfolding rows_of
+rows_length k a zero keys numbers = refl
+rows_length k a (suc n) keys numbers = ap suc (rows_length k a n (drop k keys) (drop a numbers))
+
+pub keys_at : (k a n : ℕ) (keys : List (Option KeyValue)) (numbers : List (Option ℤ)) (number : ℕ) → number < n
+    → (row_at (rows_of k a n keys numbers) number).keys ≡ take k (drop (number * k) keys)
+unfolding rows_of
+keys_at k a zero keys numbers number h = absurd (omega arith)
+keys_at k a (suc n) keys numbers zero h = ap (λ m. take k (drop m keys)) (sym (zero-mul k))
+keys_at k a (suc n) keys numbers (suc number) h =
+    keys_at k a n (drop k keys) (drop a numbers) number (omega arith) ∙ ap (take k) (drop-drop (number * k) k keys ∙ ap (λ m. drop m keys) (add_comm k (number * k) ∙ sym (suc-mul number k)))
+
+pub aggregates_at : (k a n : ℕ) (keys : List (Option KeyValue)) (numbers : List (Option ℤ)) (number : ℕ) → number < n
+    → (row_at (rows_of k a n keys numbers) number).aggregates ≡ take a (drop (number * a) numbers)
+unfolding rows_of
+aggregates_at k a zero keys numbers number h = absurd (omega arith)
+aggregates_at k a (suc n) keys numbers zero h = ap (λ m. take a (drop m numbers)) (sym (zero-mul a))
+aggregates_at k a (suc n) keys numbers (suc number) h =
+    aggregates_at k a n (drop k keys) (drop a numbers) number (omega arith) ∙ ap (take a) (drop-drop (number * a) a numbers ∙ ap (λ m. drop m numbers) (add_comm a (number * a) ∙ sym (suc-mul number a)))
+
+past_rows : (k a n : ℕ) (keys : List (Option KeyValue)) (numbers : List (Option ℤ)) (number : ℕ) → (number < n → ⊥)
+    → row_at (rows_of k a n keys numbers) number ≡ record { keys = []; aggregates = [] }
+past_rows k a n keys numbers number past =
+    let long = rows_length k a n keys numbers in
+    get_or_past (rows_of k a n keys numbers) number (record { keys = []; aggregates = [] }) (omega (arith, long, past))
+
+pub keys_read : (k a n : ℕ) (keys : List (Option KeyValue)) (numbers : List (Option ℤ)) (number : ℕ)
+    → cond (nat_lt number n) (take k (drop (number * k) keys)) [] ≡ (row_at (rows_of k a n keys numbers) number).keys
+keys_read k a n keys numbers number = by (nat_lt number n) refl
+  where
+    by : (b : Bool) → nat_lt number n ≡ b → cond b (take k (drop (number * k) keys)) [] ≡ (row_at (rows_of k a n keys numbers) number).keys
+    by true e = let within : number < n = search rules in sym (keys_at k a n keys numbers number within)
+    by false e = let past : number < n → ⊥ = search rules in ap (λ r. r.keys) (sym (past_rows k a n keys numbers number past))
+
+pub aggregates_read : (k a n : ℕ) (keys : List (Option KeyValue)) (numbers : List (Option ℤ)) (number : ℕ)
+    → cond (nat_lt number n) (take a (drop (number * a) numbers)) [] ≡ (row_at (rows_of k a n keys numbers) number).aggregates
+aggregates_read k a n keys numbers number = by (nat_lt number n) refl
+  where
+    by : (b : Bool) → nat_lt number n ≡ b → cond b (take a (drop (number * a) numbers)) [] ≡ (row_at (rows_of k a n keys numbers) number).aggregates
+    by true e = let within : number < n = search rules in sym (aggregates_at k a n keys numbers number within)
+    by false e = let past : number < n → ⊥ = search rules in ap (λ r. r.aggregates) (sym (past_rows k a n keys numbers number past))
+
+-- ---- gathered
+
+pub none_gathered : (k a : ℕ) → AreParts k a 0 [] [] []
+none_gathered k a = record { fit = tt; many = refl; key_parts = refl; aggregate_parts = refl }
+
+fit_more : (k a : ℕ) (rows : List GroupRow) (row : GroupRow) → AllByRecursion (Fits k a) rows → Fits k a row → AllByRecursion (Fits k a) (rows ++ row ∷ [])
+fit_more k a [] row all fits = (fits, tt)
+fit_more k a (r ∷ rows) row all fits = (all.0, fit_more k a rows row all.1 fits)
+
+append_nil : {A : Type 0} (xs : List A) → xs ++ [] ≡ xs
+append_nil [] = refl
+append_nil (x ∷ xs) = ap (λ ys. x ∷ ys) (append_nil xs)
+
+length_more : (rows : List GroupRow) (row : GroupRow) → length rows + 1 ≡ length (rows ++ row ∷ [])
+length_more [] row = refl
+length_more (r ∷ rows) row = let next = length_more rows row in omega (arith, next)
+
+parts_more : {X : Type 0} (f : GroupRow → List X) (rows : List GroupRow) (row : GroupRow) → flat_map f rows ++ f row ≡ flat_map f (rows ++ row ∷ [])
+parts_more f rows row = ap (λ xs. flat_map f rows ++ xs) (sym (append_nil (f row))) ∙ sym (flat_map-append f rows (row ∷ []))
+
+pub one_gathered : (k a n : ℕ) (keys : List (Option KeyValue)) (numbers : List (Option ℤ)) (rows : List GroupRow) (row : GroupRow) (n' : ℕ) (keys' : List (Option KeyValue)) (numbers' : List (Option ℤ))
+    → n' ≡ n + 1 → keys' ≡ keys ++ row.keys → numbers' ≡ numbers ++ row.aggregates → Fits k a row → AreParts k a n keys numbers rows → AreParts k a n' keys' numbers' (rows ++ row ∷ [])
+one_gathered k a n keys numbers rows row n' keys' numbers' is_n is_keys is_numbers fits are = record {
+  fit = fit_more k a rows row are.fit fits;
+  many = is_n ∙ ap (λ m. m + 1) are.many ∙ length_more rows row;
+  key_parts = is_keys ∙ ap (λ xs. xs ++ row.keys) are.key_parts ∙ parts_more (λ r. r.keys) rows row;
+  aggregate_parts = is_numbers ∙ ap (λ xs. xs ++ row.aggregates) are.aggregate_parts ∙ parts_more (λ r. r.aggregates) rows row;
+}
+
+taken : {X : Type 0} (n : ℕ) (xs ys : List X) → length xs ≡ n → take n (xs ++ ys) ≡ xs
+taken n xs ys long = ap (λ m. take m (xs ++ ys)) (sym long) ∙ take-append_seam xs ys
+
+dropped : {X : Type 0} (n : ℕ) (xs ys : List X) → length xs ≡ n → drop n (xs ++ ys) ≡ ys
+dropped n xs ys long = ap (λ m. drop m (xs ++ ys)) (sym long) ∙ drop-append_seam xs ys
+
+rows_again : (k a : ℕ) (rows : List GroupRow) → AllByRecursion (Fits k a) rows → rows_of k a (length rows) (flat_map (λ row. row.keys) rows) (flat_map (λ row. row.aggregates) rows) ≡ rows
+unfolding rows_of
+rows_again k a [] fit = refl
+rows_again k a (row ∷ rows) fit =
+    let keys_left = flat_map (λ (r : GroupRow). r.keys) rows in
+    let numbers_left = flat_map (λ (r : GroupRow). r.aggregates) rows in
+    (λ i. record { keys = taken k row.keys keys_left fit.0.keys i; aggregates = taken a row.aggregates numbers_left fit.0.aggregates i }
+    ∷ rows_of k a (length rows) (dropped k row.keys keys_left fit.0.keys i) (dropped a row.aggregates numbers_left fit.0.aggregates i))
+    ∙ ap (λ rest. row ∷ rest) (rows_again k a rows fit.1)
+
+pub gathered_rows : (k a n : ℕ) (keys : List (Option KeyValue)) (numbers : List (Option ℤ)) (rows : List GroupRow) → AreParts k a n keys numbers rows → rows_of k a n keys numbers ≡ rows
+gathered_rows k a n keys numbers rows are = (λ i. rows_of k a (are.many i) (are.key_parts i) (are.aggregate_parts i)) ∙ rows_again k a rows are.fit
+
+keys_long : (k a : ℕ) (rows : List GroupRow) → AllByRecursion (Fits k a) rows → length (flat_map (λ row. row.keys) rows) ≡ length rows * k
+keys_long k a [] fit = sym (zero-mul k)
+keys_long k a (row ∷ rows) fit = length-append row.keys (flat_map (λ (r : GroupRow). r.keys) rows) ∙ (λ i. fit.0.keys i + keys_long k a rows fit.1 i) ∙ add_comm k (length rows * k) ∙ sym (suc-mul (length rows) k)
+
+aggregates_long : (k a : ℕ) (rows : List GroupRow) → AllByRecursion (Fits k a) rows → length (flat_map (λ row. row.aggregates) rows) ≡ length rows * a
+aggregates_long k a [] fit = sym (zero-mul a)
+aggregates_long k a (row ∷ rows) fit = length-append row.aggregates (flat_map (λ (r : GroupRow). r.aggregates) rows) ∙ (λ i. fit.0.aggregates i + aggregates_long k a rows fit.1 i) ∙ add_comm a (length rows * a) ∙ sym (suc-mul (length rows) a)
+
+pub keys_gathered : (k a n : ℕ) (keys : List (Option KeyValue)) (numbers : List (Option ℤ)) (rows : List GroupRow) → AreParts k a n keys numbers rows → length keys ≡ n * k
+keys_gathered k a n keys numbers rows are = ap length are.key_parts ∙ keys_long k a rows are.fit ∙ ap (λ m. m * k) (sym are.many)
+
+pub aggregates_gathered : (k a n : ℕ) (keys : List (Option KeyValue)) (numbers : List (Option ℤ)) (rows : List GroupRow) → AreParts k a n keys numbers rows → length numbers ≡ n * a
+aggregates_gathered k a n keys numbers rows are = ap length are.aggregate_parts ∙ aggregates_long k a rows are.fit ∙ ap (λ m. m * a) (sym are.many)

@@ -1,0 +1,25 @@
+-- Rows in flat storage: the parts of each row after those of the row before it.
+use Rattle.std.specs.Prelude.{◌≡◌, ℕ, zero, suc, ℤ, List, [], ◌∷◌, Option, length, take, drop}
+use Rattle.std.specs.List.{flat_map, AllByRecursion}
+use Rattle.star_program.specs.declared.key.KeyValue.{KeyValue}
+use Rattle.star_group.specs.declared.group_row.GroupRow.{GroupRow}
+
+-- so many rows, of so many keys and aggregates each
+unfoldable pub rows_of : ℕ → ℕ → ℕ → List (Option KeyValue) → List (Option ℤ) → List GroupRow
+rows_of key_count aggregate_count zero keys aggregates = []
+rows_of key_count aggregate_count (suc count) keys aggregates =
+    record { keys = take key_count keys; aggregates = take aggregate_count aggregates }
+    ∷ rows_of key_count aggregate_count count (drop key_count keys) (drop aggregate_count aggregates)
+
+-- a row of so many keys and aggregates
+pub record Fits (key_count aggregate_count : ℕ) (row : GroupRow) : Type 0 where
+  pub keys : length row.keys ≡ key_count
+  pub aggregates : length row.aggregates ≡ aggregate_count
+
+-- the parts of some rows
+pub record AreParts (key_count aggregate_count count : ℕ) (keys : List (Option KeyValue))
+    (aggregates : List (Option ℤ)) (rows : List GroupRow) : Type 0 where
+  pub fit : AllByRecursion (Fits key_count aggregate_count) rows
+  pub many : count ≡ length rows
+  pub key_parts : keys ≡ flat_map (λ row. row.keys) rows
+  pub aggregate_parts : aggregates ≡ flat_map (λ row. row.aggregates) rows
