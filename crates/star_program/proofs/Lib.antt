@@ -10,4 +10,5 @@ mod WorkedCubes
 mod OwnGroups
 mod OutcomeCells
 mod WorkedCells
+mod WorkedWorlds
 pub mod Text

@@ -21,10 +21,11 @@ use Rattle.star_program.specs.declared.op.Operator.TheVariants.{Add, Sub, Mul, L
 use Rattle.star_program.specs.declared.program.Parts.{Parts}
 use Rattle.star_program.specs.declared.fault.Fault.TheVariants.{Unset}
 use Rattle.star_program.specs.declared.fault.TrapKind.TheVariants.{Wrong, AbsentKey, Overflow}
+use Rattle.star_program.specs.declared.value.Kind.TheVariants as kind
 use Rattle.star_program.specs.declared.value.Value.{Value}
 use Rattle.star_program.specs.declared.value.Value.TheVariants.{Number, Text, Place, Row, Flag}
 use Rattle.star_program.specs.Code.{Stop}
-use Rattle.star_program.specs.Effects.{Effect, EndsTurn, GoesOn, Store, Traps, act, answer_of, empty_store}
+use Rattle.star_program.specs.Effects.{Effect, EndsTurn, GoesOn, Store, Traps, act, answer_of, empty_store, kinds_in}
 use Rattle.star_program.specs.Keys.{same_keys}
 use Rattle.star_program.specs.Private.Doing.{fitting}
 use Rattle.star_program.specs.Puts.{Update, aligned, overflows, own_groups, total}
@@ -52,6 +53,9 @@ rows = (refl, refl, refl)
 
 keys : (key_in (few 0) ≡ key.Number (negsuc 2)) × (key_in (few 1) ≡ key.Code 4) × (key_in (few 4) ≡ key.Code 0)
 keys = (refl, refl, refl)
+
+kinds : map (kinds_in few) (0 ∷ 1 ∷ 2 ∷ 3 ∷ 4 ∷ 5 ∷ []) ≡ Some kind.Number ∷ Some (kind.Text CRegion) ∷ Some (kind.Place CRegion) ∷ Some (kind.Row Customer) ∷ Some kind.Flag ∷ None ∷ []
+kinds = refl
 
 -- ---- operators
 

@@ -1,15 +1,21 @@
 -- Runs of small programs, by computation.
 use Rattle.std.proofs.Common.{◌≡◌, List, [], ◌∷◌, Option, Some, None, refl}
 use Rattle.std.specs.Prelude.{ℤ, pos}
+use Rattle.star_schema.specs.declared.column.ColumnId.TheVariants.{LoQuantity}
+use Rattle.star_schema.specs.declared.group.Aggregate.TheVariants.{Sum}
+use Rattle.star_schema.specs.declared.table.TableId.TheVariants.{Date, Lineorder}
 use Rattle.star_schema.specs.Schema.{column_of}
 use Rattle.star_interval.specs.Range.{is_i64}
+use Rattle.star_program.specs.declared.op.Op.TheVariants.{Put}
+use Rattle.star_program.specs.declared.op.Operation.TheVariants.{Load}
 use Rattle.star_program.specs.declared.program.Parts.{Parts}
-use Rattle.star_program.specs.declared.fault.Fault.TheVariants.{Misplaced, BadGroup}
+use Rattle.star_program.specs.declared.fault.Fault.TheVariants.{BadRegister, Misplaced, BadGroup}
+use Rattle.star_program.specs.Code.{Each, Stop, Then}
 use Rattle.star_program.specs.Faults.{group_at}
 use Rattle.star_program.specs.Puts.{total}
 use Rattle.star_program.specs.declared.fault.TrapKind.TheVariants.{Wrong, AbsentKey, Overflow}
 use Rattle.star_program.specs.Run.{End, Ended, Trapped, Limited, run_of, bounded_run_of}
-use Rattle.star_program.proofs.Sample.{sample, great_prices, above_average, find_by_quantity, read_while_putting, written_twice, keep_outside, shows_no_key, scan_in_scan, doubled_difference}
+use Rattle.star_program.proofs.Sample.{sample, great_prices, assign, counting, plain, program, above_average, find_by_quantity, read_while_putting, written_twice, keep_outside, shows_no_key, scan_in_scan, doubled_difference}
 
 -- what a run ends with: the three counts, and the first aggregate over all updates of the reported group
 abbrev shown : Parts → End → List (Option ℤ)
@@ -60,3 +66,19 @@ scan_in_scan_runs = refl
 doubled_difference_traps : run_of great_prices doubled_difference ≡ Trapped 12 Overflow
 unfolding column_of is_i64
 doubled_difference_traps = refl
+
+-- a scan begins with the first row: 10, 30, 24, 50 and 1 add up
+abbrev quantities : Parts
+quantities = program 3 (plain (Sum ∷ []) ∷ []) 0
+    (Each Lineorder 0 (assign 1 (Load LoQuantity 0) (Then (Put 0 [] (1 ∷ [])) Stop)) Stop)
+
+quantities_run : shown quantities (run_of sample quantities) ≡ Some (pos 5) ∷ Some (pos 0) ∷ Some (pos 5) ∷ Some (pos 115) ∷ []
+unfolding column_of is_i64
+quantities_run = refl
+
+-- of the three registers the last may be a scan's, and the next traps also over a table of no rows
+last_register_runs : shown (counting (Each Date 2 Stop Stop)) (run_of great_prices (counting (Each Date 2 Stop Stop))) ≡ Some (pos 0) ∷ Some (pos 0) ∷ Some (pos 0) ∷ Some (pos 0) ∷ []
+last_register_runs = refl
+
+next_register_traps : run_of great_prices (counting (Each Date 3 Stop Stop)) ≡ Trapped 1 (Wrong BadRegister)
+next_register_traps = refl

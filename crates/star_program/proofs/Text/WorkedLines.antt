@@ -17,11 +17,14 @@ use Rattle.star_program.specs.declared.op.Op.TheVariants.{Assign, Keep, Put}
 use Rattle.star_program.specs.declared.op.Operation.{Operation}
 use Rattle.star_program.specs.declared.op.Operation.TheVariants.{Binary, Const, Edge, Find, Load, Not, Read, Within}
 use Rattle.star_program.specs.declared.op.Operator.TheVariants.{Add, And, Equal, Less, LessOrEqual, Mul, Or, Sub}
+use Rattle.star_program.specs.declared.fault.Fault.TheVariants.{BadColumn, BadGroup, BadRegister, Misplaced, Unset, WrittenTwice, WrongKind}
+use Rattle.star_program.specs.declared.fault.TrapKind.TheVariants.{AbsentKey, Overflow, Wrong}
 use Rattle.star_program.specs.declared.program.Parts.{Parts}
 use Rattle.star_program.specs.declared.spelling.fault.TextFault.{TextFault}
 use Rattle.star_program.specs.declared.spelling.fault.TextFault.TheVariants.{BadHeader, BadLine, OpenScan, OutOfMemory, TooLarge}
 use Rattle.star_program.specs.Code.{Code, Each, Stop, Then, code_size, scan_depth}
 use Rattle.star_program.specs.Text.FaultTexts.{fault_text}
+use Rattle.star_program.specs.TrapTexts.{kind_text, wrong_text}
 use Rattle.star_program.specs.Text.Keywords.{aggregate_name, aggregate_of, column_of, direction_name, direction_of, keyword_name, keyword_of, mnemonic_name, mnemonic_of, shape_name, shape_of, table_of}
 use Rattle.star_program.specs.Text.Lines.{is_blank, lines_of, pieces_of, words_of}
 use Rattle.star_program.specs.Text.Numerals.{constant_of, count_of, is_name, register_of}
@@ -109,6 +112,11 @@ a_lone_return : lines_of (97 ∷ 13 ∷ 98 ∷ 13 ∷ 10 ∷ 99 ∷ 11 ∷ []) �
 unfolding lines_of
 a_lone_return = refl
 
+-- nor does one that is the last byte
+a_last_return : lines_of (97 ∷ 13 ∷ []) ≡ (97 ∷ 13 ∷ []) ∷ []
+unfolding lines_of
+a_last_return = refl
+
 quotes : map unquoted (codes "a''b'  " ∷ codes "a'b" ∷ codes "a" ∷ codes "''" ∷ codes "'''" ∷ []) ≡ Some (codes "a'b") ∷ None ∷ None ∷ None ∷ Some (codes "'") ∷ []
 unfolding unquoted
 quotes = refl
@@ -144,3 +152,9 @@ fault_words : map fault_text (OutOfMemory ∷ BadHeader ∷ BadLine 3 ∷ OpenSc
     ≡ codes "1 OutOfMemory" ∷ codes "50 BadHeader" ∷ codes "51 BadLine line 3" ∷ codes "52 OpenScan" ∷ codes "53 TooLarge line 12" ∷ []
 unfolding fault_text digits
 fault_words = refl
+
+-- and of traps
+trap_words : map kind_text (Wrong BadRegister ∷ Wrong WrittenTwice ∷ Wrong Unset ∷ Wrong WrongKind ∷ Wrong BadColumn ∷ Wrong BadGroup ∷ Wrong Misplaced ∷ AbsentKey ∷ Overflow ∷ [])
+    ≡ codes "BadRegister" ∷ codes "WrittenTwice" ∷ codes "Unset" ∷ codes "WrongKind" ∷ codes "BadColumn" ∷ codes "BadGroup" ∷ codes "Misplaced" ∷ codes "AbsentKey" ∷ codes "Overflow" ∷ []
+unfolding kind_text wrong_text
+trap_words = refl
