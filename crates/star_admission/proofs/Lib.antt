@@ -6,6 +6,8 @@ mod WorkedRanges
 mod WorkedMoments
 mod WorkedEnds
 mod WorkedTotals
+mod WorkedReasons
+mod WorkedAcceptance
 mod Numbers
 mod Tally
 mod TallyOrder
