@@ -10,7 +10,7 @@ use Rattle.star_admission.specs.Tallies.{sum_range}
 use Rattle.star_admission.specs.Contexts.{Context, at_first, at_end}
 use Rattle.star_admission.specs.Moments.{all_shares}
 use Rattle.star_admission.specs.Standing.{Standing, instructions_of}
-use Rattle.star_admission.specs.Told.{is_instruction}
+use Rattle.star_admission.specs.Told.{is_instruction, writes_to}
 use Rattle.star_admission.proofs.Words.{const, put, acts, over}
 
 -- 5 is put in a scan of three rows, and before that in a scan of two in it
@@ -46,3 +46,8 @@ unknown_there = refl
 
 not_written : last.written 3 ≡ false
 not_written = refl
+
+-- a scan writes its row's register, and an end writes none
+scan_writes : map (writes_to 2) (instructions_of sample two_puts)
+    ≡ false ∷ false ∷ true ∷ false ∷ false ∷ false ∷ false ∷ false ∷ []
+scan_writes = refl

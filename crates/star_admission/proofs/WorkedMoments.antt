@@ -11,13 +11,13 @@ use Rattle.star_program.specs.Code.{Stop, Each}
 use Rattle.star_program.specs.declared.value.Value.TheVariants.{Number, Text, Place, Row, Flag}
 use Rattle.star_program.specs.Values.{Registers}
 use Rattle.star_program.specs.declared.program.Parts.{Parts}
-use Rattle.star_program.specs.Effects.{empty_store}
+use Rattle.star_program.specs.Effects.{EndsTurn, empty_store}
 use Rattle.star_program.specs.World.{World}
 use Rattle.star_program.proofs.Sample.{sample, plain}
 use Rattle.star_admission.specs.Bounds.{FitsI128, NamesI64}
 use Rattle.star_admission.specs.Fitting.{FitsValue, FitsAt}
-use Rattle.star_admission.specs.Laws.{SumsFit}
-use Rattle.star_admission.specs.Moments.{IsMoment, AtEveryMoment}
+use Rattle.star_admission.specs.Laws.{SumsFit, TotalLies}
+use Rattle.star_admission.specs.Moments.{IsMoment, AtEveryMoment, Onward, picked, sum_of}
 use Rattle.star_admission.specs.Ranges.{Table, Known, KnownText, KnownPlace, KnownRow, KnownFlag, given, loaded_known}
 use Rattle.star_admission.specs.Tallies.{no_shares}
 use Rattle.star_admission.proofs.Words.{const, add, keep, put, read, acts, over}
@@ -100,7 +100,14 @@ nothing_unknown h = h
 nothing_missing : FitsAt sample (Some KnownFlag) None → ⊥
 nothing_missing h = h
 
+flag_stands : FitsAt sample (Some KnownFlag) (Some (Flag true))
+flag_stands = tt
+
 -- ---- what comes next
+
+-- the end of a turn asks for nothing
+turn_over : Onward (EndsTurn empty_store) (λ regs s. ⊥)
+turn_over = tt
 
 -- a trap comes at no moment
 sum_leaves : AtEveryMoment sample
@@ -134,6 +141,13 @@ no_greater_default : NamesI64 (read 0 0 0 (pos (2 ^ 63))) → ⊥
 no_greater_default h = let p = h.sfits in omega (arith, p)
 
 -- ---- what adds up
+
+-- of 4, 2 and 3 the first and the last
+some_sum : sum_of (picked (true ∷ false ∷ true ∷ []) (pos 4 ∷ pos 2 ∷ pos 3 ∷ [])) ≡ pos 7
+some_sum = refl
+
+null_lies : TotalLies (Some (only (pos 0))) None
+null_lies = tt
 
 -- twice the greatest number leaves 64 bits
 abbrev two_puts : Parts
