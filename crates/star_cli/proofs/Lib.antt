@@ -1,3 +1,5 @@
+pub mod Asking
+pub mod Limits
 mod NameLemmas
 mod Telling
 mod WorkedFaults

@@ -9,7 +9,7 @@ use Rattle.star_engine.specs.Answered.{Change, IsUntouched}
 use Rattle.star_cli.specs.Lines.{IsTold}
 use Rattle.star_cli.specs.Names.{shown_name}
 use Rattle.star_cli.specs.declared.failure.Failure.{Failure}
-use Rattle.star_cli.specs.declared.failure.Failure.TheVariants.{Words, NotText, EmptyFolder, NoTask, File, OutOfMemory}
+use Rattle.star_cli.specs.declared.failure.Failure.TheVariants.{Words, NotText, EmptyFolder, NoCommand, File, OutOfMemory}
 
 -- an error of the parser of the words: it too may want memory
 abbrev pub failure_of_kind : Error → ErrorKind → Failure
@@ -24,7 +24,7 @@ unfoldable pub failure_text : Failure → Option (List ℕ)
 failure_text (Words error) = None
 failure_text NotText = Some (codes "error: a word is not UTF-8\n")
 failure_text EmptyFolder = Some (codes "error: the folder's name is empty\n")
-failure_text NoTask = Some (codes "error: the words are no command\n")
+failure_text NoCommand = Some (codes "error: the words are no command\n")
 failure_text (File name) = Some (codes "file " ++ (shown_name name.now ++ codes "\n"))
 failure_text OutOfMemory = Some (codes "memory\n")
 
@@ -40,7 +40,7 @@ abbrev pub status_of : Failure → ℕ
 status_of (Words error) = words_status (kind_of error)
 status_of NotText = 2
 status_of EmptyFolder = 2
-status_of NoTask = 2
+status_of NoCommand = 2
 status_of (File name) = 6
 status_of OutOfMemory = 7
 

@@ -2,3 +2,4 @@ pub mod Answers
 pub mod Failures
 pub mod Lines
 pub mod Names
+pub mod Private

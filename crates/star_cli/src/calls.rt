@@ -28,7 +28,8 @@ pub(crate) fn list<S: Sink>(
     texts: &Texts<'_>,
     out: &mut S,
 ) -> Result<bool, EngineFault>
-    ensures { IsWhole (IsListed (change S.contents S.is_failed out.old out.new) (text_of texts.now)) result }
+    ensures { IsWhole (IsListed (change S.contents S.is_failed out.old out.new)
+        (text_of texts.now)) result }
 {
     whole(check(alloc, texts, Limits::widest(), out))
 }
@@ -50,7 +51,8 @@ pub(crate) fn list_and_bench<S: Sink>(
     texts: &Texts<'_>,
     out: &mut S,
 ) -> Result<bool, EngineFault>
-    ensures { IsListedAndBenched (change S.contents S.is_failed out.old out.new) (text_of texts.now) result }
+    ensures { IsListedAndBenched (change S.contents S.is_failed out.old out.new)
+        (text_of texts.now) result }
 {
     match list(alloc, texts, out) {
         Ok(_) => answer_benchmark(alloc, texts, out),
@@ -65,13 +67,15 @@ pub(crate) fn query<S: Sink, N: Sink>(
     out: &mut S,
     notes: &mut N,
 ) -> Result<bool, EngineFault>
-    ensures { IsWhole (IsQueried (change S.contents S.is_failed out.old out.new) (change N.contents N.is_failed notes.old notes.new) (text_of texts.now) file.now) result }
+    ensures { IsWhole (IsQueried (change S.contents S.is_failed out.old out.new)
+        (change N.contents N.is_failed notes.old notes.new) (text_of texts.now) file.now) result }
 {
     whole(answer_query(alloc, texts, file, Limits::widest(), out, notes))
 }
 
 pub(crate) fn explain<S: Sink>(alloc: Global, file: &[u8], out: &mut S) -> Result<bool, EngineFault>
-    ensures { IsWhole (IsExplanation (change S.contents S.is_failed out.old out.new) file.now) result }
+    ensures { IsWhole (IsExplanation (change S.contents S.is_failed out.old out.new)
+        file.now) result }
 {
     whole(explain_query(alloc, file, out))
 }
@@ -83,7 +87,8 @@ pub(crate) fn execute<S: Sink, N: Sink>(
     out: &mut S,
     notes: &mut N,
 ) -> Result<bool, EngineFault>
-    ensures { IsWhole (IsExecuted (change S.contents S.is_failed out.old out.new) (change N.contents N.is_failed notes.old notes.new) (text_of texts.now) file.now) result }
+    ensures { IsWhole (IsExecuted (change S.contents S.is_failed out.old out.new)
+        (change N.contents N.is_failed notes.old notes.new) (text_of texts.now) file.now) result }
 {
     whole(answer_program(alloc, texts, file, Limits::widest(), out, notes))
 }
@@ -94,7 +99,8 @@ pub(crate) fn quote<S: Sink>(
     file: &[u8],
     out: &mut S,
 ) -> Result<bool, EngineFault>
-    ensures { IsWhole (IsQuote (change S.contents S.is_failed out.old out.new) (text_of texts.now) file.now) result }
+    ensures { IsWhole (IsQuote (change S.contents S.is_failed out.old out.new)
+        (text_of texts.now) file.now) result }
 {
     whole(quote_text(alloc, texts, file, Limits::widest(), out))
 }
@@ -106,7 +112,8 @@ pub(crate) fn try_program<S: Sink>(
     limits: Limits,
     out: &mut S,
 ) -> Result<bool, EngineFault>
-    ensures { IsWhole (IsTried limits (change S.contents S.is_failed out.old out.new) (text_of texts.now) file.now) result }
+    ensures { IsWhole (IsTried limits (change S.contents S.is_failed out.old out.new)
+        (text_of texts.now) file.now) result }
 {
     let visits = limits.visits;
     whole(trial_program(alloc, texts, file, visits, limits, out))

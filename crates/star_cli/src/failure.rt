@@ -23,8 +23,8 @@ pub(crate) enum Failure<'a> {
     NotText,
     /// The folder's name is empty: its files would be those at the root of the file system.
     EmptyFolder,
-    /// The parser of the words let them pass, and gave no task.
-    NoTask,
+    /// The words begin with no command, and the parser of words finds nothing wrong with them.
+    NoCommand,
     /// A file could not be read, or is too large.
     File(&'a str),
     /// Memory was refused.
@@ -59,7 +59,7 @@ impl<'a> fmt::Display for Failure<'a> {
             Failure::Words(error) => write!(f, "{error}"),
             Failure::NotText => f.write_str("error: a word is not UTF-8\n"),
             Failure::EmptyFolder => f.write_str("error: the folder's name is empty\n"),
-            Failure::NoTask => f.write_str("error: the words are no command\n"),
+            Failure::NoCommand => f.write_str("error: the words are no command\n"),
             Failure::File(name) => writeln!(f, "file {}", Shown(name)),
             Failure::OutOfMemory => f.write_str(MEMORY_LINE),
         }
@@ -83,7 +83,7 @@ impl<'a> Failure<'a> {
     {
         match self {
             Failure::Words(error) => status_of_words(error.kind()),
-            Failure::NotText | Failure::EmptyFolder | Failure::NoTask => 2,
+            Failure::NotText | Failure::EmptyFolder | Failure::NoCommand => 2,
             Failure::File(_) => 6,
             Failure::OutOfMemory => MEMORY_STATUS,
         }

@@ -7,8 +7,10 @@ mod calls;
 mod commands;
 mod failure;
 mod files;
+mod help;
 mod lines;
 mod names;
+mod parser;
 mod words;
 
 pub use crate::answers::{Bytes, answer};

@@ -1,0 +1,109 @@
+// The words of each command, by their names, as the parser of command lines reads them.
+
+ghost use Rattle.std.specs.Prelude.{◌∷◌, [], IfOk, codes};
+ghost use Rattle.star_cli.specs.Private.Asked.{Asks, AsksForLimit, IsLimit, IsWord, IsWordless};
+
+use crate::help::Help;
+use clap::{Arg, ArgAction, Command, value_parser};
+use star_schema::MOST_VISITS;
+use std::alloc::{AllocError, Global};
+
+// A word that has to be there, as it stands.
+fn word<'a>(alloc: Global, name: &'a str, help: &'a str) -> Arg<'a>
+    ensures { IsWord name.entry.now result }
+{
+    Arg::new(alloc, name)
+        .help(help)
+        .required(true)
+        .action(ArgAction::Set)
+}
+
+fn folder_word<'a>(alloc: Global) -> Arg<'a>
+    ensures { IsWord (codes "FOLDER") result }
+{
+    word(
+        alloc,
+        "FOLDER",
+        "A folder with date.tbl, customer.tbl, supplier.tbl, part.tbl and lineorder.tbl",
+    )
+}
+
+fn file_word<'a>(alloc: Global, help: &'a str) -> Arg<'a>
+    ensures { IsWord (codes "FILE") result }
+{
+    word(alloc, "FILE", help)
+}
+
+fn limit_word<'a>(alloc: Global) -> Arg<'a>
+    ensures { IsLimit (codes "LIMIT") result }
+{
+    word(
+        alloc,
+        "LIMIT",
+        "How many turns of scans may begin at most, from 0 to 1000000000000000",
+    )
+    .value_parser(value_parser!(i64).range(0..=MOST_VISITS as i64))
+}
+
+// A command that asks for nothing yet.
+fn wordless<'a>(alloc: Global, help: Help) -> Result<Command<'a>, AllocError>
+    ensures { IfOk result IsWordless }
+{
+    Command::new(alloc, help.name)
+        .about(help.about)
+        .after_help(help.after)
+        .no_binary_name(true)
+        .bin_name(help.called)
+}
+
+/// The command that has commands of its own, and no words.
+pub(crate) fn program<'a>(alloc: Global, help: Help) -> Result<Command<'a>, AllocError> {
+    wordless(alloc, help)
+}
+
+/// A command that asks for a folder.
+pub(crate) fn over_folder<'a>(alloc: Global, help: Help) -> Result<Command<'a>, AllocError>
+    ensures { IfOk result (Asks (codes "FOLDER" ∷ [])) }
+{
+    let start = wordless(alloc, help)?;
+    start.arg(folder_word(alloc))
+}
+
+/// A command that asks for a file.
+pub(crate) fn over_file<'a>(
+    alloc: Global,
+    help: Help,
+    file: &'a str,
+) -> Result<Command<'a>, AllocError>
+    ensures { IfOk result (Asks (codes "FILE" ∷ [])) }
+{
+    let start = wordless(alloc, help)?;
+    start.arg(file_word(alloc, file))
+}
+
+/// A command that asks for a folder and a file.
+pub(crate) fn over_folder_and_file<'a>(
+    alloc: Global,
+    help: Help,
+    file: &'a str,
+) -> Result<Command<'a>, AllocError>
+    ensures { IfOk result (Asks (codes "FOLDER" ∷ codes "FILE" ∷ [])) }
+{
+    let start = wordless(alloc, help)?;
+    let over = start.arg(folder_word(alloc))?;
+    over.arg(file_word(alloc, file))
+}
+
+/// A command that asks for a folder, a file and a limit on visits.
+pub(crate) fn under_limit<'a>(
+    alloc: Global,
+    help: Help,
+    file: &'a str,
+) -> Result<Command<'a>, AllocError>
+    ensures { IfOk result AsksForLimit }
+{
+    let start = wordless(alloc, help)?;
+    let over = start.arg(folder_word(alloc))?;
+    let both = over.arg(file_word(alloc, file))?;
+    both.arg(limit_word(alloc))
+}
