@@ -23,7 +23,7 @@ use crate::select::{check_from, check_groups, check_order, check_select};
 use crate::tree::PlanTree;
 use crate::uses::{Use, check_kinds, check_scope, uses_of};
 use star_query::{Item, Name, Query, SortKey, Tree};
-use std::alloc::{AllocError, Global};
+use std::alloc::Global;
 
 fn check_naming(tables: &[Name], uses: &[Use], pairs: &[Pair]) -> Result<(), PlanFault>
     ensures { Tells (naming_fault (map name_view tables.now) uses.now pairs.now) result }
@@ -60,28 +60,19 @@ fn check(alloc: Global, tree: &Tree) -> Result<(), PlanFault>
 }
 
 // The query with its names resolved: each stands for something.
-fn resolve(alloc: Global, tree: &Tree) -> Result<PlanTree, AllocError>
+fn resolve(alloc: Global, tree: &Tree) -> Result<PlanTree, PlanFault>
     requires items { length tree.now.items.items ≤ most_items }
     requires groups { length tree.now.grouping.columns.items ≤ most_columns }
     requires named { plan_fault (tree_view tree.now) ≡ None }
-    ensures { IfOk result (λ plan. IsResolved (tree_view tree.now) (shown plan)) }
+    ensures resolved { IfOk result (λ plan. IsResolved (tree_view tree.now) (shown plan)) }
+    ensures memory { IfErr result (λ fault. fault ≡ OutOfMemory) }
 {
     let groups = &tree.grouping.columns;
-    let Some(conjuncts) = resolve_where(alloc, &tree.condition)? else {
-        unreachable!()
-    };
-    let Some(keys) = resolve_groups(alloc, groups)? else {
-        unreachable!()
-    };
-    let Some(aggregates) = resolve_aggregates(alloc, &tree.items)? else {
-        unreachable!()
-    };
-    let Some(items) = resolve_items(alloc, groups, &tree.items)? else {
-        unreachable!()
-    };
-    let Some(sorts) = resolve_order(alloc, groups, &aggregates, &tree.keys)? else {
-        unreachable!()
-    };
+    let conjuncts = resolve_where(alloc, &tree.condition)?;
+    let keys = resolve_groups(alloc, groups)?;
+    let aggregates = resolve_aggregates(alloc, &tree.items)?;
+    let items = resolve_items(alloc, groups, &tree.items)?;
+    let sorts = resolve_order(alloc, groups, &aggregates, &tree.keys)?;
     let pairs = pairs_of(alloc, &tree.condition)?;
     Ok(PlanTree {
         joins: joins_of(alloc, &pairs)?,
