@@ -3,7 +3,7 @@
 ghost use Rattle.std.specs.Prelude.{◌≡◌, ◌≤◌, None, Some, IfErr, IfOk, length, map};
 ghost use Rattle.star_common.specs.Memory.{UnlessMemory};
 ghost use Rattle.star_query.specs.Maxima.{most_columns, most_items};
-ghost use Rattle.star_query.specs.Shown as asked;
+ghost use Rattle.star_query.specs.Shown.{query_shown};
 ghost use Rattle.star_query.specs.Views.{item_view, key_view, name_view, tree_view};
 ghost use Rattle.star_plan.specs.declared.fault.PlanFault.TheVariants.{OutOfMemory};
 ghost use Rattle.star_plan.specs.Private.Answers.{Tells};
@@ -41,7 +41,8 @@ fn check_grouping(
     keys: &[SortKey],
 ) -> Result<(), PlanFault>
     requires { length items.now ≤ most_items }
-    ensures { Tells (grouping_fault (map name_view groups.now) (map item_view items.now) (map key_view keys.now)) result }
+    ensures { Tells (grouping_fault (map name_view groups.now) (map item_view items.now)
+        (map key_view keys.now)) result }
 {
     check_groups(groups)?;
     let names = check_select(alloc, groups, items)?;
@@ -88,11 +89,13 @@ fn resolve(alloc: Global, tree: &Tree) -> Result<PlanTree, PlanFault>
 /// The plan of a query, exactly where the query is well named; else the first fault. Want of memory may come before it.
 pub fn plan(alloc: Global, query: &Query) -> Result<Plan, PlanFault>
     // Only a well named query has one.
-    ensures named { IfOk result (λ _. IsWellNamed (asked.shown query.now)) }
+    ensures named { IfOk result (λ _. IsWellNamed (query_shown query.now)) }
     // Its tree is the query's, with the names resolved.
-    ensures resolved { IfOk result (λ plan. IsResolved (asked.shown query.now) (shown (plan_tree plan))) }
+    ensures resolved { IfOk result (λ plan. IsResolved (query_shown query.now)
+        (shown (plan_tree plan))) }
     // A refusal is the first fault.
-    ensures refused { IfErr result (λ fault. UnlessMemory OutOfMemory fault (plan_fault (asked.shown query.now) ≡ Some fault)) }
+    ensures refused { IfErr result (λ fault. UnlessMemory OutOfMemory fault
+        (plan_fault (query_shown query.now) ≡ Some fault)) }
 {
     let query = query.tree();
     check(alloc, query)?;

@@ -5,7 +5,6 @@ ghost use Rattle.std.specs.Option.{option_or};
 ghost use Rattle.star_plan.specs.Naming as naming;
 ghost use Rattle.std.specs.Cmp.Lexicographic.{pointwise};
 ghost use Rattle.std.specs.List.{position};
-ghost use Rattle.star_schema.specs.declared.group.GroupColumn.TheVariants as group;
 ghost use Rattle.star_query.specs.Maxima.{most_columns, most_items};
 ghost use Rattle.star_query.specs.Views.{aggregate_view, condition_view, expression_view, item_view, key_view, literal_view, measure_view, name_view};
 ghost use Rattle.star_plan.specs.Meaning as meaning;
@@ -35,19 +34,22 @@ fn resolve_column(name: &Name) -> Result<ColumnId, PlanFault>
 
 impl Expression {
     fn add(alloc: Global, left: Expression, right: Expression) -> Result<Expression, AllocError>
-        ensures { IfOk result (λ e. shown.expression_shown e ≡ meaning.add (shown.expression_shown left) (shown.expression_shown right)) }
+        ensures { IfOk result (λ e. shown.expression_shown e
+            ≡ meaning.add (shown.expression_shown left) (shown.expression_shown right)) }
     {
         Ok(Expression::Add(Box::new(alloc, left)?, Box::new(alloc, right)?))
     }
 
     fn sub(alloc: Global, left: Expression, right: Expression) -> Result<Expression, AllocError>
-        ensures { IfOk result (λ e. shown.expression_shown e ≡ meaning.sub (shown.expression_shown left) (shown.expression_shown right)) }
+        ensures { IfOk result (λ e. shown.expression_shown e
+            ≡ meaning.sub (shown.expression_shown left) (shown.expression_shown right)) }
     {
         Ok(Expression::Sub(Box::new(alloc, left)?, Box::new(alloc, right)?))
     }
 
     fn mul(alloc: Global, left: Expression, right: Expression) -> Result<Expression, AllocError>
-        ensures { IfOk result (λ e. shown.expression_shown e ≡ meaning.mul (shown.expression_shown left) (shown.expression_shown right)) }
+        ensures { IfOk result (λ e. shown.expression_shown e
+            ≡ meaning.mul (shown.expression_shown left) (shown.expression_shown right)) }
     {
         Ok(Expression::Mul(Box::new(alloc, left)?, Box::new(alloc, right)?))
     }
@@ -58,7 +60,8 @@ fn resolve_expression(
     alloc: Global,
     expression: &query::Expression,
 ) -> Result<Expression, PlanFault>
-    ensures { Resolves shown.expression_shown (spec.resolved_expression (expression_view expression.now)) result }
+    ensures { Resolves shown.expression_shown
+        (spec.resolved_expression (expression_view expression.now)) result }
 {
     match expression {
         query::Expression::Column(name) => Ok(Expression::Column(resolve_column(name)?)),
@@ -83,7 +86,8 @@ fn resolve_expression(
 
 /// What an aggregate computes.
 fn resolve_measure(alloc: Global, measure: &query::Measure) -> Result<Measure, PlanFault>
-    ensures { Resolves shown.measure_shown (spec.resolved_measure (measure_view measure.now)) result }
+    ensures { Resolves shown.measure_shown (spec.resolved_measure (measure_view measure.now))
+        result }
 {
     match measure {
         query::Measure::Count => Ok(Measure::Count),
@@ -105,19 +109,22 @@ fn copy_literal(alloc: Global, literal: &Literal) -> Result<Literal, AllocError>
 
 impl Condition {
     fn or(alloc: Global, left: Condition, right: Condition) -> Result<Condition, AllocError>
-        ensures { IfOk result (λ c. shown.condition_shown c ≡ meaning.either (shown.condition_shown left) (shown.condition_shown right)) }
+        ensures { IfOk result (λ c. shown.condition_shown c
+            ≡ meaning.either (shown.condition_shown left) (shown.condition_shown right)) }
     {
         Ok(Condition::Or(Box::new(alloc, left)?, Box::new(alloc, right)?))
     }
 
     fn and(alloc: Global, left: Condition, right: Condition) -> Result<Condition, AllocError>
-        ensures { IfOk result (λ c. shown.condition_shown c ≡ meaning.both (shown.condition_shown left) (shown.condition_shown right)) }
+        ensures { IfOk result (λ c. shown.condition_shown c
+            ≡ meaning.both (shown.condition_shown left) (shown.condition_shown right)) }
     {
         Ok(Condition::And(Box::new(alloc, left)?, Box::new(alloc, right)?))
     }
 
     fn not(alloc: Global, negated: Condition) -> Result<Condition, AllocError>
-        ensures { IfOk result (λ c. shown.condition_shown c ≡ meaning.negation (shown.condition_shown negated)) }
+        ensures { IfOk result (λ c. shown.condition_shown c
+            ≡ meaning.negation (shown.condition_shown negated)) }
     {
         Ok(Condition::Not(Box::new(alloc, negated)?))
     }
@@ -129,7 +136,8 @@ fn resolve_compare(
     relation: query::Relation,
     literal: &Literal,
 ) -> Result<Condition, PlanFault>
-    ensures { Resolves shown.condition_shown (spec.resolved_compare (name_view name.now) relation (literal_view literal.now)) result }
+    ensures { Resolves shown.condition_shown (spec.resolved_compare (name_view name.now) relation
+        (literal_view literal.now)) result }
 {
     let column = resolve_column(name)?;
     let literal = copy_literal(alloc, literal)?;
@@ -142,7 +150,8 @@ fn resolve_between(
     from: &Literal,
     upto: &Literal,
 ) -> Result<Condition, PlanFault>
-    ensures { Resolves shown.condition_shown (spec.resolved_between (name_view name.now) (literal_view from.now) (literal_view upto.now)) result }
+    ensures { Resolves shown.condition_shown (spec.resolved_between (name_view name.now)
+        (literal_view from.now) (literal_view upto.now)) result }
 {
     let column = resolve_column(name)?;
     let from = copy_literal(alloc, from)?;
@@ -153,7 +162,8 @@ fn resolve_between(
 // A condition in which no two columns are compared.
 #[tactic(auto, using(crate::proofs::Options::left_missing, crate::proofs::Options::right_missing, crate::proofs::Options::both_there))]
 fn resolve_condition(alloc: Global, condition: &query::Condition) -> Result<Condition, PlanFault>
-    ensures { Resolves shown.condition_shown (spec.resolved_condition (condition_view condition.now)) result }
+    ensures { Resolves shown.condition_shown (spec.resolved_condition
+        (condition_view condition.now)) result }
 {
     match condition {
         query::Condition::Or(left, right) => {
@@ -179,7 +189,8 @@ fn resolve_condition(alloc: Global, condition: &query::Condition) -> Result<Cond
 }
 
 fn lone_conjunct(alloc: Global, condition: &query::Condition) -> Result<Vec<Condition>, PlanFault>
-    ensures { Resolves conditions_shown (option_map (λ c. c ∷ []) (spec.resolved_condition (condition_view condition.now))) result }
+    ensures { Resolves conditions_shown (option_map (λ c. c ∷ [])
+        (spec.resolved_condition (condition_view condition.now))) result }
 {
     let conjunct = resolve_condition(alloc, condition)?;
     let mut conjuncts = Vec::new(alloc);
@@ -212,7 +223,8 @@ pub(crate) fn resolve_where(
     alloc: Global,
     condition: &Option<query::Condition>,
 ) -> Result<Vec<Condition>, PlanFault>
-    ensures { Resolves conditions_shown (spec.where_conjuncts (option_map condition_view condition.now)) result }
+    ensures { Resolves conditions_shown (spec.where_conjuncts
+        (option_map condition_view condition.now)) result }
 {
     match condition {
         None => Ok(Vec::new(alloc)),
@@ -223,7 +235,8 @@ pub(crate) fn resolve_where(
 /// The group columns.
 #[tactic(auto, using(crate::proofs::Options::all_missing, crate::proofs::Options::all_more, crate::proofs::Options::all_whole, crate::proofs::Options::all_first))]
 pub(crate) fn resolve_groups(alloc: Global, groups: &[Name]) -> Result<Vec<ColumnId>, PlanFault>
-    ensures { Resolves (λ keys. keys.items) (spec.option_all column_at (map name_view groups.now)) result }
+    ensures { Resolves (λ keys. keys.items) (spec.option_all column_at (map name_view groups.now))
+        result }
 {
     let mut keys = Vec::new(alloc);
     for name in groups {
@@ -273,7 +286,8 @@ fn aggregate_column(aggregates: &[Aggregate], text: &[u8]) -> Option<GroupColumn
 // What an item shows, where so many aggregates come before it.
 fn item_column(groups: &[Name], before: u16, item: &Item) -> Result<GroupColumn, PlanFault>
     requires { length groups.now ≤ most_columns }
-    ensures { Resolves (λ column. column) (spec.item_column (map name_view groups.now) before (item_view item.now)) result }
+    ensures { Resolves (λ column. column) (spec.item_column (map name_view groups.now) before
+        (item_view item.now)) result }
 {
     match item {
         Item::Column(name) => match key_column(groups, &name.text) {
@@ -302,7 +316,8 @@ pub(crate) fn resolve_items(
 ) -> Result<Vec<GroupColumn>, PlanFault>
     requires groups { length groups.now ≤ most_columns }
     requires items { length items.now ≤ most_items }
-    ensures { Resolves (λ columns. columns.items) (spec.items_from (map name_view groups.now) 0 (map item_view items.now)) result }
+    ensures { Resolves (λ columns. columns.items)
+        (spec.items_from (map name_view groups.now) 0 (map item_view items.now)) result }
 {
     let mut columns = Vec::new(alloc);
     let mut before = 0;
@@ -316,7 +331,8 @@ pub(crate) fn resolve_items(
 fn group_column(groups: &[Name], aggregates: &[Aggregate], text: &[u8]) -> Option<GroupColumn>
     requires groups { length groups.now ≤ most_columns }
     requires aggregates { length aggregates.now ≤ most_items }
-    ensures { result ≡ option_or (spec.key_column (map name_view groups.now) text.now) (spec.aggregate_column (shown.names_shown aggregates.now) text.now) }
+    ensures { result ≡ option_or (spec.key_column (map name_view groups.now) text.now)
+        (spec.aggregate_column (shown.names_shown aggregates.now) text.now) }
 {
     match key_column(groups, text) {
         Some(column) => Some(column),
@@ -331,7 +347,8 @@ fn sort_key(
 ) -> Result<SortKey, PlanFault>
     requires groups { length groups.now ≤ most_columns }
     requires aggregates { length aggregates.now ≤ most_items }
-    ensures { Resolves (λ sort. sort) (spec.resolved_key (map name_view groups.now) (shown.names_shown aggregates.now) (key_view key.now)) result }
+    ensures { Resolves (λ sort. sort) (spec.resolved_key (map name_view groups.now)
+        (shown.names_shown aggregates.now) (key_view key.now)) result }
 {
     let name = &key.name;
     match group_column(groups, aggregates, &name.text) {
@@ -353,7 +370,9 @@ pub(crate) fn resolve_order(
 ) -> Result<Vec<SortKey>, PlanFault>
     requires groups { length groups.now ≤ most_columns }
     requires aggregates { length aggregates.now ≤ most_items }
-    ensures { Resolves (λ sorts. sorts.items) (spec.option_all (spec.resolved_key (map name_view groups.now) (shown.names_shown aggregates.now)) (map key_view keys.now)) result }
+    ensures { Resolves (λ sorts. sorts.items)
+        (spec.option_all (spec.resolved_key (map name_view groups.now)
+        (shown.names_shown aggregates.now)) (map key_view keys.now)) result }
 {
     let mut sorts = Vec::new(alloc);
     for key in keys {
@@ -368,8 +387,10 @@ fn resolve_aggregate(
     number: usize,
     aggregate: &query::Aggregate,
 ) -> Result<Aggregate, PlanFault>
-    ensures measure { Resolves (λ a. shown.measure_shown a.measure) (spec.resolved_measure (measure_view aggregate.now.measure)) result }
-    ensures name { IfOk result (λ a. a.name.items ≡ naming.aggregate_name number (aggregate_view aggregate.now)) }
+    ensures measure { Resolves (λ a. shown.measure_shown a.measure)
+        (spec.resolved_measure (measure_view aggregate.now.measure)) result }
+    ensures name { IfOk result (λ a. a.name.items
+        ≡ naming.aggregate_name number (aggregate_view aggregate.now)) }
 {
     let measure = resolve_measure(alloc, &aggregate.measure)?;
     let name = aggregate_name(alloc, number, aggregate)?;
@@ -379,8 +400,10 @@ fn resolve_aggregate(
 /// The aggregates, from the left.
 pub(crate) fn resolve_aggregates(alloc: Global, items: &[Item]) -> Result<Vec<Aggregate>, PlanFault>
     requires { length items.now ≤ most_items }
-    ensures measures { Resolves (λ aggregates. shown.measures_shown aggregates.items) (spec.measures_of (map item_view items.now)) result }
-    ensures names { IfOk result (λ aggregates. shown.names_shown aggregates.items ≡ naming.aggregate_names (map item_view items.now)) }
+    ensures measures { Resolves (λ aggregates. shown.measures_shown aggregates.items)
+        (spec.measures_of (map item_view items.now)) result }
+    ensures names { IfOk result (λ aggregates. shown.names_shown aggregates.items
+        ≡ naming.aggregate_names (map item_view items.now)) }
     ensures few { IfOk result (λ aggregates. length aggregates.items ≤ length items.now) }
 {
     let mut aggregates = Vec::new(alloc);
