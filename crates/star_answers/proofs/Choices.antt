@@ -15,7 +15,7 @@ use Rattle.star_schema.proofs.KeyColumns.{foreign_key}
 use Rattle.star_schema.proofs.Same.{table_same, table_itself}
 use Rattle.star_plan.specs.declared.tree.Join.{Join}
 use Rattle.star_plan.specs.Joins.{is_foreign, is_lone_key, refers}
-use Rattle.star_plan.specs.Meaning.{Joined, Row, Tables, joined, matches, only_row, partners, value_in, value_of, with_row}
+use Rattle.star_plan.specs.Meaning.{Joined, Row, Tables, joined_rows, matches, only_row, partners, value_in, value_of, with_row}
 use Rattle.star_plan.specs.Sound.{are_distinct}
 use Rattle.star_answers.specs.Rows.{product, with_choices}
 use Rattle.star_answers.proofs.Reorderings.{crossed, each_reordered, reordered}
@@ -219,7 +219,7 @@ module _ (ts : Tables) where
       ∙ given_kept (matches row j) (λ d. partners ts js (with_row row t d)) (ts t)
 
   -- where lineorder stands first, and then the dimensions in the order of the joins, these are the joined rows, and in their order
-  pub joined_product : (js : List Join) → IsStar js → filter (all_joined js) (product ts (Lineorder ∷ dimensions_of js)) ≡ joined ts js
+  pub joined_product : (js : List Join) → IsStar js → filter (all_joined js) (product ts (Lineorder ∷ dimensions_of js)) ≡ joined_rows ts js
   joined_product js star =
       filter_given (all_joined js) (λ l. with_choices ts (dimensions_of js) (only_row Lineorder l)) (ts Lineorder)
       ∙ given_same (λ l. filter (all_joined js) (with_choices ts (dimensions_of js) (only_row Lineorder l))) (λ l. partners ts js (only_row Lineorder l)) (ts Lineorder) (λ l. joined_choices js star (only_row Lineorder l))

@@ -11,7 +11,7 @@ use Rattle.star_schema.specs.declared.column.ColumnId.{ColumnId}
 use Rattle.star_schema.specs.Order.{value_cmp}
 use Rattle.star_schema.specs.Tables.{Value}
 use Rattle.star_query.specs.Tree as tree
-use Rattle.star_query.specs.Tree.{Condition, Literal, Name}
+use Rattle.star_query.specs.Tree.{Condition, Name}
 use Rattle.star_report.proofs.OneOrder.{value_turned}
 use Rattle.star_plan.specs.declared.tree.Join.{Join}
 use Rattle.star_plan.specs.declared.joins.Pair.{Pair}

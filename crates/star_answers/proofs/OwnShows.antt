@@ -1,10 +1,9 @@
 -- What a query shows by its own words is what its plan shows.
-use Rattle.std.proofs.Common.{◌≡◌, ◌∙◌, ℕ, zero, suc, ◌+◌, ◌<◌, List, [], ◌∷◌, ◌++◌, Option, Some, None, cond, get_or, length, map, nat_eq, not, option_map, refl, sym, ap, arith}
-use Rattle.std.specs.Prelude.{◌+ℤ◌, ◌-ℤ◌, ◌*ℤ◌, decimal}
+use Rattle.std.proofs.Common.{◌≡◌, ◌∙◌, ℕ, zero, suc, ◌+◌, ◌<◌, List, [], ◌∷◌, ◌++◌, Some, get_or, length, map, nat_eq, refl, sym, ap, arith}
+use Rattle.std.specs.Prelude.{◌+ℤ◌, ◌-ℤ◌, ◌*ℤ◌}
 use Rattle.std.specs.Cmp.Lexicographic.{pointwise, same_text}
-use Rattle.std.specs.List.{flat_map, position, position_or_len}
-use Rattle.std.specs.Option.{option_or, option_to_list}
-use Rattle.std.proofs.lemmas.List.{length-map}
+use Rattle.std.specs.List.{flat_map, position}
+use Rattle.std.specs.Option.{option_to_list}
 use Rattle.std.proofs.lemmas.List.Quantifiers.{position-Some}
 use Rattle.star_schema.specs.declared.column.ColumnId.{ColumnId}
 use Rattle.star_schema.specs.declared.column.ColumnId.TheVariants.{DDatekey}
@@ -23,11 +22,11 @@ use Rattle.star_plan.specs.Meaning.{Joined, Plan, add, column, constant, mul, su
 use Rattle.star_plan.specs.Names.{column_at, column_called}
 use Rattle.star_plan.specs.Naming.{aggregate_name, aggregate_names, names_from}
 use Rattle.star_plan.specs.Resolved as resolved
-use Rattle.star_plan.specs.Resolved.{aggregate_column, item_column, items_from, key_column, option_all, option_both, resolved_expression, resolved_key, resolved_measure}
+use Rattle.star_plan.specs.Resolved.{items_from, key_column, option_all, resolved_expression, resolved_key, resolved_measure}
 use Rattle.star_plan.specs.Shown.{folded}
 use Rattle.star_plan.proofs.Options.{both_gave, mapped_gave}
 use Rattle.star_answers.specs.Answers.{shown_name}
-use Rattle.star_answers.specs.Rows.{measured, measures_of, number_at, value_named}
+use Rattle.star_answers.specs.Rows.{measured, measures_of, query_number, value_named}
 use Rattle.star_answers.specs.Shows.{columns_from, function_of, item_names_from}
 use Rattle.star_answers.proofs.OwnConditions.{named}
 
@@ -39,21 +38,21 @@ keys_same (n ∷ ns) cs row e =
     let g = both_gave (λ y ys. y ∷ ys) (column_at n) (option_all column_at ns) cs e in
     (λ i. named n g.left row g.first i ∷ keys_same ns g.right row g.second i) ∙ ap (map (λ c. value_of c row)) g.made
 
-expression_same : (e : tree.Expression) (x : plan.Expression) (row : Joined) → resolved_expression e ≡ Some x → number_at e row ≡ plan.number_at x row
+expression_same : (e : tree.Expression) (x : plan.Expression) (row : Joined) → resolved_expression e ≡ Some x → query_number e row ≡ plan.expression_number x row
 expression_same (tree.column n) x row e =
-    let g = mapped_gave column (column_at n) x e in ap plan.number_of (named n g.0 row g.1) ∙ ap (λ y. plan.number_at y row) g.2
-expression_same (tree.constant z) x row e = let same : constant z ≡ x = cc in ap (λ y. plan.number_at y row) same
+    let g = mapped_gave column (column_at n) x e in ap plan.number_of (named n g.0 row g.1) ∙ ap (λ y. plan.expression_number y row) g.2
+expression_same (tree.constant z) x row e = let same : constant z ≡ x = cc in ap (λ y. plan.expression_number y row) same
 expression_same (tree.add a b) x row e =
     let g = both_gave add (resolved_expression a) (resolved_expression b) x e in
-    (λ i. expression_same a g.left row g.first i +ℤ expression_same b g.right row g.second i) ∙ ap (λ y. plan.number_at y row) g.made
+    (λ i. expression_same a g.left row g.first i +ℤ expression_same b g.right row g.second i) ∙ ap (λ y. plan.expression_number y row) g.made
 expression_same (tree.sub a b) x row e =
     let g = both_gave sub (resolved_expression a) (resolved_expression b) x e in
-    (λ i. expression_same a g.left row g.first i -ℤ expression_same b g.right row g.second i) ∙ ap (λ y. plan.number_at y row) g.made
+    (λ i. expression_same a g.left row g.first i -ℤ expression_same b g.right row g.second i) ∙ ap (λ y. plan.expression_number y row) g.made
 expression_same (tree.mul a b) x row e =
     let g = both_gave mul (resolved_expression a) (resolved_expression b) x e in
-    (λ i. expression_same a g.left row g.first i *ℤ expression_same b g.right row g.second i) ∙ ap (λ y. plan.number_at y row) g.made
+    (λ i. expression_same a g.left row g.first i *ℤ expression_same b g.right row g.second i) ∙ ap (λ y. plan.expression_number y row) g.made
 
-folded_number : (f : Fold) (x : plan.Expression) (row : Joined) → plan.number_at x row ≡ plan.measured (folded f x) row
+folded_number : (f : Fold) (x : plan.Expression) (row : Joined) → plan.expression_number x row ≡ plan.measured (folded f x) row
 folded_number fold.Sum x row = refl
 folded_number fold.Min x row = refl
 folded_number fold.Max x row = refl

@@ -12,7 +12,7 @@ use Rattle.star_schema.specs.Tables.{Value}
 use Rattle.star_query.specs.Tree.{Tree}
 use Rattle.star_plan.specs.Joins.{joins_of, where_pairs}
 use Rattle.star_plan.specs.Meaning as plan
-use Rattle.star_plan.specs.Meaning.{Joined, Plan, Tables, all_hold, joined}
+use Rattle.star_plan.specs.Meaning.{Plan, Tables, all_hold, joined_rows}
 use Rattle.star_plan.specs.Names.{column_at}
 use Rattle.star_plan.specs.Resolved.{IsResolved}
 use Rattle.star_plan.specs.Uses.{groups_uses, items_uses, where_uses}
@@ -36,7 +36,7 @@ use Rattle.star_answers.proofs.Reorderings.{filter_reordered}
 
 module _ (ts : Tables) (t : Tree) (p : Plan) (named : IsWellNamed t) (resolved : IsResolved t p) where
   -- the rows by the query's own words are those of the plan, in some order
-  pub selected_reordered : IsPermutation (selected ts t) (plan.selected ts p)
+  pub selected_reordered : IsPermutation (selected ts t) (plan.plan_rows ts p)
   selected_reordered =
       let js = joins_of (where_pairs t.condition) in
       let cs = p.conjuncts in
@@ -53,12 +53,12 @@ module _ (ts : Tables) (t : Tree) (p : Plan) (named : IsWellNamed t) (resolved :
       (filter_reordered (all_joined js) (product ts from) (product ts (Lineorder ∷ dimensions_of js)) choices) in
       let left : selected ts t ≡ filter (all_hold cs) (filter (all_joined js) (product ts from)) =
       (λ i. filter (λ row. where_same t.condition cs row resolved.conjuncts there.pairs i) (product ts from)) ∙ filter_both (all_joined js) (all_hold cs) (product ts from) in
-      let right : filter (all_hold cs) (filter (all_joined js) (product ts (Lineorder ∷ dimensions_of js))) ≡ plan.selected ts p =
-      ap (filter (all_hold cs)) (joined_product ts js star) ∙ ap (λ qs. filter (all_hold cs) (joined ts qs)) (sym resolved.joins) in
-      subst (λ rows. IsPermutation rows (plan.selected ts p)) (sym left) (subst (IsPermutation (filter (all_hold cs) (filter (all_joined js) (product ts from)))) right kept)
+      let right : filter (all_hold cs) (filter (all_joined js) (product ts (Lineorder ∷ dimensions_of js))) ≡ plan.plan_rows ts p =
+      ap (filter (all_hold cs)) (joined_product ts js star) ∙ ap (λ qs. filter (all_hold cs) (joined_rows ts qs)) (sym resolved.joins) in
+      subst (λ rows. IsPermutation rows (plan.plan_rows ts p)) (sym left) (subst (IsPermutation (filter (all_hold cs) (filter (all_joined js) (product ts from)))) right kept)
 
   -- where FROM names lineorder first, and then the dimensions in the order of their joins, they come in the plan's order
-  pub selected_in_order : tables_of t.tables ≡ Lineorder ∷ map (λ j. table_of j.key) p.joins → selected ts t ≡ plan.selected ts p
+  pub selected_in_order : tables_of t.tables ≡ Lineorder ∷ map (λ j. table_of j.key) p.joins → selected ts t ≡ plan.plan_rows ts p
   selected_in_order from =
       let js = joins_of (where_pairs t.condition) in
       let cs = p.conjuncts in
@@ -68,15 +68,15 @@ module _ (ts : Tables) (t : Tree) (p : Plan) (named : IsWellNamed t) (resolved :
       (λ i. filter (λ row. where_same t.condition cs row resolved.conjuncts there.pairs i) (product ts (tables i)))
       ∙ filter_both (all_joined js) (all_hold cs) (product ts (Lineorder ∷ dimensions_of js))
       ∙ ap (filter (all_hold cs)) (joined_product ts js star)
-      ∙ ap (λ qs. filter (all_hold cs) (joined ts qs)) (sym resolved.joins)
+      ∙ ap (λ qs. filter (all_hold cs) (joined_rows ts qs)) (sym resolved.joins)
 
   -- and so are what they add to their groups
-  entries_reordered : IsPermutation (map (entry_of t) (selected ts t)) (map (plan.entry_of p) (plan.selected ts p))
+  entries_reordered : IsPermutation (map (entry_of t) (selected ts t)) (map (plan.entry_of p) (plan.plan_rows ts p))
   entries_reordered =
       let same : map (entry_of t) (selected ts t) ≡ map (plan.entry_of p) (selected ts t) =
       λ i. map (λ row. record { keys = keys_same t.grouping.columns p.keys row resolved.keys i; values = values_same t.items p.measures row resolved.measures i }) (selected ts t) in
-      subst (λ es. IsPermutation es (map (plan.entry_of p) (plan.selected ts p))) (sym same)
-      (IsPermutation-map (plan.entry_of p) (selected ts t) (plan.selected ts p) selected_reordered)
+      subst (λ es. IsPermutation es (map (plan.entry_of p) (plan.plan_rows ts p))) (sym same)
+      (IsPermutation-map (plan.entry_of p) (selected ts t) (plan.plan_rows ts p) selected_reordered)
 
   count_same : length t.grouping.columns ≡ length p.keys
   count_same = sym (all_counted column_at t.grouping.columns p.keys resolved.keys)
@@ -103,7 +103,7 @@ module _ (ts : Tables) (t : Tree) (p : Plan) (named : IsWellNamed t) (resolved :
         headed = a.headed ∙ heads;
         groups = a.groups;
         each_group =
-            groups_reordered value_cmp p.shape (length p.keys) (map plan.aggregate_of p.measures) (map (entry_of t) (selected ts t)) (map (plan.entry_of p) (plan.selected ts p)) a.groups entries_reordered
+            groups_reordered value_cmp p.shape (length p.keys) (map plan.aggregate_of p.measures) (map (entry_of t) (selected ts t)) (map (plan.entry_of p) (plan.plan_rows ts p)) a.groups entries_reordered
             (subst (λ (X : Type 0). X) (own_groups (map (entry_of t) (selected ts t)) a.groups) a.each_group);
         in_order = subst (λ sorts. AreInOrder value_cmp sorts a.groups) order a.in_order;
         cells = a.cells ∙ ap (λ columns. map (λ group. map (cell_of group) columns) a.groups) shown;
@@ -116,8 +116,8 @@ module _ (ts : Tables) (t : Tree) (p : Plan) (named : IsWellNamed t) (resolved :
         groups = a.groups;
         each_group =
             subst (λ (X : Type 0). X) (sym (own_groups (map (entry_of t) (selected ts t)) a.groups))
-            (groups_reordered value_cmp p.shape (length p.keys) (map plan.aggregate_of p.measures) (map (plan.entry_of p) (plan.selected ts p)) (map (entry_of t) (selected ts t)) a.groups
-            (IsPermutation-sym (map (entry_of t) (selected ts t)) (map (plan.entry_of p) (plan.selected ts p)) entries_reordered) a.each_group);
+            (groups_reordered value_cmp p.shape (length p.keys) (map plan.aggregate_of p.measures) (map (plan.entry_of p) (plan.plan_rows ts p)) (map (entry_of t) (selected ts t)) a.groups
+            (IsPermutation-sym (map (entry_of t) (selected ts t)) (map (plan.entry_of p) (plan.plan_rows ts p)) entries_reordered) a.each_group);
         in_order = subst (λ sorts. AreInOrder value_cmp sorts a.groups) (sym order) a.in_order;
         cells = a.cells ∙ ap (λ columns. map (λ group. map (cell_of group) columns) a.groups) (sym shown);
       }

@@ -38,6 +38,6 @@ pub record IsPlanAnswer (ts : Tables) (p : Plan) (names : List (List ℕ)) (rows
   pub headed : names ≡ map (shown_name p) p.items
   pub groups : List (GroupRow Value)
   pub each_group : AreGroups value_cmp p.shape (length p.keys) (map of_plan.aggregate_of p.measures)
-      (map (of_plan.entry_of p) (of_plan.selected ts p)) groups
+      (map (of_plan.entry_of p) (of_plan.plan_rows ts p)) groups
   pub in_order : AreInOrder value_cmp p.sorts groups
   pub cells : rows ≡ map (λ group. map (cell_of group) p.items) groups

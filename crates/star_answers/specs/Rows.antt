@@ -62,17 +62,17 @@ selected ts q = filter (where_is_true q.condition) (product ts (tables_of q.tabl
 
 -- ---- what a selected row adds to its groups
 
-abbrev pub number_at : Expression → Joined → ℤ
-number_at (column n) row = number_of (value_named n row)
-number_at (constant z) row = z
-number_at (add a b) row = number_at a row +ℤ number_at b row
-number_at (sub a b) row = number_at a row -ℤ number_at b row
-number_at (mul a b) row = number_at a row *ℤ number_at b row
+abbrev pub query_number : Expression → Joined → ℤ
+query_number (column n) row = number_of (value_named n row)
+query_number (constant z) row = z
+query_number (add a b) row = query_number a row +ℤ query_number b row
+query_number (sub a b) row = query_number a row -ℤ query_number b row
+query_number (mul a b) row = query_number a row *ℤ query_number b row
 
 -- 1 to a count
 abbrev pub measured : Measure → Joined → ℤ
 measured count row = pos 1
-measured (fold function e) row = number_at e row
+measured (fold function e) row = query_number e row
 
 -- what SELECT computes of each group, from the left
 abbrev pub measures_of : List Item → List Measure

@@ -14,8 +14,7 @@ ghost use Rattle.star_schema.specs.Schema.{table_of};
 ghost use Rattle.star_schema.specs.Tables.{Value};
 ghost use Rattle.star_query.specs.Derives.{Means};
 ghost use Rattle.star_query.specs.Tree.{Tree};
-ghost use Rattle.star_plan.specs.Meaning as plan;
-ghost use Rattle.star_plan.specs.Meaning.{Plan, Tables};
+ghost use Rattle.star_plan.specs.Meaning.{Plan, Tables, plan_rows};
 ghost use Rattle.star_plan.specs.Resolved.{IsResolved};
 ghost use Rattle.star_plan.specs.WellNamed.{IsWellNamed};
 ghost use Rattle.star_program.specs.declared.outcome.Cell.{Cell};
@@ -45,11 +44,11 @@ pub fn groups_ignore_the_order_of_rows()
 pub fn plans_select_the_rows_of_their_queries()
     ensures rows { (tables : Tables) (query : Tree) (p : Plan)
         → IsWellNamed query → IsResolved query p
-        → IsPermutation (selected tables query) (plan.selected tables p) }
+        → IsPermutation (selected tables query) (plan_rows tables p) }
     ensures order { (tables : Tables) (query : Tree) (p : Plan)
         → IsWellNamed query → IsResolved query p
         → tables_of query.tables ≡ Lineorder ∷ map (λ j. table_of j.key) p.joins
-        → selected tables query ≡ plan.selected tables p }
+        → selected tables query ≡ plan_rows tables p }
 {}
 
 /// What a well named query answers is what its plan answers.

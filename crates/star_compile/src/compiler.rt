@@ -1,13 +1,13 @@
 // The program of a plan.
 
-ghost use Rattle.std.specs.Prelude.{◌≡◌, ◌+◌, ◌≤◌, true, map, IfOk};
+ghost use Rattle.std.specs.Prelude.{◌≡◌, ◌+◌, ◌≤◌, true, IfOk};
 ghost use Rattle.std.specs.List.{list_all};
 ghost use Rattle.star_schema.specs.declared.table.TableId.TheVariants.{Lineorder};
-ghost use Rattle.star_plan.specs.Limits.{IsWithinLimits};
+ghost use Rattle.star_plan.specs.Limits.{IsPlanWithinLimits};
 ghost use Rattle.star_plan.specs.PlanTrees.{plan_tree};
 ghost use Rattle.star_plan.specs.Shown.{shown};
-ghost use Rattle.star_plan.specs.Sound.{IsSound};
-ghost use Rattle.star_plan.specs.Spelled.{IsSpelled, condition_is_spelled};
+ghost use Rattle.star_plan.specs.Sound.{IsSoundPlan};
+ghost use Rattle.star_plan.specs.Spelled.{IsSpelledPlan, condition_is_spelled};
 ghost use Rattle.star_program.specs.Code.{Each, Stop};
 ghost use Rattle.star_program.specs.CodeOfSteps.{code_of_steps};
 ghost use Rattle.star_compiled.specs.Compiled.{compiled, register_count, turn_code};
@@ -51,9 +51,9 @@ fn scan(alloc: Global, turn: Vec<Step>) -> Result<Body, AllocError>
 
 // What the program is made of.
 fn parts(alloc: Global, tree: &PlanTree) -> Result<Parts, AllocError>
-    requires sound { IsSound (shown tree.now) }
-    requires limits { IsWithinLimits (shown tree.now) }
-    requires spelled { IsSpelled (shown tree.now) }
+    requires sound { IsSoundPlan (shown tree.now) }
+    requires limits { IsPlanWithinLimits (shown tree.now) }
+    requires spelled { IsSpelledPlan (shown tree.now) }
     ensures { IfOk result (λ parts. parts ≡ compiled (shown tree.now)) }
 {
     let Emitter { steps, next, .. } = turn(alloc, tree)?;
@@ -75,8 +75,6 @@ fn parts(alloc: Global, tree: &PlanTree) -> Result<Parts, AllocError>
 pub fn compile(alloc: Global, plan: &Plan) -> Result<Program, AllocError>
     ensures { IfOk result (λ program. program ≡ compiled (shown (plan_tree plan.now))) }
 {
-    match Program::new(parts(alloc, plan.tree())?) {
-        Some(program) => Ok(program),
-        None => unreachable!(),
-    }
+    let program = Program::new(parts(alloc, plan.tree())?);
+    Ok(program.unwrap())
 }

@@ -4,7 +4,7 @@ ghost use Rattle.std.specs.Prelude.{◌≡◌, true, length, map, IfOk};
 ghost use Rattle.std.specs.List.{list_all};
 ghost use Rattle.star_plan.specs.Meaning.{aggregate_of};
 ghost use Rattle.star_plan.specs.Shown.{measure_shown, measures_shown, shown};
-ghost use Rattle.star_plan.specs.Sound.{is_column};
+ghost use Rattle.star_plan.specs.Sound.{is_group_column};
 ghost use Rattle.star_compiled.specs.Compiled as spec;
 ghost use Rattle.star_answers.specs.Answers.{shown_name};
 
@@ -68,7 +68,7 @@ pub(crate) fn group(alloc: Global, tree: &PlanTree) -> Result<GroupDecl, AllocEr
 
 // The name under which a column of the group is shown.
 fn name(alloc: Global, tree: &PlanTree, column: GroupColumn) -> Result<Vec<u8>, AllocError>
-    requires there { is_column
+    requires there { is_group_column
         (length tree.now.keys.items) (length tree.now.aggregates.items) column ≡ true }
     ensures { IfOk result (λ name. name.items ≡ shown_name (shown tree.now) column) }
 {
@@ -83,7 +83,7 @@ fn name(alloc: Global, tree: &PlanTree, column: GroupColumn) -> Result<Vec<u8>, 
 /// What is shown of the group, each column under its name.
 pub(crate) fn shows(alloc: Global, tree: &PlanTree) -> Result<Vec<Show>, AllocError>
     requires there { list_all
-        (is_column (length tree.now.keys.items) (length tree.now.aggregates.items))
+        (is_group_column (length tree.now.keys.items) (length tree.now.aggregates.items))
         tree.now.items.items ≡ true }
     ensures { IfOk result (λ shows.
         shows.items ≡ map (spec.show_of (shown tree.now)) tree.now.items.items) }

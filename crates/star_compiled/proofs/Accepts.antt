@@ -33,7 +33,7 @@ use Rattle.star_compiled.specs.Compiled.{Env, Rest, write, binary_code, column_c
 use Rattle.star_compiled.proofs.Constants.{constant_fits, next_fits}
 use Rattle.star_compiled.proofs.ForeignKeys.{AreForeign}
 use Rattle.star_compiled.proofs.Joins.{holds_numbers, holds_texts}
-use Rattle.star_compiled.proofs.Points.{Turn, both_none, known_fits, entry_same, entry_other}
+use Rattle.star_compiled.proofs.Points.{Turn, both_none, known_fits}
 use Rattle.star_compiled.proofs.Points as points
 use Rattle.star_compiled.proofs.AcceptsColumns.{number_known, text_known}
 use Rattle.star_compiled.proofs.AcceptsColumns as columns

@@ -13,7 +13,7 @@ use Rattle.star_schema.proofs.Same.{column_itself}
 use Rattle.star_interval.specs.Range.{Range, fits_i64}
 use Rattle.star_interval.proofs.Ranges.{fits_i64_fits}
 use Rattle.star_plan.specs.Meaning.{Condition, Measure, counted, summed, least, greatest, aggregate_of, Plan, Expression}
-use Rattle.star_plan.specs.Sound.{in_scope, condition_is_sound, expression_is_sound, measure_is_sound, IsSound}
+use Rattle.star_plan.specs.Sound.{in_scope, condition_is_sound, expression_is_sound, measure_is_sound, IsSoundPlan}
 use Rattle.star_plan.specs.Spelled.{condition_is_spelled}
 use Rattle.star_plan.specs.Fits.{range_of, nodes_fit, measure_fits, sum_fits}
 use Rattle.star_program.specs.declared.fault.Fault.TheVariants.{BadRegister, BadGroup}
@@ -60,7 +60,7 @@ number_kind c e = by (kind_of c) refl
     by kind.Text p = let wrong : true ≡ false = sym (ap of_text p) ∙ e in absurd (cc)
 
 -- a turn of the program that is met so many times
-module _ (w : World) (p : Plan) (sound : IsSound p) (n : ℕ) (pending : ℕ → Bool) where
+module _ (w : World) (p : Plan) (sound : IsSoundPlan p) (n : ℕ) (pending : ℕ → Bool) where
   abbrev turn : Turn
   turn = record {
     world = w;
@@ -395,7 +395,7 @@ some_room : (m : ℕ) → nat_lt 0 (1 + m + 0) ≡ true
 some_room m = grind arith
 
 -- its instructions alone
-pub instructions_judged : (w : World) (p : Plan) → IsSound p
+pub instructions_judged : (w : World) (p : Plan) → IsSoundPlan p
     → Accepted (AreColumnsI64 w p)
     (list_all (measure_fits w.bounds) p.measures
     && list_all (sum_fits (w.size Lineorder) w.bounds) p.measures)

@@ -19,8 +19,8 @@ use Rattle.star_schema.specs.Groups.{Entry, GroupRow, IsGroup, IsMasked, AreGrou
 use Rattle.star_schema.specs.Order.{value_cmp}
 use Rattle.star_schema.specs.Schema.{table_of}
 use Rattle.star_schema.specs.Tables.{Value, Number, Text}
-use Rattle.star_plan.specs.Meaning.{Tables, Joined, value_of, all_hold, measured, aggregate_of, joined, selected, entry_of, Plan}
-use Rattle.star_plan.specs.Sound.{in_scope, IsSound}
+use Rattle.star_plan.specs.Meaning.{Tables, Joined, value_of, all_hold, measured, aggregate_of, joined_rows, plan_rows, entry_of, Plan}
+use Rattle.star_plan.specs.Sound.{in_scope, IsSoundPlan}
 use Rattle.star_program.specs.declared.group.GroupKey.TheVariants as declared
 use Rattle.star_program.specs.declared.key.KeyValue.{KeyValue}
 use Rattle.star_program.specs.declared.key.KeyValue.TheVariants as key
@@ -112,7 +112,7 @@ group_length : {K : Type 0} (s : Shape) (n : ℕ) (es : List (Entry K)) (m : Lis
 group_length s n es m each (inl h) = masked_length s m h.0.keys h.2 ∙ each h.0 h.1
 group_length s n es m each (inr h) = ap length h.1 ∙ replicate_length n None
 
-module _ (ts : Tables) (w : World) (seen : Sees ts w) (p : Plan) (sound : IsSound p) where
+module _ (ts : Tables) (w : World) (seen : Sees ts w) (p : Plan) (sound : IsSoundPlan p) where
   -- each selected row shows the group columns
   shows_all : (cs : List ColumnId) → list_all (λ c. in_scope p.joins (table_of c)) cs ≡ true
       → (at : TableId → ℕ) (row : Joined) → IsTurn w p.joins at row → ShowsAll w cs row
@@ -123,12 +123,12 @@ module _ (ts : Tables) (w : World) (seen : Sees ts w) (p : Plan) (sound : IsSoun
       h in
       ((at (table_of c), turn.shows c hs.0), shows_all cs hs.1 at row turn)
 
-  row_shows : (row : Joined) → Contains (selected ts p) row → ShowsAll w p.keys row
+  row_shows : (row : Joined) → Contains (plan_rows ts p) row → ShowsAll w p.keys row
   row_shows row h =
       let there : Contains (map (row_of_fact ts w seen p sound) (numbers (length (ts Lineorder)) 0))
       row =
       subst (λ l. Contains l row) (joined_are ts w seen p sound)
-      (contains_filtered (all_hold p.conjuncts) (joined ts p.joins) row h) in
+      (contains_filtered (all_hold p.conjuncts) (joined_rows ts p.joins) row h) in
       let q =
       from_contains_map (row_of_fact ts w seen p sound) (numbers (length (ts Lineorder)) 0) row
       there in
@@ -139,44 +139,44 @@ module _ (ts : Tables) (w : World) (seen : Sees ts w) (p : Plan) (sound : IsSoun
       (is_turn ts w seen p sound q.0 (subst (λ n. q.0 < n) (sym (seen.size Lineorder)) below)))
 
   abbrev entries : List (Entry KeyValue)
-  entries = map (update_of_row w p) (selected ts p)
+  entries = map (update_of_row w p) (plan_rows ts p)
 
-  entry_kept : (a b : Entry KeyValue) → Contains (map (update_of_row w p) (selected ts p)) a
-      → Contains (map (update_of_row w p) (selected ts p)) b
+  entry_kept : (a b : Entry KeyValue) → Contains (map (update_of_row w p) (plan_rows ts p)) a
+      → Contains (map (update_of_row w p) (plan_rows ts p)) b
       → Keeps by_code.value_cmp value_cmp (decoded_at w p.keys) a.keys b.keys
   entry_kept a b g h =
-      let x = from_contains_map (update_of_row w p) (selected ts p) a g in
-      let y = from_contains_map (update_of_row w p) (selected ts p) b h in
+      let x = from_contains_map (update_of_row w p) (plan_rows ts p) a g in
+      let y = from_contains_map (update_of_row w p) (plan_rows ts p) b h in
       subst (λ z. Keeps by_code.value_cmp value_cmp (decoded_at w p.keys) z.keys b.keys) x.2
       (subst (λ z. Keeps by_code.value_cmp value_cmp (decoded_at w p.keys)
       (update_of_row w p x.0).keys z.keys) y.2
       (keys_kept w p.keys x.0 y.0 (row_shows x.0 x.1) (row_shows y.0 y.1)))
 
   entries_decoded : map (entry_applied (decoded_at w p.keys))
-      (map (update_of_row w p) (selected ts p)) ≡ map (entry_of p) (selected ts p)
+      (map (update_of_row w p) (plan_rows ts p)) ≡ map (entry_of p) (plan_rows ts p)
   entries_decoded =
-      map-map (entry_applied (decoded_at w p.keys)) (update_of_row w p) (selected ts p)
+      map-map (entry_applied (decoded_at w p.keys)) (update_of_row w p) (plan_rows ts p)
       ∙ map_same (λ r. entry_applied (decoded_at w p.keys) (update_of_row w p r)) (entry_of p)
-      (selected ts p)
+      (plan_rows ts p)
       (λ r h. ap (λ ks. record { keys = ks; values = map (λ m. measured m r) p.measures })
       (keys_decoded w p.keys r (row_shows r h)))
 
-  entry_length : (e : Entry KeyValue) → Contains (map (update_of_row w p) (selected ts p)) e
+  entry_length : (e : Entry KeyValue) → Contains (map (update_of_row w p) (plan_rows ts p)) e
       → length e.keys ≡ length p.keys
   entry_length e h =
-      let x = from_contains_map (update_of_row w p) (selected ts p) e h in
+      let x = from_contains_map (update_of_row w p) (plan_rows ts p) e h in
       ap (λ (z : Entry KeyValue). length z.keys) (sym x.2)
       ∙ length-map p.keys (λ c. coded w c (value_of c x.0))
 
   groups_the_rows : (us : List (Entry KeyValue)) (groups : List (GroupRow KeyValue))
-      → us ≡ reverse (map (update_of_row w p) (selected ts p))
+      → us ≡ reverse (map (update_of_row w p) (plan_rows ts p))
       → AreGroups by_code.value_cmp p.shape (length p.keys) (map aggregate_of p.measures) us groups
       → AreGroups value_cmp p.shape (length p.keys) (map aggregate_of p.measures)
-      (map (entry_of p) (selected ts p)) (map (decoded_row w (group_of p)) groups)
+      (map (entry_of p) (plan_rows ts p)) (map (decoded_row w (group_of p)) groups)
   groups_the_rows us groups are h =
       let k = length p.keys in
       let gs = map aggregate_of p.measures in
-      let es = map (update_of_row w p) (selected ts p) in
+      let es = map (update_of_row w p) (plan_rows ts p) in
       let turned = subst (λ us. AreGroups by_code.value_cmp p.shape k gs us groups) are h in
       let straight =
       groups_reordered by_code.value_cmp p.shape k gs (reverse es) es groups
@@ -190,7 +190,7 @@ module _ (ts : Tables) (w : World) (seen : Sees ts w) (p : Plan) (sound : IsSoun
       (λ r has. ap (λ ks. record { keys = ks; totals = r.totals })
       (keys_applied w p.keys r.keys
       (group_length p.shape k es r.keys entry_length (straight.each r has).0))) in
-      subst (λ rs. AreGroups value_cmp p.shape k gs (map (entry_of p) (selected ts p)) rs) same
+      subst (λ rs. AreGroups value_cmp p.shape k gs (map (entry_of p) (plan_rows ts p)) rs) same
       (subst (λ es. AreGroups value_cmp p.shape k gs es
       (map (row_applied (decoded_at w p.keys)) groups)) entries_decoded there)
 
@@ -208,7 +208,7 @@ module _ (ts : Tables) (w : World) (seen : Sees ts w) (p : Plan) (sound : IsSoun
         groups = told.rows;
         each_group =
             subst (λ rs. AreGroups value_cmp p.shape (length p.keys) (map aggregate_of p.measures)
-            (map (entry_of p) (selected ts p)) rs) (sym reported.decoded) groups;
+            (map (entry_of p) (plan_rows ts p)) rs) (sym reported.decoded) groups;
         in_order = reported.in_order;
         cells =
             told.cells ∙ λ i. map (λ row. map-map (λ (show : Show). cell_of row show.column)

@@ -13,7 +13,7 @@ use Rattle.star_schema.proofs.Same.{column_same}
 use Rattle.star_plan.specs.declared.tree.Join.{Join}
 use Rattle.star_plan.specs.Joins.{is_foreign, is_lone_key, refers}
 use Rattle.star_plan.specs.Meaning.{Plan}
-use Rattle.star_plan.specs.Sound.{IsSound}
+use Rattle.star_plan.specs.Sound.{IsSoundPlan}
 use Rattle.star_program.specs.declared.op.Operation.{Operation}
 use Rattle.star_program.specs.declared.op.Operation.TheVariants.{Find, Load}
 use Rattle.star_program.specs.World.{is_column}
@@ -111,7 +111,7 @@ still_none false n None apart none = refl
 still_none false n (Some r) apart none = absurd (cc)
 
 turn_pays : (test : Operation → Bool) (price : Env → ℕ) → IsPrice test price → (p : Plan)
-    → IsSound p → times test (turn_code p) ≤ price env_first
+    → IsSoundPlan p → times test (turn_code p) ≤ price env_first
 turn_pays test price paid p sound =
     turn_carries p (λ env code. times test code ≤ price env)
     (λ env c. loaded_in env.loaded c ≡ None) (record {
@@ -131,10 +131,10 @@ turn_pays test price paid p sound =
       found = λ env t c none. none;
     })
 
-pub loaded_once : (p : Plan) (c : ColumnId) → IsSound p → times (loads c) (compiled p).body ≤ 1
+pub loaded_once : (p : Plan) (c : ColumnId) → IsSoundPlan p → times (loads c) (compiled p).body ≤ 1
 unfolding missing
 loaded_once p c sound = omega (arith, turn_pays (loads c) (loads_left c) (loads_paid c) p sound)
 
-pub found_once : (p : Plan) (t : TableId) → IsSound p → times (finds t) (compiled p).body ≤ 1
+pub found_once : (p : Plan) (t : TableId) → IsSoundPlan p → times (finds t) (compiled p).body ≤ 1
 unfolding missing
 found_once p t sound = omega (arith, turn_pays (finds t) (finds_left t) (finds_paid t) p sound)

@@ -8,7 +8,7 @@ use Rattle.star_schema.specs.declared.group.Shape.TheVariants.{Plain}
 use Rattle.star_schema.specs.declared.group.GroupColumn.TheVariants.{Aggregate}
 use Rattle.star_schema.specs.Schema.{column_of}
 use Rattle.star_schema.specs.Tables.{Number}
-use Rattle.star_interval.specs.Range.{Range, only, is_i64}
+use Rattle.star_interval.specs.Range.{Range, is_i64}
 use Rattle.star_query.specs.declared.token.Relation.TheVariants.{Less}
 use Rattle.star_plan.specs.Meaning.{Plan, compare, counted}
 use Rattle.star_plan.specs.Fits.{Fits}

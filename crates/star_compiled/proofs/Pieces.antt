@@ -3,7 +3,7 @@ use Rattle.std.proofs.Common.{◌≡◌, ℕ, ◌+◌, ◌≤◌, ◌<◌, Bool,
 use Rattle.std.proofs.lemmas.Bool.{eqb-true, eq-eqb, and_parts}
 use Rattle.std.proofs.lemmas.Option.{same_Some}
 use mathlib.Core.Logic.{inl, inr, ◌⊎◌}
-use Rattle.std.specs.Prelude.{ℤ, pos, ◌+ℤ◌, ◌-ℤ◌, ◌*ℤ◌, ◌&&◌, ◌||◌, not, nat_eq, nat_lt, if◌then◌else◌}
+use Rattle.std.specs.Prelude.{ℤ, pos, ◌+ℤ◌, ◌&&◌, ◌||◌, not, nat_eq, nat_lt, if◌then◌else◌}
 use Rattle.std.specs.Option.{option_map, option_or}
 use Rattle.std.specs.Ordering.{int_cmp, nat_cmp, is_eq, is_lt, is_le}
 use Rattle.std.specs.Cmp.Lexicographic.{slice_cmp, nat_list_cmp_total}
@@ -16,11 +16,10 @@ use Rattle.star_schema.specs.Schema.{is_table, kind_of, table_of}
 use Rattle.star_schema.specs.Tables as held
 use Rattle.star_schema.specs.Tables.{kind_of_value}
 use Rattle.star_schema.proofs.Same.{table_same, column_same}
-use Rattle.star_interval.specs.Range.{is_i64}
 use Rattle.star_query.specs.declared.token.Relation.{Relation}
 use Rattle.star_query.specs.declared.token.Relation.TheVariants as sign
 use Rattle.star_plan.specs.declared.tree.Join.{Join}
-use Rattle.star_plan.specs.Meaning.{Joined, value_of, tests, Condition, either, both, negation, compare, between, holds, Expression, column, constant, add, sub, mul, number_at, number_of}
+use Rattle.star_plan.specs.Meaning.{Joined, value_of, tests, Condition, either, both, negation, compare, between, holds, Expression, column, constant, add, sub, mul, expression_number, number_of}
 use Rattle.star_plan.specs.Names.{same_kind}
 use Rattle.star_plan.specs.Sound.{joins_table, in_scope, condition_is_sound, expression_is_sound}
 use Rattle.star_program.specs.declared.fault.Fault.{Fault}
@@ -657,7 +656,7 @@ module _ (w : World) (f : Parts) (may : ℕ → Bool) (at : TableId → ℕ) whe
     shown_number c i v true p q shows = absurd (cc)
 
     pub expression_runs : (a : Expression) → expression_is_sound js a ≡ true
-        → Runs (At (Number (number_at a row))) (expression_code js a)
+        → Runs (At (Number (expression_number a row))) (expression_code js a)
     expression_runs (column c) ok =
         let oks = and_parts (in_scope js (table_of c)) (same_kind (kind_of c) kind.Number) ok in
         subst (λ v. Runs (At v) (column_code js c))
@@ -669,12 +668,12 @@ module _ (w : World) (f : Parts) (may : ℕ → Bool) (at : TableId → ℕ) whe
     expression_runs (add a b) ok =
         let oks = and_parts (expression_is_sound js a) (expression_is_sound js b) ok in
         binary_runs (expression_code js a) (expression_code js b) operator.Add
-        (Number (number_at a row)) (Number (number_at b row)) (expression_runs a oks.0) (expression_runs b oks.1)
+        (Number (expression_number a row)) (Number (expression_number b row)) (expression_runs a oks.0) (expression_runs b oks.1)
     expression_runs (sub a b) ok =
         let oks = and_parts (expression_is_sound js a) (expression_is_sound js b) ok in
         binary_runs (expression_code js a) (expression_code js b) operator.Sub
-        (Number (number_at a row)) (Number (number_at b row)) (expression_runs a oks.0) (expression_runs b oks.1)
+        (Number (expression_number a row)) (Number (expression_number b row)) (expression_runs a oks.0) (expression_runs b oks.1)
     expression_runs (mul a b) ok =
         let oks = and_parts (expression_is_sound js a) (expression_is_sound js b) ok in
         binary_runs (expression_code js a) (expression_code js b) operator.Mul
-        (Number (number_at a row)) (Number (number_at b row)) (expression_runs a oks.0) (expression_runs b oks.1)
+        (Number (expression_number a row)) (Number (expression_number b row)) (expression_runs a oks.0) (expression_runs b oks.1)

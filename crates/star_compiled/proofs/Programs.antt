@@ -18,10 +18,9 @@ use Rattle.star_schema.specs.Schema.{column_name, column_of}
 use Rattle.star_query.specs.Cut.{begins_with_letter, is_word_byte}
 use Rattle.star_query.specs.Spelled as asked
 use Rattle.star_plan.specs.Meaning.{aggregate_of, Plan}
-use Rattle.star_plan.specs.Limits.{comparisons_of, measure_operands}
-use Rattle.star_plan.specs.Limits as of_plan
-use Rattle.star_plan.specs.Sound.{IsSound, is_column}
-use Rattle.star_plan.specs.Spelled.{IsSpelled}
+use Rattle.star_plan.specs.Limits.{IsPlanWithinLimits}
+use Rattle.star_plan.specs.Sound.{IsSoundPlan, is_group_column}
+use Rattle.star_plan.specs.Spelled.{IsSpelledPlan}
 use Rattle.star_program.specs.declared.group.GroupDecl.{GroupDecl}
 use Rattle.star_program.specs.declared.group.GroupKey.TheVariants as key
 use Rattle.star_program.specs.World.{is_text}
@@ -41,16 +40,16 @@ use Rattle.star_compiled.proofs.Sayable.{Spelled, turn_spelled}
 
 -- ---- limits
 
-small : (p : Plan) → of_plan.IsWithinLimits p → IsSmall (group_of p)
+small : (p : Plan) → IsPlanWithinLimits p → IsSmall (group_of p)
 small p l = record {
   keys = omega (arith, length-map p.keys key_of_group, l.keys);
   aggregates = omega (arith, length-map p.measures aggregate_of, l.measures);
 }
 
-pub is_short : (p : Plan) → of_plan.IsWithinLimits p → code_size (compiled p).body ≤ 2578
+pub is_short : (p : Plan) → IsPlanWithinLimits p → code_size (compiled p).body ≤ 2578
 is_short p l = omega (arith, body_size p, l.comparisons, l.keys, l.operands)
 
-pub is_within_limits : (p : Plan) → of_plan.IsWithinLimits p → IsWithinLimits (compiled p)
+pub is_within_limits : (p : Plan) → IsPlanWithinLimits p → IsWithinLimits (compiled p)
 is_within_limits p l =
     let short = is_short p l in
     let flat = flat_depth (turn_code p) (turn_is_flat p) in
@@ -79,12 +78,12 @@ none_unshown d n (c ∷ cs) h =
     first_by (has_column d c) n (first_unshown d (n + 1) cs) hs.0 (none_unshown d (n + 1) cs hs.1)
 
 has_same : (p : Plan) (c : GroupColumn)
-    → has_column (group_of p) c ≡ is_column (length p.keys) (length p.measures) c
+    → has_column (group_of p) c ≡ is_group_column (length p.keys) (length p.measures) c
 has_same p (group.Key n) = ap (nat_lt n) (length-map p.keys key_of_group)
 has_same p (group.Aggregate n) = ap (nat_lt n) (length-map p.measures aggregate_of)
 
 abbrev is_there : Plan → GroupColumn → Bool
-is_there p c = is_column (length p.keys) (length p.measures) c
+is_there p c = is_group_column (length p.keys) (length p.measures) c
 
 abbrev column_of_show : Show → GroupColumn
 column_of_show show = show.column
@@ -106,7 +105,7 @@ sorts_there p (s ∷ ss) h =
     let parts = and_parts (is_there p s.column) (list_all (λ s. is_there p s.column) ss) h in
     and_from _ _ (has_same p s.column ∙ parts.0) (sorts_there p ss parts.1)
 
-pub shows_what_is_there : (p : Plan) → IsSound p → shown_fault (compiled p) ≡ None
+pub shows_what_is_there : (p : Plan) → IsSoundPlan p → shown_fault (compiled p) ≡ None
 shows_what_is_there p sound =
     let shows = map (show_of p) p.items in
     let some : 0 < length shows = omega (arith, length-map p.items (show_of p), sound.shown) in
@@ -163,8 +162,8 @@ at_place test (x ∷ xs) zero d h below = (and_parts (test x) (list_all test xs)
 at_place test (x ∷ xs) (suc n) d h below =
     at_place test xs n d (and_parts (test x) (list_all test xs) h).1 (omega arith)
 
-shown_named : (p : Plan) → IsSound p → IsSpelled p → (c : GroupColumn)
-    → is_column (length p.keys) (length p.measures) c ≡ true → is_name (shown_name p c) ≡ true
+shown_named : (p : Plan) → IsSoundPlan p → IsSpelledPlan p → (c : GroupColumn)
+    → is_group_column (length p.keys) (length p.measures) c ≡ true → is_name (shown_name p c) ≡ true
 shown_named p sound spelled (group.Key n) h = column_named (slice_index_or p.keys n DDatekey)
 shown_named p sound spelled (group.Aggregate n) h =
     let a = ltb-true n (length p.measures) h in
@@ -189,12 +188,12 @@ keys_said (c ∷ cs) =
 abbrev Says : Line → Type 0
 Says l = IsSayable l.says
 
-short_column : (p : Plan) → of_plan.IsWithinLimits p → (c : GroupColumn)
-    → is_column (length p.keys) (length p.measures) c ≡ true → IsShortColumn c
+short_column : (p : Plan) → IsPlanWithinLimits p → (c : GroupColumn)
+    → is_group_column (length p.keys) (length p.measures) c ≡ true → IsShortColumn c
 short_column p l (group.Key n) h = omega (arith, ltb-true n (length p.keys) h, l.keys)
 short_column p l (group.Aggregate n) h = omega (arith, ltb-true n (length p.measures) h, l.measures)
 
-shows_said : (p : Plan) → of_plan.IsWithinLimits p → IsSound p → IsSpelled p
+shows_said : (p : Plan) → IsPlanWithinLimits p → IsSoundPlan p → IsSpelledPlan p
     → (cs : List GroupColumn) → list_all (is_there p) cs ≡ true
     → All Says (map show_line (map (show_of p) cs))
 shows_said p l sound spelled [] h = All-nil Says
@@ -204,7 +203,7 @@ shows_said p l sound spelled (c ∷ cs) h =
     (shown_named p sound spelled c parts.0, short_column p l c parts.0)
     (shows_said p l sound spelled cs parts.1)
 
-sorts_said : (p : Plan) → of_plan.IsWithinLimits p → (ss : List SortKey)
+sorts_said : (p : Plan) → IsPlanWithinLimits p → (ss : List SortKey)
     → list_all (λ s. is_there p s.column) ss ≡ true → All Says (map sort_line ss)
 sorts_said p l [] h = All-nil Says
 sorts_said p l (s ∷ ss) h =
@@ -226,7 +225,7 @@ body_said p h =
     (All-append Says (lines_of_code 1 (turn_code p)) (line 0 says.End ∷ [])
     (code_said 1 (turn_code p) h) (All-cons Says (line 0 says.End) [] tt (All-nil Says)))
 
-pub is_spellable : (p : Plan) → of_plan.IsWithinLimits p → IsSound p → IsSpelled p
+pub is_spellable : (p : Plan) → IsPlanWithinLimits p → IsSoundPlan p → IsSpelledPlan p
     → IsSpellable (compiled p)
 is_spellable p l sound spelled =
     let limits = is_within_limits p l in

@@ -20,8 +20,8 @@ use Rattle.star_schema.proofs.KeyColumns.{foreign_key}
 use Rattle.star_schema.proofs.Same.{table_same, table_itself}
 use Rattle.star_plan.specs.declared.tree.Join.{Join}
 use Rattle.star_plan.specs.Joins.{is_foreign, is_lone_key, refers}
-use Rattle.star_plan.specs.Meaning.{Row, Tables, Joined, value_in, value_of, with_row, only_row, matches, partners, joined, all_hold, selected, Plan}
-use Rattle.star_plan.specs.Sound.{joins_table, are_distinct, IsSound}
+use Rattle.star_plan.specs.Meaning.{Row, Tables, Joined, value_in, value_of, with_row, only_row, matches, partners, joined_rows, all_hold, plan_rows, Plan}
+use Rattle.star_plan.specs.Sound.{joins_table, are_distinct, IsSoundPlan}
 use Rattle.star_program.specs.World.{World, IsRowOf, is_text}
 use Rattle.star_program.specs.Values.{no_registers}
 use Rattle.star_program.specs.Effects.{Store, empty_store}
@@ -286,7 +286,7 @@ record Joins (ts : Tables) (w : World) (i : ℕ) (c : ColumnId) (t : TableId) : 
   of : table_of key ≡ t
   lone : is_lone_key key (key_of (table_of key)) ≡ true
 
-module _ (ts : Tables) (w : World) (seen : Sees ts w) (p : Plan) (sound : IsSound p) where
+module _ (ts : Tables) (w : World) (seen : Sees ts w) (p : Plan) (sound : IsSoundPlan p) where
   joins : AllByRecursion (IsJoin ts w) p.joins
   joins = are_joins ts w seen p.joins sound.joins
 
@@ -396,14 +396,14 @@ module _ (ts : Tables) (w : World) (seen : Sees ts w) (p : Plan) (sound : IsSoun
           or_right false y e = e
 
   -- one joined row for each row of the fact, in order
-  pub joined_are : joined ts p.joins ≡ map row_of_fact (numbers (length (ts Lineorder)) 0)
+  pub joined_are : joined_rows ts p.joins ≡ map row_of_fact (numbers (length (ts Lineorder)) 0)
   joined_are =
       flat_rows (λ l. partners ts p.joins (only_row Lineorder l)) row_of_fact (ts Lineorder) 0
       (λ j below. partners_are ts w seen j below p.joins (place_in w p.joins j)
       (only_row Lineorder (row_at (ts Lineorder) j)) (finds_at j below) refl
       ∙ ap (λ n. row_of_fact n ∷ []) (omega arith))
 
-  pub rows_are : map (update_of_row w p) (selected ts p) ≡ map
+  pub rows_are : map (update_of_row w p) (plan_rows ts p) ≡ map
       (λ i. update_of_row w p (row_of_fact i))
       (filter (λ i. all_hold p.conjuncts (row_of_fact i)) (numbers (length (ts Lineorder)) 0))
   rows_are =

@@ -9,8 +9,8 @@ use Rattle.star_schema.specs.declared.table.TableId.TheVariants.{Lineorder}
 use Rattle.star_schema.specs.declared.column.ColumnId.{ColumnId}
 use Rattle.star_schema.specs.Schema.{table_of}
 use Rattle.star_schema.specs.Tables as held
-use Rattle.star_plan.specs.Meaning.{Joined, value_of, Condition, holds, all_hold, Expression, number_at, Measure, counted, summed, least, greatest, measured, aggregate_of, Plan}
-use Rattle.star_plan.specs.Sound.{in_scope, condition_is_sound, expression_is_sound, measure_is_sound, IsSound}
+use Rattle.star_plan.specs.Meaning.{Joined, value_of, Condition, holds, all_hold, Expression, expression_number, Measure, counted, summed, least, greatest, measured, aggregate_of, Plan}
+use Rattle.star_plan.specs.Sound.{in_scope, condition_is_sound, expression_is_sound, measure_is_sound, IsSoundPlan}
 use Rattle.star_program.specs.declared.key.KeyValue.TheVariants as key
 use Rattle.star_program.specs.declared.op.Op.TheVariants.{Keep, Put}
 use Rattle.star_program.specs.declared.program.Parts.{Parts}
@@ -144,16 +144,16 @@ module _ (w : World) (f : Parts) (may : ℕ → Bool) (at : TableId → ℕ) (p 
   abbrev values_of : List Measure → List Value
   values_of [] = []
   values_of (counted ∷ ms) = values_of ms
-  values_of (summed a ∷ ms) = Number (number_at a row) ∷ values_of ms
-  values_of (least a ∷ ms) = Number (number_at a row) ∷ values_of ms
-  values_of (greatest a ∷ ms) = Number (number_at a row) ∷ values_of ms
+  values_of (summed a ∷ ms) = Number (expression_number a row) ∷ values_of ms
+  values_of (least a ∷ ms) = Number (expression_number a row) ∷ values_of ms
+  values_of (greatest a ∷ ms) = Number (expression_number a row) ∷ values_of ms
 
   value_runs : (a : Expression) (ms : List Measure) → expression_is_sound p.joins a ≡ true
       → Runs w f may at (Stand (values_of ms)) (values_code p.joins ms)
-      → Runs w f may at (Stand (Number (number_at a row) ∷ values_of ms))
+      → Runs w f may at (Stand (Number (expression_number a row) ∷ values_of ms))
       (before (expression_code p.joins a) (values_code p.joins ms))
   value_runs a ms ok more =
-      before_runs (Number (number_at a row)) (values_of ms) (expression_code p.joins a)
+      before_runs (Number (expression_number a row)) (values_of ms) (expression_code p.joins a)
       (values_code p.joins ms)
       (expression_runs w f may at p.joins row turn a ok) more
 
@@ -246,7 +246,7 @@ module _ (w : World) (f : Parts) (may : ℕ → Bool) (at : TableId → ℕ) (p 
 
   -- ---- a turn
 
-  turn_kept : (group_at f 0).aggregates ≡ map aggregate_of p.measures → IsSound p
+  turn_kept : (group_at f 0).aggregates ≡ map aggregate_of p.measures → IsSoundPlan p
       → (b : Bool) (regs : Registers) (s e : Store)
       → Kept b (λ e. keys_code p.joins p.keys e
       (λ e ks. values_code p.joins p.measures e (put_code ks))) env_first regs s e
@@ -263,7 +263,7 @@ module _ (w : World) (f : Parts) (may : ℕ → Bool) (at : TableId → ℕ) (p 
       t.onward t.kept r.says) t.says t.goes
       ∙ ap (λ us. with_update us 0 (update_of_row w p row)) (t.same ∙ r.same ∙ q.same)
 
-  pub turn_runs : (group_at f 0).aggregates ≡ map aggregate_of p.measures → IsSound p
+  pub turn_runs : (group_at f 0).aggregates ≡ map aggregate_of p.measures → IsSoundPlan p
       → (n : ℕ) (regs : Registers) (s e : Store) → regs 0 ≡ Some (Row Lineorder (at Lineorder))
       → meaning w f may (turn_code p) n true regs s ≡ Ended e
       → e.updates_of ≡ put_if w p row (all_hold p.conjuncts row) s.updates_of
@@ -324,7 +324,7 @@ module _ (w : World) (f : Parts) (may : ℕ → Bool) (p : Plan) (at : ℕ → T
   scan_ends true n go e h = h
   scan_ends false n go e h = absurd (cc)
 
-  pub scan_runs : (group_at f 0).aggregates ≡ map aggregate_of p.measures → IsSound p
+  pub scan_runs : (group_at f 0).aggregates ≡ map aggregate_of p.measures → IsSoundPlan p
       → (n : ℕ) (inside : Bool) (regs : Registers) (s e : Store)
       → meaning w f may (body_code p) n inside regs s ≡ Ended e
       → e.updates_of 0 ≡ reverse_aux (updates_of_rows (numbers (w.size Lineorder) 0))

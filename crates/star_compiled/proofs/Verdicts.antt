@@ -7,8 +7,8 @@ use Rattle.std.specs.Option.{option_map, option_or}
 use Rattle.star_schema.specs.declared.table.TableId.TheVariants.{Lineorder}
 use Rattle.star_common.specs.First.{first_answer}
 use Rattle.star_plan.specs.Meaning.{Plan}
-use Rattle.star_plan.specs.Sound.{IsSound}
-use Rattle.star_plan.specs.Spelled.{IsSpelled}
+use Rattle.star_plan.specs.Sound.{IsSoundPlan}
+use Rattle.star_plan.specs.Spelled.{IsSpelledPlan}
 use Rattle.star_plan.specs.Fits.{measure_fits, sum_fits, Fits}
 use Rattle.star_program.specs.World.{World}
 use Rattle.star_program.specs.Shown.{shown_fault}
@@ -50,7 +50,7 @@ module _ (w : World) (most : ℕ) (p : Plan) where
       (option_or (option_map Refused reason) (option_map BadShow (shown_fault (compiled p)))))
       (not_at_most rows most h)
 
-  module _ (sound : IsSound p) where
+  module _ (sound : IsSoundPlan p) where
     -- by the number of rows and the instructions alone
     told : first_refusal w most (compiled p)
         ≡ option_or (cost_refusal rows (nat_le rows most)) (option_map Refused reason)
@@ -107,7 +107,7 @@ module _ (w : World) (most : ℕ) (p : Plan) where
     none_when o (inl h) s e = h.0
     none_when o (inr h) s e = let wrong = h.1 s in absurd (cc)
 
-    pub fitting_accepted : AreBoundsI64 w.bounds → IsSpelled p → Fits rows most w.bounds p
+    pub fitting_accepted : AreBoundsI64 w.bounds → IsSpelledPlan p → Fits rows most w.bounds p
         → first_refusal w most (compiled p) ≡ None
     fitting_accepted bounds spelled fits =
         within fits.visits

@@ -14,7 +14,7 @@ use Rattle.star_schema.specs.Tables.{Value, Number, Text}
 use Rattle.star_schema.specs.Texts.{texts_at}
 use Rattle.star_interval.specs.Range.{is_i64}
 use Rattle.star_query.specs.declared.token.Relation.TheVariants.{AtMost, Less}
-use Rattle.star_plan.specs.Meaning.{Plan, column, compare, counted, selected, summed}
+use Rattle.star_plan.specs.Meaning.{Plan, column, compare, counted, plan_rows, summed}
 use Rattle.star_program.specs.declared.key.KeyValue.TheVariants.{Code}
 use Rattle.star_program.specs.Puts.{Update}
 use Rattle.star_program.specs.Run.{End, Ended, run_of}
@@ -81,7 +81,7 @@ unfolding column_of place_of numbers_at texts_at dictionary_of keys_of is_i64
 puts = refl
 
 are_selected : reverse
-    (map (update_of_row (world_of few) by_nation) (selected (rows_in few) by_nation)) ≡ updates
+    (map (update_of_row (world_of few) by_nation) (plan_rows (rows_in few) by_nation)) ≡ updates
 unfolding column_of place_of numbers_at texts_at dictionary_of keys_of
 are_selected = refl
 
@@ -90,7 +90,7 @@ abbrev is_last_line : List Update → Bool
 is_last_line [] = false
 is_last_line (u ∷ us) = int_eq (slice_index_or u.values 1 (pos 0)) (pos 630)
 
-not_as_they_come : map (update_of_row (world_of few) by_nation) (selected (rows_in few) by_nation)
+not_as_they_come : map (update_of_row (world_of few) by_nation) (plan_rows (rows_in few) by_nation)
     ≡ updates → ⊥
 unfolding column_of place_of numbers_at texts_at dictionary_of keys_of
 not_as_they_come same =

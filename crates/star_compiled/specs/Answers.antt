@@ -5,7 +5,7 @@ use Rattle.star_schema.specs.declared.table.TableId.{TableId}
 use Rattle.star_schema.specs.Loadable.{database_of}
 use Rattle.star_schema.specs.Tables.{Value, Number, Text}
 use Rattle.star_query.specs.Tree.{Tree}
-use Rattle.star_plan.specs.Meaning.{Joined, Plan, Tables, measured, selected, value_of}
+use Rattle.star_plan.specs.Meaning.{Joined, Plan, Tables, measured, plan_rows, value_of}
 use Rattle.star_program.specs.declared.key.KeyValue.{KeyValue}
 use Rattle.star_program.specs.declared.key.KeyValue.TheVariants as key
 use Rattle.star_program.specs.declared.outcome.Outcome.{Outcome}
@@ -37,7 +37,7 @@ update_of_row w p row = record {
 -- bound on its visits and of one without
 abbrev pub PutsTheRows : Tables → World → Plan → Type 0
 PutsTheRows ts w p = (may : ℕ → Bool) (s : Store) → run_while w may (compiled p) ≡ Ended s
-    → s.updates_of 0 ≡ reverse (map (update_of_row w p) (selected ts p))
+    → s.updates_of 0 ≡ reverse (map (update_of_row w p) (plan_rows ts p))
 
 -- and each of its outcomes has the plan's answer
 abbrev pub AnswersThePlan : Tables → World → Plan → Type 0

@@ -5,8 +5,8 @@ ghost use Rattle.star_schema.specs.Database.{Database, rows_in};
 ghost use Rattle.star_schema.specs.declared.table.TableId.TheVariants.{Lineorder};
 ghost use Rattle.star_plan.specs.Fits.{Fits};
 ghost use Rattle.star_plan.specs.Meaning.{Plan};
-ghost use Rattle.star_plan.specs.Sound.{IsSound};
-ghost use Rattle.star_plan.specs.Spelled.{IsSpelled};
+ghost use Rattle.star_plan.specs.Sound.{IsSoundPlan};
+ghost use Rattle.star_plan.specs.Spelled.{IsSpelledPlan};
 ghost use Rattle.star_program.specs.World.{World};
 ghost use Rattle.star_world.specs.WorldOf.{world_of};
 ghost use Rattle.star_admission.specs.Admissible.{TooCostly, first_refusal};
@@ -25,16 +25,16 @@ ghost use Rattle.star_compiled.specs.Judged.{AreBoundsI64, IsOverflow};
 /// its conditions.
 pub fn compiled_programs_are_accepted_where_they_fit()
     ensures fitting { (w : World) (most : ℕ) (p : Plan)
-        → AreBoundsI64 w.bounds → IsSound p → IsSpelled p
+        → AreBoundsI64 w.bounds → IsSoundPlan p → IsSpelledPlan p
         → Fits (w.size Lineorder) most w.bounds p → first_refusal w most (compiled p) ≡ None }
     ensures accepted { (w : World) (most : ℕ) (p : Plan)
-        → IsSound p → first_refusal w most (compiled p) ≡ None
+        → IsSoundPlan p → first_refusal w most (compiled p) ≡ None
         → Fits (w.size Lineorder) most w.bounds p }
     ensures costly { (w : World) (most : ℕ) (p : Plan)
         → most < w.size Lineorder
         → first_refusal w most (compiled p) ≡ Some (TooCostly (w.size Lineorder)) }
     ensures wide { (w : World) (most : ℕ) (p : Plan)
-        → IsSound p → w.size Lineorder ≤ most → (Fits (w.size Lineorder) most w.bounds p → ⊥)
+        → IsSoundPlan p → w.size Lineorder ≤ most → (Fits (w.size Lineorder) most w.bounds p → ⊥)
         → IsOverflow (first_refusal w most (compiled p)) }
 {}
 
@@ -42,7 +42,7 @@ pub fn compiled_programs_are_accepted_where_they_fit()
 /// lineorder's rows.
 pub fn compiled_programs_are_accepted_where_they_fit_the_tables()
     ensures fits { (database : Database) (most : ℕ) (p : Plan)
-        → AreBoundsI64 (bounds_in (rows_in database)) → IsSound p → IsSpelled p
+        → AreBoundsI64 (bounds_in (rows_in database)) → IsSoundPlan p → IsSpelledPlan p
         → FitsTables most (rows_in database) p
         ↔ (first_refusal (world_of database) most (compiled p) ≡ None) }
     ensures costly { (database : Database) (most : ℕ) (p : Plan)
@@ -50,7 +50,7 @@ pub fn compiled_programs_are_accepted_where_they_fit_the_tables()
         → first_refusal (world_of database) most (compiled p)
         ≡ Some (TooCostly (length (rows_in database Lineorder))) }
     ensures wide { (database : Database) (most : ℕ) (p : Plan)
-        → IsSound p → length (rows_in database Lineorder) ≤ most
+        → IsSoundPlan p → length (rows_in database Lineorder) ≤ most
         → (FitsTables most (rows_in database) p → ⊥)
         → IsOverflow (first_refusal (world_of database) most (compiled p)) }
 {}

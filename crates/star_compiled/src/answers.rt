@@ -9,7 +9,7 @@ ghost use Rattle.star_query.specs.Derives.{Means};
 ghost use Rattle.star_query.specs.Tree.{Tree};
 ghost use Rattle.star_plan.specs.Meaning.{Plan};
 ghost use Rattle.star_plan.specs.Resolved.{IsResolved};
-ghost use Rattle.star_plan.specs.Sound.{IsSound};
+ghost use Rattle.star_plan.specs.Sound.{IsSoundPlan};
 ghost use Rattle.star_plan.specs.WellNamed.{IsWellNamed};
 ghost use Rattle.star_program.specs.World.{World};
 ghost use Rattle.star_world.specs.Shown.{IsWorldOf};
@@ -22,7 +22,7 @@ use star_world::law::sound_rows_have_a_world;
 pub fn compiled_programs_put_the_selected_rows()
     ensures { (database : Database) (w : World) (p : Plan)
         → ((table : TableId) → All (IsRowOf table) (rows_in database table))
-        → IsWorldOf database w → IsSound p → PutsTheRows (rows_in database) w p }
+        → IsWorldOf database w → IsSoundPlan p → PutsTheRows (rows_in database) w p }
 {}
 
 /// And its outcome is the plan's answer: the groups of the selected rows with their aggregates, in
@@ -30,7 +30,7 @@ pub fn compiled_programs_put_the_selected_rows()
 pub fn compiled_programs_answer_their_plans()
     ensures { (database : Database) (w : World) (p : Plan)
         → ((table : TableId) → All (IsRowOf table) (rows_in database table))
-        → IsWorldOf database w → IsSound p → AnswersThePlan (rows_in database) w p }
+        → IsWorldOf database w → IsSoundPlan p → AnswersThePlan (rows_in database) w p }
 {}
 
 /// So the outcome of the program of a well named query is the query's own answer.

@@ -2,24 +2,24 @@
 use Rattle.std.proofs.Common.{ℕ, List}
 use Rattle.star_query.proofs.Spelled.{meant_spelled}
 use Rattle.star_query.proofs.Within.{derived_within}
-use Rattle.star_query.specs.Limits as asked
-use Rattle.star_plan.specs.Limits.{IsWithinLimits}
+use Rattle.star_query.specs.Limits.{IsQueryWithinLimits}
+use Rattle.star_plan.specs.Limits.{IsPlanWithinLimits}
 use Rattle.star_plan.specs.Meaning.{Plan}
-use Rattle.star_plan.specs.Sound.{IsSound}
-use Rattle.star_plan.specs.Spelled.{IsSpelled}
+use Rattle.star_plan.specs.Sound.{IsSoundPlan}
+use Rattle.star_plan.specs.Spelled.{IsSpelledPlan}
 use Rattle.star_plan.proofs.Conditions.{no_fault}
 use Rattle.star_plan.proofs.Kept.{kept_sound, kept_spelled, kept_within}
 use Rattle.star_engine.specs.Queries.{IsPlanOf}
 
-few : (query : List ℕ) (p : Plan) (h : IsPlanOf query p) → asked.IsWithinLimits h.tree
+few : (query : List ℕ) (p : Plan) (h : IsPlanOf query p) → IsQueryWithinLimits h.tree
 few query p h = derived_within _ h.tree h.means.derives
 
-pub plan_within : (query : List ℕ) (p : Plan) → IsPlanOf query p → IsWithinLimits p
+pub plan_within : (query : List ℕ) (p : Plan) → IsPlanOf query p → IsPlanWithinLimits p
 plan_within query p h = kept_within h.tree p (few query p h) (no_fault h.tree h.named) h.resolved
 
-pub plan_sound : (query : List ℕ) (p : Plan) → IsPlanOf query p → IsSound p
+pub plan_sound : (query : List ℕ) (p : Plan) → IsPlanOf query p → IsSoundPlan p
 plan_sound query p h = kept_sound h.tree p (no_fault h.tree h.named) h.resolved
 
-pub plan_spelled : (query : List ℕ) (p : Plan) → IsPlanOf query p → IsSpelled p
+pub plan_spelled : (query : List ℕ) (p : Plan) → IsPlanOf query p → IsSpelledPlan p
 plan_spelled query p h =
     kept_spelled h.tree p (few query p h) (meant_spelled query h.tree h.means) h.resolved

@@ -1,7 +1,7 @@
 -- The words of the faults of an answer.
 use Rattle.std.specs.Prelude.{◌++◌, ℕ, List, codes, decimal}
-use Rattle.star_query.specs.FaultTexts as query
-use Rattle.star_plan.specs.FaultTexts as plan
+use Rattle.star_query.specs.FaultTexts.{query_fault_text}
+use Rattle.star_plan.specs.FaultTexts.{plan_fault_text}
 use Rattle.star_program.specs.Text.FaultTexts as program
 use Rattle.star_catalogue.specs.FaultTexts as load
 use Rattle.star_verify.specs.RefusalTexts.{refusal_text}
@@ -11,8 +11,8 @@ use Rattle.star_engine.specs.declared.fault.EngineFault.TheVariants.{OutOfMemory
 
 unfoldable pub fault_text : EngineFault → List ℕ
 fault_text OutOfMemory = codes "memory"
-fault_text (Query fault) = codes "query " ++ query.fault_text fault
-fault_text (Plan fault) = codes "query " ++ plan.fault_text fault
+fault_text (Query fault) = codes "query " ++ query_fault_text fault
+fault_text (Plan fault) = codes "query " ++ plan_fault_text fault
 fault_text (Program fault) = codes "program " ++ program.fault_text fault
 fault_text (Load fault) = codes "load " ++ load.fault_text fault
 fault_text (Refused refusal) = refusal_text refusal

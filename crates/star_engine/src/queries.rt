@@ -3,9 +3,9 @@
 ghost use Rattle.std.specs.Prelude.{MatchResult};
 ghost use Rattle.star_catalogue.specs.Load.{text_of};
 ghost use Rattle.star_query.specs.Derives.{Means};
-ghost use Rattle.star_query.specs.Shown.{shown};
+ghost use Rattle.star_query.specs.Shown.{query_shown};
 ghost use Rattle.star_plan.specs.PlanTrees.{plan_tree};
-ghost use Rattle.star_plan.specs.Shown as planned;
+ghost use Rattle.star_plan.specs.Shown.{shown};
 ghost use Rattle.star_engine.specs.Answered.{IsAnswered, change};
 ghost use Rattle.star_engine.specs.Noted.{IsNoted};
 ghost use Rattle.star_engine.specs.Queries.{IsExplained, IsNoQuery, IsQueryQuote, IsQueryTold, IsUnanswered};
@@ -28,7 +28,7 @@ use std::alloc::Global;
 // The query that a text means.
 fn parse_query(alloc: Global, text: &[u8]) -> Result<Query, EngineFault>
     ensures { MatchResult result
-        (λ query. Means text.now (shown query)) (OrMemory (IsUnparsed text.now)) }
+        (λ query. Means text.now (query_shown query)) (OrMemory (IsUnparsed text.now)) }
 {
     Ok(Query::parse(alloc, text)?)
 }
@@ -36,8 +36,8 @@ fn parse_query(alloc: Global, text: &[u8]) -> Result<Query, EngineFault>
 // A query with its names resolved.
 fn plan_query(alloc: Global, query: &Query) -> Result<Plan, EngineFault>
     ensures { MatchResult result
-        (λ plan. IsPlanOfTree (shown query.now) (planned.shown (plan_tree plan)))
-        (OrMemory (IsUnplanned (shown query.now))) }
+        (λ plan. IsPlanOfTree (query_shown query.now) (shown (plan_tree plan)))
+        (OrMemory (IsUnplanned (query_shown query.now))) }
 {
     Ok(plan(alloc, query)?)
 }

@@ -14,9 +14,9 @@ use Rattle.star_plan.specs.Names.{column_at}
 use Rattle.star_plan.specs.Naming.{aggregate_names}
 use Rattle.star_plan.specs.Faults.{aggregates_fault, plan_fault}
 use Rattle.star_plan.specs.Resolved.{IsResolved, resolved_key}
-use Rattle.star_plan.specs.Sound.{are_distinct, condition_is_sound, in_scope, is_column, measure_is_sound, IsSound}
-use Rattle.star_plan.specs.Limits.{IsWithinLimits}
-use Rattle.star_plan.specs.Spelled.{IsSpelled}
+use Rattle.star_plan.specs.Sound.{are_distinct, condition_is_sound, in_scope, is_group_column, measure_is_sound, IsSoundPlan}
+use Rattle.star_plan.specs.Limits.{IsPlanWithinLimits}
+use Rattle.star_plan.specs.Spelled.{IsSpelledPlan}
 use Rattle.star_plan.proofs.Whole.{conjuncts_there, keys_there, measures_there, parts}
 use Rattle.star_plan.proofs.KeptJoins.{at_most_four, where_foreign}
 use Rattle.star_plan.proofs.KeptCounts.{all_counted, items_counted, items_there, measures_counted, names_counted, operands_counted, sorts_there, where_comparisons}
@@ -35,7 +35,7 @@ few_aggregates [] = omega arith
 few_aggregates (tree.plain n ∷ is') = omega (arith, few_aggregates is', sum_by-cons asked.aggregates_in (tree.plain n) is')
 few_aggregates (tree.aggregate a ∷ is') = omega (arith, few_aggregates is', sum_by-cons asked.aggregates_in (tree.aggregate a) is')
 
-pub kept_within : (t : Tree) (p : Plan) → asked.IsWithinLimits t → plan_fault t ≡ None → IsResolved t p → IsWithinLimits p
+pub kept_within : (t : Tree) (p : Plan) → asked.IsQueryWithinLimits t → plan_fault t ≡ None → IsResolved t p → IsPlanWithinLimits p
 kept_within t p few named resolved =
     let there = parts t named in
     let conditions = where_comparisons t.condition p.conjuncts resolved.conjuncts in
@@ -54,7 +54,7 @@ kept_within t p few named resolved =
       sorts = omega (arith, sorts, few.keys);
     }
 
-pub kept_sound : (t : Tree) (p : Plan) → plan_fault t ≡ None → IsResolved t p → IsSound p
+pub kept_sound : (t : Tree) (p : Plan) → plan_fault t ≡ None → IsResolved t p → IsSoundPlan p
 kept_sound t p named resolved =
     let there = parts t named in
     let js = joins_of (where_pairs t.condition) in
@@ -79,17 +79,17 @@ kept_sound t p named resolved =
           (subst (λ ms. list_all (measure_is_sound js) ms ≡ true) (same_some _ measures.0 p.measures measures.1 resolved.measures) measures.2);
       names = ap length resolved.names ∙ names_same;
       items =
-          subst (λ n. list_all (is_column n (length p.measures)) p.items ≡ true) (sym keys_many)
+          subst (λ n. list_all (is_group_column n (length p.measures)) p.items ≡ true) (sym keys_many)
           (items_there t.grouping.columns 0 (length p.measures) t.items p.items (omega arith) resolved.items);
       shown =
           omega (arith, some_named (aggregate_names t.items) there.some, few_aggregates t.items, items_counted t.grouping.columns 0 t.items p.items resolved.items);
       sorts =
-          subst (λ n. list_all (λ s. is_column n (length p.measures) s.column) p.sorts ≡ true) (sym keys_many)
-          (subst (λ n. list_all (λ s. is_column (length t.grouping.columns) n s.column) p.sorts ≡ true) names_same
+          subst (λ n. list_all (λ s. is_group_column n (length p.measures) s.column) p.sorts ≡ true) (sym keys_many)
+          (subst (λ n. list_all (λ s. is_group_column (length t.grouping.columns) n s.column) p.sorts ≡ true) names_same
           (sorts_there t.grouping.columns (aggregate_names t.items) t.keys p.sorts resolved.sorts));
     }
 
-pub kept_spelled : (t : Tree) (p : Plan) → asked.IsWithinLimits t → spelled.IsSpelled t → IsResolved t p → IsSpelled p
+pub kept_spelled : (t : Tree) (p : Plan) → asked.IsQueryWithinLimits t → spelled.IsSpelledQuery t → IsResolved t p → IsSpelledPlan p
 kept_spelled t p few good resolved =
     let short : 1 + length t.items < 2 ^ 64 = omega (arith, few.items) in
     record {

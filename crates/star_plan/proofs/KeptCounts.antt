@@ -20,7 +20,7 @@ use Rattle.star_plan.specs.Naming.{names_from}
 use Rattle.star_plan.specs.Shown.{folded}
 use Rattle.star_plan.specs.Resolved.{aggregate_column, conjuncts_of, item_column, items_from, key_column, measures_of, option_all, resolved_condition, resolved_expression, resolved_key, resolved_measure, where_conjuncts}
 use Rattle.star_plan.specs.Limits.{comparisons_of, measure_operands, operands_of}
-use Rattle.star_plan.specs.Sound.{is_column}
+use Rattle.star_plan.specs.Sound.{is_group_column}
 use Rattle.star_plan.proofs.Options.{both_gave, first_or_second, mapped_gave}
 
 abbrev sorted_by : GroupColumn → SortKey → sorted.SortKey
@@ -134,48 +134,48 @@ items_counted groups before (tree.aggregate a ∷ is') cs e =
     let g = both_gave (λ c cs'. c ∷ cs') (item_column groups before (tree.aggregate a)) (items_from groups (before + 1) is') cs e in
     ap length (sym g.made) ∙ omega (arith, items_counted groups (before + 1) is' g.right g.second)
 
-key_there : (groups : List Name) (text : List ℕ) (c : GroupColumn) (most : ℕ) → key_column groups text ≡ Some c → is_column (length groups) most c ≡ true
+key_there : (groups : List Name) (text : List ℕ) (c : GroupColumn) (most : ℕ) → key_column groups text ≡ Some c → is_group_column (length groups) most c ≡ true
 key_there groups text c most e =
     let g = mapped_gave (λ place. group.Key place) (position (λ n. pointwise nat_eq n.text text) groups) c e in
-    subst (λ d. is_column (length groups) most d ≡ true) g.2 (lt-ltb _ _ (position_within groups g.0 g.1))
+    subst (λ d. is_group_column (length groups) most d ≡ true) g.2 (lt-ltb _ _ (position_within groups g.0 g.1))
   where
     position_within : (ns : List Name) (i : ℕ) → position (λ n. pointwise nat_eq n.text text) ns ≡ Some i → i < length ns
     position_within [] i h = absurd (cc)
     position_within (n ∷ ns) i h = let found = position-Some (λ m. pointwise nat_eq m.text text) (n ∷ ns) i n h in found.0
 
-aggregate_there : (keys : ℕ) (names : List (List ℕ)) (text : List ℕ) (c : GroupColumn) → aggregate_column names text ≡ Some c → is_column keys (length names) c ≡ true
+aggregate_there : (keys : ℕ) (names : List (List ℕ)) (text : List ℕ) (c : GroupColumn) → aggregate_column names text ≡ Some c → is_group_column keys (length names) c ≡ true
 aggregate_there keys names text c e =
     let g = mapped_gave (λ place. group.Aggregate place) (position (λ t. pointwise nat_eq t text) names) c e in
     let found = position-Some (λ t. pointwise nat_eq t text) names g.0 [] g.1 in
-    subst (λ d. is_column keys (length names) d ≡ true) g.2 (lt-ltb _ _ found.0)
+    subst (λ d. is_group_column keys (length names) d ≡ true) g.2 (lt-ltb _ _ found.0)
 
 pub items_there : (groups : List Name) (before most : ℕ) (is' : List Item) (cs : List GroupColumn) → before + sum_by asked.aggregates_in is' ≤ most
-    → items_from groups before is' ≡ Some cs → list_all (is_column (length groups) most) cs ≡ true
-items_there groups before most [] cs few e = let none : [] ≡ cs = cc in subst (λ ds. list_all (is_column (length groups) most) ds ≡ true) none refl
+    → items_from groups before is' ≡ Some cs → list_all (is_group_column (length groups) most) cs ≡ true
+items_there groups before most [] cs few e = let none : [] ≡ cs = cc in subst (λ ds. list_all (is_group_column (length groups) most) ds ≡ true) none refl
 items_there groups before most (tree.plain n ∷ is') cs few e =
     let g = both_gave (λ c cs'. c ∷ cs') (item_column groups before (tree.plain n)) (items_from groups (before + 0) is') cs e in
-    subst (λ ds. list_all (is_column (length groups) most) ds ≡ true) g.made
+    subst (λ ds. list_all (is_group_column (length groups) most) ds ≡ true) g.made
     (and_from _ _ (key_there groups n.text g.left most g.first)
     (items_there groups (before + 0) most is' g.right (omega (arith, few, sum_by-cons asked.aggregates_in (tree.plain n) is')) g.second))
 items_there groups before most (tree.aggregate a ∷ is') cs few e =
     let g = both_gave (λ c cs'. c ∷ cs') (item_column groups before (tree.aggregate a)) (items_from groups (before + 1) is') cs e in
     let here : group.Aggregate before ≡ g.left = (let first = g.first in cc) in
     let below : before < most = omega (arith, few, sum_by-cons asked.aggregates_in (tree.aggregate a) is') in
-    subst (λ ds. list_all (is_column (length groups) most) ds ≡ true) g.made
-    (and_from _ _ (subst (λ d. is_column (length groups) most d ≡ true) here (lt-ltb _ _ below))
+    subst (λ ds. list_all (is_group_column (length groups) most) ds ≡ true) g.made
+    (and_from _ _ (subst (λ d. is_group_column (length groups) most d ≡ true) here (lt-ltb _ _ below))
     (items_there groups (before + 1) most is' g.right (omega (arith, few, sum_by-cons asked.aggregates_in (tree.aggregate a) is')) g.second))
 
 sort_there : (groups : List Name) (names : List (List ℕ)) (text : List ℕ) (c : GroupColumn) → option_or (key_column groups text) (aggregate_column names text) ≡ Some c
-    → is_column (length groups) (length names) c ≡ true
+    → is_group_column (length groups) (length names) c ≡ true
 sort_there groups names text c e =
     elim (first_or_second (key_column groups text) (aggregate_column names text) c e) [ inl key ↦ key_there groups text c (length names) key | inr other ↦ aggregate_there (length groups) names text c other ]
 
 pub sorts_there : (groups : List Name) (names : List (List ℕ)) (ks : List SortKey) (ss : List sorted.SortKey) → option_all (resolved_key groups names) ks ≡ Some ss
-    → list_all (λ s. is_column (length groups) (length names) s.column) ss ≡ true
-sorts_there groups names [] ss e = let none : [] ≡ ss = cc in subst (λ ts. list_all (λ s. is_column (length groups) (length names) s.column) ts ≡ true) none refl
+    → list_all (λ s. is_group_column (length groups) (length names) s.column) ss ≡ true
+sorts_there groups names [] ss e = let none : [] ≡ ss = cc in subst (λ ts. list_all (λ s. is_group_column (length groups) (length names) s.column) ts ≡ true) none refl
 sorts_there groups names (k ∷ ks) ss e =
     let g = both_gave (λ z zs. z ∷ zs) (resolved_key groups names k) (option_all (resolved_key groups names) ks) ss e in
     let c = mapped_gave (λ (d : GroupColumn). sorted_by d k) (option_or (key_column groups k.name.text) (aggregate_column names k.name.text)) g.left g.first in
-    subst (λ ts. list_all (λ s. is_column (length groups) (length names) s.column) ts ≡ true) g.made
-    (and_from _ _ (subst (λ s. is_column (length groups) (length names) s.column ≡ true) c.2 (sort_there groups names k.name.text c.0 c.1))
+    subst (λ ts. list_all (λ s. is_group_column (length groups) (length names) s.column) ts ≡ true) g.made
+    (and_from _ _ (subst (λ s. is_group_column (length groups) (length names) s.column ≡ true) c.2 (sort_there groups names k.name.text c.0 c.1))
     (sorts_there groups names ks g.right g.second))

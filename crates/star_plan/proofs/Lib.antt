@@ -11,3 +11,4 @@ pub mod KeptCounts
 pub mod KeptSpelling
 pub mod Kept
 pub mod Conditions
+pub mod OnePlan

@@ -1,13 +1,17 @@
 -- A well named query has each part of its plan.
-use Rattle.std.proofs.Common.{◌≡◌, true, List, [], ◌++◌, Option, Some, None, option_map}
+use Rattle.std.proofs.Common.{◌≡◌, ◌∙◌, inl, inr, true, List, [], ◌++◌, Option, Some, None, Result, Ok, Err, IfErr}
 use Rattle.std.specs.List.{AllByRecursion, list_all}
 use Rattle.std.specs.Option.{option_or}
+use Rattle.std.specs.Result.{IsErrAnd}
 use Rattle.star_schema.specs.declared.column.ColumnId.{ColumnId}
 use Rattle.star_schema.specs.declared.group.GroupColumn.{GroupColumn}
 use Rattle.star_schema.specs.declared.group.SortKey.{SortKey}
 use Rattle.star_common.specs.First.{first_answer}
+use Rattle.star_common.specs.Memory.{UnlessMemory}
 use Rattle.star_schema.specs.Schema.{table_of}
 use Rattle.star_query.specs.Tree.{Tree}
+use Rattle.star_plan.specs.declared.fault.PlanFault.{PlanFault}
+use Rattle.star_plan.specs.declared.fault.PlanFault.TheVariants.{OutOfMemory}
 use Rattle.star_plan.specs.declared.tree.Join.{Join}
 use Rattle.star_plan.specs.First.{first_beside}
 use Rattle.star_plan.specs.Meaning.{Condition, Measure}
@@ -81,7 +85,10 @@ items_there t p = items_known t.grouping.columns 0 t.items p.items
 pub order_there : (t : Tree) → Parts t → (ss : List SortKey) × (option_all (resolved_key t.grouping.columns (aggregate_names t.items)) t.keys ≡ Some ss)
 order_there t p = order_known t.grouping.columns (aggregate_names t.items) t.keys p.order
 
--- what is there isn't missing
-pub impossible : {A B : Type 0} (f : A → B) (o : Option A) (wanted : Option B) (b : B) → option_map f o ≡ wanted → o ≡ None → wanted ≡ Some b → ⊥
-impossible f None wanted b e n there = cc
-impossible f (Some a) wanted b e n there = cc
+-- what is there is kept back by want of memory alone
+pub only_memory : {A T : Type 0} (o : Option A) (x : A) (e : PlanFault) (r : Result T PlanFault)
+    → UnlessMemory OutOfMemory e (None ≡ o) → o ≡ Some x → IsErrAnd r (λ y. y ≡ e)
+    → IfErr r (λ y. y ≡ OutOfMemory)
+only_memory o x e (Ok y) told there is_e = absurd is_e
+only_memory o x e (Err y) (inl memory) there is_e = is_e ∙ memory
+only_memory o x e (Err y) (inr missing) there is_e = absurd (cc)

@@ -27,7 +27,7 @@ measure_operands (least e) = operands_of e
 measure_operands (greatest e) = operands_of e
 
 -- at most one join for each dimension; the rest as the grammar of queries limits it
-pub record IsWithinLimits (p : Plan) : Type 0 where
+pub record IsPlanWithinLimits (p : Plan) : Type 0 where
   pub joins : length p.joins ≤ 4
   pub comparisons : sum_by comparisons_of p.conjuncts ≤ most_comparisons
   pub keys : length p.keys ≤ most_columns

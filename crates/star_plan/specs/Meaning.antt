@@ -83,8 +83,8 @@ partners ts [] row = row ∷ []
 partners ts (j ∷ js) row = flat_map (λ d. partners ts js (with_row row (table_of j.key) d)) (filter (matches row j) (ts (table_of j.key)))
 
 -- each row of lineorder with its partners
-abbrev pub joined : Tables → List Join → List Joined
-joined ts js = flat_map (λ l. partners ts js (only_row Lineorder l)) (ts Lineorder)
+abbrev pub joined_rows : Tables → List Join → List Joined
+joined_rows ts js = flat_map (λ l. partners ts js (only_row Lineorder l)) (ts Lineorder)
 
 -- ---- selected rows
 
@@ -108,8 +108,8 @@ abbrev pub all_hold : List Condition → Joined → Bool
 all_hold cs row = list_all (λ c. holds c row) cs
 
 -- the rows that a query selects: the joined rows for which every conjunct holds
-abbrev pub selected : Tables → Plan → List Joined
-selected ts p = filter (all_hold p.conjuncts) (joined ts p.joins)
+abbrev pub plan_rows : Tables → Plan → List Joined
+plan_rows ts p = filter (all_hold p.conjuncts) (joined_rows ts p.joins)
 
 -- ---- what a selected row adds to its groups
 
@@ -117,19 +117,19 @@ abbrev pub number_of : Value → ℤ
 number_of (Number x) = x
 number_of (Text bytes) = pos 0
 
-abbrev pub number_at : Expression → Joined → ℤ
-number_at (column c) row = number_of (value_of c row)
-number_at (constant x) row = x
-number_at (add a b) row = number_at a row +ℤ number_at b row
-number_at (sub a b) row = number_at a row -ℤ number_at b row
-number_at (mul a b) row = number_at a row *ℤ number_at b row
+abbrev pub expression_number : Expression → Joined → ℤ
+expression_number (column c) row = number_of (value_of c row)
+expression_number (constant x) row = x
+expression_number (add a b) row = expression_number a row +ℤ expression_number b row
+expression_number (sub a b) row = expression_number a row -ℤ expression_number b row
+expression_number (mul a b) row = expression_number a row *ℤ expression_number b row
 
 -- 1 to a count
 abbrev pub measured : Measure → Joined → ℤ
 measured counted row = pos 1
-measured (summed e) row = number_at e row
-measured (least e) row = number_at e row
-measured (greatest e) row = number_at e row
+measured (summed e) row = expression_number e row
+measured (least e) row = expression_number e row
+measured (greatest e) row = expression_number e row
 
 abbrev pub aggregate_of : Measure → Aggregate
 aggregate_of counted = aggregate.Count

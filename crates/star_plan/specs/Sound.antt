@@ -49,18 +49,18 @@ are_distinct [] = true
 are_distinct (j ∷ js) = list_all (λ q. not (is_table (table_of q.key) (table_of j.key))) js && are_distinct js
 
 -- a group with so many keys and aggregates has this column
-abbrev pub is_column : (keys aggregates : ℕ) → GroupColumn → Bool
-is_column keys aggregates (group.Key n) = nat_lt n keys
-is_column keys aggregates (group.Aggregate n) = nat_lt n aggregates
+abbrev pub is_group_column : (keys aggregates : ℕ) → GroupColumn → Bool
+is_group_column keys aggregates (group.Key n) = nat_lt n keys
+is_group_column keys aggregates (group.Aggregate n) = nat_lt n aggregates
 
 -- what every plan keeps
-pub record IsSound (p : Plan) : Type 0 where
+pub record IsSoundPlan (p : Plan) : Type 0 where
   pub joins : list_all (λ j. is_foreign j.foreign j.key) p.joins ≡ true
   pub distinct : are_distinct p.joins ≡ true
   pub conjuncts : list_all (condition_is_sound p.joins) p.conjuncts ≡ true
   pub keys : list_all (λ c. in_scope p.joins (table_of c)) p.keys ≡ true
   pub measures : list_all (measure_is_sound p.joins) p.measures ≡ true
   pub names : length p.names ≡ length p.measures
-  pub items : list_all (is_column (length p.keys) (length p.measures)) p.items ≡ true
+  pub items : list_all (is_group_column (length p.keys) (length p.measures)) p.items ≡ true
   pub shown : 1 ≤ length p.items
-  pub sorts : list_all (λ s. is_column (length p.keys) (length p.measures) s.column) p.sorts ≡ true
+  pub sorts : list_all (λ s. is_group_column (length p.keys) (length p.measures) s.column) p.sorts ≡ true

@@ -30,7 +30,7 @@ measure_is_spelled (least e) = expression_is_spelled e
 measure_is_spelled (greatest e) = expression_is_spelled e
 
 -- names of 1 to 64 letters, digits and _, numbers of at most 18 digits, and texts from the space to the tilde
-pub record IsSpelled (p : Plan) : Type 0 where
+pub record IsSpelledPlan (p : Plan) : Type 0 where
   pub names : list_all is_name p.names ≡ true
   pub conjuncts : list_all condition_is_spelled p.conjuncts ≡ true
   pub measures : list_all measure_is_spelled p.measures ≡ true

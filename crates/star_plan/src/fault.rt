@@ -58,11 +58,11 @@ impl<T: Drop> From<AllocFailed<T>> for PlanFault {
 
 impl fmt::Display for PlanFault {
     ghost use Rattle.std.specs.Prelude.{Some};
-    ghost use Rattle.star_plan.specs.FaultTexts.{fault_text};
+    ghost use Rattle.star_plan.specs.FaultTexts.{plan_fault_text};
 
-    ghost output = { λ fault. Some (fault_text fault) };
+    ghost output = { λ fault. Some (plan_fault_text fault) };
 
-    #[tactic(auto, unfolding(crate::specs::FaultTexts::fault_text))]
+    #[tactic(auto, unfolding(crate::specs::FaultTexts::plan_fault_text))]
     fn fmt<W: fmt::Write>(&self, f: &mut fmt::Formatter<W>) -> fmt::Result {
         match self {
             PlanFault::OutOfMemory => write!(f, "1 OutOfMemory"),

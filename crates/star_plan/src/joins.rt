@@ -81,7 +81,8 @@ fn add_pairs(
     is_conjunct: bool,
     condition: &Condition,
 ) -> Result<(), AllocError>
-    ensures { OnOk result (pairs.new.items ≡ pairs.old.items ++ spec.pairs_of is_conjunct (condition_view condition.now)) }
+    ensures { OnOk result (pairs.new.items ≡ pairs.old.items
+        ++ spec.pairs_of is_conjunct (condition_view condition.now)) }
 {
     match condition {
         Condition::And(left, right) => {
@@ -112,7 +113,8 @@ pub(crate) fn pairs_of(
     alloc: Global,
     condition: &Option<Condition>,
 ) -> Result<Vec<Pair>, AllocError>
-    ensures { IfOk result (λ pairs. pairs.items ≡ spec.where_pairs (option_map condition_view condition.now)) }
+    ensures { IfOk result (λ pairs. pairs.items
+        ≡ spec.where_pairs (option_map condition_view condition.now)) }
 {
     let mut pairs = Vec::new(alloc);
     if let Some(condition) = condition {
@@ -197,7 +199,8 @@ fn check_dimension(pairs: &[Pair], name: &Name) -> Result<(), PlanFault>
 #[tactic(auto, using(crate::proofs::Viewed::answer_passed, crate::proofs::Viewed::answer_whole))]
 // Whether each dimension of FROM is joined.
 fn check_dimensions(pairs: &[Pair], tables: &[Name]) -> Result<(), PlanFault>
-    ensures { result_err result ≡ first_answer (missing_fault pairs.now) (map name_view tables.now) }
+    ensures { result_err result ≡ first_answer (missing_fault pairs.now)
+        (map name_view tables.now) }
 {
     for name in tables {
         check_dimension(pairs, name)?;

@@ -3,7 +3,7 @@
 ghost use Rattle.std.specs.Prelude.{◌≡◌, ◌≤◌, None, Some, IfErr, IfOk, length, map};
 ghost use Rattle.star_common.specs.Memory.{UnlessMemory};
 ghost use Rattle.star_query.specs.Maxima.{most_columns, most_items};
-ghost use Rattle.star_query.specs.Shown as asked;
+ghost use Rattle.star_query.specs.Shown.{query_shown};
 ghost use Rattle.star_query.specs.Views.{item_view, key_view, name_view, tree_view};
 ghost use Rattle.star_plan.specs.declared.fault.PlanFault.TheVariants.{OutOfMemory};
 ghost use Rattle.star_plan.specs.Private.Answers.{Tells};
@@ -23,7 +23,7 @@ use crate::select::{check_from, check_groups, check_order, check_select};
 use crate::tree::PlanTree;
 use crate::uses::{Use, check_kinds, check_scope, uses_of};
 use star_query::{Item, Name, Query, SortKey, Tree};
-use std::alloc::{AllocError, Global};
+use std::alloc::Global;
 
 fn check_naming(tables: &[Name], uses: &[Use], pairs: &[Pair]) -> Result<(), PlanFault>
     ensures { Tells (naming_fault (map name_view tables.now) uses.now pairs.now) result }
@@ -41,7 +41,8 @@ fn check_grouping(
     keys: &[SortKey],
 ) -> Result<(), PlanFault>
     requires { length items.now ≤ most_items }
-    ensures { Tells (grouping_fault (map name_view groups.now) (map item_view items.now) (map key_view keys.now)) result }
+    ensures { Tells (grouping_fault (map name_view groups.now) (map item_view items.now)
+        (map key_view keys.now)) result }
 {
     check_groups(groups)?;
     let names = check_select(alloc, groups, items)?;
@@ -60,28 +61,19 @@ fn check(alloc: Global, tree: &Tree) -> Result<(), PlanFault>
 }
 
 // The query with its names resolved: each stands for something.
-fn resolve(alloc: Global, tree: &Tree) -> Result<PlanTree, AllocError>
+fn resolve(alloc: Global, tree: &Tree) -> Result<PlanTree, PlanFault>
     requires items { length tree.now.items.items ≤ most_items }
     requires groups { length tree.now.grouping.columns.items ≤ most_columns }
     requires named { plan_fault (tree_view tree.now) ≡ None }
-    ensures { IfOk result (λ plan. IsResolved (tree_view tree.now) (shown plan)) }
+    ensures resolved { IfOk result (λ plan. IsResolved (tree_view tree.now) (shown plan)) }
+    ensures memory { IfErr result (λ fault. fault ≡ OutOfMemory) }
 {
     let groups = &tree.grouping.columns;
-    let Some(conjuncts) = resolve_where(alloc, &tree.condition)? else {
-        unreachable!()
-    };
-    let Some(keys) = resolve_groups(alloc, groups)? else {
-        unreachable!()
-    };
-    let Some(aggregates) = resolve_aggregates(alloc, &tree.items)? else {
-        unreachable!()
-    };
-    let Some(items) = resolve_items(alloc, groups, &tree.items)? else {
-        unreachable!()
-    };
-    let Some(sorts) = resolve_order(alloc, groups, &aggregates, &tree.keys)? else {
-        unreachable!()
-    };
+    let conjuncts = resolve_where(alloc, &tree.condition)?;
+    let keys = resolve_groups(alloc, groups)?;
+    let aggregates = resolve_aggregates(alloc, &tree.items)?;
+    let items = resolve_items(alloc, groups, &tree.items)?;
+    let sorts = resolve_order(alloc, groups, &aggregates, &tree.keys)?;
     let pairs = pairs_of(alloc, &tree.condition)?;
     Ok(PlanTree {
         joins: joins_of(alloc, &pairs)?,
@@ -97,11 +89,13 @@ fn resolve(alloc: Global, tree: &Tree) -> Result<PlanTree, AllocError>
 /// The plan of a query, exactly where the query is well named; else the first fault. Want of memory may come before it.
 pub fn plan(alloc: Global, query: &Query) -> Result<Plan, PlanFault>
     // Only a well named query has one.
-    ensures named { IfOk result (λ _. IsWellNamed (asked.shown query.now)) }
+    ensures named { IfOk result (λ _. IsWellNamed (query_shown query.now)) }
     // Its tree is the query's, with the names resolved.
-    ensures resolved { IfOk result (λ plan. IsResolved (asked.shown query.now) (shown (plan_tree plan))) }
+    ensures resolved { IfOk result (λ plan. IsResolved (query_shown query.now)
+        (shown (plan_tree plan))) }
     // A refusal is the first fault.
-    ensures refused { IfErr result (λ fault. UnlessMemory OutOfMemory fault (plan_fault (asked.shown query.now) ≡ Some fault)) }
+    ensures refused { IfErr result (λ fault. UnlessMemory OutOfMemory fault
+        (plan_fault (query_shown query.now) ≡ Some fault)) }
 {
     let query = query.tree();
     check(alloc, query)?;

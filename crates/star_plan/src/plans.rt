@@ -2,9 +2,9 @@
 
 ghost use Rattle.star_plan.specs.Shown.{shown};
 ghost use Rattle.star_plan.specs.Planned.{IsPlanned};
-ghost use Rattle.star_plan.specs.Sound.{IsSound};
-ghost use Rattle.star_plan.specs.Limits.{IsWithinLimits};
-ghost use Rattle.star_plan.specs.Spelled.{IsSpelled};
+ghost use Rattle.star_plan.specs.Sound.{IsSoundPlan};
+ghost use Rattle.star_plan.specs.Limits.{IsPlanWithinLimits};
+ghost use Rattle.star_plan.specs.Spelled.{IsSpelledPlan};
 
 use crate::tree::PlanTree;
 
@@ -13,9 +13,9 @@ use crate::tree::PlanTree;
 pub struct Plan {
     pub(crate) tree: PlanTree,
     ghost planned: { ∥ IsPlanned (shown tree) ∥₁ },
-    ghost sound: { IsSound (shown tree) },
-    ghost within: { IsWithinLimits (shown tree) },
-    ghost spelled: { IsSpelled (shown tree) },
+    ghost sound: { IsSoundPlan (shown tree) },
+    ghost within: { IsPlanWithinLimits (shown tree) },
+    ghost spelled: { IsSpelledPlan (shown tree) },
 }
 
 impl Plan {
@@ -29,11 +29,11 @@ impl Plan {
         ensures planned { ∥ IsPlanned (shown result.now) ∥₁ }
         // Each dimension is joined once by a foreign key, columns are of joined tables and of the kind that is asked of
         // them, and items and sort keys are columns of the groups.
-        ensures sound { IsSound (shown result.now) }
+        ensures sound { IsSoundPlan (shown result.now) }
         // At most 4 joins, 256 comparisons, 6 keys, 8 aggregates with 512 operands, 16 items and 16 sort keys.
-        ensures limits { IsWithinLimits (shown result.now) }
+        ensures limits { IsPlanWithinLimits (shown result.now) }
         // Names have 1 to 64 letters, digits and `_`, numbers at most 18 digits, and texts bytes from 0x20 to 0x7E.
-        ensures spelled { IsSpelled (shown result.now) }
+        ensures spelled { IsSpelledPlan (shown result.now) }
     {
         &self.tree
     }

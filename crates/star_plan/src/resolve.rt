@@ -1,19 +1,19 @@
-// A query's names resolved. Each function answers none where a name stands for nothing.
+// A query's names resolved. Each function tells a name that stands for nothing, which a well named query doesn't have.
 
-ghost use Rattle.std.specs.Prelude.{◌≡◌, ◌+◌, ◌++◌, ◌<◌, ◌≤◌, [], ◌∷◌, IfOk, IfSome, length, map, option_map, nat_eq};
+ghost use Rattle.std.specs.Prelude.{◌≡◌, ◌+◌, ◌<◌, ◌≤◌, [], ◌∷◌, IfOk, IfSome, length, map, option_map, nat_eq};
 ghost use Rattle.std.specs.Option.{option_or};
 ghost use Rattle.star_plan.specs.Naming as naming;
 ghost use Rattle.std.specs.Cmp.Lexicographic.{pointwise};
 ghost use Rattle.std.specs.List.{position};
-ghost use Rattle.star_schema.specs.declared.group.GroupColumn.TheVariants as group;
 ghost use Rattle.star_query.specs.Maxima.{most_columns, most_items};
 ghost use Rattle.star_query.specs.Views.{aggregate_view, condition_view, expression_view, item_view, key_view, literal_view, measure_view, name_view};
 ghost use Rattle.star_plan.specs.Meaning as meaning;
 ghost use Rattle.star_plan.specs.Names.{column_at};
 ghost use Rattle.star_plan.specs.Resolved as spec;
 ghost use Rattle.star_plan.specs.Shown as shown;
-ghost use Rattle.star_plan.specs.Private.Answers.{conditions_shown};
+ghost use Rattle.star_plan.specs.Private.Answers.{Resolves, conditions_shown};
 
+use crate::fault::PlanFault;
 use crate::names::column_at;
 use crate::select::aggregate_name;
 use crate::tree::{Aggregate, Condition, Expression, Measure};
@@ -22,21 +22,34 @@ use star_query::{Item, Literal, Name};
 use star_schema::{ColumnId, GroupColumn, SortKey};
 use std::alloc::{AllocError, Global};
 
+// The column that a name stands for.
+fn resolve_column(name: &Name) -> Result<ColumnId, PlanFault>
+    ensures { Resolves (λ column. column) (column_at (name_view name.now)) result }
+{
+    match column_at(name) {
+        Some(column) => Ok(column),
+        None => Err(PlanFault::UnknownName { at: name.place }),
+    }
+}
+
 impl Expression {
     fn add(alloc: Global, left: Expression, right: Expression) -> Result<Expression, AllocError>
-        ensures { IfOk result (λ e. shown.expression_shown e ≡ meaning.add (shown.expression_shown left) (shown.expression_shown right)) }
+        ensures { IfOk result (λ e. shown.expression_shown e
+            ≡ meaning.add (shown.expression_shown left) (shown.expression_shown right)) }
     {
         Ok(Expression::Add(Box::new(alloc, left)?, Box::new(alloc, right)?))
     }
 
     fn sub(alloc: Global, left: Expression, right: Expression) -> Result<Expression, AllocError>
-        ensures { IfOk result (λ e. shown.expression_shown e ≡ meaning.sub (shown.expression_shown left) (shown.expression_shown right)) }
+        ensures { IfOk result (λ e. shown.expression_shown e
+            ≡ meaning.sub (shown.expression_shown left) (shown.expression_shown right)) }
     {
         Ok(Expression::Sub(Box::new(alloc, left)?, Box::new(alloc, right)?))
     }
 
     fn mul(alloc: Global, left: Expression, right: Expression) -> Result<Expression, AllocError>
-        ensures { IfOk result (λ e. shown.expression_shown e ≡ meaning.mul (shown.expression_shown left) (shown.expression_shown right)) }
+        ensures { IfOk result (λ e. shown.expression_shown e
+            ≡ meaning.mul (shown.expression_shown left) (shown.expression_shown right)) }
     {
         Ok(Expression::Mul(Box::new(alloc, left)?, Box::new(alloc, right)?))
     }
@@ -46,53 +59,41 @@ impl Expression {
 fn resolve_expression(
     alloc: Global,
     expression: &query::Expression,
-) -> Result<Option<Expression>, AllocError>
-    ensures { IfOk result (λ found. option_map shown.expression_shown found ≡ spec.resolved_expression (expression_view expression.now)) }
+) -> Result<Expression, PlanFault>
+    ensures { Resolves shown.expression_shown
+        (spec.resolved_expression (expression_view expression.now)) result }
 {
     match expression {
-        query::Expression::Column(name) => Ok(column_at(name).map(Expression::Column)),
-        query::Expression::Number(number) => Ok(Some(Expression::Number(*number))),
+        query::Expression::Column(name) => Ok(Expression::Column(resolve_column(name)?)),
+        query::Expression::Number(number) => Ok(Expression::Number(*number)),
         query::Expression::Add(left, right) => {
-            let Some(left) = resolve_expression(alloc, left)? else {
-                return Ok(None);
-            };
-            let Some(right) = resolve_expression(alloc, right)? else {
-                return Ok(None);
-            };
-            Ok(Some(Expression::add(alloc, left, right)?))
+            let left = resolve_expression(alloc, left)?;
+            let right = resolve_expression(alloc, right)?;
+            Ok(Expression::add(alloc, left, right)?)
         }
         query::Expression::Sub(left, right) => {
-            let Some(left) = resolve_expression(alloc, left)? else {
-                return Ok(None);
-            };
-            let Some(right) = resolve_expression(alloc, right)? else {
-                return Ok(None);
-            };
-            Ok(Some(Expression::sub(alloc, left, right)?))
+            let left = resolve_expression(alloc, left)?;
+            let right = resolve_expression(alloc, right)?;
+            Ok(Expression::sub(alloc, left, right)?)
         }
         query::Expression::Mul(left, right) => {
-            let Some(left) = resolve_expression(alloc, left)? else {
-                return Ok(None);
-            };
-            let Some(right) = resolve_expression(alloc, right)? else {
-                return Ok(None);
-            };
-            Ok(Some(Expression::mul(alloc, left, right)?))
+            let left = resolve_expression(alloc, left)?;
+            let right = resolve_expression(alloc, right)?;
+            Ok(Expression::mul(alloc, left, right)?)
         }
     }
 }
 
 /// What an aggregate computes.
-fn resolve_measure(alloc: Global, measure: &query::Measure) -> Result<Option<Measure>, AllocError>
-    ensures { IfOk result (λ found. option_map shown.measure_shown found ≡ spec.resolved_measure (measure_view measure.now)) }
+fn resolve_measure(alloc: Global, measure: &query::Measure) -> Result<Measure, PlanFault>
+    ensures { Resolves shown.measure_shown (spec.resolved_measure (measure_view measure.now))
+        result }
 {
     match measure {
-        query::Measure::Count => Ok(Some(Measure::Count)),
+        query::Measure::Count => Ok(Measure::Count),
         query::Measure::Fold(fold, expression) => {
-            let Some(expression) = resolve_expression(alloc, expression)? else {
-                return Ok(None);
-            };
-            Ok(Some(Measure::Fold(*fold, expression)))
+            let expression = resolve_expression(alloc, expression)?;
+            Ok(Measure::Fold(*fold, expression))
         }
     }
 }
@@ -108,19 +109,22 @@ fn copy_literal(alloc: Global, literal: &Literal) -> Result<Literal, AllocError>
 
 impl Condition {
     fn or(alloc: Global, left: Condition, right: Condition) -> Result<Condition, AllocError>
-        ensures { IfOk result (λ c. shown.condition_shown c ≡ meaning.either (shown.condition_shown left) (shown.condition_shown right)) }
+        ensures { IfOk result (λ c. shown.condition_shown c
+            ≡ meaning.either (shown.condition_shown left) (shown.condition_shown right)) }
     {
         Ok(Condition::Or(Box::new(alloc, left)?, Box::new(alloc, right)?))
     }
 
     fn and(alloc: Global, left: Condition, right: Condition) -> Result<Condition, AllocError>
-        ensures { IfOk result (λ c. shown.condition_shown c ≡ meaning.both (shown.condition_shown left) (shown.condition_shown right)) }
+        ensures { IfOk result (λ c. shown.condition_shown c
+            ≡ meaning.both (shown.condition_shown left) (shown.condition_shown right)) }
     {
         Ok(Condition::And(Box::new(alloc, left)?, Box::new(alloc, right)?))
     }
 
     fn not(alloc: Global, negated: Condition) -> Result<Condition, AllocError>
-        ensures { IfOk result (λ c. shown.condition_shown c ≡ meaning.negation (shown.condition_shown negated)) }
+        ensures { IfOk result (λ c. shown.condition_shown c
+            ≡ meaning.negation (shown.condition_shown negated)) }
     {
         Ok(Condition::Not(Box::new(alloc, negated)?))
     }
@@ -131,14 +135,13 @@ fn resolve_compare(
     name: &Name,
     relation: query::Relation,
     literal: &Literal,
-) -> Result<Option<Condition>, AllocError>
-    ensures { IfOk result (λ found. option_map shown.condition_shown found ≡ spec.resolved_compare (name_view name.now) relation (literal_view literal.now)) }
+) -> Result<Condition, PlanFault>
+    ensures { Resolves shown.condition_shown (spec.resolved_compare (name_view name.now) relation
+        (literal_view literal.now)) result }
 {
-    let Some(column) = column_at(name) else {
-        return Ok(None);
-    };
+    let column = resolve_column(name)?;
     let literal = copy_literal(alloc, literal)?;
-    Ok(Some(Condition::Compare(column, relation, literal)))
+    Ok(Condition::Compare(column, relation, literal))
 }
 
 fn resolve_between(
@@ -146,51 +149,38 @@ fn resolve_between(
     name: &Name,
     from: &Literal,
     upto: &Literal,
-) -> Result<Option<Condition>, AllocError>
-    ensures { IfOk result (λ found. option_map shown.condition_shown found ≡ spec.resolved_between (name_view name.now) (literal_view from.now) (literal_view upto.now)) }
+) -> Result<Condition, PlanFault>
+    ensures { Resolves shown.condition_shown (spec.resolved_between (name_view name.now)
+        (literal_view from.now) (literal_view upto.now)) result }
 {
-    let Some(column) = column_at(name) else {
-        return Ok(None);
-    };
+    let column = resolve_column(name)?;
     let from = copy_literal(alloc, from)?;
     let upto = copy_literal(alloc, upto)?;
-    Ok(Some(Condition::Between(column, from, upto)))
+    Ok(Condition::Between(column, from, upto))
 }
 
 // A condition in which no two columns are compared.
 #[tactic(auto, using(crate::proofs::Options::left_missing, crate::proofs::Options::right_missing, crate::proofs::Options::both_there))]
-fn resolve_condition(
-    alloc: Global,
-    condition: &query::Condition,
-) -> Result<Option<Condition>, AllocError>
-    ensures { IfOk result (λ found. option_map shown.condition_shown found ≡ spec.resolved_condition (condition_view condition.now)) }
+fn resolve_condition(alloc: Global, condition: &query::Condition) -> Result<Condition, PlanFault>
+    ensures { Resolves shown.condition_shown (spec.resolved_condition
+        (condition_view condition.now)) result }
 {
     match condition {
         query::Condition::Or(left, right) => {
-            let Some(left) = resolve_condition(alloc, left)? else {
-                return Ok(None);
-            };
-            let Some(right) = resolve_condition(alloc, right)? else {
-                return Ok(None);
-            };
-            Ok(Some(Condition::or(alloc, left, right)?))
+            let left = resolve_condition(alloc, left)?;
+            let right = resolve_condition(alloc, right)?;
+            Ok(Condition::or(alloc, left, right)?)
         }
         query::Condition::And(left, right) => {
-            let Some(left) = resolve_condition(alloc, left)? else {
-                return Ok(None);
-            };
-            let Some(right) = resolve_condition(alloc, right)? else {
-                return Ok(None);
-            };
-            Ok(Some(Condition::and(alloc, left, right)?))
+            let left = resolve_condition(alloc, left)?;
+            let right = resolve_condition(alloc, right)?;
+            Ok(Condition::and(alloc, left, right)?)
         }
         query::Condition::Not(negated) => {
-            let Some(negated) = resolve_condition(alloc, negated)? else {
-                return Ok(None);
-            };
-            Ok(Some(Condition::not(alloc, negated)?))
+            let negated = resolve_condition(alloc, negated)?;
+            Ok(Condition::not(alloc, negated)?)
         }
-        query::Condition::Pair(_, _) => Ok(None),
+        query::Condition::Pair(name, _) => Err(PlanFault::NotAKeyPair { at: name.place }),
         query::Condition::Compare(name, relation, literal) => {
             resolve_compare(alloc, name, *relation, literal)
         }
@@ -198,42 +188,29 @@ fn resolve_condition(
     }
 }
 
-fn lone_conjunct(
-    alloc: Global,
-    condition: &query::Condition,
-) -> Result<Option<Vec<Condition>>, AllocError>
-    ensures { IfOk result (λ found. option_map conditions_shown found ≡ option_map (λ c. c ∷ []) (spec.resolved_condition (condition_view condition.now))) }
+fn lone_conjunct(alloc: Global, condition: &query::Condition) -> Result<Vec<Condition>, PlanFault>
+    ensures { Resolves conditions_shown (option_map (λ c. c ∷ [])
+        (spec.resolved_condition (condition_view condition.now))) result }
 {
-    match resolve_condition(alloc, condition)? {
-        None => Ok(None),
-        Some(conjunct) => {
-            let mut conjuncts = Vec::new(alloc);
-            conjuncts.push(conjunct)?;
-            Ok(Some(conjuncts))
-        }
-    }
+    let conjunct = resolve_condition(alloc, condition)?;
+    let mut conjuncts = Vec::new(alloc);
+    conjuncts.push(conjunct)?;
+    Ok(conjuncts)
 }
 
 // The conjuncts that don't compare two columns, from the left.
 #[tactic(auto, using(crate::proofs::Options::left_missing, crate::proofs::Options::right_missing, crate::proofs::Options::both_there, crate::proofs::Options::conditions_join))]
-fn conjuncts_of(
-    alloc: Global,
-    condition: &query::Condition,
-) -> Result<Option<Vec<Condition>>, AllocError>
-    ensures { IfOk result (λ found. option_map conditions_shown found ≡ spec.conjuncts_of (condition_view condition.now)) }
+fn conjuncts_of(alloc: Global, condition: &query::Condition) -> Result<Vec<Condition>, PlanFault>
+    ensures { Resolves conditions_shown (spec.conjuncts_of (condition_view condition.now)) result }
 {
     match condition {
         query::Condition::And(left, right) => {
-            let Some(mut conjuncts) = conjuncts_of(alloc, left)? else {
-                return Ok(None);
-            };
-            let Some(mut others) = conjuncts_of(alloc, right)? else {
-                return Ok(None);
-            };
+            let mut conjuncts = conjuncts_of(alloc, left)?;
+            let mut others = conjuncts_of(alloc, right)?;
             conjuncts.append(&mut others)?;
-            Ok(Some(conjuncts))
+            Ok(conjuncts)
         }
-        query::Condition::Pair(_, _) => Ok(Some(Vec::new(alloc))),
+        query::Condition::Pair(_, _) => Ok(Vec::new(alloc)),
         query::Condition::Or(_, _)
         | query::Condition::Not(_)
         | query::Condition::Compare(_, _, _)
@@ -245,31 +222,27 @@ fn conjuncts_of(
 pub(crate) fn resolve_where(
     alloc: Global,
     condition: &Option<query::Condition>,
-) -> Result<Option<Vec<Condition>>, AllocError>
-    ensures { IfOk result (λ found. option_map conditions_shown found ≡ spec.where_conjuncts (option_map condition_view condition.now)) }
+) -> Result<Vec<Condition>, PlanFault>
+    ensures { Resolves conditions_shown (spec.where_conjuncts
+        (option_map condition_view condition.now)) result }
 {
     match condition {
-        None => Ok(Some(Vec::new(alloc))),
+        None => Ok(Vec::new(alloc)),
         Some(condition) => conjuncts_of(alloc, condition),
     }
 }
 
 /// The group columns.
 #[tactic(auto, using(crate::proofs::Options::all_missing, crate::proofs::Options::all_more, crate::proofs::Options::all_whole, crate::proofs::Options::all_first))]
-pub(crate) fn resolve_groups(
-    alloc: Global,
-    groups: &[Name],
-) -> Result<Option<Vec<ColumnId>>, AllocError>
-    ensures { IfOk result (λ found. option_map (λ keys. keys.items) found ≡ spec.option_all column_at (map name_view groups.now)) }
+pub(crate) fn resolve_groups(alloc: Global, groups: &[Name]) -> Result<Vec<ColumnId>, PlanFault>
+    ensures { Resolves (λ keys. keys.items) (spec.option_all column_at (map name_view groups.now))
+        result }
 {
     let mut keys = Vec::new(alloc);
     for name in groups {
-        let Some(column) = column_at(name) else {
-            return Ok(None);
-        };
-        keys.push(column)?;
+        keys.push(resolve_column(name)?)?;
     }
-    Ok(Some(keys))
+    Ok(keys)
 }
 
 fn name_place(groups: &[Name], text: &[u8]) -> Option<usize>
@@ -311,13 +284,17 @@ fn aggregate_column(aggregates: &[Aggregate], text: &[u8]) -> Option<GroupColumn
 }
 
 // What an item shows, where so many aggregates come before it.
-fn item_column(groups: &[Name], before: u16, item: &Item) -> Option<GroupColumn>
+fn item_column(groups: &[Name], before: u16, item: &Item) -> Result<GroupColumn, PlanFault>
     requires { length groups.now ≤ most_columns }
-    ensures { result ≡ spec.item_column (map name_view groups.now) before (item_view item.now) }
+    ensures { Resolves (λ column. column) (spec.item_column (map name_view groups.now) before
+        (item_view item.now)) result }
 {
     match item {
-        Item::Column(name) => key_column(groups, &name.text),
-        Item::Aggregate(_) => Some(GroupColumn::Aggregate(before)),
+        Item::Column(name) => match key_column(groups, &name.text) {
+            Some(column) => Ok(column),
+            None => Err(PlanFault::NotGrouped { at: name.place }),
+        },
+        Item::Aggregate(_) => Ok(GroupColumn::Aggregate(before)),
     }
 }
 
@@ -336,27 +313,26 @@ pub(crate) fn resolve_items(
     alloc: Global,
     groups: &[Name],
     items: &[Item],
-) -> Result<Option<Vec<GroupColumn>>, AllocError>
+) -> Result<Vec<GroupColumn>, PlanFault>
     requires groups { length groups.now ≤ most_columns }
     requires items { length items.now ≤ most_items }
-    ensures { IfOk result (λ found. option_map (λ columns. columns.items) found ≡ spec.items_from (map name_view groups.now) 0 (map item_view items.now)) }
+    ensures { Resolves (λ columns. columns.items)
+        (spec.items_from (map name_view groups.now) 0 (map item_view items.now)) result }
 {
     let mut columns = Vec::new(alloc);
     let mut before = 0;
     for item in items {
-        let Some(column) = item_column(groups, before, item) else {
-            return Ok(None);
-        };
-        columns.push(column)?;
+        columns.push(item_column(groups, before, item)?)?;
         before += aggregates_in(item);
     }
-    Ok(Some(columns))
+    Ok(columns)
 }
 
 fn group_column(groups: &[Name], aggregates: &[Aggregate], text: &[u8]) -> Option<GroupColumn>
     requires groups { length groups.now ≤ most_columns }
     requires aggregates { length aggregates.now ≤ most_items }
-    ensures { result ≡ option_or (spec.key_column (map name_view groups.now) text.now) (spec.aggregate_column (shown.names_shown aggregates.now) text.now) }
+    ensures { result ≡ option_or (spec.key_column (map name_view groups.now) text.now)
+        (spec.aggregate_column (shown.names_shown aggregates.now) text.now) }
 {
     match key_column(groups, text) {
         Some(column) => Some(column),
@@ -364,14 +340,20 @@ fn group_column(groups: &[Name], aggregates: &[Aggregate], text: &[u8]) -> Optio
     }
 }
 
-fn sort_key(groups: &[Name], aggregates: &[Aggregate], key: &query::SortKey) -> Option<SortKey>
+fn sort_key(
+    groups: &[Name],
+    aggregates: &[Aggregate],
+    key: &query::SortKey,
+) -> Result<SortKey, PlanFault>
     requires groups { length groups.now ≤ most_columns }
     requires aggregates { length aggregates.now ≤ most_items }
-    ensures { result ≡ spec.resolved_key (map name_view groups.now) (shown.names_shown aggregates.now) (key_view key.now) }
+    ensures { Resolves (λ sort. sort) (spec.resolved_key (map name_view groups.now)
+        (shown.names_shown aggregates.now) (key_view key.now)) result }
 {
-    match group_column(groups, aggregates, &key.name.text) {
-        None => None,
-        Some(column) => Some(SortKey {
+    let name = &key.name;
+    match group_column(groups, aggregates, &name.text) {
+        None => Err(PlanFault::UnknownOrderKey { at: name.place }),
+        Some(column) => Ok(SortKey {
             column,
             direction: key.direction,
         }),
@@ -385,19 +367,18 @@ pub(crate) fn resolve_order(
     groups: &[Name],
     aggregates: &[Aggregate],
     keys: &[query::SortKey],
-) -> Result<Option<Vec<SortKey>>, AllocError>
+) -> Result<Vec<SortKey>, PlanFault>
     requires groups { length groups.now ≤ most_columns }
     requires aggregates { length aggregates.now ≤ most_items }
-    ensures { IfOk result (λ found. option_map (λ sorts. sorts.items) found ≡ spec.option_all (spec.resolved_key (map name_view groups.now) (shown.names_shown aggregates.now)) (map key_view keys.now)) }
+    ensures { Resolves (λ sorts. sorts.items)
+        (spec.option_all (spec.resolved_key (map name_view groups.now)
+        (shown.names_shown aggregates.now)) (map key_view keys.now)) result }
 {
     let mut sorts = Vec::new(alloc);
     for key in keys {
-        let Some(sort) = sort_key(groups, aggregates, key) else {
-            return Ok(None);
-        };
-        sorts.push(sort)?;
+        sorts.push(sort_key(groups, aggregates, key)?)?;
     }
-    Ok(Some(sorts))
+    Ok(sorts)
 }
 
 // An aggregate, with its number among the aggregates.
@@ -405,36 +386,33 @@ fn resolve_aggregate(
     alloc: Global,
     number: usize,
     aggregate: &query::Aggregate,
-) -> Result<Option<Aggregate>, AllocError>
-    ensures measure { IfOk result (λ found. option_map (λ a. shown.measure_shown a.measure) found ≡ spec.resolved_measure (measure_view aggregate.now.measure)) }
-    ensures name { IfOk result (λ found. IfSome found (λ a. a.name.items ≡ naming.aggregate_name number (aggregate_view aggregate.now))) }
+) -> Result<Aggregate, PlanFault>
+    ensures measure { Resolves (λ a. shown.measure_shown a.measure)
+        (spec.resolved_measure (measure_view aggregate.now.measure)) result }
+    ensures name { IfOk result (λ a. a.name.items
+        ≡ naming.aggregate_name number (aggregate_view aggregate.now)) }
 {
-    let Some(measure) = resolve_measure(alloc, &aggregate.measure)? else {
-        return Ok(None);
-    };
+    let measure = resolve_measure(alloc, &aggregate.measure)?;
     let name = aggregate_name(alloc, number, aggregate)?;
-    Ok(Some(Aggregate { measure, name }))
+    Ok(Aggregate { measure, name })
 }
 
 /// The aggregates, from the left.
-pub(crate) fn resolve_aggregates(
-    alloc: Global,
-    items: &[Item],
-) -> Result<Option<Vec<Aggregate>>, AllocError>
+pub(crate) fn resolve_aggregates(alloc: Global, items: &[Item]) -> Result<Vec<Aggregate>, PlanFault>
     requires { length items.now ≤ most_items }
-    ensures measures { IfOk result (λ found. option_map (λ aggregates. shown.measures_shown aggregates.items) found ≡ spec.measures_of (map item_view items.now)) }
-    ensures names { IfOk result (λ found. IfSome found (λ aggregates. shown.names_shown aggregates.items ≡ naming.aggregate_names (map item_view items.now))) }
-    ensures few { IfOk result (λ found. IfSome found (λ aggregates. length aggregates.items ≤ length items.now)) }
+    ensures measures { Resolves (λ aggregates. shown.measures_shown aggregates.items)
+        (spec.measures_of (map item_view items.now)) result }
+    ensures names { IfOk result (λ aggregates. shown.names_shown aggregates.items
+        ≡ naming.aggregate_names (map item_view items.now)) }
+    ensures few { IfOk result (λ aggregates. length aggregates.items ≤ length items.now) }
 {
     let mut aggregates = Vec::new(alloc);
     for item in items {
         if let Item::Aggregate(aggregate) = item {
             let number = aggregates.len() + 1;
-            let Some(aggregate) = resolve_aggregate(alloc, number, aggregate)? else {
-                return Ok(None);
-            };
+            let aggregate = resolve_aggregate(alloc, number, aggregate)?;
             aggregates.push(aggregate)?;
         }
     }
-    Ok(Some(aggregates))
+    Ok(aggregates)
 }

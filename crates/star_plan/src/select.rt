@@ -20,7 +20,8 @@ use std::alloc::{AllocError, Global};
 
 // Whether a name is a table's that isn't named before.
 fn check_table(before: &[Name], name: &Name) -> Result<(), PlanFault>
-    ensures { result_err result ≡ faults.table_fault (map name_view before.now) (name_view name.now) }
+    ensures { result_err result ≡ faults.table_fault (map name_view before.now)
+        (name_view name.now) }
 {
     match table_at(name) {
         None => Err(PlanFault::UnknownName { at: name.place }),
@@ -52,7 +53,8 @@ pub(crate) fn check_from(tables: &[Name]) -> Result<(), PlanFault>
 }
 
 fn check_group(before: &[Name], name: &Name) -> Result<(), PlanFault>
-    ensures { result_err result ≡ faults.group_fault (map name_view before.now) (name_view name.now) }
+    ensures { result_err result ≡ faults.group_fault (map name_view before.now)
+        (name_view name.now) }
 {
     if has_name(before, &name.text) {
         Err(PlanFault::DuplicateGroup { at: name.place })
@@ -86,7 +88,8 @@ fn function_word(measure: &Measure) -> &'static str
 }
 
 fn default_name(alloc: Global, measure: &Measure, number: usize) -> Result<Vec<u8>, AllocError>
-    ensures { IfOk result (λ name. name.items ≡ spec.default_name (measure_view measure.now) number) }
+    ensures { IfOk result (λ name. name.items
+        ≡ spec.default_name (measure_view measure.now) number) }
 {
     let word = function_word(measure);
     let name = format!(in alloc; "{word}{number}")?;
@@ -99,7 +102,8 @@ pub(crate) fn aggregate_name(
     number: usize,
     aggregate: &Aggregate,
 ) -> Result<Vec<u8>, AllocError>
-    ensures { IfOk result (λ name. name.items ≡ spec.aggregate_name number (aggregate_view aggregate.now)) }
+    ensures { IfOk result (λ name. name.items
+        ≡ spec.aggregate_name number (aggregate_view aggregate.now)) }
 {
     match &aggregate.name {
         Some(name) => name.text.clone(),
@@ -131,7 +135,8 @@ fn name_place(aggregate: &Aggregate) -> usize
 
 // Whether a plain column is among the group columns.
 fn check_column(groups: &[Name], name: &Name) -> Result<(), PlanFault>
-    ensures { result_err result ≡ faults.column_fault (map name_view groups.now) (name_view name.now) }
+    ensures { result_err result ≡ faults.column_fault (map name_view groups.now)
+        (name_view name.now) }
 {
     if has_name(groups, &name.text) {
         Ok(())
@@ -147,8 +152,10 @@ fn check_alias(
     names: &[Vec<u8>],
     aggregate: &Aggregate,
 ) -> Result<Vec<u8>, PlanFault>
-    ensures told { Tells (faults.alias_fault (map name_view groups.now) (map (λ n. n.items) names.now) (aggregate_view aggregate.now)) result }
-    ensures named { IfOk result (λ name. name.items ≡ spec.aggregate_name (length names.now + 1) (aggregate_view aggregate.now)) }
+    ensures told { Tells (faults.alias_fault (map name_view groups.now)
+        (map (λ n. n.items) names.now) (aggregate_view aggregate.now)) result }
+    ensures named { IfOk result (λ name. name.items
+        ≡ spec.aggregate_name (length names.now + 1) (aggregate_view aggregate.now)) }
 {
     let name = aggregate_name(alloc, names.len() + 1, aggregate)?;
     if has_text(names, &name) || has_name(groups, &name) {
@@ -165,8 +172,11 @@ fn check_item(
     names: &mut Vec<Vec<u8>>,
     item: &Item,
 ) -> Result<(), PlanFault>
-    ensures told { Tells (faults.item_fault_after (map name_view groups.now) (map (λ n. n.items) names.old.items) (item_view item.now)) result }
-    ensures named { OnOk result (map (λ n. n.items) names.new.items ≡ map (λ n. n.items) names.old.items ++ spec.names_from (length names.old.items + 1) (item_view item.now ∷ [])) }
+    ensures told { Tells (faults.item_fault_after (map name_view groups.now)
+        (map (λ n. n.items) names.old.items) (item_view item.now)) result }
+    ensures named { OnOk result (map (λ n. n.items) names.new.items
+        ≡ map (λ n. n.items) names.old.items ++ spec.names_from (length names.old.items + 1)
+        (item_view item.now ∷ [])) }
 {
     match item {
         Item::Column(name) => check_column(groups, name),
@@ -181,8 +191,10 @@ fn check_item(
 // The names of the aggregates, if each item is grouped or has a new name.
 fn check_items(alloc: Global, groups: &[Name], items: &[Item]) -> Result<Vec<Vec<u8>>, PlanFault>
     requires { length items.now ≤ most_items }
-    ensures told { Tells (first_beside (faults.item_fault (map name_view groups.now)) (map item_view items.now)) result }
-    ensures named { IfOk result (λ names. map (λ n. n.items) names.items ≡ spec.aggregate_names (map item_view items.now)) }
+    ensures told { Tells (first_beside (faults.item_fault (map name_view groups.now))
+        (map item_view items.now)) result }
+    ensures named { IfOk result (λ names. map (λ n. n.items) names.items
+        ≡ spec.aggregate_names (map item_view items.now)) }
 {
     let mut names = Vec::new(alloc);
     for item in items {
@@ -198,8 +210,10 @@ pub(crate) fn check_select(
     items: &[Item],
 ) -> Result<Vec<Vec<u8>>, PlanFault>
     requires { length items.now ≤ most_items }
-    ensures told { Tells (faults.select_fault (map name_view groups.now) (map item_view items.now)) result }
-    ensures named { IfOk result (λ names. map (λ n. n.items) names.items ≡ spec.aggregate_names (map item_view items.now)) }
+    ensures told { Tells (faults.select_fault (map name_view groups.now) (map item_view items.now))
+        result }
+    ensures named { IfOk result (λ names. map (λ n. n.items) names.items
+        ≡ spec.aggregate_names (map item_view items.now)) }
 {
     let names = check_items(alloc, groups, items)?;
     if names.is_empty() {
@@ -210,7 +224,8 @@ pub(crate) fn check_select(
 
 // Whether a sort key is a group column or an aggregate's name.
 fn check_key(groups: &[Name], names: &[Vec<u8>], key: &SortKey) -> Result<(), PlanFault>
-    ensures { result_err result ≡ faults.key_fault (map name_view groups.now) (map (λ n. n.items) names.now) (key_view key.now) }
+    ensures { result_err result ≡ faults.key_fault (map name_view groups.now)
+        (map (λ n. n.items) names.now) (key_view key.now) }
 {
     let name = &key.name;
     if has_name(groups, &name.text) || has_text(names, &name.text) {
@@ -227,7 +242,9 @@ pub(crate) fn check_order(
     names: &[Vec<u8>],
     keys: &[SortKey],
 ) -> Result<(), PlanFault>
-    ensures { result_err result ≡ first_answer (faults.key_fault (map name_view groups.now) (map (λ n. n.items) names.now)) (map key_view keys.now) }
+    ensures { result_err result ≡ first_answer
+        (faults.key_fault (map name_view groups.now) (map (λ n. n.items) names.now))
+        (map key_view keys.now) }
 {
     for key in keys {
         check_key(groups, names, key)?;

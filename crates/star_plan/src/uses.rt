@@ -47,7 +47,8 @@ impl Use {
     }
 
     fn between(from: &Literal, upto: &Literal, name: &Name) -> Use
-        ensures { result ≡ spec.use_between (literal_view from.now) (literal_view upto.now) (name_view name.now) }
+        ensures { result ≡ spec.use_between (literal_view from.now) (literal_view upto.now)
+            (name_view name.now) }
     {
         let column = column_at(name);
         Use {
@@ -90,7 +91,8 @@ fn kind_of_literal(literal: &Literal) -> Kind
 }
 
 fn add_expression(uses: &mut Vec<Use>, expression: &Expression) -> Result<(), AllocError>
-    ensures { OnOk result (uses.new.items ≡ uses.old.items ++ spec.expression_uses (expression_view expression.now)) }
+    ensures { OnOk result (uses.new.items ≡ uses.old.items
+        ++ spec.expression_uses (expression_view expression.now)) }
 {
     match expression {
         Expression::Column(name) => {
@@ -108,7 +110,8 @@ fn add_expression(uses: &mut Vec<Use>, expression: &Expression) -> Result<(), Al
 }
 
 fn add_measure(uses: &mut Vec<Use>, measure: &Measure) -> Result<(), AllocError>
-    ensures { OnOk result (uses.new.items ≡ uses.old.items ++ spec.measure_uses (measure_view measure.now)) }
+    ensures { OnOk result (uses.new.items ≡ uses.old.items
+        ++ spec.measure_uses (measure_view measure.now)) }
 {
     match measure {
         Measure::Count => Ok(()),
@@ -129,7 +132,8 @@ fn add_item(uses: &mut Vec<Use>, item: &Item) -> Result<(), AllocError>
 }
 
 fn add_condition(uses: &mut Vec<Use>, condition: &Condition) -> Result<(), AllocError>
-    ensures { OnOk result (uses.new.items ≡ uses.old.items ++ spec.condition_uses (condition_view condition.now)) }
+    ensures { OnOk result (uses.new.items ≡ uses.old.items
+        ++ spec.condition_uses (condition_view condition.now)) }
 {
     match condition {
         Condition::Or(left, right) | Condition::And(left, right) => {
@@ -150,7 +154,8 @@ fn add_condition(uses: &mut Vec<Use>, condition: &Condition) -> Result<(), Alloc
 }
 
 fn add_items(uses: &mut Vec<Use>, items: &[Item]) -> Result<(), AllocError>
-    ensures { OnOk result (uses.new.items ≡ uses.old.items ++ spec.items_uses (map item_view items.now)) }
+    ensures { OnOk result (uses.new.items ≡ uses.old.items
+        ++ spec.items_uses (map item_view items.now)) }
 {
     for item in items {
         add_item(uses, item)?;
@@ -159,7 +164,8 @@ fn add_items(uses: &mut Vec<Use>, items: &[Item]) -> Result<(), AllocError>
 }
 
 fn add_groups(uses: &mut Vec<Use>, names: &[Name]) -> Result<(), AllocError>
-    ensures { OnOk result (uses.new.items ≡ uses.old.items ++ spec.groups_uses (map name_view names.now)) }
+    ensures { OnOk result (uses.new.items ≡ uses.old.items
+        ++ spec.groups_uses (map name_view names.now)) }
 {
     for name in names {
         uses.push(Use::any(name))?;

@@ -67,11 +67,6 @@ pub bad_along : (e : ParseError) (new : Spot) (v w : Verdict) → v ≡ w → En
 bad_along errors.OutOfMemory new v w same b = tt
 bad_along (errors.Fault f) new v w same b = same ∙ b
 
--- at the same spot by another name
-pub from_spot : (e : ParseError) (new : Spot) (v w : Verdict) → v ≡ w → EndsBad e new v → EndsBad e new w
-from_spot errors.OutOfMemory new v w same b = tt
-from_spot (errors.Fault f) new v w same b = sym same ∙ b
-
 pub bad_here : (f : Fault) (old new : Spot) (v : Verdict) → new.left ≡ old.left → v ≡ Bad f old.left → EndsBad (errors.Fault f) new v
 bad_here f old new v same b = b ∙ ap (Bad f) (sym same)
 
@@ -184,13 +179,6 @@ opened x ps d old new false e n = cc
 pub not_opened : (x : Symbol) (ps : List Part) (d : ℕ) (old new : Spot) (b : Bool) → b ≡ false → Nests x ps d old new (Ok b) → No x old × (new ≡ old)
 not_opened x ps d old new true e n = cc
 not_opened x ps d old new false e n = n
-
--- operands are factors
-pub operand_factor : (old here new : Spot) (d : ℕ) (r : Result Expression ParseError) → here ≡ old → d ≤ 32 → ReadsOperand here new r → ReadsFactor d old new r
-operand_factor old here new d (Ok x) same deep r =
-    (r.0, r.1, λ h q. ap (λ s. verdict s (factor_wanted h)) (sym same) ∙ r.2 h (omega (arith, q)))
-operand_factor old here new d (Err e) same deep b =
-    λ h q. bad_along e new _ _ (ap (λ s. verdict s (factor_wanted h)) (sym same)) (b h (omega (arith, q)))
 
 -- the same from a state that reads the next symbol alike
 pub same_from : (old : Spot) (from other : State) → at_end from ≡ at_end other → ((x : Symbol) → head_of old.left ≡ Some x → step from x ≡ step other x) → verdict old from ≡ verdict old other

@@ -62,10 +62,6 @@ behind_other : (h : UnitHole) (i : tree.Name) (q : Relation) → (q ≡ r.Equal 
 behind_other h i r.Equal other = absurd (other refl)
 behind_other h i _ other = refl
 
-pub read_related : (old new : Spot) (i : Name) (q : Relation) (answer : Result Condition ParseError) → (q ≡ r.Equal → ⊥) → ReadsNamed (λ h. lit_wanted (compared h (name_view i) q)) old new answer → ReadsNamed (λ h. behind_relation h (name_view i) q) old new answer
-read_related old new i q answer other reads =
-    along condition_view unit_tree (λ h. unit_depth h ≤ 32) (λ h. behind_relation h (name_view i) q) (λ h. lit_wanted (compared h (name_view i) q)) give_unit old old new answer (λ h deep. ap (verdict old) (behind_other h (name_view i) q other)) reads
-
 pub read_compare_between : (old mid new : Spot) (i : Name) (answer : Result Condition ParseError) → Takes old mid (keyword k.Between) [] → ReadsNamed (λ h. lit_wanted (low h (name_view i))) mid new answer → ReadsNamed (λ h. unit_named h (name_view i)) old new answer
 read_compare_between old mid new i answer t reads =
     along condition_view unit_tree (λ h. unit_depth h ≤ 32) (λ h. unit_named h (name_view i)) (λ h. lit_wanted (low h (name_view i))) give_unit old mid new answer (λ h deep. takes old mid _ [] (unit_depth h) (unit_named h (name_view i)) (lit_wanted (low h (name_view i))) t deep refl) reads

@@ -1,5 +1,5 @@
 -- The readers of the lexer read what begins at a place.
-use Rattle.std.proofs.Common.{◌≡◌, ◌∙◌, ◌↔◌, ℕ, Bool, true, false, List, [], ◌∷◌, IsTrue, nat_eq, refl, sym, ap, subst, ◌+◌, ◌*◌, ◌^◌, ◌<◌, ◌≤◌, ◌-◌, arith, lit<, length, drop, take, get_or, zero, suc, Some, Result, Ok, Err, ◌++◌, append_assoc, append-nil, length-take, drop-drop}
+use Rattle.std.proofs.Common.{◌≡◌, ◌∙◌, ◌↔◌, ℕ, Bool, true, false, List, [], ◌∷◌, IsTrue, nat_eq, refl, sym, ap, subst, ◌+◌, ◌*◌, ◌^◌, ◌<◌, ◌≤◌, ◌-◌, arith, lit<, length, drop, take, get_or, zero, suc, Result, Ok, Err, ◌++◌, append_assoc, append-nil, length-take, drop-drop}
 use Rattle.std.specs.Cmp.Lexicographic.{pointwise, same_text}
 use Rattle.std.proofs.lemmas.Bool.{eq-eqb}
 use Rattle.star_query.specs.declared.token.Word.{Word}
@@ -7,7 +7,7 @@ use Rattle.star_query.specs.declared.token.Word.TheVariants.{Keyword, Fold, Coun
 use Rattle.star_query.specs.declared.token.Keyword.TheVariants.{Select}
 use Rattle.star_query.specs.declared.token.Fold.TheVariants.{Sum}
 use Rattle.star_query.specs.Symbols.{Symbol, Placed, spelling, lowered}
-use Rattle.star_query.specs.Cut.{is_spelled, Ending, closed, stopped, open_ended, farther, goes_on, ending_after, blank, token, bad, cut_from, cut_of, with_token, begins_with_letter, is_word_byte}
+use Rattle.star_query.specs.Cut.{is_spelled, Ending, closed, stopped, open_ended, farther, blank, token, bad, cut_from, cut_of, with_token, begins_with_letter, is_word_byte}
 use Rattle.star_query.specs.declared.fault.QueryFault.TheVariants.{OutOfMemory, TooLong}
 use Rattle.star_query.specs.declared.fault.QueryFault.{QueryFault}
 use Rattle.std.specs.Char.{is_ascii_digit}
@@ -57,10 +57,6 @@ ended-farther n open_ended = refl
 
 pub prefix_within : {X : Type 0} (p : X → Bool) (xs : List X) → prefix_len p xs ≤ length xs
 prefix_within p xs = prefix_len-le-length p xs
-
--- a byte with which a text goes on
-pub ended_behind : (n : ℕ) (q p : Bool) (b : ℕ) (bs : List ℕ) → goes_on q b ≡ Some p → ended_at n (ending_after q (b ∷ bs)) ≡ ended_at (n + 1) (ending_after p bs)
-ended_behind n q p b bs e = rw e (ended-farther n (ending_after p bs))
 
 -- a quote is behind a quote
 pub digits_pass : (bytes : List ℕ) (width : ℕ) → width ≡ prefix_len is_ascii_digit bytes → (k : ℕ) → k < length (take width bytes) → is_ascii_digit (get_or (take width bytes) k 0) ≡ true

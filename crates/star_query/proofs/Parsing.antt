@@ -77,13 +77,6 @@ text_stops bytes tokens left f short cut s =
       first = subst (λ ts. FirstFault (symbols ts) f (symbols left)) s.cut s.first;
     }
 
-pub fault_of_tokens : (bytes : List ℕ) (tokens : List Placed) (fault : QueryFault) → length bytes ≤ 65536 → cut_of bytes ≡ Ok tokens → IsTokenFault tokens (length bytes) fault → IsFirstFault bytes fault
-fault_of_tokens bytes tokens faults.OutOfMemory short cut f = tt
-fault_of_tokens bytes tokens (faults.Unexpected place) short cut f = (f.0, text_stops bytes tokens f.0 Unexpected short cut f.1, f.2)
-fault_of_tokens bytes tokens faults.TooDeep short cut f = (f.0, text_stops bytes tokens f.0 TooDeep short cut f.1)
-fault_of_tokens bytes tokens faults.TooMany short cut f = (f.0, text_stops bytes tokens f.0 TooMany short cut f.1)
-fault_of_tokens bytes tokens _ short cut f = absurd f
-
 cut_is_cut : (a b : List Placed) (c : Result (List Placed) QueryFault) → c ≡ Ok a → c ≡ Ok b → a ≡ b
 cut_is_cut a b c e f = let same : the_ok a ≡ the_ok b = sym e ∙ f in cc
   where
@@ -122,17 +115,6 @@ tokens_no_tree ts left n f place u e bad d =
 -- a query and its text
 pub means_tokens : (bytes : List ℕ) (tokens : List Placed) (t : tree.Tree) → length bytes ≤ 65536 → cut_of bytes ≡ Ok tokens → Derives (symbols tokens) t → Means bytes t
 means_tokens bytes tokens t short cut d = record { short = short; tokens = tokens; cut = cut; derives = d }
-
--- a text that can't be cut means nothing
-pub no_meaning : (bytes : List ℕ) (fault : QueryFault) (t : tree.Tree) → IsCutFault bytes fault → Means bytes t → IsRead t (Err fault)
-no_meaning bytes faults.OutOfMemory t e m = tt
-no_meaning bytes faults.TooLong t e m = let w : Err faults.TooLong ≡ Ok m.tokens = sym e ∙ m.cut in cc
-no_meaning bytes (faults.BadCharacter n) t e m = let w : Err (faults.BadCharacter n) ≡ Ok m.tokens = sym e ∙ m.cut in cc
-no_meaning bytes (faults.BadNumber n) t e m = let w : Err (faults.BadNumber n) ≡ Ok m.tokens = sym e ∙ m.cut in cc
-no_meaning bytes (faults.OpenText n) t e m = let w : Err (faults.OpenText n) ≡ Ok m.tokens = sym e ∙ m.cut in cc
-no_meaning bytes (faults.Unexpected n) t e m = let w : Err (faults.Unexpected n) ≡ Ok m.tokens = sym e ∙ m.cut in cc
-no_meaning bytes faults.TooDeep t e m = let w : Err faults.TooDeep ≡ Ok m.tokens = sym e ∙ m.cut in cc
-no_meaning bytes faults.TooMany t e m = let w : Err faults.TooMany ≡ Ok m.tokens = sym e ∙ m.cut in cc
 
 -- the parser's answer of an error
 pub error_fault : (ts left : List Token) (n m : Counts) (error : ParseError) (place end passed : ℕ) → n ≡ nothing_counted → EndsBad error (record { left = map (λ t. symbol_of t.kind t.place) left; counts = m }) (run (map (λ t. symbol_of t.kind t.place) ts) begin n) → passed ≡ length ts - length left → place ≡ place_of (drop passed (map placed ts)) end → IsTokenFault (map placed ts) end (query_fault error place)

@@ -32,13 +32,13 @@ use Rattle.star_query.specs.declared.tree.Tree.{Tree}
 use Rattle.star_query.specs.Symbols.{Symbol, keyword, sign, name}
 use Rattle.star_query.specs.Tree as tree
 use Rattle.star_query.specs.Grammar as grammar
-use Rattle.star_query.specs.Grammar.{Several, one, more, Expr, Agg, folded, counted, Cond, lone_conj, or_conj, Key, unmarked, ascending, descending, Groups, ungrouped, grouped, cubed, Query, at, first, ident, expr_tree, cond_tree, agg_tree, item_tree, key_tree, listed, names, groups_tree, keys_tree, query_tree}
+use Rattle.star_query.specs.Grammar.{Several, one, more, Agg, folded, counted, Cond, lone_conj, or_conj, Key, unmarked, ascending, descending, ungrouped, grouped, cubed, Query, first, ident, cond_tree, agg_tree, item_tree, key_tree, listed, names, groups_tree}
 use Rattle.star_query.specs.Private.Machine.{extended, in_fold, in_where, first_factor, first_term, first_unit, first_conj, Filtered, Grouped, filtered_by, grouped_by, query_of, State, begin, item_wanted, fold_named, count_named, count_opened, count_starred, factor_wanted, expr_had, cond_had, agg_had, alias_wanted, items_had, table_wanted, tables_had, unit_wanted, filtered_had, group_had, by_had, cube_had, column_wanted, columns_had, grouped_had, order_had, key_wanted, key_named, keys_had, done, ended, to, step, at_end, Whole, Bad, after, ends, run}
 use Rattle.star_query.specs.Views.{name_view, condition_view, measure_view, aggregate_view, item_view, grouping_view, key_view}
 use Rattle.star_query.specs.Private.Reads.{Spot, spot_of, head_of, No, verdict, EndsBad, Takes, NoName, ReadsName, ReadsExpr, ReadsCond, NoLogic}
 use Rattle.star_query.specs.Private.Clauses.{function_symbol, function_named, function_parts, ReadsFolded, ReadsCounted, ReadsMeasure, ReadsAlias, ReadsAggregate, ReadsItem, NoComma, ReadsItems, ReadsTables, ReadsFilter, ReadsColumns, ReadsGroups, ReadsGrouping, ReadsKey, ReadsKeyList, ReadsKeys, ReadsEnd, ReadsQuery}
 use Rattle.star_query.proofs.Accepting.{fold_closes}
-use Rattle.star_query.proofs.Descent.{takes, stuck, bad_along, bad_name, refused, along, same_from, head_no_name}
+use Rattle.star_query.proofs.Descent.{takes, stuck, bad_along, bad_name, refused, same_from, head_no_name}
 
 zero_deep : 0 ≤ 32
 zero_deep = omega arith
@@ -109,10 +109,6 @@ read_aggregate f old mid new m n measure alias =
 function_step : (b : Option (Several grammar.Item)) (o : Option Fold) (p : ℕ) → step (item_wanted b) (function_symbol (record { fold = o; place = p })) ≡ to (function_named b (record { fold = o; place = p })) (first function_parts 0 (function_symbol (record { fold = o; place = p })))
 function_step b (Some f) p = refl
 function_step b None p = refl
-
-pub read_item_aggregate : (old mid new : Spot) (f : Function) (a : Aggregate) → Takes old mid (function_symbol f) function_parts → ReadsAggregate f mid new (Ok a) → ReadsItem old new (Ok (items.Aggregate a))
-read_item_aggregate old mid new f a t reads =
-    (reads.0, reads.1, λ b u. takes old mid _ function_parts 0 (item_wanted b) (function_named b f) t zero_deep (function_step b f.fold f.place) ∙ reads.2 b tt)
 
 pub read_item_name : (old mid new : Spot) (n : Name) → mid ≡ old → Takes mid new (ident (name_view n)) (part.Item ∷ []) → ReadsItem old new (Ok (items.Column n))
 read_item_name old mid new n same t =
@@ -228,14 +224,6 @@ pub bad_plain : (old here new : Spot) (r : Result Grouping ParseError) (e : Pars
 bad_plain old here new r e is same none b =
     refused grouping_view groups_tree (λ h. Unit {0}) by_had (λ g f. grouped_had (grouped_by f g)) old new r e is (λ f u. bad_along e new _ _ (by_columns old here f same none) (b (f, false) tt))
 
-pub bad_cube_open : (old a new : Spot) (r : Result Grouping ParseError) (e : ParseError) → r ≡ Err e → Takes old a (keyword k.Cube) [] → (e ≡ errors.Fault Unexpected) × No (sign s.Open) a × (new ≡ a) → ReadsGroups old new r
-bad_cube_open old a new r e is cube b =
-    refused grouping_view groups_tree (λ h. Unit {0}) by_had (λ g f. grouped_had (grouped_by f g)) old new r e is (λ f u. bad_along e new _ _ (takes old a _ [] 0 (by_had f) (cube_had f) cube zero_deep refl) (not_next (sign s.Open) a new (cube_had f) e refl (λ y head other. only_open f y other) b))
-  where
-    only_open : (f : Filtered) (y : Symbol) → (y ≡ sign s.Open → ⊥) → step (cube_had f) y ≡ None
-    only_open f (sign s.Open) other = absurd (other refl)
-    only_open f _ other = refl
-
 pub bad_cube_columns : (old a b new : Spot) (r : Result Grouping ParseError) (e : ParseError) → r ≡ Err e → Takes old a (keyword k.Cube) [] → Takes a b (sign s.Open) [] → ReadsColumns b new (Err e) → ReadsGroups old new r
 bad_cube_columns old a b new r e is cube opened bad =
     refused grouping_view groups_tree (λ h. Unit {0}) by_had (λ g f. grouped_had (grouped_by f g)) old new r e is (λ f u. bad_along e new _ _ (takes old a _ [] 0 (by_had f) (cube_had f) cube zero_deep refl ∙ takes a b _ [] 0 (cube_had f) (column_wanted f true None) opened zero_deep refl) (bad (f, true) tt))
@@ -252,22 +240,6 @@ filtered_step f _ other = refl
 group_by_passed : (old a b : Spot) (f : Filtered) → Takes old a (keyword k.Group) [] → Takes a b (keyword k.By) [] → verdict old (filtered_had f) ≡ verdict b (by_had f)
 group_by_passed old a b f group by =
     takes old a _ [] 0 (filtered_had f) (group_had f) group zero_deep refl ∙ takes a b _ [] 0 (group_had f) (by_had f) by zero_deep refl
-
-pub read_grouping : (old a b new : Spot) (r : Result Grouping ParseError) → Takes old a (keyword k.Group) [] → Takes a b (keyword k.By) [] → ReadsGroups b new r → ReadsGrouping old new r
-read_grouping old a b new r group by reads =
-    along grouping_view groups_tree (λ h. Unit {0}) filtered_had by_had (λ g f. grouped_had (grouped_by f g)) old b new r (λ f u. group_by_passed old a b f group by) reads
-
-pub bad_group_by : (old a new : Spot) (r : Result Grouping ParseError) (e : ParseError) → r ≡ Err e → Takes old a (keyword k.Group) [] → (e ≡ errors.Fault Unexpected) × No (keyword k.By) a × (new ≡ a) → ReadsGrouping old new r
-bad_group_by old a new r e is group b =
-    refused grouping_view groups_tree (λ h. Unit {0}) filtered_had (λ g f. grouped_had (grouped_by f g)) old new r e is (λ f u. bad_along e new _ _ (takes old a _ [] 0 (filtered_had f) (group_had f) group zero_deep refl) (not_next (keyword k.By) a new (group_had f) e refl (λ y head other. only_by f y other) b))
-  where
-    only_by : (f : Filtered) (y : Symbol) → (y ≡ keyword k.By → ⊥) → step (group_had f) y ≡ None
-    only_by f (keyword k.By) other = absurd (other refl)
-    only_by f _ other = refl
-
-pub read_no_grouping : (old new : Spot) (v : Vec Name Global) → v.items ≡ [] → No (keyword k.Group) old → new ≡ old → ReadsGrouping old new (Ok (record { shape = Plain; columns = v }))
-read_no_grouping old new v empty none same =
-    (ungrouped, ap (λ l. record { shape = Plain; columns = l }) (sym (ap (map name_view) empty)), λ f u. same_from old (filtered_had f) (grouped_had (grouped_by f ungrouped)) refl (λ x head. filtered_step f x (λ q. none (head ∙ ap Some q))) ∙ ap (λ s. verdict s (grouped_had (grouped_by f ungrouped))) (sym same))
 
 -- sort keys
 key_step : (g : Grouped) (b : Option (Several Key)) (i : tree.Name) (x : Symbol) → (x ≡ keyword k.Asc → ⊥) → (x ≡ keyword k.Desc → ⊥) → step (key_named g b i) x ≡ step (keys_had g (extended b (unmarked i))) x
@@ -291,10 +263,6 @@ only_key : (g : Grouped) (b : Option (Several Key)) (x : Symbol) → NoName (x �
 only_key g b (name t p) none = absurd none
 only_key g b _ none = refl
 
-pub bad_key : (old new : Spot) (r : Result SortKey ParseError) (e : ParseError) → r ≡ Err e → ReadsName (part.SortKey ∷ []) old new (Err e) → ReadsKey old new r
-bad_key old new r e is reads =
-    refused key_view key_tree (λ h. Unit {0}) (λ h. key_wanted h.0 h.1) (λ k h. keys_had h.0 (extended h.1 k)) old new r e is (λ h u. bad_name (part.SortKey ∷ []) 0 (key_wanted h.0 h.1) old new e zero_deep (λ t p. (key_named h.0 h.1 (record { text = t; place = p }), refl)) (λ none. stuck old (key_wanted h.0 h.1) refl (λ x head. only_key h.0 h.1 x (head_no_name old.left x head none))) reads)
-
 pub first_key : (old mid : Spot) (i : SortKey) (v : List SortKey) → v ≡ [] ++ i ∷ [] → ReadsKey old mid (Ok i) → (ks : Several Key) × (listed key_tree ks ≡ map key_view v) × ((g : Grouped) → verdict old (key_wanted g None) ≡ verdict mid (keys_had g ks))
 first_key old mid i v e reads = (one reads.0, one_listed key_tree key_view reads.0 i v e reads.1, λ g. reads.2 (g, None) tt)
 
@@ -316,21 +284,9 @@ read_keys old a b new (Ok v) order by reads none =
     (Some reads.0, reads.1, λ g u. order_by_passed old a b g order by ∙ reads.2 g tt ∙ same_from new (keys_had g reads.0) (done g (Some reads.0)) refl (λ x head. keys_step g reads.0 x (λ q. none (head ∙ ap Some q))))
 read_keys old a b new (Err e) order by bad none = λ g u. bad_along e new _ _ (order_by_passed old a b g order by) (bad g tt)
 
-pub bad_order_by : (old a new : Spot) (r : Result (Vec SortKey Global) ParseError) (e : ParseError) → r ≡ Err e → Takes old a (keyword k.Order) [] → (e ≡ errors.Fault Unexpected) × No (keyword k.By) a × (new ≡ a) → ReadsKeys old new r
-bad_order_by old a new r e is order b =
-    refused (λ v. map key_view v.items) keys_tree (λ h. Unit {0}) grouped_had (λ ks g. done g ks) old new r e is (λ g u. bad_along e new _ _ (takes old a _ [] 0 (grouped_had g) (order_had g) order zero_deep refl) (not_next (keyword k.By) a new (order_had g) e refl (λ y head other. only_by g y other) b))
-  where
-    only_by : (g : Grouped) (y : Symbol) → (y ≡ keyword k.By → ⊥) → step (order_had g) y ≡ None
-    only_by g (keyword k.By) other = absurd (other refl)
-    only_by g _ other = refl
-
 grouped_step : (g : Grouped) (x : Symbol) → (x ≡ keyword k.Order → ⊥) → step (grouped_had g) x ≡ step (done g None) x
 grouped_step g (keyword k.Order) other = absurd (other refl)
 grouped_step g _ other = refl
-
-pub read_no_keys : (old new : Spot) (v : Vec SortKey Global) → v.items ≡ [] → No (keyword k.Order) old → new ≡ old → ReadsKeys old new (Ok v)
-read_no_keys old new v empty none same =
-    (None, sym (ap (map key_view) empty), λ g u. same_from old (grouped_had g) (done g None) refl (λ x head. grouped_step g x (λ q. none (head ∙ ap Some q))) ∙ ap (λ s. verdict s (done g None)) (sym same))
 
 -- the end
 at_nothing : (here : Spot) (from : State) (q : Query) → length here.left ≡ 0 → at_end from ≡ Some q → verdict here from ≡ Whole q
@@ -430,9 +386,6 @@ items_end is _ f g = refl
 -- what was refused behind a front of the query
 pub bad_query : (old mid new : Spot) (from : State) (r : Result Tree ParseError) (e : ParseError) → r ≡ Err e → verdict old begin ≡ verdict mid from → EndsBad e new (verdict mid from) → ReadsQuery old new r
 bad_query old mid new from r e is way b = subst (ReadsQuery old new) (sym is) (bad_along e new _ _ way b)
-
-pub bad_select : (old new : Spot) (e : ParseError) → (e ≡ errors.Fault Unexpected) × No (keyword k.Select) old × (new ≡ old) → EndsBad e new (verdict old begin)
-bad_select old new e b = not_next (keyword k.Select) old new begin e refl (λ y head other. only_select y other) b
 
 pub bad_from : (b new : Spot) (is : Several grammar.Item) (e : ParseError) → NoComma b → (e ≡ errors.Fault Unexpected) × No (keyword k.From) b × (new ≡ b) → EndsBad e new (verdict b (items_had is))
 bad_from b new is e none bad =

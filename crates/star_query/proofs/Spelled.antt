@@ -14,7 +14,7 @@ use Rattle.star_query.specs.Tree as tree
 use Rattle.star_query.specs.Tree.{Name, Tree}
 use Rattle.star_query.specs.Grammar.{Several, one, more, Expr, lone_term, joined, Term, lone_factor, times, Factor, column, constant, negative, parens, Lit, whole, negated, quoted, Cond, lone_conj, or_conj, Conj, lone_unit, and_unit, Unary, not_unit, group, pair, compare, between, Agg, folded, counted, plain, aggregate, Key, unmarked, ascending, descending, Groups, ungrouped, grouped, cubed, Query, Mark, at, ident, expr_marks, term_marks, factor_marks, lit_marks, cond_marks, conj_marks, unit_marks, agg_marks, item_marks, table_marks, column_marks, key_marks, several_marks, where_marks, groups_marks, keys_marks, end_marks, query_marks, combined, expr_tree, term_tree, factor_tree, lit_tree, cond_tree, conj_tree, unit_tree, agg_tree, item_tree, key_tree, listed, groups_tree, keys_tree, query_tree}
 use Rattle.star_query.specs.Derives.{IsShort, Means, symbols_at}
-use Rattle.star_query.specs.Spelled.{is_name, is_number, literal_is_spelled, expression_is_spelled, condition_is_spelled, where_is_spelled, measure_is_spelled, alias_is_spelled, item_is_spelled, IsSpelled}
+use Rattle.star_query.specs.Spelled.{is_name, is_number, literal_is_spelled, expression_is_spelled, condition_is_spelled, where_is_spelled, measure_is_spelled, alias_is_spelled, item_is_spelled, IsSpelledQuery}
 use Rattle.star_query.proofs.Spelling.{token_is_spelled, cut_spelled}
 
 abbrev IsGood : Mark → Type 0
@@ -161,7 +161,7 @@ keys_good : (ks : Option (Several Key)) (rest : List Mark) → Good (keys_marks 
 keys_good None rest all = refl
 keys_good (Some ks) rest all = let inner = several_good key_marks key_tree (λ n. is_name n.name.text) key_good ks rest all.1.1 in inner.0
 
-phrase_good : (q : Query) → Good (query_marks q) → IsSpelled (query_tree q)
+phrase_good : (q : Query) → Good (query_marks q) → IsSpelledQuery (query_tree q)
 phrase_good q all =
     let behind_groups = keys_marks q.keys (end_marks q.semicolon) in
     let behind_tables = where_marks q.condition (groups_marks q.groups behind_groups) in
@@ -178,7 +178,7 @@ phrase_good q all =
     }
 
 -- what a text means is well spelled
-pub meant_spelled : (bytes : List ℕ) (t : Tree) → Means bytes t → IsSpelled t
+pub meant_spelled : (bytes : List ℕ) (t : Tree) → Means bytes t → IsSpelledQuery t
 meant_spelled bytes t m =
     let spelled = subst (λ xs. list_all token_is_spelled xs ≡ true) (sym m.derives.written) (cut_spelled bytes m.tokens m.cut) in
-    subst IsSpelled m.derives.read (phrase_good m.derives.phrase (each_good (query_marks m.derives.phrase) spelled m.derives.within.names))
+    subst IsSpelledQuery m.derives.read (phrase_good m.derives.phrase (each_good (query_marks m.derives.phrase) spelled m.derives.within.names))

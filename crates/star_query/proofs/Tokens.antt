@@ -97,8 +97,3 @@ f_length f old new x e = omega (arith, ap length e, length-map old f, length-map
 -- fewer tokens are left
 pub shorter : (old new : Parser) (x : Symbol) (ps : List Part) → Takes (spot_of old) (spot_of new) x ps → length new.left.now ≤ length old.left.now
 shorter old new x ps t = f_length (λ t. symbol_of t.kind t.place) old.left.now new.left.now x t.next
-
-pub as_short : (old new : Parser) → spot_of new ≡ spot_of old → length new.left.now ≤ length old.left.now
-as_short old new e =
-    let same : map (λ t. symbol_of t.kind t.place) new.left.now ≡ map (λ t. symbol_of t.kind t.place) old.left.now = ap (λ s. s.left) e in
-    omega (arith, ap length same, length-map new.left.now (λ t. symbol_of t.kind t.place), length-map old.left.now (λ t. symbol_of t.kind t.place))

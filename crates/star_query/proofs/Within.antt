@@ -15,7 +15,7 @@ use Rattle.star_query.specs.Tree.{Name}
 use Rattle.star_query.specs.Grammar.{Several, one, more, Expr, lone_term, joined, Term, lone_factor, times, Factor, column, constant, negative, parens, Lit, whole, negated, quoted, Cond, lone_conj, or_conj, Conj, lone_unit, and_unit, Unary, not_unit, group, pair, compare, between, Agg, folded, counted, Item, plain, aggregate, Key, unmarked, ascending, descending, Groups, ungrouped, grouped, cubed, Query, Mark, at, expr_marks, term_marks, factor_marks, lit_marks, cond_marks, conj_marks, unit_marks, agg_marks, item_marks, table_marks, column_marks, key_marks, several_marks, where_marks, groups_marks, keys_marks, end_marks, query_marks, combined, expr_tree, term_tree, factor_tree, cond_tree, conj_tree, unit_tree, item_tree, key_tree, ident, agg_tree, listed, names, groups_tree, keys_tree, query_tree}
 use Rattle.star_query.specs.Maxima.{limit}
 use Rattle.star_query.specs.Derives.{count_of, Derives}
-use Rattle.star_query.specs.Limits.{operands_of, measure_operands, item_operands, aggregates_in, comparisons_of, where_comparisons, IsWithinLimits}
+use Rattle.star_query.specs.Limits.{operands_of, measure_operands, item_operands, aggregates_in, comparisons_of, where_comparisons, IsQueryWithinLimits}
 
 -- ---- a phrase takes nothing from the count of what comes behind it
 
@@ -233,7 +233,7 @@ keys_counted q =
     let rest = keys_marks q.keys (end_marks q.semicolon) in
     omega (arith, behind_counted part.SortKey q, where_grows q.condition part.SortKey (groups_marks q.groups rest), groups_grow q.groups part.SortKey rest, keys_weigh q.keys (end_marks q.semicolon))
 
-phrase_within : (q : Query) → ((p : Part) → count_of p (query_marks q) ≤ limit p) → IsWithinLimits (query_tree q)
+phrase_within : (q : Query) → ((p : Part) → count_of p (query_marks q) ≤ limit p) → IsQueryWithinLimits (query_tree q)
 phrase_within q within = record {
   items = omega (arith, items_counted q, within part.Item);
   aggregates = omega (arith, aggregates_counted q, within part.Aggregate);
@@ -244,5 +244,5 @@ phrase_within q within = record {
 }
 
 -- what symbols mean is within the limits
-pub derived_within : (xs : List Symbol) (t : tree.Tree) → Derives xs t → IsWithinLimits t
-derived_within xs t d = subst IsWithinLimits d.read (phrase_within d.phrase d.within.counts)
+pub derived_within : (xs : List Symbol) (t : tree.Tree) → Derives xs t → IsQueryWithinLimits t
+derived_within xs t d = subst IsQueryWithinLimits d.read (phrase_within d.phrase d.within.counts)

@@ -37,7 +37,7 @@ abbrev pub where_comparisons : Option Condition → ℕ
 where_comparisons None = 0
 where_comparisons (Some c) = comparisons_of c
 
-pub record IsWithinLimits (t : Tree) : Type 0 where
+pub record IsQueryWithinLimits (t : Tree) : Type 0 where
   pub items : length t.items ≤ most_items
   pub aggregates : sum_by aggregates_in t.items ≤ most_aggregates
   pub operands : sum_by item_operands t.items ≤ most_operands

@@ -11,11 +11,11 @@ use Rattle.star_query.specs.Views.{tree_view}
 abbrev pub tree_of : Query → declared.Tree
 tree_of query = query.tree
 
-abbrev pub shown : Query → Tree
-shown query = tree_view query.tree
+abbrev pub query_shown : Query → Tree
+query_shown query = tree_view query.tree
 
 -- the answer is a query with this tree, unless memory ran out
 abbrev pub IsRead : Tree → Result Query QueryFault → Type 0
-IsRead tree (Ok query) = shown query ≡ tree
+IsRead tree (Ok query) = query_shown query ≡ tree
 IsRead tree (Err faults.OutOfMemory) = Unit {0}
 IsRead tree (Err _) = ⊥

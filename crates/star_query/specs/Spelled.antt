@@ -52,7 +52,7 @@ abbrev pub item_is_spelled : Item → Bool
 item_is_spelled (plain n) = is_name n.text
 item_is_spelled (aggregate a) = measure_is_spelled a.measure && alias_is_spelled a.name
 
-pub record IsSpelled (t : Tree) : Type 0 where
+pub record IsSpelledQuery (t : Tree) : Type 0 where
   pub items : list_all item_is_spelled t.items ≡ true
   pub tables : list_all (λ n. is_name n.text) t.tables ≡ true
   pub condition : where_is_spelled t.condition ≡ true

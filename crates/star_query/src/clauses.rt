@@ -34,7 +34,8 @@ impl<'a> Parser<'a> {
     }
 
     fn next_function(&self) -> Option<Function>
-        ensures found { IfSome result (λ f. head_of (spot_of self.now).left ≡ Some (function_symbol f)) }
+        ensures found { IfSome result (λ f. head_of (spot_of self.now).left
+            ≡ Some (function_symbol f)) }
         ensures other { IfNone result (NoFunction (spot_of self.now).left) }
     {
         let token = self.left.first()?;

@@ -18,7 +18,8 @@ use std::alloc::{AllocError, Global};
 
 impl<'a> Parser<'a> {
     fn is_not(&self) -> bool
-        ensures taken { OnTrue result (head_of (spot_of self.now).left ≡ Some (symbols.keyword Keyword.Not)) }
+        ensures taken { OnTrue result (head_of (spot_of self.now).left
+            ≡ Some (symbols.keyword Keyword.Not)) }
         ensures other { OnFalse result (No (symbols.keyword Keyword.Not) (spot_of self.now)) }
     {
         matches!(self.left.first(), Some(token) if matches!(token.kind, Kind::Keyword(Keyword::Not)))
@@ -26,7 +27,8 @@ impl<'a> Parser<'a> {
 
     // Goes past `not`, if it is next.
     fn negate(&mut self, depth: u32) -> Result<bool, ParseError>
-        ensures reads { Nests (symbols.keyword Keyword.Not) (Part.Comparison ∷ []) depth (spot_of self.old) (spot_of self.new) result }
+        ensures reads { Nests (symbols.keyword Keyword.Not) (Part.Comparison ∷ []) depth
+            (spot_of self.old) (spot_of self.new) result }
         ensures shorter { length self.new.left.now ≤ length self.old.left.now }
     {
         if !self.is_not() {
@@ -59,7 +61,8 @@ impl<'a> Parser<'a> {
 
     // name between lit and lit, from behind `between`
     fn between(&mut self, column: Name) -> Result<Condition, ParseError>
-        ensures reads { ReadsNamed (λ h. lit_wanted (low h (name_view column))) (spot_of self.old) (spot_of self.new) result }
+        ensures reads { ReadsNamed (λ h. lit_wanted (low h (name_view column))) (spot_of self.old)
+            (spot_of self.new) result }
         ensures shorter { length self.new.left.now ≤ length self.old.left.now }
     {
         let least = self.literal()?;
@@ -70,7 +73,8 @@ impl<'a> Parser<'a> {
 
     // name sign lit, from behind the sign
     fn compared(&mut self, column: Name, relation: Relation) -> Result<Condition, ParseError>
-        ensures reads { ReadsNamed (λ h. lit_wanted (compared h (name_view column) relation)) (spot_of self.old) (spot_of self.new) result }
+        ensures reads { ReadsNamed (λ h. lit_wanted (compared h (name_view column) relation))
+            (spot_of self.old) (spot_of self.new) result }
         ensures shorter { length self.new.left.now ≤ length self.old.left.now }
     {
         let literal = self.literal()?;
@@ -79,7 +83,8 @@ impl<'a> Parser<'a> {
 
     // name = name | name = lit, from behind the sign
     fn equal(&mut self, column: Name) -> Result<Condition, ParseError>
-        ensures reads { ReadsNamed (λ h. equal_had h (name_view column)) (spot_of self.old) (spot_of self.new) result }
+        ensures reads { ReadsNamed (λ h. equal_had h (name_view column)) (spot_of self.old)
+            (spot_of self.new) result }
         ensures shorter { length self.new.left.now ≤ length self.old.left.now }
     {
         if self.is_name() {
@@ -91,7 +96,8 @@ impl<'a> Parser<'a> {
 
     // What follows a column and a sign.
     fn related(&mut self, column: Name, relation: Relation) -> Result<Condition, ParseError>
-        ensures reads { ReadsNamed (λ h. behind_relation h (name_view column) relation) (spot_of self.old) (spot_of self.new) result }
+        ensures reads { ReadsNamed (λ h. behind_relation h (name_view column) relation)
+            (spot_of self.old) (spot_of self.new) result }
         ensures shorter { length self.new.left.now ≤ length self.old.left.now }
     {
         match relation {
@@ -102,7 +108,8 @@ impl<'a> Parser<'a> {
 
     // What follows a column.
     fn compare(&mut self, column: Name) -> Result<Condition, ParseError>
-        ensures reads { ReadsNamed (λ h. unit_named h (name_view column)) (spot_of self.old) (spot_of self.new) result }
+        ensures reads { ReadsNamed (λ h. unit_named h (name_view column)) (spot_of self.old)
+            (spot_of self.new) result }
         ensures shorter { length self.new.left.now ≤ length self.old.left.now }
     {
         if self.take_keyword(Keyword::Between) {
@@ -180,13 +187,15 @@ impl<'a> Parser<'a> {
 }
 
 fn both(alloc: Global, left: Condition, right: Condition) -> Result<Condition, AllocError>
-    ensures { IfOk result (λ c. condition_view c ≡ tree.both (condition_view left) (condition_view right)) }
+    ensures { IfOk result (λ c. condition_view c
+        ≡ tree.both (condition_view left) (condition_view right)) }
 {
     Ok(Condition::And(Box::new(alloc, left)?, Box::new(alloc, right)?))
 }
 
 fn either(alloc: Global, left: Condition, right: Condition) -> Result<Condition, AllocError>
-    ensures { IfOk result (λ c. condition_view c ≡ tree.either (condition_view left) (condition_view right)) }
+    ensures { IfOk result (λ c. condition_view c
+        ≡ tree.either (condition_view left) (condition_view right)) }
 {
     Ok(Condition::Or(Box::new(alloc, left)?, Box::new(alloc, right)?))
 }

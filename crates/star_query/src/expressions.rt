@@ -90,7 +90,8 @@ fn joined(
     sign: Additive,
     b: Expression,
 ) -> Result<Expression, AllocError>
-    ensures { IfOk result (λ sum. expression_view sum ≡ combined sign (expression_view a) (expression_view b)) }
+    ensures { IfOk result (λ sum. expression_view sum
+        ≡ combined sign (expression_view a) (expression_view b)) }
 {
     let a = Box::new(alloc, a)?;
     let b = Box::new(alloc, b)?;

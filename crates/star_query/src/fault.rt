@@ -38,11 +38,11 @@ impl<T: Drop> From<AllocFailed<T>> for QueryFault {
 
 impl fmt::Display for QueryFault {
     ghost use Rattle.std.specs.Prelude.{Some};
-    ghost use Rattle.star_query.specs.FaultTexts.{fault_text};
+    ghost use Rattle.star_query.specs.FaultTexts.{query_fault_text};
 
-    ghost output = { λ fault. Some (fault_text fault) };
+    ghost output = { λ fault. Some (query_fault_text fault) };
 
-    #[tactic(auto, unfolding(crate::specs::FaultTexts::fault_text))]
+    #[tactic(auto, unfolding(crate::specs::FaultTexts::query_fault_text))]
     fn fmt<W: fmt::Write>(&self, f: &mut fmt::Formatter<W>) -> fmt::Result {
         match self {
             QueryFault::OutOfMemory => write!(f, "1 OutOfMemory"),

@@ -1,7 +1,7 @@
 // A text cut into tokens.
 
-ghost use Rattle.std.specs.Prelude.{◌≡◌, ◌≤◌, ◌<◌, ◌+◌, ◌-◌, ◌*◌, ◌^◌, ◌&&◌, drop, length, slice_get, IfOk, Ok, Some, None, Option, IsTrue, false, true, ℕ, slice_index, IfErr, option_to_list, max, map, Err};
-ghost use Rattle.std.specs.List.{prefix_len, take_while, list_all};
+ghost use Rattle.std.specs.Prelude.{◌≡◌, ◌≤◌, ◌<◌, ◌+◌, ◌-◌, ◌*◌, ◌^◌, length, IfOk, Ok, Some, None, Option, false, true, ℕ, slice_index, IfErr, option_to_list, max, map, Err};
+ghost use Rattle.std.specs.List.{prefix_len, take_while};
 ghost use Rattle.std.specs.Char.{is_ascii_digit};
 ghost use Rattle.star_query.specs.Maxima.{most_digits};
 ghost use Rattle.star_query.specs.Cut as spec;
@@ -98,7 +98,8 @@ fn digit_value(digit: u8) -> u64
 // The value of digits.
 fn value_of(digits: &[u8]) -> u64
     requires few { length digits.now ≤ most_digits }
-    requires digits { (k : ℕ) → k < length digits.now → is_ascii_digit (slice_index digits.now k) ≡ true }
+    requires digits { (k : ℕ) → k < length digits.now → is_ascii_digit (slice_index digits.now k)
+        ≡ true }
     ensures value { result ≡ spec.value_after 0 digits.now }
     ensures few { result < 10 ^ most_digits }
 {
@@ -269,7 +270,8 @@ fn next_piece<'a>(text: &'a [u8], place: usize) -> Piece<'a>
 
 // The tokens of a text, or its first fault from the left.
 pub(crate) fn tokens_of(alloc: Global, text: &[u8]) -> Result<Vec<Token<'_>>, QueryFault>
-    ensures found { IfOk result (λ tokens. spec.cut_of text.now ≡ Ok (map lexed.placed tokens.items)) }
+    ensures found { IfOk result (λ tokens. spec.cut_of text.now
+        ≡ Ok (map lexed.placed tokens.items)) }
     ensures fault { IfErr result (λ fault. lexed.IsCutFault text.now fault) }
     ensures lexical { IfErr result lexed.IsLexical }
 {

@@ -29,8 +29,10 @@ pub(crate) struct Parser<'a> {
 impl<'a> Parser<'a> {
     // Goes past a sign, if it is next.
     pub(crate) fn take_sign(&mut self, sign: Sign) -> bool
-        ensures taken { OnTrue result (Takes (spot_of self.old) (spot_of self.new) (symbols.sign sign) []) }
-        ensures other { OnFalse result (No (symbols.sign sign) (spot_of self.old) × (spot_of self.new ≡ spot_of self.old)) }
+        ensures taken { OnTrue result (Takes (spot_of self.old) (spot_of self.new)
+            (symbols.sign sign) []) }
+        ensures other { OnFalse result (No (symbols.sign sign) (spot_of self.old)
+            × (spot_of self.new ≡ spot_of self.old)) }
         ensures shorter { length self.new.left.now ≤ length self.old.left.now }
     {
         if let Some(token) = self.left.first() {
@@ -46,8 +48,10 @@ impl<'a> Parser<'a> {
 
     // Goes past a reserved word, if it is next.
     pub(crate) fn take_keyword(&mut self, keyword: Keyword) -> bool
-        ensures taken { OnTrue result (Takes (spot_of self.old) (spot_of self.new) (symbols.keyword keyword) []) }
-        ensures other { OnFalse result (No (symbols.keyword keyword) (spot_of self.old) × (spot_of self.new ≡ spot_of self.old)) }
+        ensures taken { OnTrue result (Takes (spot_of self.old) (spot_of self.new)
+            (symbols.keyword keyword) []) }
+        ensures other { OnFalse result (No (symbols.keyword keyword) (spot_of self.old)
+            × (spot_of self.new ≡ spot_of self.old)) }
         ensures shorter { length self.new.left.now ≤ length self.old.left.now }
     {
         if let Some(token) = self.left.first() {
@@ -75,7 +79,8 @@ impl<'a> Parser<'a> {
 
     // Goes past a reserved word that has to be next.
     pub(crate) fn expect_keyword(&mut self, keyword: Keyword) -> Result<(), ParseError>
-        ensures reads { Expects (symbols.keyword keyword) (spot_of self.old) (spot_of self.new) result }
+        ensures reads { Expects (symbols.keyword keyword) (spot_of self.old) (spot_of self.new)
+            result }
         ensures shorter { length self.new.left.now ≤ length self.old.left.now }
     {
         if self.take_keyword(keyword) {
@@ -87,8 +92,10 @@ impl<'a> Parser<'a> {
 
     // Goes past a sign that joins terms, if one is next.
     pub(crate) fn take_additive(&mut self) -> Option<Additive>
-        ensures taken { IfSome result (λ q. Takes (spot_of self.old) (spot_of self.new) (symbols.additive q) []) }
-        ensures other { IfNone result (((q : Additive) → No (symbols.additive q) (spot_of self.old)) × (spot_of self.new ≡ spot_of self.old)) }
+        ensures taken { IfSome result (λ q. Takes (spot_of self.old) (spot_of self.new)
+            (symbols.additive q) []) }
+        ensures other { IfNone result (((q : Additive) → No (symbols.additive q) (spot_of self.old))
+            × (spot_of self.new ≡ spot_of self.old)) }
         ensures shorter { length self.new.left.now ≤ length self.old.left.now }
     {
         if let Some(token) = self.left.first() {
@@ -102,8 +109,10 @@ impl<'a> Parser<'a> {
 
     // Goes past a relation, if one is next.
     pub(crate) fn take_relation(&mut self) -> Option<Relation>
-        ensures taken { IfSome result (λ q. Takes (spot_of self.old) (spot_of self.new) (symbols.relation q) []) }
-        ensures other { IfNone result (((q : Relation) → No (symbols.relation q) (spot_of self.old)) × (spot_of self.new ≡ spot_of self.old)) }
+        ensures taken { IfSome result (λ q. Takes (spot_of self.old) (spot_of self.new)
+            (symbols.relation q) []) }
+        ensures other { IfNone result (((q : Relation) → No (symbols.relation q) (spot_of self.old))
+            × (spot_of self.new ≡ spot_of self.old)) }
         ensures shorter { length self.new.left.now ≤ length self.old.left.now }
     {
         if let Some(token) = self.left.first() {
@@ -117,8 +126,10 @@ impl<'a> Parser<'a> {
 
     // Goes past a minus, if it is next.
     pub(crate) fn take_minus(&mut self) -> bool
-        ensures taken { OnTrue result (Takes (spot_of self.old) (spot_of self.new) (symbols.additive Minus) []) }
-        ensures other { OnFalse result (No (symbols.additive Minus) (spot_of self.old) × (spot_of self.new ≡ spot_of self.old)) }
+        ensures taken { OnTrue result (Takes (spot_of self.old) (spot_of self.new)
+            (symbols.additive Minus) []) }
+        ensures other { OnFalse result (No (symbols.additive Minus) (spot_of self.old)
+            × (spot_of self.new ≡ spot_of self.old)) }
         ensures shorter { length self.new.left.now ≤ length self.old.left.now }
     {
         if let Some(token) = self.left.first() {
@@ -230,7 +241,8 @@ impl<'a> Parser<'a> {
 
     // Opens a parenthesis, if one is next.
     pub(crate) fn open(&mut self, depth: u32) -> Result<bool, ParseError>
-        ensures reads { Nests (symbols.sign Sign.Open) [] depth (spot_of self.old) (spot_of self.new) result }
+        ensures reads { Nests (symbols.sign Sign.Open) [] depth (spot_of self.old)
+            (spot_of self.new) result }
         ensures shorter { length self.new.left.now ≤ length self.old.left.now }
     {
         if let Some(token) = self.left.first() {
@@ -269,8 +281,10 @@ pub(crate) fn parse_tokens(
     tokens: &[Token<'_>],
     end: usize,
 ) -> Result<Tree, QueryFault>
-    ensures found { IfOk result (λ read. Derives (symbols.symbols (map placed tokens.now)) (tree_view read)) }
-    ensures only { (t : tree.Tree) → Derives (symbols.symbols (map placed tokens.now)) t → IsTreeRead t result }
+    ensures found { IfOk result (λ read. Derives (symbols.symbols (map placed tokens.now))
+        (tree_view read)) }
+    ensures only { (t : tree.Tree) → Derives (symbols.symbols (map placed tokens.now)) t
+        → IsTreeRead t result }
     ensures fault { IfErr result (IsTokenFault (map placed tokens.now) end) }
 {
     let mut parser = Parser {

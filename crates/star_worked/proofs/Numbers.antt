@@ -10,7 +10,7 @@ use Rattle.star_schema.specs.Order.{value_cmp}
 use Rattle.star_schema.specs.Records.{pieces}
 use Rattle.star_schema.specs.Schema.{column_of, place_of, columns_of}
 use Rattle.star_schema.specs.Tables.{Value, row_of}
-use Rattle.star_plan.specs.Meaning.{Joined, constant, add, sub, mul, counted, summed, least, greatest, Plan, only_row, number_at, measured, aggregate_of, entry_of, selected}
+use Rattle.star_plan.specs.Meaning.{Joined, constant, add, sub, mul, counted, summed, least, greatest, Plan, only_row, expression_number, measured, aggregate_of, entry_of, plan_rows}
 use Rattle.star_worked.proofs.Sample.{number, sample, by_order, revenue, cost, discount}
 
 -- ---- expressions
@@ -19,16 +19,16 @@ use Rattle.star_worked.proofs.Sample.{number, sample, by_order, revenue, cost, d
 abbrev line : Joined
 line = only_row Lineorder (row_of Lineorder (codes "1|1|1|1|2|19930210|2-HIGH|0|10|1000|3000|2|980|600|2|19940105|MAIL|"))
 
-operands : map (λ e. number_at e line) (revenue ∷ constant (neg_ℤ (pos 3)) ∷ []) ≡ pos 980 ∷ neg_ℤ (pos 3) ∷ []
+operands : map (λ e. expression_number e line) (revenue ∷ constant (neg_ℤ (pos 3)) ∷ []) ≡ pos 980 ∷ neg_ℤ (pos 3) ∷ []
 unfolding column_of columns_of place_of pieces
 operands = refl
 
-operators : map (λ e. number_at e line) (add revenue cost ∷ sub revenue cost ∷ sub cost revenue ∷ mul revenue cost ∷ mul (constant (neg_ℤ (pos 3))) discount ∷ [])
+operators : map (λ e. expression_number e line) (add revenue cost ∷ sub revenue cost ∷ sub cost revenue ∷ mul revenue cost ∷ mul (constant (neg_ℤ (pos 3))) discount ∷ [])
     ≡ pos 1580 ∷ pos 380 ∷ neg_ℤ (pos 380) ∷ pos 588000 ∷ neg_ℤ (pos 6) ∷ []
 unfolding column_of columns_of place_of pieces
 operators = refl
 
-nested : map (λ e. number_at e line) (sub (sub revenue cost) discount ∷ sub revenue (sub cost discount) ∷ mul (add revenue cost) discount ∷ [])
+nested : map (λ e. expression_number e line) (sub (sub revenue cost) discount ∷ sub revenue (sub cost discount) ∷ mul (add revenue cost) discount ∷ [])
     ≡ pos 378 ∷ pos 382 ∷ pos 3160 ∷ []
 unfolding column_of columns_of place_of pieces
 nested = refl
@@ -54,7 +54,7 @@ by_year = record {
 }
 
 abbrev entries : List (Entry Value)
-entries = map (entry_of by_year) (selected sample by_year)
+entries = map (entry_of by_year) (plan_rows sample by_year)
 
 abbrev totals_in : Option Value → List (Option ℤ)
 totals_in year = totals_of (map aggregate_of by_year.measures) (members value_cmp (year ∷ []) entries)

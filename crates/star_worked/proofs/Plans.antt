@@ -10,9 +10,9 @@ use Rattle.star_schema.specs.Schema.{column_of}
 use Rattle.star_query.specs.declared.token.Relation.TheVariants.{Equal}
 use Rattle.star_plan.specs.declared.tree.Join.{Join}
 use Rattle.star_plan.specs.Joins.{is_foreign}
-use Rattle.star_plan.specs.Limits.{IsWithinLimits, comparisons_of, operands_of, measure_operands}
+use Rattle.star_plan.specs.Limits.{IsPlanWithinLimits, comparisons_of, operands_of, measure_operands}
 use Rattle.star_plan.specs.Meaning.{Condition, either, both, negation, compare, between, Expression, column, constant, add, sub, mul, counted, summed, least, greatest, Plan}
-use Rattle.star_plan.specs.Sound.{IsSound, in_scope, condition_is_sound, expression_is_sound, measure_is_sound, are_distinct, is_column}
+use Rattle.star_plan.specs.Sound.{IsSoundPlan, in_scope, condition_is_sound, expression_is_sound, measure_is_sound, are_distinct, is_group_column}
 use Rattle.star_worked.proofs.Sample.{number, text, by_order, by_commit, of_part, tax}
 
 -- ---- sound: date is joined, and part isn't
@@ -71,7 +71,7 @@ foreign_keys : is_foreign LoOrderdate DDatekey ∷ is_foreign LoOrderdate CCustk
 unfolding column_of
 foreign_keys = refl
 
-columns_of_a_group : map (is_column 2 3) (Key 1 ∷ Key 2 ∷ Aggregate 2 ∷ Aggregate 3 ∷ []) ≡ true ∷ false ∷ true ∷ false ∷ []
+columns_of_a_group : map (is_group_column 2 3) (Key 1 ∷ Key 2 ∷ Aggregate 2 ∷ Aggregate 3 ∷ []) ≡ true ∷ false ∷ true ∷ false ∷ []
 columns_of_a_group = refl
 
 -- select d_year, sum(lo_tax) from lineorder, date
@@ -88,40 +88,40 @@ taxes = record {
   sorts = record { column = Key 0; direction = Ascending } ∷ [];
 }
 
-taxes_sound : IsSound taxes
+taxes_sound : IsSoundPlan taxes
 unfolding column_of
 taxes_sound = record { joins = refl; distinct = refl; conjuncts = refl; keys = refl; measures = refl; names = refl; items = refl; shown = omega arith; sorts = refl }
 
-no_foreign_key : IsSound (record taxes { joins = record { foreign = LoTax; key = DDatekey } ∷ [] }) → ⊥
+no_foreign_key : IsSoundPlan (record taxes { joins = record { foreign = LoTax; key = DDatekey } ∷ [] }) → ⊥
 unfolding column_of
 no_foreign_key sound = let broken : false ≡ true = sound.joins in cc
 
-joined_twice : IsSound (record taxes { joins = by_order ∷ by_commit ∷ [] }) → ⊥
+joined_twice : IsSoundPlan (record taxes { joins = by_order ∷ by_commit ∷ [] }) → ⊥
 unfolding column_of
 joined_twice sound = let broken : false ≡ true = sound.distinct in cc
 
-conjunct_not_joined : IsSound (record taxes { conjuncts = good ∷ unjoined ∷ [] }) → ⊥
+conjunct_not_joined : IsSoundPlan (record taxes { conjuncts = good ∷ unjoined ∷ [] }) → ⊥
 unfolding column_of
 conjunct_not_joined sound = let broken : false ≡ true = sound.conjuncts in cc
 
-key_not_joined : IsSound (record taxes { keys = DYear ∷ PBrand1 ∷ [] }) → ⊥
+key_not_joined : IsSoundPlan (record taxes { keys = DYear ∷ PBrand1 ∷ [] }) → ⊥
 unfolding column_of
 key_not_joined sound = let broken : false ≡ true = sound.keys in cc
 
-sum_of_texts : IsSound (record taxes { measures = summed mode ∷ [] }) → ⊥
+sum_of_texts : IsSoundPlan (record taxes { measures = summed mode ∷ [] }) → ⊥
 unfolding column_of
 sum_of_texts sound = let broken : false ≡ true = sound.measures in cc
 
-name_missing : IsSound (record taxes { names = [] }) → ⊥
+name_missing : IsSoundPlan (record taxes { names = [] }) → ⊥
 name_missing sound = let few : 0 ≡ 1 = sound.names in omega (arith, few)
 
-item_past_the_group : IsSound (record taxes { items = Key 1 ∷ [] }) → ⊥
+item_past_the_group : IsSoundPlan (record taxes { items = Key 1 ∷ [] }) → ⊥
 item_past_the_group sound = let broken : false ≡ true = sound.items in cc
 
-nothing_shown : IsSound (record taxes { items = [] }) → ⊥
+nothing_shown : IsSoundPlan (record taxes { items = [] }) → ⊥
 nothing_shown sound = let none : 1 ≤ 0 = sound.shown in omega (arith, none)
 
-sort_past_the_group : IsSound (record taxes { sorts = record { column = Aggregate 1; direction = Ascending } ∷ [] }) → ⊥
+sort_past_the_group : IsSoundPlan (record taxes { sorts = record { column = Aggregate 1; direction = Ascending } ∷ [] }) → ⊥
 sort_past_the_group sound = let broken : false ≡ true = sound.sorts in cc
 
 -- ---- within limits, at each limit and one past it
@@ -147,19 +147,19 @@ largest = record {
   sorts = replicate 16 (record { column = Key 0; direction = Ascending });
 }
 
-largest_within : IsWithinLimits largest
+largest_within : IsPlanWithinLimits largest
 largest_within = record { joins = omega arith; comparisons = omega arith; keys = omega arith; measures = omega arith; operands = omega arith; items = omega arith; sorts = omega arith }
 
-five_joins : IsWithinLimits (record largest { joins = replicate 5 by_order }) → ⊥
+five_joins : IsPlanWithinLimits (record largest { joins = replicate 5 by_order }) → ⊥
 five_joins within = let many : 5 ≤ 4 = within.joins in omega (arith, many)
 
-comparison_too_many : IsWithinLimits (record largest { conjuncts = negation good ∷ replicate 255 good }) → ⊥
+comparison_too_many : IsPlanWithinLimits (record largest { conjuncts = negation good ∷ replicate 255 good }) → ⊥
 comparison_too_many within = let many : 257 ≤ 256 = within.comparisons in omega (arith, many)
 
-seven_keys : IsWithinLimits (record largest { keys = replicate 7 DYear }) → ⊥
+seven_keys : IsPlanWithinLimits (record largest { keys = replicate 7 DYear }) → ⊥
 seven_keys within = let many : 7 ≤ 6 = within.keys in omega (arith, many)
 
-nine_measures : IsWithinLimits (record largest { measures = replicate 9 counted }) → ⊥
+nine_measures : IsPlanWithinLimits (record largest { measures = replicate 9 counted }) → ⊥
 nine_measures within = let many : 9 ≤ 8 = within.measures in omega (arith, many)
 
 -- a sum of one operand more than so many
@@ -167,11 +167,11 @@ abbrev chain : ℕ → Expression
 chain zero = tax
 chain (suc n) = add (chain n) tax
 
-operand_too_many : IsWithinLimits (record largest { measures = summed (chain 511) ∷ least tax ∷ [] }) → ⊥
+operand_too_many : IsPlanWithinLimits (record largest { measures = summed (chain 511) ∷ least tax ∷ [] }) → ⊥
 operand_too_many within = let many : 513 ≤ 512 = within.operands in omega (arith, many)
 
-item_too_many : IsWithinLimits (record largest { items = replicate 17 (Key 0) }) → ⊥
+item_too_many : IsPlanWithinLimits (record largest { items = replicate 17 (Key 0) }) → ⊥
 item_too_many within = let many : 17 ≤ 16 = within.items in omega (arith, many)
 
-sort_key_too_many : IsWithinLimits (record largest { sorts = replicate 17 (record { column = Key 0; direction = Ascending }) }) → ⊥
+sort_key_too_many : IsPlanWithinLimits (record largest { sorts = replicate 17 (record { column = Key 0; direction = Ascending }) }) → ⊥
 sort_key_too_many within = let many : 17 ≤ 16 = within.sorts in omega (arith, many)

@@ -11,12 +11,12 @@ use Rattle.star_schema.specs.Schema.{column_of, place_of, columns_of}
 use Rattle.star_schema.specs.Tables.{Value, row_of}
 use Rattle.star_query.specs.declared.token.Relation.TheVariants.{Equal, Less}
 use Rattle.star_plan.specs.declared.tree.Join.{Join}
-use Rattle.star_plan.specs.Meaning.{Tables, Condition, compare, between, column, sub, mul, Measure, counted, summed, Plan, value_of, joined, selected, entry_of}
+use Rattle.star_plan.specs.Meaning.{Tables, Condition, compare, between, column, sub, mul, Measure, counted, summed, Plan, value_of, joined_rows, plan_rows, entry_of}
 use Rattle.star_worked.proofs.Sample.{number, text, lines, sample, by_order, by_commit, of_customer, of_part, of_supplier, revenue, cost}
 
 -- the values of some columns of each joined row
 abbrev seen : Tables → List Join → List ColumnId → List (List Value)
-seen ts js columns = map (λ row. map (λ c. value_of c row) columns) (joined ts js)
+seen ts js columns = map (λ row. map (λ c. value_of c row) columns) (joined_rows ts js)
 
 -- ---- joined rows
 
@@ -88,11 +88,11 @@ first_query =
     [] (summed (mul (column LoExtendedprice) (column LoDiscount)) ∷ [])
 
 -- the second line is of 1993 and its discount is 3, but its quantity isn't below 25
-one_conjunct_fails : map (λ row. value_of LoQuantity row) (selected sample first_query) ≡ number 10 ∷ []
+one_conjunct_fails : map (λ row. value_of LoQuantity row) (plan_rows sample first_query) ≡ number 10 ∷ []
 unfolding column_of columns_of place_of pieces
 one_conjunct_fails = refl
 
-first_entries : map (entry_of first_query) (selected sample first_query) ≡ record { keys = []; values = pos 2000 ∷ [] } ∷ []
+first_entries : map (entry_of first_query) (plan_rows sample first_query) ≡ record { keys = []; values = pos 2000 ∷ [] } ∷ []
 unfolding column_of columns_of place_of pieces
 first_entries = refl
 
@@ -105,7 +105,7 @@ profits =
     asking (by_order ∷ of_part ∷ of_supplier ∷ []) (compare PCategory Equal (text (codes "MFGR#12")) ∷ compare SRegion Equal (text (codes "AMERICA")) ∷ [])
     (DYear ∷ PBrand1 ∷ []) (summed (sub revenue cost) ∷ counted ∷ [])
 
-profit_entries : map (entry_of profits) (selected sample profits)
+profit_entries : map (entry_of profits) (plan_rows sample profits)
     ≡ record { keys = number 1993 ∷ text (codes "MFGR#121") ∷ []; values = pos 380 ∷ pos 1 ∷ [] }
     ∷ record { keys = number 1994 ∷ text (codes "MFGR#121") ∷ []; values = neg_ℤ (pos 205) ∷ pos 1 ∷ [] } ∷ []
 unfolding column_of columns_of place_of pieces

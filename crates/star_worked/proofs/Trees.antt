@@ -6,8 +6,8 @@ use Rattle.star_query.specs.declared.token.Relation.TheVariants.{Equal}
 use Rattle.star_schema.specs.declared.group.Shape.TheVariants.{Plain}
 use Rattle.star_schema.specs.declared.group.Direction.TheVariants.{Ascending}
 use Rattle.star_query.specs.Tree.{Name, number, text, Expression, column, constant, add, sub, mul, Condition, either, both, negation, pair, compare, between, Measure, fold, count, Item, plain, aggregate, Tree}
-use Rattle.star_query.specs.Limits.{IsWithinLimits, operands_of, comparisons_of}
-use Rattle.star_query.specs.Spelled.{IsSpelled, is_name, is_number, is_text, expression_is_spelled, condition_is_spelled, item_is_spelled}
+use Rattle.star_query.specs.Limits.{IsQueryWithinLimits, operands_of, comparisons_of}
+use Rattle.star_query.specs.Spelled.{IsSpelledQuery, is_name, is_number, is_text, expression_is_spelled, condition_is_spelled, item_is_spelled}
 
 abbrev called : List ℕ → Name
 called word = record { text = word; place = 0 }
@@ -52,25 +52,25 @@ largest = record {
   keys = replicate 16 (record { name = a; direction = Ascending });
 }
 
-largest_within : IsWithinLimits largest
+largest_within : IsQueryWithinLimits largest
 largest_within = record { items = omega arith; aggregates = omega arith; operands = omega arith; comparisons = omega arith; columns = omega arith; keys = omega arith }
 
-item_too_many : IsWithinLimits (record largest { items = replicate 17 (plain a) }) → ⊥
+item_too_many : IsQueryWithinLimits (record largest { items = replicate 17 (plain a) }) → ⊥
 item_too_many within = let many : 17 ≤ 16 = within.items in omega (arith, many)
 
-nine_aggregates : IsWithinLimits (record largest { items = replicate 9 (item count) }) → ⊥
+nine_aggregates : IsQueryWithinLimits (record largest { items = replicate 9 (item count) }) → ⊥
 nine_aggregates within = let many : 9 ≤ 8 = within.aggregates in omega (arith, many)
 
-operand_too_many : IsWithinLimits (record largest { items = item (fold Sum (chain 511)) ∷ item count ∷ item (fold Sum (column a)) ∷ [] }) → ⊥
+operand_too_many : IsQueryWithinLimits (record largest { items = item (fold Sum (chain 511)) ∷ item count ∷ item (fold Sum (column a)) ∷ [] }) → ⊥
 operand_too_many within = let many : 513 ≤ 512 = within.operands in omega (arith, many)
 
-comparison_too_many : IsWithinLimits (record largest { condition = Some (negation (conjunction 255)) }) → ⊥
+comparison_too_many : IsQueryWithinLimits (record largest { condition = Some (negation (conjunction 255)) }) → ⊥
 comparison_too_many within = let many : 257 ≤ 256 = within.comparisons in omega (arith, many)
 
-seven_columns : IsWithinLimits (record largest { grouping = record { shape = Plain; columns = replicate 7 a } }) → ⊥
+seven_columns : IsQueryWithinLimits (record largest { grouping = record { shape = Plain; columns = replicate 7 a } }) → ⊥
 seven_columns within = let many : 7 ≤ 6 = within.columns in omega (arith, many)
 
-key_too_many : IsWithinLimits (record largest { keys = replicate 17 (record { name = a; direction = Ascending }) }) → ⊥
+key_too_many : IsQueryWithinLimits (record largest { keys = replicate 17 (record { name = a; direction = Ascending }) }) → ⊥
 key_too_many within = let many : 17 ≤ 16 = within.keys in omega (arith, many)
 
 -- ---- spelled
@@ -105,26 +105,26 @@ items_spelled = refl
 abbrev small : Tree
 small = record { items = plain a ∷ []; tables = a ∷ []; condition = Some good; grouping = record { shape = Plain; columns = a ∷ [] }; keys = record { name = a; direction = Ascending } ∷ [] }
 
-small_spelled : IsSpelled small
+small_spelled : IsSpelledQuery small
 unfolding is_name is_number
 small_spelled = record { items = refl; tables = refl; condition = refl; columns = refl; keys = refl }
 
-item_with_a_hyphen : IsSpelled (record small { items = plain a ∷ plain hyphened ∷ [] }) → ⊥
+item_with_a_hyphen : IsSpelledQuery (record small { items = plain a ∷ plain hyphened ∷ [] }) → ⊥
 unfolding is_name
 item_with_a_hyphen spelled = let broken : false ≡ true = spelled.items in cc
 
-table_with_a_hyphen : IsSpelled (record small { tables = a ∷ hyphened ∷ [] }) → ⊥
+table_with_a_hyphen : IsSpelledQuery (record small { tables = a ∷ hyphened ∷ [] }) → ⊥
 unfolding is_name
 table_with_a_hyphen spelled = let broken : false ≡ true = spelled.tables in cc
 
-text_with_a_line_end : IsSpelled (record small { condition = Some bad }) → ⊥
+text_with_a_line_end : IsSpelledQuery (record small { condition = Some bad }) → ⊥
 unfolding is_name is_number is_text
 text_with_a_line_end spelled = let broken : false ≡ true = spelled.condition in cc
 
-column_with_a_hyphen : IsSpelled (record small { grouping = record { shape = Plain; columns = hyphened ∷ [] } }) → ⊥
+column_with_a_hyphen : IsSpelledQuery (record small { grouping = record { shape = Plain; columns = hyphened ∷ [] } }) → ⊥
 unfolding is_name
 column_with_a_hyphen spelled = let broken : false ≡ true = spelled.columns in cc
 
-key_with_a_hyphen : IsSpelled (record small { keys = record { name = hyphened; direction = Ascending } ∷ [] }) → ⊥
+key_with_a_hyphen : IsSpelledQuery (record small { keys = record { name = hyphened; direction = Ascending } ∷ [] }) → ⊥
 unfolding is_name
 key_with_a_hyphen spelled = let broken : false ≡ true = spelled.keys in cc

@@ -6,7 +6,7 @@ use Rattle.star_schema.specs.declared.group.Shape.TheVariants.{Plain}
 use Rattle.star_query.specs.declared.token.Relation.TheVariants.{Equal}
 use Rattle.star_query.specs.Spelled.{is_name, is_number, is_text}
 use Rattle.star_plan.specs.Meaning.{Condition, either, both, negation, compare, between, Expression, column, constant, add, sub, mul, counted, summed, least, greatest, Plan}
-use Rattle.star_plan.specs.Spelled.{IsSpelled, condition_is_spelled, expression_is_spelled, measure_is_spelled}
+use Rattle.star_plan.specs.Spelled.{IsSpelledPlan, condition_is_spelled, expression_is_spelled, measure_is_spelled}
 use Rattle.star_worked.proofs.Sample.{number, text}
 
 -- ---- words
@@ -66,18 +66,18 @@ measures_spelled = refl
 abbrev ones : Plan
 ones = record { joins = []; conjuncts = good ∷ []; shape = Plain; keys = []; measures = summed one ∷ []; names = codes "sum1" ∷ []; items = []; sorts = [] }
 
-ones_spelled : IsSpelled ones
+ones_spelled : IsSpelledPlan ones
 unfolding is_name is_number is_text
 ones_spelled = record { names = refl; conjuncts = refl; measures = refl }
 
-name_with_a_hyphen : IsSpelled (record ones { names = codes "sum1" ∷ codes "a-b" ∷ [] }) → ⊥
+name_with_a_hyphen : IsSpelledPlan (record ones { names = codes "sum1" ∷ codes "a-b" ∷ [] }) → ⊥
 unfolding is_name
 name_with_a_hyphen spelled = let broken : false ≡ true = spelled.names in cc
 
-text_with_a_line_end : IsSpelled (record ones { conjuncts = good ∷ bad ∷ [] }) → ⊥
+text_with_a_line_end : IsSpelledPlan (record ones { conjuncts = good ∷ bad ∷ [] }) → ⊥
 unfolding is_number is_text
 text_with_a_line_end spelled = let broken : false ≡ true = spelled.conjuncts in cc
 
-number_too_long : IsSpelled (record ones { measures = summed long ∷ [] }) → ⊥
+number_too_long : IsSpelledPlan (record ones { measures = summed long ∷ [] }) → ⊥
 unfolding is_number
 number_too_long spelled = let broken : false ≡ true = spelled.measures in cc

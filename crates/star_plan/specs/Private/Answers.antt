@@ -13,5 +13,10 @@ abbrev pub Tells : {X : Type 0} → Option PlanFault → Result X PlanFault → 
 Tells fault (Ok x) = fault ≡ None
 Tells fault (Err e) = UnlessMemory OutOfMemory e (fault ≡ Some e)
 
+-- the answer, as it is shown, is what is there; where something is, memory alone is wanting
+abbrev pub Resolves : {X A : Type 0} → (X → A) → Option A → Result X PlanFault → Type 0
+Resolves shown there (Ok x) = Some (shown x) ≡ there
+Resolves shown there (Err e) = UnlessMemory OutOfMemory e (None ≡ there)
+
 abbrev pub conditions_shown : Vec of_plan.Condition Global → List Condition
 conditions_shown cs = map condition_shown cs.items

@@ -1,13 +1,11 @@
 use Rattle.std.proofs.Common.{sym, subst}
-use Rattle.std.proofs.lemmas.Bool.{false≢true}
 use Rattle.star_plan.specs.Shown.{shown}
 use Rattle.star_program.specs.Limits.{IsWithinLimits}
 use Rattle.star_compiled.proofs.Programs.{is_within_limits}
 use Rattle.star_compile.proofs.compiler.compile.Goals as goal
 
-pub unreachable-requires : goal.unreachable-requires
-unreachable-requires c =
-    false≢true
-    (c.in-None.ensures.exactly.1
+pub unwrap-requires : goal.unwrap-requires
+unwrap-requires c =
+    c.new-program.ensures.exactly.1
     (subst IsWithinLimits (sym c.in_ok-parts.ensures)
-    (is_within_limits (shown c.tree.result.now) c.tree.ensures.limits)))
+    (is_within_limits (shown c.tree.result.now) c.tree.ensures.limits))

@@ -14,19 +14,19 @@ invariant_of-result-clause-planned c =
       tree = tree_view c.tree-query.result.now;
       meant = c.tree-query.ensures.meant;
       named = well_named (tree_view c.tree-query.result.now) c.in_ok-check.ensures;
-      resolved = c.in_ok-tree.ensures;
+      resolved = c.in_ok-tree.ensures.resolved;
     })
 
 pub invariant_of-result-clause-sound : goal.invariant_of-result-clause-sound
-invariant_of-result-clause-sound c = kept_sound (tree_view c.tree-query.result.now) (shown c.in_ok-tree.tree) c.in_ok-check.ensures c.in_ok-tree.ensures
+invariant_of-result-clause-sound c = kept_sound (tree_view c.tree-query.result.now) (shown c.in_ok-tree.tree) c.in_ok-check.ensures c.in_ok-tree.ensures.resolved
 
 pub invariant_of-result-clause-within : goal.invariant_of-result-clause-within
 invariant_of-result-clause-within c =
-    kept_within (tree_view c.tree-query.result.now) (shown c.in_ok-tree.tree) c.tree-query.ensures.limits c.in_ok-check.ensures c.in_ok-tree.ensures
+    kept_within (tree_view c.tree-query.result.now) (shown c.in_ok-tree.tree) c.tree-query.ensures.limits c.in_ok-check.ensures c.in_ok-tree.ensures.resolved
 
 pub invariant_of-result-clause-spelled : goal.invariant_of-result-clause-spelled
 invariant_of-result-clause-spelled c =
-    kept_spelled (tree_view c.tree-query.result.now) (shown c.in_ok-tree.tree) c.tree-query.ensures.limits c.tree-query.ensures.spelled c.in_ok-tree.ensures
+    kept_spelled (tree_view c.tree-query.result.now) (shown c.in_ok-tree.tree) c.tree-query.ensures.limits c.tree-query.ensures.spelled c.in_ok-tree.ensures.resolved
 
 pub returns-clause-named : goal.returns-clause-named
 returns-clause-named c = subst (λ t. IsWellNamed (tree_view t)) c.tree-query.ensures.lent (well_named (tree_view c.tree-query.result.now) c.in_ok-check.ensures)
