@@ -55,26 +55,30 @@ pub enum Task<'a> {
     },
 }
 
+fn with<'a>(
+    star: Command<'a>,
+    command: Result<Command<'a>, AllocError>,
+) -> Result<Command<'a>, AllocError> {
+    star.subcommand(command?)
+}
+
+// The program with its commands, for help and for what is wrong with words that name none.
 fn star_command<'a>(alloc: Global) -> Result<Command<'a>, AllocError> {
-    program(alloc, STAR)?
-        .version("0.1.0")
-        .subcommand(over_folder(alloc, CHECK)?)?
-        .subcommand(over_folder(alloc, BENCH)?)?
-        .subcommand(over_folder_and_file(alloc, QUERY, QUERY_FILE)?)?
-        .subcommand(over_file(alloc, EXPLAIN, QUERY_FILE)?)?
-        .subcommand(over_folder_and_file(alloc, EXEC, PROGRAM_FILE)?)?
-        .subcommand(over_folder_and_file(alloc, QUOTE, EITHER_FILE)?)?
-        .subcommand(under_limit(alloc, TRIAL, PROGRAM_FILE)?)
+    let star = program(alloc, STAR)?.version("0.1.0");
+    let star = with(star, over_folder(alloc, CHECK))?;
+    let star = with(star, over_folder(alloc, BENCH))?;
+    let star = with(star, over_folder_and_file(alloc, QUERY, QUERY_FILE))?;
+    let star = with(star, over_file(alloc, EXPLAIN, QUERY_FILE))?;
+    let star = with(star, over_folder_and_file(alloc, EXEC, PROGRAM_FILE))?;
+    let star = with(star, over_folder_and_file(alloc, QUOTE, EITHER_FILE))?;
+    with(star, under_limit(alloc, TRIAL, PROGRAM_FILE))
 }
 
 // The value of a word that the parser lets not be missing.
 fn given<'a>(matches: &ArgMatches<'a>, name: &str) -> &'a str
     requires { HasWord matches.now name.now }
 {
-    match matches.get_str(name) {
-        Some(value) => value,
-        None => unreachable!(),
-    }
+    matches.get_str(name).unwrap()
 }
 
 fn folder_given<'a>(matches: &ArgMatches<'a>) -> Result<&'a str, Failure<'a>>
@@ -92,12 +96,9 @@ fn limits_given(matches: &ArgMatches<'_>) -> Limits
     requires { HasLimit matches.now (codes "LIMIT") }
     ensures { result.rows ≡ MOST_ROWS }
 {
-    match matches.get_one("LIMIT") {
-        Some(visits) => Limits {
-            rows: MOST_ROWS,
-            visits,
-        },
-        None => unreachable!(),
+    Limits {
+        rows: MOST_ROWS,
+        visits: matches.get_one("LIMIT").unwrap(),
     }
 }
 
