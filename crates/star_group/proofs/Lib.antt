@@ -24,6 +24,7 @@ pub mod ContentMore
 pub mod MergedCells
 pub mod Merging
 pub mod Bases
+pub mod Tries
 pub mod Passes
 pub mod Rolling
 pub mod AllRows

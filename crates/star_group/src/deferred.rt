@@ -9,6 +9,7 @@ mod given;
 mod key;
 mod merge;
 mod store;
+mod trie;
 
 use crate::cell::Row;
 use key::OrderedKey;

@@ -1,0 +1,5 @@
+use Rattle.star_group.proofs.Tries.{IsGoneDown}
+use Rattle.star_group.proofs.deferred.trie.Trie.find.Given as goal
+
+abbrev pub invariant-loop-depth : goal.invariant-loop-depth
+invariant-loop-depth l = IsGoneDown l.self.width l.self.entries.items l.self.links.items l.key l.depth l.node
