@@ -11,6 +11,7 @@ pub mod GroupKeys
 pub mod Contents
 pub mod Totals
 pub mod Rooms
+pub mod CutRows
 pub mod FlatRows
 pub mod GivenRows
 pub mod GivenGroups
@@ -27,5 +28,6 @@ pub mod Bases
 pub mod Tries
 pub mod Passes
 pub mod Rolling
+pub mod KeyedRows
 pub mod AllRows
 pub mod Worked

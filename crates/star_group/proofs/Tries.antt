@@ -1,5 +1,5 @@
 -- Rows found by the digits of their keys: looking one up, and one row more.
-use Rattle.std.proofs.Common.{◌≡◌, ◌≢◌, ℕ, zero, suc, ◌+◌, ◌-◌, ◌<◌, ◌≤◌, ℤ, List, [], ◌∷◌, ◌++◌, Option, Bool, true, false, MatchBool, true≢false, length, get_or, set, ap, sym, ◌∙◌, subst, refl, arith, below_more, get_or-set_same, get_or-set_other, ◌⊎◌, inl, inr}
+use Rattle.std.proofs.Common.{◌≡◌, ◌≢◌, ℕ, zero, suc, ◌+◌, ◌-◌, ◌<◌, ◌≤◌, List, [], ◌∷◌, ◌++◌, Bool, true, false, MatchBool, true≢false, length, get_or, set, ap, sym, ◌∙◌, subst, refl, arith, below_more, get_or-set_same, get_or-set_other, ◌⊎◌, inl, inr}
 use Rattle.std.proofs.lemmas.Bool.{cases_eq, cases_lt}
 use Rattle.std.proofs.lemmas.List.{get_or_append_left, get_or_past, get_or_default, get_or_push, length-append, length-set}
 use Rattle.std.proofs.Math.Logic.{∥∥₁_elim, ∥∥₁_map}
@@ -10,6 +10,7 @@ use Rattle.std.specs.Bool.{Decides}
 use Rattle.std.specs.Cmp.{signed_Decides, unsigned_Decides}
 use Rattle.std.specs.Cmp.Lexicographic.{pointwise}
 use Rattle.std.proofs.lemmas.Slice.Eq.{slice_eq-Decides}
+use Rattle.star_group.specs.Keyed.{cut}
 use Rattle.star_group.specs.Private.Tries.{IsTrie, IsMissing, Leads, child, digit_at, key_at, node_at}
 
 abbrev part_eq : KeyPart → KeyPart → Bool
@@ -45,14 +46,14 @@ apart_when true told e = absurd (true≢false e)
 apart_when false told e = told
 
 -- so many digits lead to this node, and no row on the way has the key
-pub record IsGoneDown (width : ℕ) (es : List (List KeyPart × List (Option ℤ))) (links : List (List ℕ)) (key : List KeyPart) (depth node : ℕ) : Type 0 where
+pub record IsGoneDown (width : ℕ) (ks : List (List KeyPart)) (links : List (List ℕ)) (key : List KeyPart) (depth node : ℕ) : Type 0 where
   pub leads : Leads width links key depth node
   pub within : node < length links
   pub deep : depth ≤ node
-  pub others : (i : ℕ) → i < depth → key_at es (node_at width links key (suc i) - 1) ≡ key → ⊥
+  pub others : (i : ℕ) → i < depth → key_at ks (node_at width links key (suc i) - 1) ≡ key → ⊥
 
-module _ (width : ℕ) (es : List (List KeyPart × List (Option ℤ))) (links : List (List ℕ)) (key : List KeyPart) (trie : IsTrie width es links) where
-  pub start : IsGoneDown width es links key 0 0
+module _ (width : ℕ) (ks : List (List KeyPart)) (links : List (List ℕ)) (key : List KeyPart) (trie : IsTrie width ks links) where
+  pub start : IsGoneDown width ks links key 0 0
   unfolding node_at
   start = record {
     leads = record { steps = λ i h. omega (arith, h); end = refl };
@@ -61,12 +62,12 @@ module _ (width : ℕ) (es : List (List KeyPart × List (Option ℤ))) (links : 
     others = λ i h. omega (arith, h);
   }
 
-  module _ (depth node digit : ℕ) (down : IsGoneDown width es links key depth node) (is : digit ≡ digit_at width key depth) where
+  module _ (depth node digit : ℕ) (down : IsGoneDown width ks links key depth node) (is : digit ≡ digit_at width key depth) where
     next_is : node_at width links key (suc depth) ≡ child links node digit
     unfolding node_at
     next_is = λ i. child links (down.leads.end i) (sym is i)
 
-    pub further : (next : ℕ) → next ≡ child links node digit → 0 < next → (key_at es (next - 1) ≡ key → ⊥) → IsGoneDown width es links key (depth + 1) next
+    pub further : (next : ℕ) → next ≡ child links node digit → 0 < next → (key_at ks (next - 1) ≡ key → ⊥) → IsGoneDown width ks links key (depth + 1) next
     further next e more other =
         let there : node_at width links key (suc depth) ≡ next = next_is ∙ sym e in
         let under = trie.below node digit (subst (λ n. 0 < n) e more) in
@@ -78,14 +79,14 @@ module _ (width : ℕ) (es : List (List KeyPart × List (Option ℤ))) (links : 
           };
           within = omega (arith, under.1, e);
           deep = omega (arith, under.0, e, down.deep);
-          others = below_more (λ i. key_at es (node_at width links key (suc i) - 1) ≡ key → ⊥) depth down.others (subst (λ n. key_at es (n - 1) ≡ key → ⊥) (sym there) other);
+          others = below_more (λ i. key_at ks (node_at width links key (suc i) - 1) ≡ key → ⊥) depth down.others (subst (λ n. key_at ks (n - 1) ≡ key → ⊥) (sym there) other);
         }
 
     top : node_at width links key zero ≡ 0
     unfolding node_at
     top = refl
 
-    pub missing : digit < 4 → child links node digit ≡ 0 → IsMissing width es links key node digit
+    pub missing : digit < 4 → child links node digit ≡ 0 → IsMissing width ks links key node digit
     missing few empty = record {
       depth = depth;
       leads = down.leads;
@@ -99,12 +100,12 @@ module _ (width : ℕ) (es : List (List KeyPart × List (Option ℤ))) (links : 
         first : (n : ℕ) → Leads width links key zero (n + 1) → ⊥
         first n leads = omega (arith, leads.end, top)
 
-        at : (n e : ℕ) → key_at es n ≡ key → Leads width links key e (n + 1) → (e ≤ depth) ⊎ (depth < e) → ⊥
+        at : (n e : ℕ) → key_at ks n ≡ key → Leads width links key e (n + 1) → (e ≤ depth) ⊎ (depth < e) → ⊥
         at n e same leads (inr deeper) = let more = leads.steps depth deeper in omega (arith, more, next_is, empty)
         at n zero same leads (inl h) = first n leads
-        at n (suc e) same leads (inl h) = down.others e (omega (arith, h)) (ap (λ m. key_at es (m - 1)) leads.end ∙ ap (key_at es) (let b : n + 1 - 1 ≡ n = omega arith in b) ∙ same)
+        at n (suc e) same leads (inl h) = down.others e (omega (arith, h)) (ap (λ m. key_at ks (m - 1)) leads.end ∙ ap (key_at ks) (let b : n + 1 - 1 ≡ n = omega arith in b) ∙ same)
 
-        none : (n : ℕ) → n < length es → key_at es n ≡ key → ⊥
+        none : (n : ℕ) → n < length ks → key_at ks n ≡ key → ⊥
         none n h same =
             ∥∥₁_elim (trie.reached n h) no_prop (λ r. at n r.0 same (subst (λ k. Leads width links k r.0 (n + 1)) same r.1) (order r.0))
           where
@@ -116,7 +117,7 @@ module _ (width : ℕ) (es : List (List KeyPart × List (Option ℤ))) (links : 
                 by (inr h) = inl h
 
     -- a node below is that of a row
-    pub row_below : (next : ℕ) → next ≡ child links node digit → 0 < next → next - 1 < length es
+    pub row_below : (next : ℕ) → next ≡ child links node digit → 0 < next → next - 1 < length ks
     row_below next e more = let under = trie.below node digit (subst (λ n. 0 < n) e more) in omega (arith, under.1, e, trie.many, more)
 
 -- ---- one row more
@@ -124,11 +125,40 @@ module _ (width : ℕ) (es : List (List KeyPart × List (Option ℤ))) (links : 
 abbrev fresh : List ℕ
 fresh = 0 ∷ 0 ∷ 0 ∷ 0 ∷ []
 
+fresh_none : (g : ℕ) → get_or fresh g 0 ≡ 0
+fresh_none zero = refl
+fresh_none (suc zero) = refl
+fresh_none (suc (suc zero)) = refl
+fresh_none (suc (suc (suc zero))) = refl
+fresh_none (suc (suc (suc (suc g)))) = refl
+
+no_keys : (width : ℕ) → IsTrie width [] (fresh ∷ [])
+no_keys width = record {
+  many = refl;
+  wide = wide;
+  below = below;
+  reached = λ n h. absurd (omega (arith, h));
+  once = λ i j h k same. absurd (omega (arith, h));
+}
+  where
+    wide : (node : ℕ) → node < 1 → length (get_or (fresh ∷ []) node []) ≡ 4
+    wide zero h = refl
+    wide (suc node) h = absurd (omega (arith, h))
+
+    below : (node digit : ℕ) → 0 < child (fresh ∷ []) node digit → (node < child (fresh ∷ []) node digit) × (child (fresh ∷ []) node digit < 1)
+    below zero digit there = absurd (omega (arith, there, fresh_none digit))
+    below (suc node) digit there = absurd (omega (arith, there))
+
+-- with no keys there is the node above all alone
+pub none_cut : (width : ℕ) (parts : List KeyPart) (links : List (List ℕ)) → links ≡ fresh ∷ [] → IsTrie width (cut width 0 parts) links
+unfolding cut
+none_cut width parts links is = subst (IsTrie width []) (sym is) (no_keys width)
+
 -- the links with those of one node more, to which this digit leads
 abbrev pub linked : List (List ℕ) → ℕ → ℕ → List (List ℕ)
 linked links node digit = set (links ++ fresh ∷ []) node (set (get_or (links ++ fresh ∷ []) node []) digit (length links))
 
-module _ (width : ℕ) (es : List (List KeyPart × List (Option ℤ))) (links : List (List ℕ)) (key : List KeyPart) (row : List (Option ℤ)) (node digit : ℕ) (trie : IsTrie width es links) (slot : IsMissing width es links key node digit) where
+module _ (width : ℕ) (ks : List (List KeyPart)) (links : List (List ℕ)) (key : List KeyPart) (node digit : ℕ) (trie : IsTrie width ks links) (slot : IsMissing width ks links key node digit) where
   more_links : length (links ++ fresh ∷ []) ≡ length links + 1
   more_links = length-append links (fresh ∷ [])
 
@@ -189,26 +219,19 @@ module _ (width : ℕ) (es : List (List KeyPart × List (Option ℤ))) (links : 
           step : node_at width (linked links node digit) key (suc slot.depth) ≡ child (linked links node digit) node digit
           step = ap (λ m. child (linked links node digit) m (digit_at width key slot.depth)) before.end ∙ ap (child (linked links node digit) node) (sym slot.next)
 
-  old_key : (n : ℕ) → n < length es → key_at (es ++ (key, row) ∷ []) n ≡ key_at es n
-  old_key n h = ap (λ (e : List KeyPart × List (Option ℤ)). e.0) (get_or_append_left es ((key, row) ∷ []) ([], []) n h)
+  old_key : (n : ℕ) → n < length ks → key_at (ks ++ key ∷ []) n ≡ key_at ks n
+  old_key n h = get_or_append_left ks (key ∷ []) [] n h
 
-  new_key : key_at (es ++ (key, row) ∷ []) (length es) ≡ key
-  new_key = ap (λ (e : List KeyPart × List (Option ℤ)). e.0) (get_or_push es (key, row) ([], []) (length es) refl)
+  new_key : key_at (ks ++ key ∷ []) (length ks) ≡ key
+  new_key = get_or_push ks key [] (length ks) refl
 
-  more_rows : length (es ++ (key, row) ∷ []) ≡ length es + 1
-  more_rows = length-append es ((key, row) ∷ [])
+  more_rows : length (ks ++ key ∷ []) ≡ length ks + 1
+  more_rows = length-append ks (key ∷ [])
 
   all_links : length (linked links node digit) ≡ length links + 1
   all_links = length-set (links ++ fresh ∷ []) node _ ∙ more_links
 
-  fresh_none : (g : ℕ) → get_or fresh g 0 ≡ 0
-  fresh_none zero = refl
-  fresh_none (suc zero) = refl
-  fresh_none (suc (suc zero)) = refl
-  fresh_none (suc (suc (suc zero))) = refl
-  fresh_none (suc (suc (suc (suc g)))) = refl
-
-  pub one_more : IsTrie width (es ++ (key, row) ∷ []) (linked links node digit)
+  pub one_more : IsTrie width (ks ++ key ∷ []) (linked links node digit)
   one_more = record {
     many = omega (arith, all_links, more_rows, trie.many);
     wide = wide;
@@ -248,37 +271,37 @@ module _ (width : ℕ) (es : List (List KeyPart × List (Option ℤ))) (links : 
               beyond (inl e) = other_node m g ne ∙ ap (λ l. get_or l g 0) (get_or_push links fresh [] m e) ∙ fresh_none g
               beyond (inr apart) = other_node m g ne ∙ ap (λ l. get_or l g 0) (get_or_past (links ++ fresh ∷ []) m [] (omega (arith, high, apart, more_links)))
 
-      which : (n : ℕ) → n < length (es ++ (key, row) ∷ []) → (n < length es) ⊎ (length es ≡ n)
-      which n h = by (cases_lt n (length es))
+      which : (n : ℕ) → n < length (ks ++ key ∷ []) → (n < length ks) ⊎ (length ks ≡ n)
+      which n h = by (cases_lt n (length ks))
         where
-          by : (n < length es) ⊎ (length es ≤ n) → (n < length es) ⊎ (length es ≡ n)
+          by : (n < length ks) ⊎ (length ks ≤ n) → (n < length ks) ⊎ (length ks ≡ n)
           by (inl low) = inl low
           by (inr high) = inr (omega (arith, h, high, more_rows))
 
-      reached : (n : ℕ) → n < length (es ++ (key, row) ∷ []) → ∥ ((depth : ℕ) × Leads width (linked links node digit) (key_at (es ++ (key, row) ∷ []) n) depth (n + 1)) ∥₁
+      reached : (n : ℕ) → n < length (ks ++ key ∷ []) → ∥ ((depth : ℕ) × Leads width (linked links node digit) (key_at (ks ++ key ∷ []) n) depth (n + 1)) ∥₁
       reached n h = by (which n h)
         where
-          by : (n < length es) ⊎ (length es ≡ n) → ∥ ((depth : ℕ) × Leads width (linked links node digit) (key_at (es ++ (key, row) ∷ []) n) depth (n + 1)) ∥₁
-          by (inl low) = ∥∥₁_map (trie.reached n low) (λ r. (r.0, subst (λ k. Leads width (linked links node digit) k r.0 (n + 1)) (sym (old_key n low)) (leads_stays (key_at es n) r.0 (n + 1) r.1)))
+          by : (n < length ks) ⊎ (length ks ≡ n) → ∥ ((depth : ℕ) × Leads width (linked links node digit) (key_at (ks ++ key ∷ []) n) depth (n + 1)) ∥₁
+          by (inl low) = ∥∥₁_map (trie.reached n low) (λ r. (r.0, subst (λ k. Leads width (linked links node digit) k r.0 (n + 1)) (sym (old_key n low)) (leads_stays (key_at ks n) r.0 (n + 1) r.1)))
           by (inr last) =
               let to : length links ≡ n + 1 = trie.many ∙ ap (λ m. m + 1) last in
-              let is : key ≡ key_at (es ++ (key, row) ∷ []) n = sym new_key ∙ ap (key_at (es ++ (key, row) ∷ [])) last in
-              ∣ (slot.depth + 1, subst (λ m. Leads width (linked links node digit) (key_at (es ++ (key, row) ∷ []) n) (slot.depth + 1) m) to (subst (λ k. Leads width (linked links node digit) k (slot.depth + 1) (length links)) is leads_new)) ∣₁
+              let is : key ≡ key_at (ks ++ key ∷ []) n = sym new_key ∙ ap (key_at (ks ++ key ∷ [])) last in
+              ∣ (slot.depth + 1, subst (λ m. Leads width (linked links node digit) (key_at (ks ++ key ∷ []) n) (slot.depth + 1) m) to (subst (λ k. Leads width (linked links node digit) k (slot.depth + 1) (length links)) is leads_new)) ∣₁
 
-      once : (i j : ℕ) → i < length (es ++ (key, row) ∷ []) → j < length (es ++ (key, row) ∷ []) → key_at (es ++ (key, row) ∷ []) i ≡ key_at (es ++ (key, row) ∷ []) j → i ≡ j
+      once : (i j : ℕ) → i < length (ks ++ key ∷ []) → j < length (ks ++ key ∷ []) → key_at (ks ++ key ∷ []) i ≡ key_at (ks ++ key ∷ []) j → i ≡ j
       once i j hi hj same = by (which i hi) (which j hj)
         where
-          is_new : (n : ℕ) → length es ≡ n → key_at (es ++ (key, row) ∷ []) n ≡ key
-          is_new n last = ap (key_at (es ++ (key, row) ∷ [])) (sym last) ∙ new_key
+          is_new : (n : ℕ) → length ks ≡ n → key_at (ks ++ key ∷ []) n ≡ key
+          is_new n last = ap (key_at (ks ++ key ∷ [])) (sym last) ∙ new_key
 
-          by : (i < length es) ⊎ (length es ≡ i) → (j < length es) ⊎ (length es ≡ j) → i ≡ j
+          by : (i < length ks) ⊎ (length ks ≡ i) → (j < length ks) ⊎ (length ks ≡ j) → i ≡ j
           by (inl p) (inl q) = trie.once i j p q (sym (old_key i p) ∙ same ∙ old_key j q)
           by (inr p) (inr q) = sym p ∙ q
           by (inl p) (inr q) = absurd (slot.none i p (sym (old_key i p) ∙ same ∙ is_new j q))
           by (inr p) (inl q) = absurd (slot.none j q (sym (old_key j q) ∙ sym same ∙ is_new i p))
 
   -- as the code writes it
-  pub is_trie_after : (fs : List (List KeyPart × List (Option ℤ))) (ls : List (List ℕ)) (inner default : List ℕ) (number : ℕ) → fs ≡ es ++ (key, row) ∷ [] → ls ≡ links ++ fresh ∷ [] → inner ≡ get_or ls node default → number ≡ length links
+  pub is_trie_after : (fs : List (List KeyPart)) (ls : List (List ℕ)) (inner default : List ℕ) (number : ℕ) → fs ≡ ks ++ key ∷ [] → ls ≡ links ++ fresh ∷ [] → inner ≡ get_or ls node default → number ≡ length links
       → IsTrie width fs (set ls node (set inner digit number))
   is_trie_after fs ls inner default number rows more at is =
       let there : node < length ls = omega (arith, slot.within, ap length more, more_links) in

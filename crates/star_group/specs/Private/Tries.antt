@@ -1,5 +1,5 @@
 -- Rows found by the digits of their keys: each row is below one whose key it shares some digits with.
-use Rattle.std.specs.Prelude.{◌≡◌, ℕ, zero, suc, ◌+◌, ◌*◌, ◌/◌, ◌%◌, ◌^◌, ◌<◌, nat_lt, if◌then◌else◌, ℤ, List, [], Option, length, slice_index_or}
+use Rattle.std.specs.Prelude.{◌≡◌, ℕ, zero, suc, ◌+◌, ◌*◌, ◌/◌, ◌%◌, ◌^◌, ◌<◌, nat_lt, if◌then◌else◌, List, [], length, slice_index_or}
 use Rattle.std.specs.Int.{cast_unsigned, w64}
 use Rattle.star_group.specs.declared.deferred.key.KeyPart.{KeyPart}
 use Rattle.star_group.specs.declared.deferred.trie.Place.{Place}
@@ -25,8 +25,8 @@ part_digit part round = if nat_lt round 32 then bits_of part / 2 ^ (2 * round) %
 abbrev pub digit_at : ℕ → List KeyPart → ℕ → ℕ
 digit_at width key depth = part_digit (slice_index_or key (depth % width) All) (depth / width)
 
-abbrev pub key_at : List (List KeyPart × List (Option ℤ)) → ℕ → List KeyPart
-key_at es n = (slice_index_or es n ([], [])).0
+abbrev pub key_at : List (List KeyPart) → ℕ → List KeyPart
+key_at ks n = slice_index_or ks n []
 
 -- the node below this one by a digit, 0 where there is none; node 0 is above all, and row n is node n + 1
 abbrev pub child : List (List ℕ) → ℕ → ℕ → ℕ
@@ -42,28 +42,28 @@ pub record Leads (width : ℕ) (links : List (List ℕ)) (key : List KeyPart) (d
   pub steps : (i : ℕ) → i < depth → 0 < node_at width links key (suc i)
   pub end : node_at width links key depth ≡ node
 
-pub record IsTrie (width : ℕ) (es : List (List KeyPart × List (Option ℤ))) (links : List (List ℕ)) : Type 0 where
-  pub many : length links ≡ length es + 1
+pub record IsTrie (width : ℕ) (ks : List (List KeyPart)) (links : List (List ℕ)) : Type 0 where
+  pub many : length links ≡ length ks + 1
   pub wide : (node : ℕ) → node < length links → length (slice_index_or links node []) ≡ 4
   pub below : (node digit : ℕ) → 0 < child links node digit → (node < child links node digit) × (child links node digit < length links)
-  pub reached : (n : ℕ) → n < length es → ∥ ((depth : ℕ) × Leads width links (key_at es n) depth (n + 1)) ∥₁
-  pub once : (i j : ℕ) → i < length es → j < length es → key_at es i ≡ key_at es j → i ≡ j
+  pub reached : (n : ℕ) → n < length ks → ∥ ((depth : ℕ) × Leads width links (key_at ks n) depth (n + 1)) ∥₁
+  pub once : (i j : ℕ) → i < length ks → j < length ks → key_at ks i ≡ key_at ks j → i ≡ j
 
 -- the row of this number has the key
-pub record IsHeld (es : List (List KeyPart × List (Option ℤ))) (key : List KeyPart) (n : ℕ) : Type 0 where
-  pub within : n < length es
-  pub is : key_at es n ≡ key
+pub record IsHeld (ks : List (List KeyPart)) (key : List KeyPart) (n : ℕ) : Type 0 where
+  pub within : n < length ks
+  pub is : key_at ks n ≡ key
 
 -- no row has the key, and its digits end at this node, with no node below by the next digit
-pub record IsMissing (width : ℕ) (es : List (List KeyPart × List (Option ℤ))) (links : List (List ℕ)) (key : List KeyPart) (node digit : ℕ) : Type 0 where
+pub record IsMissing (width : ℕ) (ks : List (List KeyPart)) (links : List (List ℕ)) (key : List KeyPart) (node digit : ℕ) : Type 0 where
   pub depth : ℕ
   pub leads : Leads width links key depth node
   pub next : digit ≡ digit_at width key depth
   pub few : digit < 4
   pub within : node < length links
   pub empty : child links node digit ≡ 0
-  pub none : (n : ℕ) → n < length es → key_at es n ≡ key → ⊥
+  pub none : (n : ℕ) → n < length ks → key_at ks n ≡ key → ⊥
 
-abbrev pub IsFound : ℕ → List (List KeyPart × List (Option ℤ)) → List (List ℕ) → List KeyPart → Place → Type 0
-IsFound width es links key (Held n) = IsHeld es key n
-IsFound width es links key (Missing node digit) = IsMissing width es links key node digit
+abbrev pub IsFound : ℕ → List (List KeyPart) → List (List ℕ) → List KeyPart → Place → Type 0
+IsFound width ks links key (Held n) = IsHeld ks key n
+IsFound width ks links key (Missing node digit) = IsMissing width ks links key node digit
