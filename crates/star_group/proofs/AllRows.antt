@@ -1,8 +1,7 @@
 -- The rows of a deferred store in the end are those of an eager one.
-use Rattle.std.proofs.Common.{◌≡◌, ℕ, zero, suc, ◌-◌, ◌≤◌, Bool, true, false, ◌||◌, ℤ, List, [], ◌∷◌, ◌++◌, Option, Some, None, length, map, cond, ap, sym, ◌∙◌, subst, refl, arith}
+use Rattle.std.proofs.Common.{◌≡◌, ℕ, zero, suc, ◌-◌, ◌≤◌, Bool, true, false, ◌||◌, ℤ, List, [], ◌∷◌, Option, Some, None, length, map, cond, ap, sym, ◌∙◌, subst, refl, arith}
 use Rattle.std.specs.List.{filter, list_any}
 use Rattle.std.specs.Map.{lookup}
-use Rattle.std.specs.Ordering.{is_eq}
 use Rattle.std.proofs.Math.Logic.{∥∥₁_map}
 use Rattle.star_schema.specs.declared.group.Aggregate.{Aggregate}
 use Rattle.star_schema.specs.declared.group.Shape.{Shape}
@@ -10,20 +9,19 @@ use Rattle.star_schema.specs.declared.group.Shape.TheVariants.{Plain, Cube}
 use Rattle.star_schema.specs.Groups.{numbers_for}
 use Rattle.star_program.specs.declared.key.KeyValue.{KeyValue}
 use Rattle.star_group.specs.declared.deferred.key.KeyPart.{KeyPart}
-use Rattle.star_group.specs.declared.deferred.key.KeyPart.TheVariants.{All}
-use Rattle.star_group.specs.declared.group_row.GroupRow.{GroupRow}
 use Rattle.star_group.specs.Base.{HasAggregates, HasBaseWithRoom, IsBase, IsRowOver, key_of, row_at}
 use Rattle.star_group.specs.Cells.{held}
 use Rattle.star_group.specs.Held.{Holds, IsRow, changes, has_puts, puts_at}
 use Rattle.star_group.specs.OwnKeys.{key_eq, own_keys, padded, vary}
 use Rattle.star_group.specs.Private.Coarser.{AreOnce, IsRolledUp, IsRolledUpWithRoom, first_hidden, keys_from, shown_entries}
-use Rattle.star_group.specs.Private.Given.{is_given, row_given, rows_given}
+use Rattle.star_group.specs.Private.Given.{rows_given}
 use Rattle.star_group.specs.Private.BasePut.{group_with}
 use Rattle.star_group.specs.Shown.{AreRows}
 use Rattle.star_group.specs.Stores.{Group, Put, aggregate_at}
-use Rattle.star_group.proofs.Bases.{found_at, found_same, parts_back, parts_cmp, parts_for, parts_same}
+use Rattle.star_group.specs.Keyed.{all_hidden}
+use Rattle.star_group.specs.Private.Merged.{IsWithRow}
 use Rattle.star_group.proofs.GivenGroups.{all_at, given_are_rows, place_of}
-use Rattle.star_group.proofs.GroupKeys.{key_decides, key_equiv}
+use Rattle.star_group.proofs.GroupKeys.{key_decides}
 use Rattle.star_group.proofs.OwnKeyLemmas.{all_padded, vary-start}
 use Rattle.star_group.proofs.Passes.{all_members, filter_same, or_no}
 use Rattle.star_group.proofs.Totals.{all_rows}
@@ -76,19 +74,10 @@ same_rows d q u fits other = by d.shape d.count fits
 
 -- ---- the total is put beside the others
 
-abbrev all_parts : List KeyPart
-all_parts = All ∷ All ∷ All ∷ All ∷ All ∷ All ∷ []
-
 module _ (d : Group) (us : List Put) (es fs : List (List KeyPart × List (Option ℤ))) (total : List (Option ℤ)) (rolled : IsRolledUp d (first_hidden d.shape d.count) es us) (sums : HasAggregates d us total)
-    (inserted : (ps : List KeyPart) → found_at fs ps ≡ cond (is_eq (parts_cmp all_parts ps)) (Some total) (found_at es ps)) where
+    (inserted : IsWithRow (key_of all_hidden) total es fs) where
   row_now : (q : List (Option KeyValue)) (b : Bool) → key_eq q (padded 6 []) ≡ b → row_at fs q ≡ cond b (Some total) (row_at es q)
-  row_now q b e =
-      let ps : List KeyPart = parts_for q in
-      ap (row_at fs) (sym (parts_back q)) ∙ sym (found_same fs ps) ∙ inserted ps
-      ∙ (λ i. cond (test i) (Some total) (found_same es ps i)) ∙ ap (λ k. cond b (Some total) (row_at es k)) (parts_back q)
-    where
-      test : is_eq (parts_cmp all_parts (parts_for q)) ≡ b
-      test = parts_same all_parts (parts_for q) ∙ ap (key_eq (key_of all_parts)) (parts_back q) ∙ ap (λ k. key_eq k q) (sym all_padded) ∙ key_equiv.symm (padded 6 []) q ∙ e
+  row_now q b e = inserted q ∙ ap (λ c. cond c (Some total) (row_at es q)) (ap (key_eq q) (sym all_padded) ∙ e)
 
   same_puts : (q : List (Option KeyValue)) → key_eq q (padded 6 []) ≡ false → filter (λ u. list_any (key_eq q) (keys_from (first_hidden d.shape d.count) d.count u.keys)) us ≡ puts_at d q us
   same_puts q other = filter_same (λ u. list_any (key_eq q) (keys_from (first_hidden d.shape d.count) d.count u.keys)) (changes d q) us
@@ -117,46 +106,3 @@ shown_lookup q (e ∷ es) = ap (cond (key_eq q (key_of e.0)) (Some e.1)) (shown_
 
 pub are_rows : (d : Group) (us : List Put) (es : List (List KeyPart × List (Option ℤ))) → d.count ≤ 6 → AreOnce es → Holds d (row_at es) us → AreRows d us (rows_given d.shape d.count d.aggregates (shown_entries es))
 are_rows d us es few once holds = given_are_rows d us (shown_entries es) few (subst (λ look. Holds d look us) (λ i q. sym (shown_lookup q es) i) holds) once
-
--- one row more is given, or none
-module _ (shape : Shape) (count : ℕ) (gs : List Aggregate) where
-  append_one : {A : Type 0} (xs : List A) (x : A) (ys : List A) → (xs ++ x ∷ []) ++ ys ≡ xs ++ (x ∷ ys)
-  append_one [] x ys = refl
-  append_one (w ∷ xs) x ys = ap (λ t. w ∷ t) (append_one xs x ys)
-
-  first_given : (e : List KeyPart × List (Option ℤ)) (es : List (List KeyPart × List (Option ℤ))) → rows_given shape count gs (shown_entries (e ∷ es))
-      ≡ cond (is_given shape count (key_of e.0)) (row_given count gs (key_of e.0, e.1) ∷ rows_given shape count gs (shown_entries es)) (rows_given shape count gs (shown_entries es))
-  unfolding rows_given
-  first_given e es = by (is_given shape count (key_of e.0))
-    where
-      by : (b : Bool) → map (row_given count gs) (cond b ((key_of e.0, e.1) ∷ filter (λ f. is_given shape count f.0) (shown_entries es)) (filter (λ f. is_given shape count f.0) (shown_entries es)))
-          ≡ cond b (row_given count gs (key_of e.0, e.1) ∷ map (row_given count gs) (filter (λ f. is_given shape count f.0) (shown_entries es))) (map (row_given count gs) (filter (λ f. is_given shape count f.0) (shown_entries es)))
-      by true = refl
-      by false = refl
-
-  pub one_given : (xs all : List GroupRow) (e : List KeyPart × List (Option ℤ)) (left rest : List (List KeyPart × List (Option ℤ))) (row : GroupRow) → left ≡ e ∷ rest → xs ++ rows_given shape count gs (shown_entries left) ≡ all
-      → Some row ≡ cond (is_given shape count (key_of e.0)) (Some (row_given count gs (key_of e.0, e.1))) None → (xs ++ row ∷ []) ++ rows_given shape count gs (shown_entries rest) ≡ all
-  one_given xs all e left rest row is so_far gives =
-      append_one xs row (rows_given shape count gs (shown_entries rest))
-      ∙ ap (λ t. xs ++ t) (by (is_given shape count (key_of e.0)) gives ∙ sym (first_given e rest) ∙ ap (λ es. rows_given shape count gs (shown_entries es)) (sym is)) ∙ so_far
-    where
-      by : (b : Bool) → Some row ≡ cond b (Some (row_given count gs (key_of e.0, e.1))) None → row ∷ rows_given shape count gs (shown_entries rest) ≡ cond b (row_given count gs (key_of e.0, e.1) ∷ rows_given shape count gs (shown_entries rest)) (rows_given shape count gs (shown_entries rest))
-      by true h = ap (λ r. r ∷ rows_given shape count gs (shown_entries rest)) (cc h)
-      by false h = absurd (let no : ⊥ = cc h in no)
-
-  pub none_given : (xs all : List GroupRow) (e : List KeyPart × List (Option ℤ)) (left rest : List (List KeyPart × List (Option ℤ))) → left ≡ e ∷ rest → xs ++ rows_given shape count gs (shown_entries left) ≡ all
-      → None ≡ cond (is_given shape count (key_of e.0)) (Some (row_given count gs (key_of e.0, e.1))) None → xs ++ rows_given shape count gs (shown_entries rest) ≡ all
-  none_given xs all e left rest is so_far gives =
-      ap (λ t. xs ++ t) (by (is_given shape count (key_of e.0)) gives ∙ sym (first_given e rest) ∙ ap (λ es. rows_given shape count gs (shown_entries es)) (sym is)) ∙ so_far
-    where
-      by : (b : Bool) → None ≡ cond b (Some (row_given count gs (key_of e.0, e.1))) None → rows_given shape count gs (shown_entries rest) ≡ cond b (row_given count gs (key_of e.0, e.1) ∷ rows_given shape count gs (shown_entries rest)) (rows_given shape count gs (shown_entries rest))
-      by true h = absurd (let no : ⊥ = cc h in no)
-      by false h = refl
-
-  pub all_given : (xs : List GroupRow) (all : List GroupRow) (left : List (List KeyPart × List (Option ℤ))) → left ≡ [] → xs ++ rows_given shape count gs (shown_entries left) ≡ all → xs ≡ all
-  unfolding rows_given
-  all_given xs all left none so_far = sym (append_none xs) ∙ ap (λ es. xs ++ rows_given shape count gs (shown_entries es)) (sym none) ∙ so_far
-    where
-      append_none : (ys : List GroupRow) → ys ++ [] ≡ ys
-      append_none [] = refl
-      append_none (y ∷ ys) = ap (λ t. y ∷ t) (append_none ys)

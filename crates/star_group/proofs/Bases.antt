@@ -1,28 +1,18 @@
 -- The base rows of puts, with one put more.
-use Rattle.std.proofs.Common.{◌≡◌, ℕ, Bool, true, false, ◌&&◌, ℤ, List, [], ◌∷◌, Option, Some, None, Result, Ok, Err, OnOk, OnErr, length, get_or, map, cond, ap, sym, ◌∙◌, refl, subst, true≢false, arith}
+use Rattle.std.proofs.Common.{◌≡◌, ℕ, Bool, true, false, ℤ, List, [], ◌∷◌, Option, Some, None, Result, Ok, Err, OnOk, OnErr, length, get_or, cond, ap, sym, ◌∙◌, refl, subst, true≢false, arith}
 use Rattle.std.specs.List.{filter, list_any}
-use Rattle.std.specs.Map.{lookup}
-use Rattle.std.specs.Ordering.{is_eq, ordering_then}
-use Rattle.std.specs.declared.cmp.Ordering.{Ordering}
-use Rattle.std.specs.declared.cmp.Ordering.TheVariants.{Less, Equal, Greater}
-use Rattle.std.specs.Option.{option_eq}
-use Rattle.std.specs.Cmp.{unsigned_ties}
-use Rattle.std.specs.Cmp.Lexicographic.{slice_cmp}
+use Rattle.std.specs.Option.{unwrap_or}
 use Rattle.star_schema.specs.declared.group.Aggregate.{Aggregate}
 use Rattle.star_schema.specs.Groups.{numbers_for}
 use Rattle.star_program.specs.declared.key.KeyValue.{KeyValue}
-use Rattle.star_program.specs.declared.key.KeyValue.TheVariants.{Number as NumberKey, Code as CodeKey}
-use Rattle.star_program.specs.Keys.{value_eq}
 use Rattle.star_program.specs.Puts.{leaves}
 use Rattle.star_group.specs.declared.deferred.key.KeyPart.{KeyPart}
-use Rattle.star_group.specs.declared.deferred.key.KeyPart.TheVariants.{All, Number, Code}
-use Rattle.star_group.specs.contracts.deferred.key.KeyPartOrd.TheImpl.{cmp-value}
-use Rattle.star_group.specs.Base.{HasAggregates, HasBaseWithRoom, IsBase, IsRowOver, key_of, puts_with, row_at, value_of}
+use Rattle.star_group.specs.Base.{HasAggregates, HasBaseWithRoom, IsBase, IsRowOver, key_of, puts_with, row_at}
 use Rattle.star_group.specs.Cells.{held}
 use Rattle.star_group.specs.OwnKeys.{key_eq, padded}
 use Rattle.star_schema.specs.declared.group.Shape.{Shape}
 use Rattle.star_group.specs.Private.BasePut.{TakesPut, group_with}
-use Rattle.star_group.specs.Private.Merged.{IsMerged, IsMergedInto, IsRowOf, MergeStays, RowsStay, cell_of, merged}
+use Rattle.star_group.specs.Private.Merged.{IsMerged, IsMergedAt, IsMergedInto, IsRowOf, MergeStays, RowsStay, cell_of, merged}
 use Rattle.star_group.specs.Stores.{Put, Group, HasRoom, aggregate_at, number_at}
 use Rattle.star_group.specs.Stores.{AddUp, IsContent, above_zero, below_zero, key_lists}
 use Rattle.star_program.specs.Keys.{same_keys}
@@ -31,80 +21,18 @@ use Rattle.star_group.proofs.GroupKeys.{key_decides, key_equiv}
 use Rattle.star_group.proofs.Merging.{held_none, held_one, merged_comm, merged_more, no_puts, row_of_one}
 use Rattle.star_group.proofs.Rooms.{held_stays}
 
--- ---- the order of the keys tells them apart as the keys of rows do
-
-abbrev pub part_cmp : KeyPart → KeyPart → Ordering
-part_cmp = cmp-value.it
-
-abbrev pub parts_cmp : List KeyPart → List KeyPart → Ordering
-parts_cmp = slice_cmp part_cmp
-
-part_same : (p r : KeyPart) → is_eq (part_cmp p r) ≡ option_eq value_eq (value_of p) (value_of r)
-part_same All All = refl
-part_same All (Number y) = refl
-part_same All (Code n) = refl
-part_same (Number x) All = refl
-part_same (Number x) (Number y) = refl
-part_same (Number x) (Code n) = refl
-part_same (Code m) All = refl
-part_same (Code m) (Number y) = refl
-part_same (Code m) (Code n) = sym (unsigned_ties m n)
-
-then_same : (a b : Ordering) → is_eq (ordering_then a b) ≡ (is_eq a && is_eq b)
-then_same Less b = refl
-then_same Equal b = refl
-then_same Greater b = refl
-
-pub parts_same : (ps rs : List KeyPart) → is_eq (parts_cmp ps rs) ≡ key_eq (key_of ps) (key_of rs)
-parts_same [] [] = refl
-parts_same [] (r ∷ rs) = refl
-parts_same (p ∷ ps) [] = refl
-parts_same (p ∷ ps) (r ∷ rs) = then_same (part_cmp p r) (parts_cmp ps rs) ∙ (λ i. part_same p r i && parts_same ps rs i)
-
--- a look-up in the tree
-abbrev pub found_at : List (List KeyPart × List (Option ℤ)) → List KeyPart → Option (List (Option ℤ))
-found_at es ps = lookup (λ rs. is_eq (parts_cmp ps rs)) es
-
-pub found_same : (es : List (List KeyPart × List (Option ℤ))) (ps : List KeyPart) → found_at es ps ≡ row_at es (key_of ps)
-found_same es ps = ap (λ t. lookup t es) (λ i rs. parts_same ps rs i)
-
--- each key list is that of some parts
-pub part_for : Option KeyValue → KeyPart
-part_for None = All
-part_for (Some (NumberKey x)) = Number x
-part_for (Some (CodeKey n)) = Code n
-
-part_back : (k : Option KeyValue) → value_of (part_for k) ≡ k
-unfolding part_for
-part_back None = refl
-part_back (Some (NumberKey x)) = refl
-part_back (Some (CodeKey n)) = refl
-
-abbrev pub parts_for : List (Option KeyValue) → List KeyPart
-parts_for q = map part_for q
-
-pub parts_back : (q : List (Option KeyValue)) → key_of (parts_for q) ≡ q
-parts_back [] = refl
-parts_back (k ∷ q) = λ i. part_back k i ∷ parts_back q i
-
 -- ---- look-ups after a row was merged in
 
--- the row of the key has one more merged in, and the others are as they were
-abbrev pub IsMergedAt : List Aggregate → List KeyPart → List (Option ℤ) → List (List KeyPart × List (Option ℤ)) → List (List KeyPart × List (Option ℤ)) → Type 0
-IsMergedAt gs key more es fs = IsMergedInto gs more (found_at es key) (found_at fs key)
-    × ((ps : List KeyPart) → is_eq (parts_cmp key ps) ≡ false → found_at fs ps ≡ found_at es ps)
+module _ (gs : List Aggregate) (key : List (Option KeyValue)) (more : List (Option ℤ)) (es fs : List (List KeyPart × List (Option ℤ))) (at : IsMergedAt gs key more es fs) where
+  pub own_row : (q : List (Option KeyValue)) → q ≡ key → IsMergedInto gs more (row_at es q) (row_at fs q)
+  own_row q e = (
+    at.0,
+    at.2 q ∙ ap (λ b. cond b (Some at.0) (row_at es q)) (ap (λ k. key_eq k key) e ∙ key_equiv.refl key),
+    subst (λ k. IsMerged gs (unwrap_or (row_at es k) []) more at.0) (sym e) at.1,
+  )
 
-module _ (gs : List Aggregate) (key : List KeyPart) (more : List (Option ℤ)) (es fs : List (List KeyPart × List (Option ℤ))) (at : IsMergedAt gs key more es fs) where
-  pub own_row : (q : List (Option KeyValue)) → q ≡ key_of key → IsMergedInto gs more (row_at es q) (row_at fs q)
-  own_row q e = subst (λ k. IsMergedInto gs more (row_at es k) (row_at fs k)) (sym e)
-      (subst (λ r. IsMergedInto gs more r (row_at fs (key_of key))) (found_same es key)
-      (subst (λ r. IsMergedInto gs more (found_at es key) r) (found_same fs key) at.0))
-
-  pub other_row : (q : List (Option KeyValue)) → key_eq (key_of key) q ≡ false → row_at fs q ≡ row_at es q
-  other_row q apart =
-      ap (row_at fs) (sym (parts_back q)) ∙ sym (found_same fs (parts_for q))
-      ∙ at.1 (parts_for q) (parts_same key (parts_for q) ∙ ap (key_eq (key_of key)) (parts_back q) ∙ apart)
-      ∙ found_same es (parts_for q) ∙ ap (row_at es) (parts_back q)
+  pub other_row : (q : List (Option KeyValue)) → key_eq q key ≡ false → row_at fs q ≡ row_at es q
+  other_row q apart = at.2 q ∙ ap (λ b. cond b (Some at.0) (row_at es q)) apart
 
 -- ---- one put more
 
@@ -114,7 +42,7 @@ filter_all (u ∷ us) = ap (λ ws. u ∷ ws) (filter_all us)
 
 module _ (d : Group) (us : List Put) (u : Put) (row : List (Option ℤ)) (one : IsRowOf d.aggregates u.values row) where
   pub more_over : (found new : Option (List (Option ℤ))) → IsRowOver d us found → IsMergedInto d.aggregates row found new → IsRowOver d (u ∷ us) new
-  more_over None new was e = subst (IsRowOver d (u ∷ us)) (sym e) (refl, subst (λ ws. HasAggregates d (u ∷ ws) row) (sym (no_puts us was)) (row_of_one d u row one))
+  more_over None new was m = subst (IsRowOver d (u ∷ us)) (sym m.1) (refl, subst (λ ws. HasAggregates d (u ∷ ws) m.0) (sym (no_puts us was)) (λ place h. m.2 place h ∙ row_of_one d u row one place h))
   more_over (Some held_row) new was m = subst (IsRowOver d (u ∷ us)) (sym m.1) (refl, merged_more d u us held_row row m.0 one was.1 m.2)
 
   -- no SUM and no COUNT leaves 64 bits
@@ -141,7 +69,7 @@ module _ (d : Group) (us : List Put) (u : Put) (key : List KeyPart) (row : List 
   with_other : (q : List (Option KeyValue)) → key_eq q (padded 6 u.keys) ≡ false → puts_with q (u ∷ us) ≡ puts_with q us
   with_other q e = ap (λ b. cond b (u ∷ puts_with q us) (puts_with q us)) e
 
-  pub base_more : length u.keys ≡ d.count → (fs : List (List KeyPart × List (Option ℤ))) (total : List (Option ℤ)) → IsMergedAt d.aggregates key row es fs → IsMerged d.aggregates all row total → IsBase d fs total (u ∷ us)
+  pub base_more : length u.keys ≡ d.count → (fs : List (List KeyPart × List (Option ℤ))) (total : List (Option ℤ)) → IsMergedAt d.aggregates (key_of key) row es fs → IsMerged d.aggregates all row total → IsBase d fs total (u ∷ us)
   base_more fits fs total at is_total = record {
     fit = (fits, base.fit);
     rows = λ q. by q (key_eq q (padded 6 u.keys)) refl;
@@ -150,14 +78,14 @@ module _ (d : Group) (us : List Put) (u : Put) (key : List KeyPart) (row : List 
     where
       by : (q : List (Option KeyValue)) (b : Bool) → key_eq q (padded 6 u.keys) ≡ b → IsRowOver d (puts_with q (u ∷ us)) (row_at fs q)
       by q true e = subst (λ ps. IsRowOver d ps (row_at fs q)) (sym (with_own q e))
-          (more_over d (puts_with q us) u row one (row_at es q) (row_at fs q) (base.rows q) (own_row d.aggregates key row es fs at q ((key_decides q (padded 6 u.keys)).0 e ∙ sym is_key)))
+          (more_over d (puts_with q us) u row one (row_at es q) (row_at fs q) (base.rows q) (own_row d.aggregates (key_of key) row es fs at q ((key_decides q (padded 6 u.keys)).0 e ∙ sym is_key)))
       by q false e = subst (λ ps. IsRowOver d ps (row_at fs q)) (sym (with_other q e))
-          (subst (IsRowOver d (puts_with q us)) (sym (other_row d.aggregates key row es fs at q (ap (λ k. key_eq k q) is_key ∙ key_equiv.symm (padded 6 u.keys) q ∙ e))) (base.rows q))
+          (subst (IsRowOver d (puts_with q us)) (sym (other_row d.aggregates (key_of key) row es fs at q (ap (key_eq q) is_key ∙ e))) (base.rows q))
 
-  pub base_stays : HasRoom d (u ∷ us) → RowsStay d.aggregates (found_at es key) row
+  pub base_stays : HasRoom d (u ∷ us) → RowsStay d.aggregates (row_at es (key_of key)) row
   base_stays room =
       let q : List (Option KeyValue) = padded 6 u.keys in
-      subst (λ r. RowsStay d.aggregates r row) (sym (found_same es key ∙ ap (row_at es) is_key))
+      subst (λ r. RowsStay d.aggregates r row) (sym (ap (row_at es) is_key))
       (rows_stay d (puts_with q us) u row one (u ∷ us) (λ ks. key_eq q (padded 6 ks)) room (with_own q (key_equiv.refl q)) (row_at es q) (base.rows q))
 
 -- no puts

@@ -4,11 +4,11 @@ use Rattle.std.specs.List.{flat_map, AllByRecursion}
 use Rattle.std.proofs.lemmas.Grind.{flat_map-append}
 use Rattle.std.proofs.lemmas.List.{drop-drop, get_or_past, length-append}
 use Rattle.std.proofs.Math.Nat.{add_comm, suc-mul, zero-mul}
-use Rattle.std.proofs.Math.Seq.{drop-append_seam, take-append_seam}
 use Rattle.star_program.specs.declared.key.KeyValue.{KeyValue}
 use Rattle.star_group.specs.declared.group_row.GroupRow.{GroupRow}
 use Rattle.star_group.specs.Private.FlatRows.{AreParts, Fits, rows_of}
 use Rattle.star_group.specs.Shown.{row_at}
+use Rattle.star_group.proofs.CutRows.{dropped, taken}
 
 pub rows_length : (k a n : ℕ) (keys : List (Option KeyValue)) (numbers : List (Option ℤ)) → length (rows_of k a n keys numbers) ≡ n
 unfolding rows_of
@@ -81,12 +81,6 @@ one_gathered k a n keys numbers rows row n' keys' numbers' is_n is_keys is_numbe
   key_parts = is_keys ∙ ap (λ xs. xs ++ row.keys) are.key_parts ∙ parts_more (λ r. r.keys) rows row;
   aggregate_parts = is_numbers ∙ ap (λ xs. xs ++ row.aggregates) are.aggregate_parts ∙ parts_more (λ r. r.aggregates) rows row;
 }
-
-taken : {X : Type 0} (n : ℕ) (xs ys : List X) → length xs ≡ n → take n (xs ++ ys) ≡ xs
-taken n xs ys long = ap (λ m. take m (xs ++ ys)) (sym long) ∙ take-append_seam xs ys
-
-dropped : {X : Type 0} (n : ℕ) (xs ys : List X) → length xs ≡ n → drop n (xs ++ ys) ≡ ys
-dropped n xs ys long = ap (λ m. drop m (xs ++ ys)) (sym long) ∙ drop-append_seam xs ys
 
 rows_again : (k a : ℕ) (rows : List GroupRow) → AllByRecursion (Fits k a) rows → rows_of k a (length rows) (flat_map (λ row. row.keys) rows) (flat_map (λ row. row.aggregates) rows) ≡ rows
 unfolding rows_of

@@ -11,6 +11,7 @@ pub mod GroupKeys
 pub mod Contents
 pub mod Totals
 pub mod Rooms
+pub mod CutRows
 pub mod FlatRows
 pub mod GivenRows
 pub mod GivenGroups
@@ -24,7 +25,9 @@ pub mod ContentMore
 pub mod MergedCells
 pub mod Merging
 pub mod Bases
+pub mod Tries
 pub mod Passes
 pub mod Rolling
+pub mod KeyedRows
 pub mod AllRows
 pub mod Worked

@@ -6,7 +6,7 @@ use Rattle.star_group.specs.Private.Merged.{cell_of, merged_at}
 
 -- the places below i of a row are merged, and the others are as they were
 pub record MergedBelow (gs : List Aggregate) (held more row : List (Option ℤ)) (i : ℕ) : Type 0 where
-  pub wide : length row ≡ 8
+  pub wide : length row ≡ length held
   pub cells : (place : ℕ) → place < i → slice_index_or row place None ≡ merged_at gs held more place
   pub later : (place : ℕ) → i ≤ place → slice_index_or row place None ≡ slice_index_or held place None
 

@@ -135,9 +135,9 @@ over_parts d us ta tb tc found new more parts was adds merges = by found was mer
     there = any_filter tc us ∙ any_parts ta tb tc us parts (sym (any_filter tb us) ∙ adds.0)
 
     by : (found : Option (List (Option ℤ))) → IsRowOver d (filter ta us) found → IsMergedInto d.aggregates more found new → IsRowOver d (filter tc us) new
-    by None was e = subst (IsRowOver d (filter tc us)) (sym e) (
+    by None was m = subst (IsRowOver d (filter tc us)) (sym m.1) (
       there,
-      λ place h. adds.1 place h ∙ sym (held_parts (aggregate_at d place) place ta tb tc us parts
+      λ place h. m.2 place h ∙ adds.1 place h ∙ sym (held_parts (aggregate_at d place) place ta tb tc us parts
           ∙ ap (λ ps. merged (aggregate_at d place) (held (aggregate_at d place) (numbers_for place ps)) (held (aggregate_at d place) (numbers_for place (filter tb us)))) (no_puts (filter ta us) was)
           ∙ ap (λ r. merged (aggregate_at d place) r (held (aggregate_at d place) (numbers_for place (filter tb us)))) (held_none (aggregate_at d place))),
     )

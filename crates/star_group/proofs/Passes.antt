@@ -7,10 +7,10 @@ use Rattle.star_program.specs.declared.key.KeyValue.{KeyValue}
 use Rattle.star_group.specs.declared.deferred.key.KeyPart.{KeyPart}
 use Rattle.star_group.specs.Base.{IsRowOver, key_of, row_at}
 use Rattle.star_group.specs.OwnKeys.{key_eq}
-use Rattle.star_group.specs.Private.Merged.{RowsStay, merged}
+use Rattle.star_group.specs.Private.Merged.{IsMergedAt, RowsStay, merged}
 use Rattle.star_group.specs.Stores.{Put, Group, HasRoom, aggregate_at}
 use Rattle.star_program.specs.Puts.{leaves}
-use Rattle.star_group.proofs.Bases.{IsMergedAt, found_at, found_same, other_row, own_row}
+use Rattle.star_group.proofs.Bases.{other_row, own_row}
 use Rattle.star_group.proofs.GivenGroups.{contained}
 use Rattle.star_group.proofs.GroupKeys.{key_decides, key_equiv}
 use Rattle.star_group.proofs.Merging.{AreSplit, held_parts, over_parts}
@@ -55,7 +55,7 @@ pub and_parts : (a b : Bool) → (a && b) ≡ true → (a ≡ true) × (b ≡ tr
 and_parts true b h = (refl, h)
 and_parts false b h = absurd (true≢false (sym h))
 
-not_true : (b : Bool) → (b ≡ true → ⊥) → b ≡ false
+pub not_true : (b : Bool) → (b ≡ true → ⊥) → b ≡ false
 not_true true h = absurd (h refl)
 not_true false h = refl
 
@@ -125,8 +125,8 @@ module _ (us : List Put) (T : List (Option KeyValue) → List KeyValue → Bool)
 
   module _ (d : Group) (adds : IsRowOver d (filter (λ u. T (key_of e.0) u.keys) us) (Some e.1)) (before : List Row) (key : List KeyPart) (is_key : key_of key ≡ coarser (key_of e.0)) where
     -- no SUM and no COUNT leaves 64 bits
-    pub stays_one : HasRoom d us → AreOver d us (so_far T coarser es j) before → RowsStay d.aggregates (found_at before key) e.1
-    stays_one room rows = subst (λ r. RowsStay d.aggregates r e.1) (sym (found_same before key ∙ ap (row_at before) is_key)) (by (row_at before q) (rows q))
+    pub stays_one : HasRoom d us → AreOver d us (so_far T coarser es j) before → RowsStay d.aggregates (row_at before (key_of key)) e.1
+    stays_one room rows = subst (λ r. RowsStay d.aggregates r e.1) (sym (ap (row_at before) is_key)) (by (row_at before q) (rows q))
       where
         q : List (Option KeyValue)
         q = coarser (key_of e.0)
@@ -145,7 +145,7 @@ module _ (us : List Put) (T : List (Option KeyValue) → List KeyValue → Bool)
             ∙ held_stays d us room (so_far T coarser es (j + 1) q) place h
 
   module _ (d : Group) (adds : IsRowOver d (filter (λ u. T (key_of e.0) u.keys) us) (Some e.1)) (before after : List Row) (key : List KeyPart) (is_key : key_of key ≡ coarser (key_of e.0))
-      (at_key : IsMergedAt d.aggregates key e.1 before after) where
+      (at_key : IsMergedAt d.aggregates (key_of key) e.1 before after) where
     pub merged_one : AreOver d us (so_far T coarser es j) before → AreOver d us (so_far T coarser es (j + 1)) after
     merged_one rows q = by (key_eq q (coarser (key_of e.0))) refl
       where
@@ -155,9 +155,9 @@ module _ (us : List Put) (T : List (Option KeyValue) → List KeyValue → Bool)
             over_parts d us (λ u. so_far T coarser es j q u.keys) (λ u. T (key_of e.0) u.keys) (λ u. so_far T coarser es (j + 1) q u.keys) (row_at before q) (row_at after q) e.1
             (all_members (λ u. (so_far T coarser es (j + 1) q u.keys ≡ (so_far T coarser es j q u.keys || T (key_of e.0) u.keys)) × ((so_far T coarser es j q u.keys && T (key_of e.0) u.keys) ≡ false)) us
             (λ u c. (one_more q u.keys ∙ ap (λ b. so_far T coarser es j q u.keys || (b && T (key_of e.0) u.keys)) same, ap (λ k. so_far T coarser es j k u.keys && T (key_of e.0) u.keys) is ∙ not_yet u c)))
-            (rows q) adds (own_row d.aggregates key e.1 before after at_key q (is ∙ sym is_key))
+            (rows q) adds (own_row d.aggregates (key_of key) e.1 before after at_key q (is ∙ sym is_key))
         by false other = subst (IsRowOver d (filter (λ u. so_far T coarser es (j + 1) q u.keys) us))
-            (sym (other_row d.aggregates key e.1 before after at_key q (ap (λ k. key_eq k q) is_key ∙ key_equiv.symm (coarser (key_of e.0)) q ∙ other)))
+            (sym (other_row d.aggregates (key_of key) e.1 before after at_key q (ap (key_eq q) is_key ∙ other)))
             (subst (λ ps. IsRowOver d ps (row_at before q))
             (filter_same (λ u. so_far T coarser es j q u.keys) (λ u. so_far T coarser es (j + 1) q u.keys) us
             (all_members (λ u. so_far T coarser es j q u.keys ≡ so_far T coarser es (j + 1) q u.keys) us

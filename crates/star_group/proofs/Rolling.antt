@@ -1,59 +1,28 @@
 -- The rows of a cube with one more place that may be ALL.
 use Rattle.std.proofs.Common.{◌≡◌, ℕ, zero, suc, ◌+◌, ◌-◌, ◌<◌, ◌≤◌, Bool, true, false, ◌&&◌, ◌||◌, ℤ, List, [], ◌∷◌, ◌++◌, Option, Some, None, length, get_or, set, slice_get, map, take, drop, ap, sym, ◌∙◌, subst, refl, true≢false, arith, cond}
-use Rattle.std.specs.List.{filter, list_any, Contains, AllByRecursion, IsDistinct}
-use Rattle.std.specs.Map.{keys_of}
+use Rattle.std.specs.List.{filter, list_any, Contains, AllByRecursion}
 use Rattle.std.specs.Option.{option_map}
-use Rattle.std.specs.Ordering.{eq_by_cmp}
-use Rattle.std.specs.List.Sorted.{IsStrictlySortedBy}
 use Rattle.std.proofs.lemmas.List.Folds.{list_any-append}
 use Rattle.std.proofs.lemmas.Map.Entries.{place_from_lookup}
-use Rattle.std.proofs.lemmas.Map.Keys.{IsDistinct-from_sorted}
-use Rattle.std.proofs.lemmas.Option.{slice_get-map}
 use Rattle.star_program.specs.declared.key.KeyValue.{KeyValue}
 use Rattle.star_group.specs.declared.deferred.key.KeyPart.{KeyPart}
 use Rattle.star_group.specs.Base.{IsRowOver, key_of, row_at}
 use Rattle.star_group.specs.Held.{has_puts}
 use Rattle.star_group.specs.OwnKeys.{key_eq, padded, vary}
-use Rattle.star_group.specs.Private.Coarser.{AreOnce, shown_entries, IsRolledUp, IsRolledUpWithRoom, RollsUp, keys_from}
-use Rattle.star_group.specs.Private.Merged.{RowsStay}
+use Rattle.star_group.specs.Private.Coarser.{IsRolledUp, IsRolledUpWithRoom, RollsUp, keys_from}
+use Rattle.star_group.specs.Private.Merged.{IsMergedAt, RowsStay}
 use Rattle.star_group.specs.Private.BasePut.{group_with}
 use Rattle.star_schema.specs.declared.group.Aggregate.{Aggregate}
 use Rattle.star_schema.specs.declared.group.Shape.{Shape}
 use Rattle.std.proofs.Math.Logic.{∥∥₁_elim, ∥∥₁_map}
 use Rattle.std.proofs.Math.Bool.{Bool-set}
 use Rattle.star_group.specs.Stores.{Put, Group}
-use Rattle.star_group.proofs.Bases.{IsMergedAt, found_at, parts_cmp, parts_same}
-use Rattle.star_group.proofs.GivenGroups.{all_at, distinct_at, mapped, place_of}
+use Rattle.star_group.proofs.GivenGroups.{all_at, mapped, place_of}
 use Rattle.star_group.proofs.GroupKeys.{key_decides, key_equiv}
 use Rattle.star_group.proofs.Merging.{any_filter}
-use Rattle.star_group.proofs.OwnGroups.{all_mapped, all_more, any_mapped}
+use Rattle.star_group.proofs.OwnGroups.{any_mapped}
 use Rattle.star_group.proofs.OwnKeyLemmas.{length-padded, one_more, set_there, vary-more}
 use Rattle.star_group.proofs.Passes.{IsOnceAt, AreApart, AreOver, and_parts, all_members, any_there, filter_same, merged_one, none_yet, so_far, some_at, stays_one}
-
--- ---- keys in order are there once
-
-distinct_keys : (ps : List (List KeyPart)) → IsDistinct (eq_by_cmp parts_cmp) ps → IsDistinct key_eq (map key_of ps)
-unfolding IsDistinct
-distinct_keys [] h = tt
-distinct_keys (p ∷ ps) h = (
-  all_mapped key_of (λ k. key_eq (key_of p) k ≡ false) ps (all_more (λ r. eq_by_cmp parts_cmp p r ≡ false) (λ r. key_eq (key_of p) (key_of r) ≡ false) (λ r e. sym (parts_same p r) ∙ e) ps h.0),
-  distinct_keys ps h.1,
-)
-
-keys_shown : (es : List (List KeyPart × List (Option ℤ))) → map key_of (keys_of es) ≡ keys_of (shown_entries es)
-keys_shown [] = refl
-keys_shown (e ∷ es) = ap (λ ks. key_of e.0 ∷ ks) (keys_shown es)
-
-pub once_sorted : (es : List (List KeyPart × List (Option ℤ))) → IsStrictlySortedBy parts_cmp (keys_of es) → AreOnce es
-once_sorted es h = subst (IsDistinct key_eq) (keys_shown es) (distinct_keys (keys_of es) (IsDistinct-from_sorted parts_cmp (keys_of es) h))
-
-key_at_place : (es : List (List KeyPart × List (Option ℤ))) (i : ℕ) (e : List KeyPart × List (Option ℤ)) → slice_get es i ≡ Some e → slice_get (keys_of (shown_entries es)) i ≡ Some (key_of e.0)
-key_at_place es i e at =
-    ap (λ ks. slice_get ks i) (sym (keys_shown es)) ∙ slice_get-map key_of (keys_of es) i ∙ ap (option_map key_of) (slice_get-map (λ (p : List KeyPart × List (Option ℤ)). p.0) es i ∙ ap (option_map (λ (p : List KeyPart × List (Option ℤ)). p.0)) at)
-
-pub once_at : (es : List (List KeyPart × List (Option ℤ))) → AreOnce es → IsOnceAt es
-once_at es distinct i j e f at_i at_j same =
-    distinct_at (keys_of (shown_entries es)) i j (key_of e.0) (key_at_place es i e at_i) (key_at_place es j f at_j ∙ ap Some (sym same)) distinct
 
 -- an entry is found by its key
 pub row_there : (es : List (List KeyPart × List (Option ℤ))) → IsOnceAt es → (j : ℕ) (e : List KeyPart × List (Option ℤ)) → slice_get es j ≡ Some e → row_at es (key_of e.0) ≡ Some e.1
@@ -222,10 +191,7 @@ stay_prop : (gs : List Aggregate) (found : Option (List (Option ℤ))) (more : L
 stay_prop gs None more = hlevel
 stay_prop gs (Some held) more = hlevel Bool-set
 
-module _ (gs : List Aggregate) (place : ℕ) (es : List (List KeyPart × List (Option ℤ))) (distinct : AreOnce es) where
-  once : IsOnceAt es
-  once = once_at es distinct
-
+module _ (gs : List Aggregate) (place : ℕ) (es : List (List KeyPart × List (Option ℤ))) (once : IsOnceAt es) where
   pub none_merged : (rows : List (List KeyPart × List (Option ℤ))) → es ≡ rows → IsMergedSoFar gs place es 0 rows
   none_merged rows same shape count puts below few rolled =
       none_yet (λ q ks. list_any (key_eq q) (keys_from (place + 1) count ks)) (hide place) es (group_with shape count gs) puts rows (subst (λ xs. AreOver (group_with shape count gs) puts (λ q ks. list_any (key_eq q) (keys_from (place + 1) count ks)) xs) same rolled.rows)
@@ -236,17 +202,17 @@ module _ (gs : List Aggregate) (place : ℕ) (es : List (List KeyPart × List (O
       all_merged (group_with shape count gs) puts place (omega (arith, below)) few es here after (over shape count puts below few here)
 
   module _ (j : ℕ) (e : List KeyPart × List (Option ℤ)) (at : slice_get es j ≡ Some e) (before : List (List KeyPart × List (Option ℤ))) (key : List KeyPart) (is_key : key_of key ≡ set (key_of e.0) place None) (over : IsMergedSoFar gs place es j before) where
-    pub turn_stays : ∥ IsRolledUpWithRoom gs (place + 1) es ∥₁ → RowsStay gs (found_at before key) e.1
-    turn_stays room = ∥∥₁_elim room (stay_prop gs (found_at before key) e.1) by
+    pub turn_stays : ∥ IsRolledUpWithRoom gs (place + 1) es ∥₁ → RowsStay gs (row_at before (key_of key)) e.1
+    turn_stays room = ∥∥₁_elim room (stay_prop gs (row_at before (key_of key)) e.1) by
       where
-        by : IsRolledUpWithRoom gs (place + 1) es → RowsStay gs (found_at before key) e.1
+        by : IsRolledUpWithRoom gs (place + 1) es → RowsStay gs (row_at before (key_of key)) e.1
         by r =
             let d = group_with r.shape r.count gs in
             let within : place < r.count = omega (arith, r.below) in
             stays_one r.puts (λ q ks. list_any (key_eq q) (keys_from (place + 1) r.count ks)) (hide place) es (keys_apart r.puts place r.count within r.few r.rows.fit) once j e at d
             (row_over d r.puts place within r.few es r.rows once j e at) before key is_key r.room (over r.shape r.count r.puts r.below r.few r.rows)
 
-    pub turn_merges : (after : List (List KeyPart × List (Option ℤ))) → IsMergedAt gs key e.1 before after → IsMergedSoFar gs place es (j + 1) after
+    pub turn_merges : (after : List (List KeyPart × List (Option ℤ))) → IsMergedAt gs (key_of key) e.1 before after → IsMergedSoFar gs place es (j + 1) after
     turn_merges after merges shape count puts below few rolled =
         let d = group_with shape count gs in
         let within : place < count = omega (arith, below) in

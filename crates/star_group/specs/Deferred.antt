@@ -2,6 +2,7 @@
 use Rattle.std.specs.Prelude.{List}
 use Rattle.star_group.specs.declared.deferred.DeferredStore.{DeferredStore}
 use Rattle.star_group.specs.Base.{IsBase}
+use Rattle.star_group.specs.Entries.{entries_of}
 use Rattle.star_group.specs.Stores.{Put, Group}
 
 abbrev pub group_of : DeferredStore → Group
@@ -9,4 +10,4 @@ group_of s = record { shape = s.shape; count = s.count; aggregates = s.aggregate
 
 -- the store has the content of these puts
 abbrev pub Has : DeferredStore → List Put → Type 0
-Has s puts = IsBase (group_of s) s.rows.entries s.total puts
+Has s puts = IsBase (group_of s) (entries_of s.rows) s.total puts

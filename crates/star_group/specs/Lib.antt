@@ -6,6 +6,8 @@ pub mod OwnKeys
 pub mod Held
 pub mod Eager
 pub mod Base
+pub mod Keyed
+pub mod Entries
 pub mod Deferred
 pub mod Shown
 pub mod Private

@@ -3,5 +3,6 @@ pub mod Rows
 pub mod Given
 pub mod FlatRows
 pub mod Merged
+pub mod Tries
 pub mod BasePut
 pub mod Coarser

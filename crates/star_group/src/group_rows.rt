@@ -35,7 +35,7 @@ impl Model for GroupRows {
 }
 
 // The parts of the row of a number, of so many rows with so many parts each.
-fn parts_at<T: Copy>(parts: &[T], width: usize, count: usize, number: usize) -> &[T]
+pub(crate) fn parts_at<T: Copy>(parts: &[T], width: usize, count: usize, number: usize) -> &[T]
     requires { length parts.now ≡ count * width }
     ensures { result.now
         ≡ (if nat_lt number count then take width (drop (number * width) parts.now) else []) }

@@ -21,6 +21,10 @@ pub seven : AddUp (pos 7 ∷ [])
 unfolding above_zero below_zero
 seven = record { above = omega arith; below = omega arith }
 
+pub eight_more : AddUp (pos 8 ∷ pos 7 ∷ [])
+unfolding above_zero below_zero
+eight_more = record { above = omega arith; below = omega arith }
+
 pub big : AddUp (pos 9000000000000000000 ∷ [])
 unfolding above_zero below_zero
 big = record { above = omega arith; below = omega arith }

@@ -89,3 +89,23 @@ fn big_puts_in_both_orders_add_up_to_0(rt: HostRuntime) -> Result<(), Fail> {
     assert_eq!(rt; total_of::<DeferredStore>(rt.alloc(), -BIG, BIG)?, Some(0));
     Ok(())
 }
+
+// Whether two puts of the same keys make one row, of both.
+fn is_added_up<S: GroupStore>(alloc: Global) -> Result<bool, AllocError> {
+    let mut plain = sums::<S>(alloc, Shape::Plain, 1)?;
+    plain.put(&[ONE], &[7])?;
+    plain.put(&[ONE], &[8])?;
+    let rows = plain.into_rows()?;
+    Ok(
+        rows.len() == 1
+            && rows.keys(0) == [Some(ONE)].as_slice()
+            && rows.aggregates(0) == [Some(15)].as_slice(),
+    )
+}
+
+#[test]
+fn repeated_put_changes_its_row(rt: HostRuntime) -> Result<(), Fail> {
+    assert!(rt; is_added_up::<EagerStore>(rt.alloc())?);
+    assert!(rt; is_added_up::<DeferredStore>(rt.alloc())?);
+    Ok(())
+}

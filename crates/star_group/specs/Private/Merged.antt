@@ -1,9 +1,14 @@
 -- Rows of different puts merged into one.
-use Rattle.std.specs.Prelude.{◌≡◌, ℕ, ◌<◌, false, ℤ, pos, ◌+ℤ◌, List, Option, Some, None, length, slice_index_or}
+use Rattle.std.specs.Prelude.{◌≡◌, ℕ, ◌<◌, false, ℤ, pos, ◌+ℤ◌, List, [], Option, Some, None, length, slice_index_or, if◌then◌else◌}
 use Rattle.std.specs.Int.{int_min, int_max}
+use Rattle.std.specs.Option.{unwrap_or}
 use Rattle.star_schema.specs.declared.group.Aggregate.{Aggregate}
 use Rattle.star_schema.specs.declared.group.Aggregate.TheVariants.{Sum, Count, Min, Max}
 use Rattle.star_program.specs.Puts.{leaves}
+use Rattle.star_program.specs.declared.key.KeyValue.{KeyValue}
+use Rattle.star_group.specs.declared.deferred.key.KeyPart.{KeyPart}
+use Rattle.star_group.specs.Base.{row_at}
+use Rattle.star_group.specs.OwnKeys.{key_eq}
 
 -- an aggregate over some puts and over some others, as one over all of them: sums and counts are added
 abbrev pub both : Aggregate → ℤ → ℤ → ℤ
@@ -35,8 +40,15 @@ RowsStay gs (Some held) more = MergeStays gs held more
 
 -- what is found after a row was merged into what was found before
 abbrev pub IsMergedInto : List Aggregate → List (Option ℤ) → Option (List (Option ℤ)) → Option (List (Option ℤ)) → Type 0
-IsMergedInto gs more None found = found ≡ Some more
-IsMergedInto gs more (Some held) found = (row : List (Option ℤ)) × (found ≡ Some row) × IsMerged gs held more row
+IsMergedInto gs more held found = (row : List (Option ℤ)) × (found ≡ Some row) × IsMerged gs (unwrap_or held []) more row
+
+-- the row with this key is this one, and the others are as they were
+abbrev pub IsWithRow : List (Option KeyValue) → List (Option ℤ) → List (List KeyPart × List (Option ℤ)) → List (List KeyPart × List (Option ℤ)) → Type 0
+IsWithRow key row entries entries' = (q : List (Option KeyValue)) → row_at entries' q ≡ (if key_eq q key then Some row else row_at entries q)
+
+-- the row with this key has one more merged in, and the others are as they were
+abbrev pub IsMergedAt : List Aggregate → List (Option KeyValue) → List (Option ℤ) → List (List KeyPart × List (Option ℤ)) → List (List KeyPart × List (Option ℤ)) → Type 0
+IsMergedAt gs key more entries entries' = (row : List (Option ℤ)) × IsMerged gs (unwrap_or (row_at entries key) []) more row × IsWithRow key row entries entries'
 
 -- what one put adds to an aggregate
 abbrev pub cell_of : Aggregate → ℤ → ℤ

@@ -1,19 +1,20 @@
 // The rows of all keys and the total, with one put more.
 
 ghost use Rattle.std.specs.Prelude.{◌≡◌, ◌≤◌, length, OnOk, OnErr};
+ghost use Rattle.star_group.specs.Entries.{entries_of};
 ghost use Rattle.star_group.specs.Private.BasePut.{HasRoomFor, TakesPut};
 
-use super::key::{OrderedKey, base_key};
-use super::merge::{merge_into, merge_row, row_of};
+use super::key::base_key;
+use super::keyed::KeyedRows;
+use super::merge::{merge_into, row_of};
 use crate::KeyValue;
 use crate::cell::Row;
 use star_schema::Aggregate;
 use std::alloc::AllocError;
-use std::collections::BTreeMap;
 
 // One more put of the row of its keys and of the total; or nothing changes.
 pub(crate) fn add_put(
-    rows: &mut BTreeMap<OrderedKey, Row>,
+    rows: &mut KeyedRows,
     total: &mut Row,
     aggregates: &[Aggregate],
     keys: &[KeyValue],
@@ -22,16 +23,20 @@ pub(crate) fn add_put(
     requires few_keys { length keys.now ≤ 6 }
     requires few { length aggregates.now ≤ 8 }
     requires values { length values.now ≡ length aggregates.now }
-    requires room { HasRoomFor aggregates.now rows.old.entries total.old
+    requires wide { length keys.now ≤ rows.old.trie.width }
+    requires many { length aggregates.now ≡ rows.old.many }
+    requires room { HasRoomFor aggregates.now (entries_of rows.old) total.old
         (record { keys = keys.now; values = values.now }) }
     ensures ok { OnOk result (TakesPut aggregates.now
         (record { keys = keys.now; values = values.now })
-        rows.old.entries total.old rows.new.entries total.new) }
-    ensures rows { OnErr result (rows.new.entries ≡ rows.old.entries) }
+        (entries_of rows.old) total.old (entries_of rows.new) total.new) }
+    ensures rows { OnErr result (entries_of rows.new ≡ entries_of rows.old) }
     ensures total { OnErr result (total.new ≡ total.old) }
+    ensures width { rows.new.trie.width ≡ rows.old.trie.width }
+    ensures many { rows.new.many ≡ rows.old.many }
 {
     let row = row_of(aggregates, values);
-    merge_row(rows, base_key(keys), aggregates, &row)?;
+    rows.merge(&base_key(keys), aggregates, &row)?;
     merge_into(aggregates, total, &row);
     Ok(())
 }

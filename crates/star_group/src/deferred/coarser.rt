@@ -2,50 +2,37 @@
 
 ghost use Rattle.std.specs.Prelude.{◌≡◌, ◌≤◌, ◌<◌, ◌+◌, List, length, IfOk, OnOk};
 ghost use Rattle.star_group.specs.Base.{HasBaseWithRoom, IsBase, row_at};
+ghost use Rattle.star_group.specs.Entries.{entries_of};
 ghost use Rattle.star_group.specs.Held.{Holds};
 ghost use Rattle.star_group.specs.Private.BasePut.{group_with};
-ghost use Rattle.star_group.specs.Private.Coarser.{AreOnce, IsRolledUpWithRoom, RollsUp, first_hidden};
+ghost use Rattle.star_group.specs.Private.Coarser.{IsRolledUpWithRoom, RollsUp, first_hidden};
 ghost use Rattle.star_group.specs.Stores.{Put};
 
-use super::key::{ALL_HIDDEN, OrderedKey, hidden};
-use super::merge::merge_row;
+use super::key::{ALL_HIDDEN, hidden};
+use super::keyed::KeyedRows;
 use crate::cell::Row;
 use star_schema::{Aggregate, Shape};
 use std::alloc::{AllocError, Global};
-use std::collections::BTreeMap;
-
-// The rows with their keys, in the order of the keys.
-fn entries_of(
-    alloc: Global,
-    rows: &BTreeMap<OrderedKey, Row>,
-) -> Result<Vec<(OrderedKey, Row)>, AllocError>
-    ensures entries { IfOk result (λ entries. entries.items ≡ rows.now.entries) }
-    ensures once { IfOk result (λ entries. AreOnce entries.items) }
-{
-    let mut entries = Vec::with_capacity(alloc, rows.len())?;
-    for (key, row) in rows.iter() {
-        entries.push((*key, *row))?;
-    }
-    Ok(entries)
-}
 
 // For each row one more with ALL at this place, made of all rows that differ only there.
 fn add_hidden(
     alloc: Global,
-    rows: &mut BTreeMap<OrderedKey, Row>,
+    rows: &mut KeyedRows,
     place: usize,
     aggregates: &[Aggregate],
 ) -> Result<(), AllocError>
-    requires place { place < 6 }
-    requires few { length aggregates.now ≤ 8 }
-    requires room { ∥ IsRolledUpWithRoom aggregates.now (place + 1) rows.old.entries ∥₁ }
-    ensures { OnOk result
-        (RollsUp aggregates.now (place + 1) rows.old.entries place rows.new.entries) }
+    requires place { place < rows.old.trie.width }
+    requires many { length aggregates.now ≡ rows.old.many }
+    requires room { ∥ IsRolledUpWithRoom aggregates.now (place + 1) (entries_of rows.old) ∥₁ }
+    ensures rows { OnOk result
+        (RollsUp aggregates.now (place + 1) (entries_of rows.old) place (entries_of rows.new)) }
+    ensures width { rows.new.trie.width ≡ rows.old.trie.width }
+    ensures many { rows.new.many ≡ rows.old.many }
 {
-    let finer = entries_of(alloc, rows)?;
+    let finer = rows.copied(alloc)?;
     for index in 0..finer.len() {
-        let (key, row) = &finer[index];
-        merge_row(rows, hidden(key, place), aggregates, row)?;
+        let key = hidden(&finer.key(index), place);
+        rows.merge(&key, aggregates, finer.row(index))?;
     }
     Ok(())
 }
@@ -53,14 +40,17 @@ fn add_hidden(
 // The rows of each subset of the first keys, from those of all keys.
 pub(crate) fn add_coarser(
     alloc: Global,
-    rows: &mut BTreeMap<OrderedKey, Row>,
+    rows: &mut KeyedRows,
     count: usize,
     aggregates: &[Aggregate],
 ) -> Result<(), AllocError>
-    requires count { count ≤ 6 }
-    requires few { length aggregates.now ≤ 8 }
-    requires room { ∥ IsRolledUpWithRoom aggregates.now count rows.old.entries ∥₁ }
-    ensures { OnOk result (RollsUp aggregates.now count rows.old.entries 0 rows.new.entries) }
+    requires count { count ≤ rows.old.trie.width }
+    requires many { length aggregates.now ≡ rows.old.many }
+    requires room { ∥ IsRolledUpWithRoom aggregates.now count (entries_of rows.old) ∥₁ }
+    ensures rows { OnOk result
+        (RollsUp aggregates.now count (entries_of rows.old) 0 (entries_of rows.new)) }
+    ensures width { rows.new.trie.width ≡ rows.old.trie.width }
+    ensures many { rows.new.many ≡ rows.old.many }
 {
     let mut place = count;
     while place > 0 {
@@ -73,16 +63,18 @@ pub(crate) fn add_coarser(
 // The rows of the groups, from those of all keys.
 fn roll_up(
     alloc: Global,
-    rows: &mut BTreeMap<OrderedKey, Row>,
+    rows: &mut KeyedRows,
     shape: Shape,
     count: usize,
     aggregates: &[Aggregate],
 ) -> Result<(), AllocError>
-    requires count { count ≤ 6 }
-    requires few { length aggregates.now ≤ 8 }
-    requires room { ∥ IsRolledUpWithRoom aggregates.now count rows.old.entries ∥₁ }
-    ensures { OnOk result (RollsUp aggregates.now count rows.old.entries
-        (first_hidden shape count) rows.new.entries) }
+    requires count { count ≤ rows.old.trie.width }
+    requires many { length aggregates.now ≡ rows.old.many }
+    requires room { ∥ IsRolledUpWithRoom aggregates.now count (entries_of rows.old) ∥₁ }
+    ensures rows { OnOk result (RollsUp aggregates.now count (entries_of rows.old)
+        (first_hidden shape count) (entries_of rows.new)) }
+    ensures width { rows.new.trie.width ≡ rows.old.trie.width }
+    ensures many { rows.new.many ≡ rows.old.many }
 {
     match shape {
         Shape::Cube => add_coarser(alloc, rows, count, aggregates),
@@ -93,22 +85,23 @@ fn roll_up(
 // The rows of the groups, and the total in any case.
 pub(crate) fn all_rows(
     alloc: Global,
-    base: BTreeMap<OrderedKey, Row>,
+    base: KeyedRows,
     total: Row,
     shape: Shape,
     count: usize,
     aggregates: &[Aggregate],
-) -> Result<BTreeMap<OrderedKey, Row>, AllocError>
-    requires count { count ≤ 6 }
+) -> Result<KeyedRows, AllocError>
+    requires count { count ≤ base.trie.width }
     requires few { length aggregates.now ≤ 8 }
-    requires room { HasBaseWithRoom (group_with shape count aggregates.now) base.entries total }
-    ensures once { IfOk result (λ rows. AreOnce rows.entries) }
+    requires many { length aggregates.now ≡ base.many }
+    requires room { HasBaseWithRoom (group_with shape count aggregates.now) (entries_of base) total }
+    ensures many { IfOk result (λ rows. rows.many ≡ base.many) }
     ensures rows { IfOk result (λ rows. (puts : List Put)
-        → IsBase (group_with shape count aggregates.now) base.entries total puts
-        → Holds (group_with shape count aggregates.now) (row_at rows.entries) puts) }
+        → IsBase (group_with shape count aggregates.now) (entries_of base) total puts
+        → Holds (group_with shape count aggregates.now) (row_at (entries_of rows)) puts) }
 {
     let mut rows = base;
     roll_up(alloc, &mut rows, shape, count, aggregates)?;
-    rows.insert(ALL_HIDDEN, total)?;
+    rows.insert(&ALL_HIDDEN, &total[..aggregates.len()])?;
     Ok(rows)
 }

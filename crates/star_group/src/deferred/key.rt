@@ -1,14 +1,15 @@
-// The keys of a deferred store's rows, which have an order.
+// The keys of a deferred store's rows.
 
 ghost use Rattle.std.specs.Prelude.{◌≡◌, ◌≤◌, ◌<◌, Some, None, List, length, map, slice_set};
 ghost use Rattle.star_group.specs.OwnKeys.{padded};
 ghost use Rattle.star_group.specs.Base.{key_of, value_of};
+ghost use Rattle.star_group.specs.Keyed.{filled};
 
 use crate::KeyValue;
 use crate::own::{ALL, Key};
 
 // One place of a row's key.
-#[derive(Clone, Copy, PartialEq, Eq, PartialOrd, Ord)]
+#[derive(Clone, Copy, PartialEq, Eq)]
 pub(crate) enum KeyPart {
     All,
     Number(i64),
@@ -39,6 +40,16 @@ fn value_in(part: KeyPart) -> Option<KeyValue>
     }
 }
 
+// A key in six places.
+pub(crate) fn in_six_places(key: &[KeyPart]) -> OrderedKey
+    requires { length key.now ≤ 6 }
+    ensures { result ≡ filled key.now }
+{
+    let mut parts = ALL_HIDDEN;
+    parts[..key.len()].copy_from_slice(key);
+    parts
+}
+
 // The key of the row that a put with these keys changes.
 pub(crate) fn base_key(keys: &[KeyValue]) -> OrderedKey
     requires { length keys.now ≤ 6 }
@@ -54,7 +65,8 @@ pub(crate) fn base_key(keys: &[KeyValue]) -> OrderedKey
 // The key with ALL at this place.
 pub(crate) fn hidden(parts: &OrderedKey, place: usize) -> OrderedKey
     requires { place < 6 }
-    ensures { key_of result ≡ slice_set (key_of parts.now) place None }
+    ensures key { key_of result ≡ slice_set (key_of parts.now) place None }
+    ensures parts { result ≡ slice_set parts.now place KeyPart.All }
 {
     let mut coarser = *parts;
     coarser[place] = KeyPart::All;

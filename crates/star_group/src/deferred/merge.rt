@@ -1,18 +1,14 @@
 // Rows of different puts merged into one.
 
-ghost use Rattle.std.specs.Prelude.{◌≡◌, ◌≤◌, ◌<◌, ℕ, false, length, Some, OnOk, OnErr, slice_index_or};
-ghost use Rattle.std.specs.Ordering.{is_eq};
-ghost use Rattle.std.specs.BTreeMap.{get};
+ghost use Rattle.std.specs.Prelude.{◌≡◌, ◌≤◌, ◌<◌, false, length, Some, slice_index_or};
 ghost use Rattle.star_schema.specs.declared.group.Aggregate.TheVariants.{Count};
 ghost use Rattle.star_program.specs.Puts.{leaves};
 ghost use Rattle.star_group.specs.Private.Merged as spec;
-ghost use Rattle.star_group.specs.Private.Merged.{IsMerged, IsMergedInto, IsRowOf, MergeStays, RowsStay, merged_at};
+ghost use Rattle.star_group.specs.Private.Merged.{IsMerged, IsRowOf, MergeStays, merged_at};
 
 use crate::cell::Row;
 use crate::rows::BLANK;
 use star_schema::Aggregate;
-use std::alloc::AllocError;
-use std::collections::BTreeMap;
 
 // An aggregate over some puts and over some others, as one over all of them.
 #[tactic(auto, unfolding(star_interval::specs::Range::is_i64))]
@@ -32,9 +28,15 @@ fn merged(aggregate: Aggregate, held: Option<i64>, more: Option<i64>) -> Option<
 }
 
 // One place of two rows merged.
-fn merged_cell(aggregates: &[Aggregate], held: &Row, more: &Row, place: usize) -> Option<i64>
+fn merged_cell(
+    aggregates: &[Aggregate],
+    held: &[Option<i64>],
+    more: &[Option<i64>],
+    place: usize,
+) -> Option<i64>
     requires place { place < length aggregates.now }
-    requires few { length aggregates.now ≤ 8 }
+    requires held { length aggregates.now ≤ length held.now }
+    requires more { length aggregates.now ≤ length more.now }
     requires stays { leaves (slice_index_or aggregates.now place Count)
         (merged_at aggregates.now held.now more.now place) ≡ false }
     ensures { result ≡ merged_at aggregates.now held.now more.now place }
@@ -43,37 +45,16 @@ fn merged_cell(aggregates: &[Aggregate], held: &Row, more: &Row, place: usize) -
 }
 
 // A row merged into another.
-pub(crate) fn merge_into(aggregates: &[Aggregate], held: &mut Row, more: &Row)
-    requires few { length aggregates.now ≤ 8 }
+pub(crate) fn merge_into(aggregates: &[Aggregate], held: &mut [Option<i64>], more: &[Option<i64>])
+    requires held { length aggregates.now ≤ length held.old }
+    requires more { length aggregates.now ≤ length more.now }
     requires stays { MergeStays aggregates.now held.old more.now }
-    ensures { IsMerged aggregates.now held.old more.now held.new }
+    ensures row { IsMerged aggregates.now held.old more.now held.new }
+    ensures len { length held.new ≡ length held.old }
 {
     for place in 0..aggregates.len() {
         held[place] = merged_cell(aggregates, held, more, place);
     }
-}
-
-// One more row for this key, merged into the row that is there.
-pub(crate) fn merge_row<K: Ord + Copy + Drop>(
-    rows: &mut BTreeMap<K, Row>,
-    key: K,
-    aggregates: &[Aggregate],
-    more: &Row,
-) -> Result<(), AllocError>
-    requires few { length aggregates.now ≤ 8 }
-    requires stays { RowsStay aggregates.now (get K.cmp rows.old key) more.now }
-    ensures own { OnOk result (IsMergedInto aggregates.now more.now
-        (get K.cmp rows.old key) (get K.cmp rows.new key)) }
-    ensures others { OnOk result ((q : K) → is_eq (K.cmp key q) ≡ false
-        → get K.cmp rows.new q ≡ get K.cmp rows.old q) }
-    ensures refused { OnErr result (rows.new.entries ≡ rows.old.entries) }
-{
-    if let Some(held) = rows.get_mut(&key) {
-        merge_into(aggregates, held, more);
-        return Ok(());
-    }
-    rows.insert(key, *more)?;
-    Ok(())
 }
 
 // What one put adds to an aggregate.

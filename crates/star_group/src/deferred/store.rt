@@ -7,13 +7,14 @@ use super::DeferredStore;
 use super::base::add_put;
 use super::coarser::all_rows;
 use super::given::rows_given;
+use super::keyed::KeyedRows;
 use crate::cell::shown;
 use crate::rows::BLANK;
 use crate::store::GroupStore;
 use crate::{GroupRows, KeyValue};
 use star_program::GroupDecl;
+use star_schema::Aggregate;
 use std::alloc::{AllocError, Global};
-use std::collections::BTreeMap;
 
 impl GroupStore for DeferredStore {
     ghost group = { group_of };
@@ -21,18 +22,20 @@ impl GroupStore for DeferredStore {
     ghost has = { Has };
 
     fn new(alloc: Global, declared: &GroupDecl) -> Result<DeferredStore, AllocError> {
-        let aggregates = declared
+        let aggregates: Vec<Aggregate> = declared
             .aggregates
             .as_slice()
             .iter()
             .copied()
             .collect(alloc)?;
+        let count = declared.keys.as_slice().len();
+        let rows = KeyedRows::new(alloc, count, aggregates.len())?;
         Ok(DeferredStore {
             alloc,
             shape: declared.shape,
-            count: declared.keys.as_slice().len(),
+            count,
             aggregates,
-            rows: BTreeMap::new(alloc),
+            rows,
             total: BLANK,
         })
     }

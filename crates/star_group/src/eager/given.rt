@@ -11,6 +11,7 @@ ghost use Rattle.star_program.specs.declared.key.KeyValue.{KeyValue as Value};
 use crate::cell::{Row, shown};
 use crate::group_rows::Gathered;
 use crate::own::{ALL, Key};
+use crate::rows::BLANK;
 use crate::{GroupRow, GroupRows, RowAggregates, RowKeys};
 use indexmap::IndexMap;
 use star_schema::{Aggregate, Shape};
@@ -27,29 +28,36 @@ pub(crate) fn is_given(shape: Shape, count: usize, key: &Key) -> bool
 }
 
 // What is shown of one place of a row.
-fn shown_at(aggregates: &[Aggregate], row: &Row, place: usize) -> Option<i64>
+fn shown_at(aggregates: &[Aggregate], row: &[Option<i64>], place: usize) -> Option<i64>
     requires place { place < length aggregates.now }
-    requires few { length aggregates.now ≤ 8 }
+    requires wide { length aggregates.now ≤ length row.now }
     ensures { result ≡ spec.shown (slice_index_or aggregates.now place Aggregate.Count) (slice_index_or row.now place None) }
 {
     shown(aggregates[place], row[place])
 }
 
 // What is shown of a row.
-fn shown_row(aggregates: &[Aggregate], row: &Row) -> Row
-    requires { length aggregates.now ≤ 8 }
+fn shown_row(aggregates: &[Aggregate], row: &[Option<i64>]) -> Row
+    requires few { length aggregates.now ≤ 8 }
+    requires wide { length aggregates.now ≤ length row.now }
     ensures { ShownBelow aggregates.now row.now result (length aggregates.now) }
 {
-    let mut changed = *row;
+    let mut changed = BLANK;
     for place in 0..aggregates.len() {
         changed[place] = shown_at(aggregates, row, place);
     }
     changed
 }
 
-pub(crate) fn row_given(count: usize, aggregates: &[Aggregate], key: &Key, row: &Row) -> GroupRow
+pub(crate) fn row_given(
+    count: usize,
+    aggregates: &[Aggregate],
+    key: &Key,
+    row: &[Option<i64>],
+) -> GroupRow
     requires few_keys { count ≤ 6 }
     requires few { length aggregates.now ≤ 8 }
+    requires wide { length aggregates.now ≤ length row.now }
     ensures given { result ≡ spec.row_given count aggregates.now (key.now, row.now) }
     ensures fits { Fits count (length aggregates.now) result }
 {

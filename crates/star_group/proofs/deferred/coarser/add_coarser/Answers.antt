@@ -1,11 +1,12 @@
 use Rattle.std.proofs.Common.{◌≡◌, ◌+◌, ◌-◌, arith, rules}
+use Rattle.star_group.specs.Entries.{entries_of}
 use Rattle.star_group.proofs.Rolling.{room_there}
 use Rattle.star_group.proofs.deferred.coarser.add_coarser.Goals as goal
 
 pub add_hidden-requires-clause-room : goal.add_hidden-requires-clause-room
 add_hidden-requires-clause-room c =
     let back : c.loop-place.place - 1 + 1 ≡ c.loop-place.place = omega (arith, c.loop-place-test.true) in
-    rw back (room_there c.args.aggregates.now c.args.count c.loop-place.place c.args.rows.now.entries c.loop-place.rows.entries c.loop-place.invariant.below c.loop-place.invariant.rolls c.requires.room)
+    rw back (room_there c.args.aggregates.now c.args.count c.loop-place.place (entries_of c.args.rows.now) (entries_of c.loop-place.rows) c.loop-place.invariant.below c.loop-place.invariant.rolls c.requires.room)
 
-pub returns : goal.returns
-returns c = search rules
+pub returns-clause-rows : goal.returns-clause-rows
+returns-clause-rows c = search rules

@@ -3,5 +3,5 @@ use Rattle.star_group.specs.Base.{value_of}
 use Rattle.star_group.specs.declared.deferred.key.KeyPart.TheVariants.{All}
 use Rattle.star_group.proofs.deferred.key.hidden.Goals as goal
 
-pub returns : goal.returns
-returns c = map-set value_of c.args.parts.now c.args.place All
+pub returns-clause-key : goal.returns-clause-key
+returns-clause-key c = map-set value_of c.args.parts.now c.args.place All

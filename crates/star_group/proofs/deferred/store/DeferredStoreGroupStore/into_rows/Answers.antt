@@ -1,3 +1,5 @@
+use Rattle.star_group.proofs.KeyedRows.{rows_once}
+use Rattle.star_group.specs.Entries.{entries_of}
 use Rattle.std.proofs.Common.{◌∙◌, subst, sym}
 use Rattle.star_group.specs.Base.{HasBaseWithRoom, IsBase, row_at}
 use Rattle.star_group.specs.Deferred.{group_of}
@@ -13,17 +15,17 @@ use Rattle.star_group.proofs.deferred.store.DeferredStoreGroupStore.into_rows.Go
 pub all_rows-requires-clause-room : goal.all_rows-requires-clause-room
 all_rows-requires-clause-room c =
     let s = c.args.self in
-    subst (λ gs. HasBaseWithRoom (group_with s.shape s.count gs) s.rows.entries s.total) (sym c.as_slice-aggregates.ensures.value) s.room
+    subst (λ gs. HasBaseWithRoom (group_with s.shape s.count gs) (entries_of s.rows) s.total) (sym c.as_slice-aggregates.ensures.value) s.room
 
 pub returns : goal.returns
 returns c =
     let s = c.args.self in
     let gs = c.as_slice-aggregates.result.now in
     let same = c.as_slice-aggregates.ensures.value in
-    let all = c.in_ok-rows.rows.entries in
+    let all = entries_of c.in_ok-rows.rows in
     if_ok _ _ c.rows_given.result
     (λ rows is puts has. subst (λ xs. AreRows (group_of s) puts xs) (sym (is ∙ (λ i. rows_given s.shape s.count (same i) (shown_entries all))))
-    (are_rows (group_of s) puts all s.few_keys c.in_ok-rows.ensures.once
+    (are_rows (group_of s) puts all s.few_keys (rows_once c.in_ok-rows.rows)
     (subst (λ hs. Holds (group_with s.shape s.count hs) (row_at all) puts) same
-    (c.in_ok-rows.ensures.rows puts (subst (λ hs. IsBase (group_with s.shape s.count hs) s.rows.entries s.total puts) (sym same) has)))))
+    (c.in_ok-rows.ensures.rows puts (subst (λ hs. IsBase (group_with s.shape s.count hs) (entries_of s.rows) s.total puts) (sym same) has)))))
     c.rows_given.ensures

@@ -1,0 +1,110 @@
+-- Flat lists cut into rows.
+use Rattle.std.proofs.Common.{◌≡◌, ℕ, zero, suc, ◌+◌, ◌*◌, ◌<◌, ◌≤◌, Bool, true, false, List, [], ◌∷◌, ◌++◌, cond, length, get_or, nat_lt, set, take, drop, ap, sym, ◌∙◌, refl, arith, rules}
+use borrow.Rule.Slice.PartMut.{put_mid}
+use Rattle.std.proofs.lemmas.List.{append_assoc, drop-append-le, drop-drop, get_or_past, length-append, length-drop, length-take-le, take-append-drop, take-append-le, take_all}
+use Rattle.std.proofs.lemmas.Slice.{drop-put_mid, take-put_mid}
+use Rattle.std.proofs.Math.Nat.{add_comm, mul-le-mul_right, suc-mul, zero-mul}
+use Rattle.std.proofs.Math.Seq.{drop-append_seam, take-append_seam}
+use Rattle.star_group.specs.Keyed.{cut}
+
+pub taken : {X : Type 0} (n : ℕ) (xs ys : List X) → length xs ≡ n → take n (xs ++ ys) ≡ xs
+taken n xs ys long = ap (λ m. take m (xs ++ ys)) (sym long) ∙ take-append_seam xs ys
+
+pub dropped : {X : Type 0} (n : ℕ) (xs ys : List X) → length xs ≡ n → drop n (xs ++ ys) ≡ ys
+dropped n xs ys long = ap (λ m. drop m (xs ++ ys)) (sym long) ∙ drop-append_seam xs ys
+
+module _ {T : Type 0} (w : ℕ) where
+  pub length-cut : (n : ℕ) (ps : List T) → length (cut w n ps) ≡ n
+  unfolding cut
+  length-cut zero ps = refl
+  length-cut (suc n) ps = ap suc (length-cut n (drop w ps))
+
+  pub cut_at : (n : ℕ) (ps : List T) (i : ℕ) → i < n → get_or (cut w n ps) i [] ≡ take w (drop (i * w) ps)
+  unfolding cut
+  cut_at zero ps i h = absurd (omega (arith, h))
+  cut_at (suc n) ps zero h = ap (λ m. take w (drop m ps)) (sym (zero-mul w))
+  cut_at (suc n) ps (suc i) h =
+      cut_at n (drop w ps) i (omega (arith, h)) ∙ ap (take w) (drop-drop (i * w) w ps ∙ ap (λ m. drop m ps) (add_comm w (i * w) ∙ sym (suc-mul i w)))
+
+  pub cut_read : (n : ℕ) (ps : List T) (i : ℕ) → cond (nat_lt i n) (take w (drop (i * w) ps)) [] ≡ get_or (cut w n ps) i []
+  cut_read n ps i = by (nat_lt i n) refl
+    where
+      by : (b : Bool) → nat_lt i n ≡ b → cond b (take w (drop (i * w) ps)) [] ≡ get_or (cut w n ps) i []
+      by true e = let within : i < n = search rules in sym (cut_at n ps i within)
+      by false e = let past : i < n → ⊥ = search rules in sym (get_or_past (cut w n ps) i [] (omega (arith, past, length-cut n ps)))
+
+  enough : (n : ℕ) (ps : List T) → length ps ≡ suc n * w → w ≤ length ps
+  enough n ps long = omega (arith, long, suc-mul n w)
+
+  fewer : (n : ℕ) (ps : List T) → length ps ≡ suc n * w → length (drop w ps) ≡ n * w
+  fewer n ps long = omega (arith, length-drop w ps, long, suc-mul n w)
+
+  pub cut_wide : (n : ℕ) (ps : List T) (i : ℕ) → length ps ≡ n * w → i < n → length (get_or (cut w n ps) i []) ≡ w
+  unfolding cut
+  cut_wide zero ps i long h = absurd (omega (arith, h))
+  cut_wide (suc n) ps zero long h = length-take-le w ps (enough n ps long)
+  cut_wide (suc n) ps (suc i) long h = cut_wide n (drop w ps) i (fewer n ps long) (omega (arith, h))
+
+  pub cut_more : (n : ℕ) (ps row : List T) → length ps ≡ n * w → length row ≡ w → cut w (suc n) (ps ++ row) ≡ cut w n ps ++ row ∷ []
+  unfolding cut
+  cut_more zero [] row long wide = ap (λ r. r ∷ []) (take_all w row (omega (arith, wide)))
+  cut_more zero (p ∷ ps) row long wide = absurd (omega (arith, long, zero-mul w))
+  cut_more (suc n) ps row long wide = λ i. take-append-le w ps row (enough n ps long) i
+      ∷ (ap (cut w (suc n)) (drop-append-le w ps row (enough n ps long)) ∙ cut_more n (drop w ps) row (fewer n ps long) wide) i
+
+  -- a row in place of another
+  pub cut_set : (n : ℕ) (before old row after : List T) (i : ℕ) → i < n → length before ≡ i * w → length old ≡ w → length row ≡ w
+      → cut w n (before ++ (row ++ after)) ≡ set (cut w n (before ++ (old ++ after))) i row
+  unfolding cut
+  cut_set zero before old row after i h first was is = absurd (omega (arith, h))
+  cut_set (suc n) [] old row after zero h first was is = λ i. taken w row after is i ∷ cut w n ((dropped w row after is ∙ sym (dropped w old after was)) i)
+  cut_set (suc n) (b ∷ before) old row after zero h first was is = absurd (omega (arith, first, zero-mul w))
+  cut_set (suc n) before old row after (suc i) h first was is =
+      let some = enough i before first in
+      let rest = cut_set n (drop w before) old row after i (omega (arith, h)) (fewer i before first) was is in
+      λ k. (take-append-le w before (row ++ after) some ∙ sym (take-append-le w before (old ++ after) some)) k
+      ∷ (ap (cut w n) (drop-append-le w before (row ++ after) some) ∙ rest ∙ ap (λ ps. set (cut w n ps) i row) (sym (drop-append-le w before (old ++ after) some))) k
+
+  pub cut_one : (n : ℕ) (ps qs row : List T) → length ps ≡ n * w → length row ≡ w → qs ≡ ps ++ row → cut w (n + 1) qs ≡ cut w n ps ++ row ∷ []
+  cut_one n ps qs row long wide is = (λ i. cut w ((let one : n + 1 ≡ suc n = omega arith in one) i) (is i)) ∙ cut_more n ps row long wide
+
+  pub more_long : (n : ℕ) (ps qs row : List T) → length ps ≡ n * w → length row ≡ w → qs ≡ ps ++ row → length qs ≡ (n + 1) * w
+  more_long n ps qs row long wide is =
+      let one : n + 1 ≡ suc n = omega arith in
+      omega (arith, ap length is, length-append ps row, long, wide, ap (λ m. m * w) one, suc-mul n w)
+
+  module _ (n i : ℕ) (ps : List T) (h : i < n) (long : length ps ≡ n * w) where
+    room : i * w + w ≤ length ps
+    room = let most : suc i * w ≤ n * w = mul-le-mul_right w (let le : suc i ≤ n = omega (arith, h) in le) in omega (arith, most, suc-mul i w, long)
+
+    pub mid_at : (k : ℕ) → k ≡ w → take k (drop (i * w) ps) ≡ get_or (cut w n ps) i []
+    mid_at k e = ap (λ m. take m (drop (i * w) ps)) e ∙ sym (cut_at n ps i h)
+
+    old : List T
+    old = take w (drop (i * w) ps)
+
+    after : List T
+    after = drop (i * w + w) ps
+
+    pieces : ps ≡ take (i * w) ps ++ (old ++ after)
+    unfolding old after
+    pieces = sym (take-append-drop (i * w) ps) ∙ ap (λ r. take (i * w) ps ++ r) (sym (take-append-drop w (drop (i * w) ps)) ∙ ap (λ r. take w (drop (i * w) ps) ++ r) (drop-drop w (i * w) ps))
+
+    old_wide : length old ≡ w
+    unfolding old
+    old_wide = length-take-le w (drop (i * w) ps) (omega (arith, length-drop (i * w) ps, room))
+
+    put_pieces : (k : ℕ) (row : List T) → k ≡ w → length row ≡ w → put_mid (i * w) k ps row ≡ take (i * w) ps ++ (row ++ after)
+    unfolding after
+    put_pieces k row e is =
+        let few : i * w ≤ length ps = omega (arith, room) in
+        let all = put_mid (i * w) k ps row in
+        sym (take-append-drop (i * w + w) all)
+        ∙ (λ j. take-put_mid (i * w) k ps row (i * w + w) (ap (λ m. i * w + m) (sym is)) few j ++ drop-put_mid (i * w) k ps row (i * w + w) (omega (arith, e)) few (is ∙ sym e) j)
+        ∙ append_assoc (take (i * w) ps) row (drop (i * w + w) ps)
+
+    pub cut_put : (k : ℕ) (row : List T) → k ≡ w → length row ≡ w → cut w n (put_mid (i * w) k ps row) ≡ set (cut w n ps) i row
+    cut_put k row e is =
+        ap (cut w n) (put_pieces k row e is)
+        ∙ cut_set n (take (i * w) ps) old row after i h (length-take-le (i * w) ps (omega (arith, room))) old_wide is
+        ∙ ap (λ qs. set (cut w n qs) i row) (sym pieces)

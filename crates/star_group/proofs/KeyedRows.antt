@@ -1,0 +1,284 @@
+-- Rows in flat storage with their keys: what stands at a number, one row more, and one changed.
+use Rattle.std.proofs.Common.{◌≡◌, ℕ, zero, suc, ◌<◌, ◌≤◌, Bool, true, false, ℤ, List, [], ◌∷◌, ◌++◌, Option, Some, None, Result, Ok, Err, OnOk, cond, length, get_or, get_or-set_same, set, slice_get, take, drop, ap, sym, ◌∙◌, subst, refl, arith}
+use Rattle.std.specs.List.{AllByRecursion, IsDistinct}
+use Rattle.std.specs.Map.{keys_of}
+use Rattle.std.proofs.lemmas.List.{get_or-take, length-set, length-take-le, take-append-drop}
+use Rattle.std.proofs.lemmas.Map.Entries.{place_from_lookup}
+use Rattle.std.proofs.lemmas.Option.{slice_get-get_or, slice_get_within}
+use Rattle.star_program.specs.declared.key.KeyValue.{KeyValue}
+use Rattle.star_group.specs.declared.deferred.key.KeyPart.{KeyPart}
+use Rattle.star_group.specs.declared.deferred.key.KeyPart.TheVariants.{All, Number, Code}
+use Rattle.star_group.specs.declared.deferred.keyed.KeyedRows.{KeyedRows}
+use Rattle.star_group.specs.Base.{key_of, row_at, value_of}
+use Rattle.star_group.specs.Entries.{entries_of}
+use Rattle.star_group.specs.Keyed.{all_hidden, cut, filled, keyed}
+use Rattle.star_group.specs.OwnKeys.{key_eq, padded}
+use Rattle.star_group.specs.Private.Coarser.{AreOnce, shown_entries}
+use Rattle.star_group.specs.Private.Merged.{IsMerged, IsMergedAt, IsWithRow}
+use Rattle.star_schema.specs.declared.group.Aggregate.{Aggregate}
+use Rattle.std.specs.Option.{unwrap_or}
+use Rattle.std.specs.Vec.{with_items}
+use Rattle.star_group.specs.Private.Tries.{IsHeld, IsMissing}
+use Rattle.star_group.proofs.CutRows.{cut_wide, dropped, length-cut, taken}
+use Rattle.star_group.proofs.GroupKeys.{key_decides}
+use Rattle.star_group.proofs.Passes.{IsOnceAt, not_true}
+use Rattle.star_group.proofs.Rolling.{row_there}
+
+-- ---- keys beside rows
+
+pub length-keyed : (ks : List (List KeyPart)) (cs : List (List (Option ℤ))) → length ks ≡ length cs → length (keyed ks cs) ≡ length ks
+unfolding keyed
+length-keyed [] cs e = refl
+length-keyed (k ∷ ks) [] e = absurd (omega (arith, e))
+length-keyed (k ∷ ks) (c ∷ cs) e = ap suc (length-keyed ks cs (omega (arith, e)))
+
+pub keyed_at : (ks : List (List KeyPart)) (cs : List (List (Option ℤ))) (i : ℕ) → length ks ≡ length cs → i < length ks → get_or (keyed ks cs) i ([], []) ≡ (filled (get_or ks i []), get_or cs i [])
+unfolding keyed
+keyed_at [] cs i e h = absurd (omega (arith, h))
+keyed_at (k ∷ ks) [] i e h = absurd (omega (arith, e))
+keyed_at (k ∷ ks) (c ∷ cs) zero e h = refl
+keyed_at (k ∷ ks) (c ∷ cs) (suc i) e h = keyed_at ks cs i (omega (arith, e)) (omega (arith, h))
+
+keyed_more : (ks : List (List KeyPart)) (cs : List (List (Option ℤ))) (k : List KeyPart) (c : List (Option ℤ)) → length ks ≡ length cs → keyed (ks ++ k ∷ []) (cs ++ c ∷ []) ≡ keyed ks cs ++ (filled k, c) ∷ []
+unfolding keyed
+keyed_more [] [] k c e = refl
+keyed_more [] (x ∷ cs) k c e = absurd (omega (arith, e))
+keyed_more (j ∷ ks) [] k c e = absurd (omega (arith, e))
+keyed_more (j ∷ ks) (x ∷ cs) k c e = ap (λ es. (filled j, x) ∷ es) (keyed_more ks cs k c (omega (arith, e)))
+
+none_keyed : (w m : ℕ) (ps : List KeyPart) (ns : List (Option ℤ)) → keyed (cut w 0 ps) (cut m 0 ns) ≡ []
+unfolding cut keyed
+none_keyed w m ps ns = refl
+
+pub no_entries : (w m n : ℕ) (ps : List KeyPart) (ns : List (Option ℤ)) → n ≡ 0 → keyed (cut w n ps) (cut m n ns) ≡ []
+no_entries w m n ps ns e = ap (λ k. keyed (cut w k ps) (cut m k ns)) e ∙ none_keyed w m ps ns
+
+-- a row of another key is as it was
+others_set : (ks : List (List KeyPart)) (cs : List (List (Option ℤ))) (n : ℕ) (row : List (Option ℤ)) (q : List (Option KeyValue)) → key_eq q (key_of (filled (get_or ks n []))) ≡ false → row_at (keyed ks (set cs n row)) q ≡ row_at (keyed ks cs) q
+unfolding keyed
+others_set [] cs n row q apart = refl
+others_set (k ∷ ks) [] n row q apart = refl
+others_set (k ∷ ks) (c ∷ cs) zero row q apart = ap (λ b. cond b (Some row) (row_at (keyed ks cs) q)) apart ∙ sym (ap (λ b. cond b (Some c) (row_at (keyed ks cs) q)) apart)
+others_set (k ∷ ks) (c ∷ cs) (suc n) row q apart = ap (cond (key_eq q (key_of (filled k))) (Some c)) (others_set ks cs n row q apart)
+
+-- one row more
+row_more : (es : List (List KeyPart × List (Option ℤ))) (k : List KeyPart) (c : List (Option ℤ)) (q : List (Option KeyValue)) → (key_eq q (key_of k) ≡ true → row_at es q ≡ None)
+    → row_at (es ++ (k, c) ∷ []) q ≡ cond (key_eq q (key_of k)) (Some c) (row_at es q)
+row_more [] k c q new = refl
+row_more (e ∷ es) k c q new = by (key_eq q (key_of e.0)) (key_eq q (key_of k)) new (row_more es k c q)
+  where
+    by : (a b : Bool) → (b ≡ true → cond a (Some e.1) (row_at es q) ≡ None) → ((b ≡ true → row_at es q ≡ None) → row_at (es ++ (k, c) ∷ []) q ≡ cond b (Some c) (row_at es q))
+        → cond a (Some e.1) (row_at (es ++ (k, c) ∷ []) q) ≡ cond b (Some c) (cond a (Some e.1) (row_at es q))
+    by true true never later = absurd (let no : Some e.1 ≡ None = never refl in cc no)
+    by true false never later = refl
+    by false b never later = later never
+
+-- ---- keys in six places
+
+value_once : (p r : KeyPart) → value_of p ≡ value_of r → p ≡ r
+value_once All All e = refl
+value_once All (Number y) e = absurd (let no : ⊥ = cc e in no)
+value_once All (Code n) e = absurd (let no : ⊥ = cc e in no)
+value_once (Number x) All e = absurd (let no : ⊥ = cc e in no)
+value_once (Number x) (Number y) e = cc e
+value_once (Number x) (Code n) e = absurd (let no : ⊥ = cc e in no)
+value_once (Code m) All e = absurd (let no : ⊥ = cc e in no)
+value_once (Code m) (Number y) e = absurd (let no : ⊥ = cc e in no)
+value_once (Code m) (Code n) e = cc e
+
+key_once : (ps rs : List KeyPart) → key_of ps ≡ key_of rs → ps ≡ rs
+key_once [] [] e = refl
+key_once [] (r ∷ rs) e = absurd (let no : ⊥ = cc e in no)
+key_once (p ∷ ps) [] e = absurd (let no : ⊥ = cc e in no)
+key_once (p ∷ ps) (r ∷ rs) e =
+    let first : value_of p ≡ value_of r = cc e in
+    let rest : key_of ps ≡ key_of rs = cc e in
+    λ i. value_once p r first i ∷ key_once ps rs rest i
+
+-- a key in six places is its first parts, where past them there is ALL
+pub narrow_filled : (w : ℕ) (key : List KeyPart) → w ≤ length key → drop w key ≡ drop w all_hidden → filled (take w key) ≡ key
+narrow_filled w key few narrow = ap (λ n. take w key ++ drop n all_hidden) (length-take-le w key few) ∙ ap (λ ps. take w key ++ ps) (sym narrow) ∙ take-append-drop w key
+
+pub filled_narrow : (w : ℕ) (key : List KeyPart) → length key ≡ w → drop w (filled key) ≡ drop w all_hidden
+filled_narrow w key long = dropped w key (drop (length key) all_hidden) long ∙ ap (λ n. drop n all_hidden) long
+
+-- ---- rows of which each key is there once
+
+module _ (w : ℕ) (ks : List (List KeyPart)) (cs : List (List (Option ℤ))) (same : length ks ≡ length cs) (wide : (i : ℕ) → i < length ks → length (get_or ks i []) ≡ w)
+    (once : (i j : ℕ) → i < length ks → j < length ks → get_or ks i [] ≡ get_or ks j [] → i ≡ j) where
+  own_parts : (i : ℕ) → i < length ks → take w (filled (get_or ks i [])) ≡ get_or ks i []
+  own_parts i h = taken w (get_or ks i []) (drop (length (get_or ks i [])) all_hidden) (wide i h)
+
+  entry_is : (i : ℕ) (e : List KeyPart × List (Option ℤ)) → slice_get (keyed ks cs) i ≡ Some e → (i < length ks) × (e ≡ (filled (get_or ks i []), get_or cs i []))
+  entry_is i e at =
+      let among = slice_get_within (keyed ks cs) i e at in
+      let within : i < length ks = omega (arith, among, length-keyed ks cs same) in
+      let some = slice_get-get_or (keyed ks cs) i ([], []) among in
+      let is : e ≡ get_or (keyed ks cs) i ([], []) = cc (some, at) in
+      (within, is ∙ keyed_at ks cs i same within)
+
+  pub once_keyed : IsOnceAt (keyed ks cs)
+  once_keyed i j e f at_i at_j equal =
+      let a = entry_is i e at_i in
+      let b = entry_is j f at_j in
+      let parts : filled (get_or ks i []) ≡ filled (get_or ks j []) = ap (λ (x : List KeyPart × List (Option ℤ)). x.0) (sym a.1) ∙ key_once e.0 f.0 equal ∙ ap (λ (x : List KeyPart × List (Option ℤ)). x.0) b.1 in
+      once i j a.0 b.0 (sym (own_parts i a.0) ∙ ap (take w) parts ∙ own_parts j b.0)
+
+  pub held_row : (n : ℕ) → n < length ks → row_at (keyed ks cs) (key_of (filled (get_or ks n []))) ≡ Some (get_or cs n [])
+  held_row n h =
+      let among : n < length (keyed ks cs) = omega (arith, h, length-keyed ks cs same) in
+      row_there (keyed ks cs) once_keyed n (filled (get_or ks n []), get_or cs n []) (slice_get-get_or (keyed ks cs) n ([], []) among ∙ ap Some (keyed_at ks cs n same h))
+
+  pub no_row : (key : List KeyPart) → ((n : ℕ) → n < length ks → get_or ks n [] ≡ take w key → ⊥) → row_at (keyed ks cs) (key_of key) ≡ None
+  no_row key none = by (row_at (keyed ks cs) (key_of key)) refl
+    where
+      by : (found : Option (List (Option ℤ))) → row_at (keyed ks cs) (key_of key) ≡ found → found ≡ None
+      by None e = refl
+      by (Some row) e =
+          let f = place_from_lookup (λ parts. key_eq (key_of key) (key_of parts)) (keyed ks cs) row e in
+          let a = entry_is f.0 (f.1, row) f.2 in
+          let parts : key ≡ filled (get_or ks f.0 []) = key_once key f.1 ((key_decides (key_of key) (key_of f.1)).0 f.3) ∙ ap (λ (x : List KeyPart × List (Option ℤ)). x.0) a.1 in
+          absurd (none f.0 a.0 (sym (own_parts f.0 a.0) ∙ ap (take w) (sym parts)))
+
+module _ (w : ℕ) (ks : List (List KeyPart)) (cs : List (List (Option ℤ))) (same : length ks ≡ length cs) (wide : (i : ℕ) → i < length ks → length (get_or ks i []) ≡ w)
+    (once : (i j : ℕ) → i < length ks → j < length ks → get_or ks i [] ≡ get_or ks j [] → i ≡ j) where
+  set_found : (n : ℕ) (row : List (Option ℤ)) → n < length ks → row_at (keyed ks (set cs n row)) (key_of (filled (get_or ks n []))) ≡ Some row
+  set_found n row h =
+      held_row w ks (set cs n row) (same ∙ sym (length-set cs n row)) wide once n h ∙ ap Some (get_or-set_same cs n row [] (omega (arith, h, same)))
+
+  -- the row of a number in place of the one that is there
+  pub with_set : (n : ℕ) (key : List KeyPart) (row : List (Option ℤ)) → n < length ks → filled (get_or ks n []) ≡ key → IsWithRow (key_of key) row (keyed ks cs) (keyed ks (set cs n row))
+  with_set n key row h is q = by (key_eq q (key_of key)) refl
+    where
+      by : (b : Bool) → key_eq q (key_of key) ≡ b → row_at (keyed ks (set cs n row)) q ≡ cond b (Some row) (row_at (keyed ks cs) q)
+      by false e = others_set ks cs n row q (ap (λ k. key_eq q (key_of k)) is ∙ e)
+      by true e = ap (row_at (keyed ks (set cs n row))) ((key_decides q (key_of key)).0 e ∙ ap key_of (sym is)) ∙ set_found n row h
+
+  -- one row more
+  pub with_one : (key : List KeyPart) (row : List (Option ℤ)) → filled (take w key) ≡ key → ((n : ℕ) → n < length ks → get_or ks n [] ≡ take w key → ⊥)
+      → IsWithRow (key_of key) row (keyed ks cs) (keyed (ks ++ take w key ∷ []) (cs ++ row ∷ []))
+  with_one key row whole none q =
+      ap (λ es. row_at es q) (keyed_more ks cs (take w key) row same ∙ ap (λ k. keyed ks cs ++ (k, row) ∷ []) whole)
+      ∙ row_more (keyed ks cs) key row q (λ e. ap (row_at (keyed ks cs)) ((key_decides q (key_of key)).0 e) ∙ no_row w ks cs same wide once key none)
+
+-- ---- entries as they are shown
+
+pub shown_at : (es : List (List KeyPart × List (Option ℤ))) (n : ℕ) (e : List (Option KeyValue) × List (Option ℤ)) → n < length es → slice_get (shown_entries es) n ≡ Some e → e ≡ (key_of (get_or es n ([], [])).0, (get_or es n ([], [])).1)
+shown_at [] n e h at = absurd (omega (arith, h))
+shown_at (x ∷ es) zero e h at = sym (cc at)
+shown_at (x ∷ es) (suc n) e h at = shown_at es n e (omega (arith, h)) at
+
+pub shown_count : (es : List (List KeyPart × List (Option ℤ))) → length (shown_entries es) ≡ length es
+shown_count [] = refl
+shown_count (e ∷ es) = ap suc (shown_count es)
+
+-- ---- each key is there once
+
+all_apart : (k : List (Option KeyValue)) (es : List (List KeyPart × List (Option ℤ))) → ((i : ℕ) (f : List KeyPart × List (Option ℤ)) → slice_get es i ≡ Some f → key_eq k (key_of f.0) ≡ false) → AllByRecursion (λ m. key_eq k m ≡ false) (keys_of (shown_entries es))
+all_apart k [] each = tt
+all_apart k (e ∷ es) each = (each 0 e refl, all_apart k es (λ i f at. each (suc i) f at))
+
+distinct_once : (es : List (List KeyPart × List (Option ℤ))) → IsOnceAt es → AreOnce es
+unfolding IsDistinct
+distinct_once [] once = tt
+distinct_once (e ∷ es) once = (
+  all_apart (key_of e.0) es (λ i f at. not_true (key_eq (key_of e.0) (key_of f.0)) (λ h. omega (arith, once 0 (suc i) e f refl at ((key_decides (key_of e.0) (key_of f.0)).0 h)))),
+  distinct_once es (λ i j a b at_i at_j same. omega (arith, once (suc i) (suc j) a b at_i at_j same)),
+)
+
+-- ---- the rows of a store
+
+module _ (rows : KeyedRows) where
+  abbrev ks : List (List KeyPart)
+  ks = cut rows.trie.width rows.trie.len rows.trie.keys.items
+
+  abbrev cs : List (List (Option ℤ))
+  cs = cut rows.many rows.trie.len rows.cells.items
+
+  key_count : length ks ≡ rows.trie.len
+  key_count = length-cut rows.trie.width rows.trie.len rows.trie.keys.items
+
+  same : length ks ≡ length cs
+  same = key_count ∙ sym (length-cut rows.many rows.trie.len rows.cells.items)
+
+  wide : (i : ℕ) → i < length ks → length (get_or ks i []) ≡ rows.trie.width
+  wide i h = cut_wide rows.trie.width rows.trie.len rows.trie.keys.items i rows.trie.long (omega (arith, h, key_count))
+
+  pub once_rows : IsOnceAt (entries_of rows)
+  once_rows = once_keyed rows.trie.width ks cs same wide rows.trie.trie.once
+
+  pub rows_once : AreOnce (entries_of rows)
+  rows_once = distinct_once (entries_of rows) once_rows
+
+  pub row_count : length (entries_of rows) ≡ rows.trie.len
+  row_count = length-keyed ks cs same ∙ key_count
+
+  pub entry_at : (number : ℕ) → number < length (entries_of rows) → get_or (entries_of rows) number ([], []) ≡ (filled (get_or ks number []), get_or cs number [])
+  entry_at number h = keyed_at ks cs number same (omega (arith, h, row_count, key_count))
+
+  pub key_wide : (number : ℕ) → number < length (entries_of rows) → length (get_or ks number []) ≡ rows.trie.width
+  key_wide number h = wide number (omega (arith, h, row_count, key_count))
+
+  pub cells_wide : (number : ℕ) → number < length (entries_of rows) → length (get_or cs number []) ≡ rows.many
+  cells_wide number h = cut_wide rows.many rows.trie.len rows.cells.items number rows.long (omega (arith, h, row_count))
+
+  module _ (key : List KeyPart) (long : length key ≡ 6) (narrow : drop rows.trie.width key ≡ drop rows.trie.width all_hidden) where
+    whole : filled (take rows.trie.width key) ≡ key
+    whole = narrow_filled rows.trie.width key (omega (arith, rows.trie.few, long)) narrow
+
+    module _ (number : ℕ) (held : IsHeld ks (take rows.trie.width key) number) where
+      is : filled (get_or ks number []) ≡ key
+      is = ap filled held.is ∙ whole
+
+      pub number_within : number < rows.trie.len
+      number_within = omega (arith, held.within, key_count)
+
+      pub row_held : row_at (entries_of rows) (key_of key) ≡ Some (get_or cs number [])
+      row_held = ap (λ k. row_at (entries_of rows) (key_of k)) (sym is) ∙ held_row rows.trie.width ks cs same wide rows.trie.trie.once number held.within
+
+      pub set_held : (row : List (Option ℤ)) (ns : List (Option ℤ)) → cut rows.many rows.trie.len ns ≡ set cs number row → length ns ≡ rows.cells.len
+          → IsWithRow (key_of key) row (entries_of rows) (keyed ks (cut rows.many rows.trie.len (with_items rows.cells ns).items))
+      set_held row ns e many = subst (λ xs. IsWithRow (key_of key) row (entries_of rows) (keyed ks xs)) (sym (ap (cut rows.many rows.trie.len) (taken rows.cells.len ns (drop (length ns) rows.cells.items) many) ∙ e)) (with_set rows.trie.width ks cs same wide rows.trie.trie.once number key row held.within is)
+
+    module _ (node digit : ℕ) (slot : IsMissing rows.trie.width ks rows.trie.links.items (take rows.trie.width key) node digit) where
+      pub row_missing : row_at (entries_of rows) (key_of key) ≡ None
+      row_missing = no_row rows.trie.width ks cs same wide rows.trie.trie.once key slot.none
+
+      pub push_missing : (row : List (Option ℤ)) (js : List (List KeyPart)) (ds : List (List (Option ℤ))) → js ≡ ks ++ take rows.trie.width key ∷ [] → ds ≡ cs ++ row ∷ [] → IsWithRow (key_of key) row (entries_of rows) (keyed js ds)
+      push_missing row js ds keys cells = subst (λ xs. IsWithRow (key_of key) row (entries_of rows) (keyed xs ds)) (sym keys)
+          (subst (λ xs. IsWithRow (key_of key) row (entries_of rows) (keyed (ks ++ take rows.trie.width key ∷ []) xs)) (sym cells)
+          (with_one rows.trie.width ks cs same wide rows.trie.trie.once key row whole slot.none))
+
+      -- what is merged in is all that there is
+      pub merged_missing : {T E : Type 0} (r : Result T E) (gs : List Aggregate) (more : List (Option ℤ)) (fs : List (List KeyPart × List (Option ℤ))) → length gs ≡ rows.many
+          → OnOk r (IsWithRow (key_of key) (take rows.many more) (entries_of rows) fs) → OnOk r (IsMergedAt gs (key_of key) more (entries_of rows) fs)
+      merged_missing (Err x) gs more fs count with_row = tt
+      merged_missing (Ok x) gs more fs count with_row = (
+        take rows.many more,
+        subst (λ found. IsMerged gs (unwrap_or found []) more (take rows.many more)) (sym row_missing) (λ place h. get_or-take rows.many more place None (omega (arith, h, count))),
+        with_row,
+      )
+
+-- ---- keys past whose parts there is ALL
+
+all_of : ℕ → List KeyPart
+all_of zero = []
+all_of (suc n) = All ∷ all_of n
+
+narrow_of : (n w : ℕ) (ps : List KeyPart) (ks : List KeyValue) → key_of ps ≡ padded n ks → length ks ≤ w → drop w ps ≡ drop w (all_of n)
+unfolding padded all_of
+narrow_of zero w [] ks e h = refl
+narrow_of zero w (p ∷ ps) ks e h = absurd (let no : ⊥ = cc e in no)
+narrow_of (suc n) w [] [] e h = absurd (let no : ⊥ = cc e in no)
+narrow_of (suc n) w [] (k ∷ ks) e h = absurd (let no : ⊥ = cc e in no)
+narrow_of (suc n) zero (p ∷ ps) [] e h =
+    let first : value_of p ≡ value_of All = cc e in
+    let rest : key_of ps ≡ padded n [] = cc e in
+    λ i. value_once p All first i ∷ narrow_of n zero ps [] rest h i
+narrow_of (suc n) (suc w) (p ∷ ps) [] e h = let rest : key_of ps ≡ padded n [] = cc e in narrow_of n w ps [] rest (omega arith)
+narrow_of (suc n) zero (p ∷ ps) (k ∷ ks) e h = absurd (omega (arith, h))
+narrow_of (suc n) (suc w) (p ∷ ps) (k ∷ ks) e h = let rest : key_of ps ≡ padded n ks = cc e in narrow_of n w ps ks rest (omega (arith, h))
+
+pub base_narrow : (w : ℕ) (ps : List KeyPart) (ks : List KeyValue) → key_of ps ≡ padded 6 ks → length ks ≤ w → drop w ps ≡ drop w all_hidden
+unfolding all_of
+base_narrow w ps ks e h = narrow_of 6 w ps ks e h

@@ -1,0 +1,9 @@
+-- What a contract sees of the rows of a deferred store.
+use Rattle.std.specs.Prelude.{ℤ, List, Option}
+use Rattle.star_group.specs.declared.deferred.key.KeyPart.{KeyPart}
+use Rattle.star_group.specs.declared.deferred.keyed.KeyedRows.{KeyedRows}
+use Rattle.star_group.specs.Keyed.{cut, keyed}
+
+-- the rows with their keys
+abbrev pub entries_of : KeyedRows → List (List KeyPart × List (Option ℤ))
+entries_of rows = keyed (cut rows.trie.width rows.trie.len rows.trie.keys.items) (cut rows.many rows.trie.len rows.cells.items)

@@ -1,0 +1,69 @@
+-- Rows found by the digits of their keys: each row is below one whose key it shares some digits with.
+use Rattle.std.specs.Prelude.{◌≡◌, ℕ, zero, suc, ◌+◌, ◌*◌, ◌/◌, ◌%◌, ◌^◌, ◌<◌, nat_lt, if◌then◌else◌, List, [], length, slice_index_or}
+use Rattle.std.specs.Int.{cast_unsigned, w64}
+use Rattle.star_group.specs.declared.deferred.key.KeyPart.{KeyPart}
+use Rattle.star_group.specs.declared.deferred.trie.Place.{Place}
+use Rattle.star_group.specs.declared.deferred.trie.Place.TheVariants.{Held, Missing}
+use Rattle.star_group.specs.declared.deferred.key.KeyPart.TheVariants.{All, Number, Code}
+
+abbrev pub bits_of : KeyPart → ℕ
+bits_of All = 0
+bits_of (Number x) = cast_unsigned w64 x
+bits_of (Code n) = n
+
+-- which kind of value it is
+abbrev pub kind_of : KeyPart → ℕ
+kind_of All = 0
+kind_of (Number x) = 1
+kind_of (Code n) = 2
+
+-- the bits from the lowest, two at a time, and then the kind
+abbrev pub part_digit : KeyPart → ℕ → ℕ
+part_digit part round = if nat_lt round 32 then bits_of part / 2 ^ (2 * round) % 4 else kind_of part
+
+-- the digits of the key's places in turn
+abbrev pub digit_at : ℕ → List KeyPart → ℕ → ℕ
+digit_at width key depth = part_digit (slice_index_or key (depth % width) All) (depth / width)
+
+abbrev pub key_at : List (List KeyPart) → ℕ → List KeyPart
+key_at ks n = slice_index_or ks n []
+
+-- the node below this one by a digit, 0 where there is none; node 0 is above all, and row n is node n + 1
+abbrev pub child : List (List ℕ) → ℕ → ℕ → ℕ
+child links node digit = slice_index_or (slice_index_or links node []) digit 0
+
+-- where the key's digits lead to from node 0
+unfoldable pub node_at : ℕ → List (List ℕ) → List KeyPart → ℕ → ℕ
+node_at width links key zero = 0
+node_at width links key (suc depth) = child links (node_at width links key depth) (digit_at width key depth)
+
+-- so many of the key's digits lead from node to node to this one
+pub record Leads (width : ℕ) (links : List (List ℕ)) (key : List KeyPart) (depth node : ℕ) : Type 0 where
+  pub steps : (i : ℕ) → i < depth → 0 < node_at width links key (suc i)
+  pub end : node_at width links key depth ≡ node
+
+pub record IsTrie (width : ℕ) (ks : List (List KeyPart)) (links : List (List ℕ)) : Type 0 where
+  pub many : length links ≡ length ks + 1
+  pub wide : (node : ℕ) → node < length links → length (slice_index_or links node []) ≡ 4
+  pub below : (node digit : ℕ) → 0 < child links node digit → (node < child links node digit) × (child links node digit < length links)
+  pub reached : (n : ℕ) → n < length ks → ∥ ((depth : ℕ) × Leads width links (key_at ks n) depth (n + 1)) ∥₁
+  pub once : (i j : ℕ) → i < length ks → j < length ks → key_at ks i ≡ key_at ks j → i ≡ j
+
+-- the row of this number has the key
+pub record IsHeld (ks : List (List KeyPart)) (key : List KeyPart) (n : ℕ) : Type 0 where
+  pub within : n < length ks
+  pub is : key_at ks n ≡ key
+
+-- no row has the key, and its digits end at this node, with no node below by the next digit
+pub record IsMissing (width : ℕ) (ks : List (List KeyPart)) (links : List (List ℕ)) (key : List KeyPart) (node digit : ℕ) : Type 0 where
+  pub depth : ℕ
+  pub leads : Leads width links key depth node
+  pub next : digit ≡ digit_at width key depth
+  pub few : digit < 4
+  pub within : node < length links
+  pub empty : child links node digit ≡ 0
+  pub none : (n : ℕ) → n < length ks → key_at ks n ≡ key → ⊥
+
+abbrev pub IsFound : ℕ → List (List KeyPart) → List (List ℕ) → List KeyPart → Place → Type 0
+IsFound width ks links key (Held n) = IsHeld ks key n
+IsFound width ks links key (Missing node digit) = IsMissing width ks links key node digit
