@@ -28,3 +28,5 @@ pub mod Passes
 pub mod Rolling
 pub mod AllRows
 pub mod Worked
+pub mod WorkedCells
+pub mod WorkedHeld
