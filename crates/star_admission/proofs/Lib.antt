@@ -5,6 +5,7 @@ mod WorkedFinds
 mod WorkedRanges
 mod WorkedMoments
 mod WorkedEnds
+mod WorkedTold
 mod WorkedTotals
 mod WorkedReasons
 mod WorkedAcceptance

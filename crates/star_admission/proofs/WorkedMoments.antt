@@ -1,5 +1,5 @@
 -- What a moment asks of registers and of what comes next, and what it refuses, by computation.
-use Rattle.std.proofs.Common.{◌≡◌, ℕ, zero, suc, ◌^◌, ◌-◌, ◌<◌, true, false, [], ◌∷◌, Some, None, refl, arith}
+use Rattle.std.proofs.Common.{◌≡◌, ℕ, zero, suc, ◌^◌, ◌+◌, ◌-◌, ◌<◌, true, false, [], ◌∷◌, Some, None, refl, arith}
 use Rattle.std.specs.Prelude.{pos, neg_ℤ}
 use Rattle.std.proofs.lemmas.Int.{ints}
 use Rattle.star_schema.specs.declared.table.TableId.TheVariants.{Date, Lineorder}
@@ -12,11 +12,12 @@ use Rattle.star_program.specs.declared.value.Value.TheVariants.{Number, Text, Pl
 use Rattle.star_program.specs.Values.{Registers}
 use Rattle.star_program.specs.declared.program.Parts.{Parts}
 use Rattle.star_program.specs.Effects.{EndsTurn, empty_store}
+use Rattle.star_program.specs.Run.{Ended}
 use Rattle.star_program.specs.World.{World}
 use Rattle.star_program.proofs.Sample.{sample, plain}
-use Rattle.star_admission.specs.Bounds.{FitsI128, NamesI64}
+use Rattle.star_admission.specs.Bounds.{FitsI128, NamesI64, AllNameI64, AreI64}
 use Rattle.star_admission.specs.Fitting.{FitsValue, FitsAt}
-use Rattle.star_admission.specs.Laws.{SumsFit, TotalLies}
+use Rattle.star_admission.specs.Laws.{EndsWithin, SumsFit, TotalLies}
 use Rattle.star_admission.specs.Moments.{IsMoment, AtEveryMoment, Onward, picked, sum_of}
 use Rattle.star_admission.specs.Ranges.{Table, Known, KnownText, KnownPlace, KnownRow, KnownFlag, given, loaded_known}
 use Rattle.star_admission.specs.Tallies.{no_shares}
@@ -131,6 +132,12 @@ widest_fits = (record { sfits = omega arith }, record { sfits = omega arith })
 no_wider : FitsI128 (only (pos (2 ^ 127))) → ⊥
 no_wider h = let p = h.0.sfits in omega (arith, p)
 
+no_lower_end : FitsI128 (record { low = neg_ℤ (pos (2 ^ 127 + 1)); high = pos 0 }) → ⊥
+no_lower_end h = let p = h.0.sfits in omega (arith, p)
+
+no_higher_end : FitsI128 (record { low = pos 0; high = pos (2 ^ 127) }) → ⊥
+no_higher_end h = let p = h.1.sfits in omega (arith, p)
+
 constant_of_64_bits : NamesI64 (const 0 (pos (2 ^ 63 - 1)))
 constant_of_64_bits = record { sfits = omega arith }
 
@@ -139,6 +146,18 @@ no_greater_constant h = let p = h.sfits in omega (arith, p)
 
 no_greater_default : NamesI64 (read 0 0 0 (pos (2 ^ 63))) → ⊥
 no_greater_default h = let p = h.sfits in omega (arith, p)
+
+-- in scans and after them
+all_of_64_bits : AllNameI64 (acts (const 0 (pos 1) ∷ [])
+    (Each Date 1 (acts (const 2 (pos 2) ∷ []) Stop) (acts (const 3 (pos 3) ∷ []) Stop)))
+all_of_64_bits = (
+  record { sfits = omega arith },
+  ((record { sfits = omega arith }, tt), (record { sfits = omega arith }, tt)),
+)
+
+no_wider_column : AreI64 (record sample { bounds = λ c. only (pos (2 ^ 63)) }) (over [] Stop) → ⊥
+unfolding column_of
+no_wider_column h = let p = (h.bounds LoQuantity refl).1.sfits in omega (arith, p)
 
 -- ---- what adds up
 
@@ -169,3 +188,7 @@ no_greater_count h = let p = h.counts 0 0 in omega (arith, p)
 no_more_turns : (known : Table) (regs : Registers) → IsMoment sample two_puts no_shares known regs
     (record empty_store { visits = 1 }) → ⊥
 no_more_turns known regs h = let p = h.visits in omega (arith, p)
+
+-- a run may visit as many rows as are asked for
+visits_within : EndsWithin 1 (Ended (record empty_store { visits = 1 }))
+visits_within = omega arith

@@ -31,3 +31,5 @@ pub mod Rolling
 pub mod KeyedRows
 pub mod AllRows
 pub mod Worked
+pub mod WorkedCells
+pub mod WorkedHeld

@@ -4,6 +4,7 @@ use Rattle.std.specs.List.{IsDistinct}
 use Rattle.star_schema.specs.declared.group.Aggregate.TheVariants.{Sum, Count, Min}
 use Rattle.star_schema.specs.declared.group.Shape.TheVariants.{Cube}
 use Rattle.star_schema.specs.Groups.{aggregate, numbers_for}
+use Rattle.star_program.specs.declared.key.KeyValue.{KeyValue}
 use Rattle.star_program.specs.declared.key.KeyValue.TheVariants.{Number}
 use Rattle.star_program.specs.Keys.{same_keys}
 use Rattle.std.specs.Prelude.{if◌then◌else◌}
@@ -81,9 +82,7 @@ worked_more = record {
   keys = λ ks. swapped (same_keys ks (Number (pos 1) ∷ [])) (same_keys ks (Number (pos 2) ∷ []));
   once = ((refl, tt), (tt, tt));
   own = own;
-  others = λ ks other place h. kept (same_keys ks (Number (pos 1) ∷ []))
-      (same_keys ks (Number (pos 2) ∷ [])) (number_at place ones) (number_at place (twos (pos 2)))
-      (number_at place (two (pos 5))) other;
+  others = others;
 }
   where
     swapped : (a b : Bool) → (a || (b || false)) ≡ (b || (a || (b || false)))
@@ -106,6 +105,13 @@ worked_more = record {
     kept true b x y z e = refl
     kept false false x y z e = refl
     kept false true x y z e = absurd (true≢false e)
+
+    others : (ks : List KeyValue) → same_keys ks (Number (pos 2) ∷ []) ≡ false
+        → (place : ℕ) → place < 3 → number_of ks place (ones ∷ twos (pos 2) ∷ [])
+        ≡ number_of ks place (ones ∷ two (pos 5) ∷ [])
+    others ks other place h = kept (same_keys ks (Number (pos 1) ∷ []))
+        (same_keys ks (Number (pos 2) ∷ [])) (number_at place ones) (number_at place (twos (pos 2)))
+        (number_at place (two (pos 5))) other
 
 -- a COUNT grows by 1, and not by what is put
 no_greater_count : IsWithPut sales (two (pos 2)) (ones ∷ two (pos 5) ∷ [])
