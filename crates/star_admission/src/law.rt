@@ -35,9 +35,9 @@ ghost use Rattle.star_admission.specs.Told.{AreTold};
 /// It visits at most what is quoted, and a bound of at least that never stops it. At every moment,
 /// before each instruction and at each end, its registers hold what is known of them, and nothing
 /// where nothing is known: numbers in their ranges, and where they were loaded from a column its
-/// numbers; codes and places of their columns' texts; rows of their tables. The sums over any of its
-/// updates lie in their ranges, which fit 64 bits, and so do the counts: what the condition of a put
-/// asks for holds of each. All totals at the end lie in their ranges.
+/// numbers; codes and places of their columns' texts; rows of their tables. The sums over any of
+/// its updates lie in their ranges, which fit 64 bits, and so do the counts: what the condition of
+/// a put asks for holds of each. All totals at the end lie in their ranges.
 pub fn admissible_programs_never_trap()
     ensures ends { (w : World) (parts : Parts)
         → IsAccepted w parts → EndsWithin (quote w.size parts) (run_of w parts) }
@@ -74,10 +74,10 @@ pub fn instructions_are_met_within_the_quote()
         → All (IsMetWithinQuote w parts) (instructions_of w parts) }
 {}
 
-/// Each bound that a refusal tells fits 128 bits, of a program within its limits: of a range, where no
-/// more visits are allowed than any run may make; and the visits that are quoted, where no table has
-/// 2^32 rows. Those of the columns that a range is computed from fit 64 bits. The program's numbers
-/// are of 64 bits, and so are the bounds of the columns of numbers.
+/// Each bound that a refusal tells fits 128 bits, of a program within its limits: of a range, where
+/// no more visits are allowed than any run may make; and the visits that are quoted, where no table
+/// has 2^32 rows. Those of the columns that a range is computed from fit 64 bits. The program's
+/// numbers are of 64 bits, and so are the bounds of the columns of numbers.
 pub fn told_bounds_fit_128_bits()
     ensures range { (w : World) (most : ℕ) (parts : Parts) (at : ℕ) (low high : ℤ)
         (columns : List Reached)

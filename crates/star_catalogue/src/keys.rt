@@ -66,8 +66,8 @@ fn greatest_of(keys: &[i64]) -> Option<i64>
     keys.iter().copied().max()
 }
 
-/// The least key, and how many numbers there are from it to the greatest, where these are few for so
-/// many keys.
+/// The least key, and how many numbers there are from it to the greatest, where these are few for
+/// so many keys.
 fn dense_range(keys: &[i64]) -> Option<(i64, usize)>
     requires { length keys.now < 2 ^ 32 }
     ensures least { IfSome result (λ range. All (λ key. range.0 ≤ℤ key) keys.now) }

@@ -42,8 +42,8 @@ fn slot_of(text: &[u8]) -> usize
 /// Different texts, numbered from 0 in the order in which they were first met. A contract sees them
 /// as a list in that order.
 ///
-/// A text's number is found in a tree, so that no texts are slow to number, unless the text is one of
-/// those that were met lately.
+/// A text's number is found in a tree, so that no texts are slow to number, unless the text is one
+/// of those that were met lately.
 #[derive(Drop)]
 pub(crate) struct Distinct<'t> {
     texts: Vec<&'t [u8]>,

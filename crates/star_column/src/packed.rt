@@ -67,8 +67,8 @@ impl PackedColumn {
         Ok(PackedColumn { bounds, words })
     }
 
-    /// How many bits the word of a number has: the least of 8, 16, 32 and 64 in which the difference
-    /// of the bounds fits, 8 where there is no row.
+    /// How many bits the word of a number has: the least of 8, 16, 32 and 64 in which the
+    /// difference of the bounds fits, 8 where there is no row.
     pub fn bits(&self) -> u32
         ensures { result ≡ bits_of self.now }
     {

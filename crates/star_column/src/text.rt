@@ -17,7 +17,8 @@ use std::marker::Model;
 /// A column of texts, which a contract sees as the list of them in the order of the rows.
 ///
 /// It keeps each text once, in a dictionary in the order of bytes, and for each row a code, the
-/// place of its text there, in words of the least of 8, 16 and 32 bits in which every code fits. Rows, places and codes count from 0.
+/// place of its text there, in words of the least of 8, 16 and 32 bits in which every code fits.
+/// Rows, places and codes count from 0.
 #[derive(Drop)]
 pub struct TextColumn {
     codes: Words,

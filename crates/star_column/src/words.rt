@@ -111,8 +111,8 @@ impl Words {
         }
     }
 
-    /// How far each number lies above the lower bound, in the least width in which the difference of
-    /// the bounds fits.
+    /// How far each number lies above the lower bound, in the least width in which the difference
+    /// of the bounds fits.
     pub(crate) fn of_numbers<S: SignedWord>(
         alloc: Global,
         numbers: &[S],

@@ -13,7 +13,8 @@ pub(crate) type Row = [Option<i64>; 8];
 // A sum with one more value, or nothing where it leaves 64 bits.
 #[tactic(auto, unfolding(star_interval::specs::Range::is_i64))]
 fn sum(value: i64, held: Option<i64>) -> Option<i64>
-    ensures { MatchOption result (leaves Aggregate.Sum (step Aggregate.Sum value held) ≡ true) (λ z. (z ≡ step Aggregate.Sum value held) × (leaves Aggregate.Sum z ≡ false)) }
+    ensures { MatchOption result (leaves Aggregate.Sum (step Aggregate.Sum value held) ≡ true)
+        (λ z. (z ≡ step Aggregate.Sum value held) × (leaves Aggregate.Sum z ≡ false)) }
 {
     match held {
         None => Some(value),
@@ -24,7 +25,8 @@ fn sum(value: i64, held: Option<i64>) -> Option<i64>
 // A count with one more, or nothing where it leaves 64 bits.
 #[tactic(auto, unfolding(star_interval::specs::Range::is_i64))]
 fn count(value: i64, held: Option<i64>) -> Option<i64>
-    ensures { MatchOption result (leaves Aggregate.Count (step Aggregate.Count value held) ≡ true) (λ z. (z ≡ step Aggregate.Count value held) × (leaves Aggregate.Count z ≡ false)) }
+    ensures { MatchOption result (leaves Aggregate.Count (step Aggregate.Count value held) ≡ true)
+        (λ z. (z ≡ step Aggregate.Count value held) × (leaves Aggregate.Count z ≡ false)) }
 {
     match held {
         None => Some(1),
@@ -34,7 +36,8 @@ fn count(value: i64, held: Option<i64>) -> Option<i64>
 
 // An aggregate with one more value, or nothing where it leaves 64 bits.
 fn stepped(aggregate: Aggregate, value: i64, held: Option<i64>) -> Option<i64>
-    ensures { MatchOption result (leaves aggregate (step aggregate value held) ≡ true) (λ z. (z ≡ step aggregate value held) × (leaves aggregate z ≡ false)) }
+    ensures { MatchOption result (leaves aggregate (step aggregate value held) ≡ true)
+        (λ z. (z ≡ step aggregate value held) × (leaves aggregate z ≡ false)) }
 {
     match aggregate {
         Aggregate::Sum => sum(value, held),
@@ -55,7 +58,9 @@ fn stepped_at(aggregates: &[Aggregate], values: &[i64], row: &Row, place: usize)
     requires place { place < length aggregates.now }
     requires values { length values.now ≡ length aggregates.now }
     requires few { length aggregates.now ≤ 8 }
-    ensures { MatchOption result (leaves_at aggregates.now values.now row.now place ≡ true) (λ z. (z ≡ cell_at aggregates.now values.now row.now place) × (leaves_at aggregates.now values.now row.now place ≡ false)) }
+    ensures { MatchOption result (leaves_at aggregates.now values.now row.now place ≡ true)
+        (λ z. (z ≡ cell_at aggregates.now values.now row.now place)
+        × (leaves_at aggregates.now values.now row.now place ≡ false)) }
 {
     stepped(aggregates[place], values[place], row[place])
 }
@@ -64,7 +69,9 @@ fn stepped_at(aggregates: &[Aggregate], values: &[i64], row: &Row, place: usize)
 pub(crate) fn changed_row(aggregates: &[Aggregate], values: &[i64], row: &Row) -> Option<Row>
     requires values { length values.now ≡ length aggregates.now }
     requires few { length aggregates.now ≤ 8 }
-    ensures { MatchOption result (RowLeaves aggregates.now values.now row.now) (λ new. IsChanged aggregates.now values.now row.now new × RowStays aggregates.now values.now row.now) }
+    ensures { MatchOption result (RowLeaves aggregates.now values.now row.now)
+        (λ new. IsChanged aggregates.now values.now row.now new
+        × RowStays aggregates.now values.now row.now) }
 {
     let mut changed = *row;
     for place in 0..aggregates.len() {

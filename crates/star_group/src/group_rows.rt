@@ -56,8 +56,8 @@ impl GroupRows {
         self.len
     }
 
-    /// The keys of the row of a number from 0, in order, in which `None` is ALL; none where there is
-    /// no such row.
+    /// The keys of the row of a number from 0, in order, in which `None` is ALL; none where there
+    /// is no such row.
     pub fn keys(&self, number: usize) -> &[Option<KeyValue>]
         ensures { result.now ≡ (row_at self.now number).keys }
     {

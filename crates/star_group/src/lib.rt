@@ -1,6 +1,9 @@
-//! The rows of a group: what the traits of stores promise, a store that keeps every row up to date, and one that makes the rows in which keys are ALL in the end.
+//! The rows of a group: what the traits of stores promise, a store that keeps every row up to date,
+//! and one that makes the rows in which keys are ALL in the end.
 //!
-//! A store is told by lists of puts: it has the content of some puts, the newest first, and then its rows are the groups of these puts with their aggregates, and its totals are the aggregates over all of them.
+//! A store is told by lists of puts: it has the content of some puts, the newest first, and then
+//! its rows are the groups of these puts with their aggregates, and its totals are the aggregates
+//! over all of them.
 #![tactic(auto)]
 
 mod cell;

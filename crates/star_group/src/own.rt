@@ -29,7 +29,8 @@ fn full_key(keys: &[KeyValue]) -> Key
 // Each key once more, with ALL at this place.
 fn double(own: &mut Vec<Key>, place: usize) -> Result<(), AllocError>
     requires { place < 6 }
-    ensures { OnOk result (own.new.items ≡ own.old.items ++ map (λ key. slice_set key place None) own.old.items) }
+    ensures { OnOk result (own.new.items ≡ own.old.items
+        ++ map (λ key. slice_set key place None) own.old.items) }
 {
     for index in 0..own.len() {
         let mut key = own[index];
@@ -42,7 +43,8 @@ fn double(own: &mut Vec<Key>, place: usize) -> Result<(), AllocError>
 // The key with each of its first places as it is or ALL.
 fn vary(own: &mut Vec<Key>, count: usize) -> Result<(), AllocError>
     requires { count ≤ 6 }
-    ensures { (key : List (Option Value)) → own.old.items ≡ key ∷ [] → length key ≡ 6 → OnOk result (own.new.items ≡ spec.vary count key) }
+    ensures { (key : List (Option Value)) → own.old.items ≡ key ∷ [] → length key ≡ 6
+        → OnOk result (own.new.items ≡ spec.vary count key) }
 {
     let mut place = count;
     while place > 0 {

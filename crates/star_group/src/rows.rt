@@ -35,7 +35,8 @@ fn place_row<K: Eq + Hash + Copy + Drop>(
     rows: &mut IndexMap<K, Row>,
     key: &K,
 ) -> Result<usize, AllocError>
-    ensures adds { OnOk result ((q : K) → get K.eq rows.new q ≡ with_blank (K.eq q key.now) (get K.eq rows.old q)) }
+    ensures adds { OnOk result ((q : K) → get K.eq rows.new q
+        ≡ with_blank (K.eq q key.now) (get K.eq rows.old q)) }
     ensures prefix { take (index_map_len rows.old) rows.new.entries ≡ rows.old.entries }
     ensures grows { index_map_len rows.old ≤ index_map_len rows.new }
     ensures placed { IfOk result (λ place. IsAt K.eq (keys rows.new) key.now place) }
@@ -50,13 +51,15 @@ fn place_row<K: Eq + Hash + Copy + Drop>(
     }
 }
 
-// The places of the rows of these keys, which are made where they are missing. Where memory is refused some may have been made.
+// The places of the rows of these keys, which are made where they are missing. Where memory is
+// refused some may have been made.
 fn place_rows<K: Eq + Hash + Copy + Drop>(
     rows: &mut IndexMap<K, Row>,
     own: &[K],
     places: &mut Vec<usize>,
 ) -> Result<(), AllocError>
-    ensures adds { OnOk result ((q : K) → get K.eq rows.new q ≡ with_blank (list_any (K.eq q) own.now) (get K.eq rows.old q)) }
+    ensures adds { OnOk result ((q : K) → get K.eq rows.new q
+        ≡ with_blank (list_any (K.eq q) own.now) (get K.eq rows.old q)) }
     ensures prefix { take (index_map_len rows.old) rows.new.entries ≡ rows.old.entries }
     ensures placed { OnOk result (ArePlaces K.eq (keys rows.new) own.now places.new.items) }
 {
@@ -78,7 +81,8 @@ fn next_at<K: Eq + Hash + Copy + Drop>(
     requires within { place < index_map_len rows.now }
     requires values { length values.now ≡ length aggregates.now }
     requires few { length aggregates.now ≤ 8 }
-    ensures { (key : K) → IsAt K.eq (keys rows.now) key place → (row : List (Option ℤ)) × (get K.eq rows.now key ≡ Some row) × NextRow aggregates.now values.now (Some row) result }
+    ensures { (key : K) → IsAt K.eq (keys rows.now) key place → (row : List (Option ℤ))
+        × (get K.eq rows.now key ≡ Some row) × NextRow aggregates.now values.now (Some row) result }
 {
     match rows.get_index(place) {
         Some((_, row)) => changed_row(aggregates, values, row),
@@ -94,10 +98,13 @@ fn change_at<K: Eq + Hash + Copy + Drop>(
     values: &[i64],
 )
     requires within { place < index_map_len rows.old }
-    requires stays { (key : K) → IsAt K.eq (keys rows.old) key place → StaysIn (get K.eq rows.old key) aggregates.now values.now }
+    requires stays { (key : K) → IsAt K.eq (keys rows.old) key place
+        → StaysIn (get K.eq rows.old key) aggregates.now values.now }
     requires values { length values.now ≡ length aggregates.now }
     requires few { length aggregates.now ≤ 8 }
-    ensures next { (key : K) → IsAt K.eq (keys rows.old) key place → (next : List (Option ℤ)) × ((q : K) → get K.eq rows.new q ≡ (if K.eq key q then Some next else get K.eq rows.old q)) × NextRow aggregates.now values.now (get K.eq rows.old key) (Some next) }
+    ensures next { (key : K) → IsAt K.eq (keys rows.old) key place → (next : List (Option ℤ))
+        × ((q : K) → get K.eq rows.new q ≡ (if K.eq key q then Some next else get K.eq rows.old q))
+        × NextRow aggregates.now values.now (get K.eq rows.old key) (Some next) }
     ensures keys { keys rows.new ≡ keys rows.old }
 {
     let (_, row) = rows.pair_mut(place);
@@ -118,7 +125,8 @@ fn all_stay_at<K: Eq + Hash + Copy + Drop>(
     requires placed { ArePlaces K.eq (keys rows.now) own.now places.now }
     requires values { length values.now ≡ length aggregates.now }
     requires few { length aggregates.now ≤ 8 }
-    ensures { MatchBool result (AllStay K.eq (get K.eq rows.now) own.now aggregates.now values.now) (SomeLeaves K.eq (get K.eq rows.now) own.now aggregates.now values.now) }
+    ensures { MatchBool result (AllStay K.eq (get K.eq rows.now) own.now aggregates.now values.now)
+        (SomeLeaves K.eq (get K.eq rows.now) own.now aggregates.now values.now) }
 {
     for index in 0..own.len() {
         let _key = &own[index];
@@ -143,7 +151,8 @@ fn change_all_at<K: Eq + Hash + Copy + Drop>(
     requires stay { AllStay K.eq (get K.eq rows.old) own.now aggregates.now values.now }
     requires values { length values.now ≡ length aggregates.now }
     requires few { length aggregates.now ≤ 8 }
-    ensures { ChangesAll K.eq own.now aggregates.now values.now (get K.eq rows.old) (get K.eq rows.new) }
+    ensures { ChangesAll K.eq own.now aggregates.now values.now (get K.eq rows.old)
+        (get K.eq rows.new) }
 {
     for index in 0..own.len() {
         let _key = &own[index];
@@ -162,9 +171,12 @@ pub(crate) fn put_rows<K: Eq + Hash + Copy + Drop>(
     requires distinct { IsDistinct K.eq own.now }
     requires values { length values.now ≡ length aggregates.now }
     requires few { length aggregates.now ≤ 8 }
-    ensures ok { OnOk result (PutsRows K.eq own.now aggregates.now values.now (get K.eq rows.old) (get K.eq rows.new)) }
+    ensures ok { OnOk result (PutsRows K.eq own.now aggregates.now values.now (get K.eq rows.old)
+        (get K.eq rows.new)) }
     ensures refused { OnErr result (rows.new.entries ≡ rows.old.entries) }
-    ensures overflow { IfErr result (λ fault. UnlessMemory PutFault.OutOfMemory fault (SomeLeaves K.eq (with_blanks K.eq own.now (get K.eq rows.old)) own.now aggregates.now values.now)) }
+    ensures overflow { IfErr result (λ fault. UnlessMemory PutFault.OutOfMemory fault
+        (SomeLeaves K.eq (with_blanks K.eq own.now (get K.eq rows.old)) own.now aggregates.now
+        values.now)) }
 {
     let before = rows.len();
     if place_rows(rows, own, places).is_err() {

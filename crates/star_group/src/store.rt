@@ -54,8 +54,9 @@ pub trait GroupStore: Drop {
 /// A store that takes puts with no condition on their numbers, and refuses those that overflow.
 pub trait TryPut: GroupStore {
     /// One more put: a value for each key, and a number for each aggregate, of which that for a
-    /// `Count` does not matter. Answers Overflow exactly where with it a `Sum` or a `Count` over one
-    /// of its groups, or over all puts, leaves 64 bits; after an error the content is as it was.
+    /// `Count` does not matter. Answers Overflow exactly where with it a `Sum` or a `Count` over
+    /// one of its groups, or over all puts, leaves 64 bits; after an error the content is as it
+    /// was.
     fn try_put(&mut self, keys: &[KeyValue], values: &[i64]) -> Result<(), PutFault>
         requires keys { length keys.now ≡ (Self.group self.old).count }
         requires values { length values.now ≡ length (Self.group self.old).aggregates }

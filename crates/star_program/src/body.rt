@@ -17,7 +17,8 @@ pub struct Body {
     steps: Vec<Step>,
 }
 
-/// An instruction, or a scan: for each row of a table, in order, one turn of its body with the row in the register `target`.
+/// An instruction, or a scan: for each row of a table, in order, one turn of its body with the row
+/// in the register `target`.
 #[cycle(body)]
 #[derive(Drop)]
 pub enum Step {

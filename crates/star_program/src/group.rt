@@ -16,7 +16,8 @@ pub type GroupKeys = Items<GroupKey>;
 /// The aggregates of a group, in order.
 pub type Aggregates = Items<Aggregate>;
 
-/// A group of rows: which groupings of its keys it has, and what it computes over each group of rows.
+/// A group of rows: which groupings of its keys it has, and what it computes over each group of
+/// rows.
 #[derive(Drop)]
 pub struct GroupDecl {
     pub shape: Shape,

@@ -1,6 +1,7 @@
 //! Programs for the register machine: their types and limits, what they mean, and their text.
 //!
-//! The meaning of a program stands in `specs/`: every crate above cites it. What a text spells stands apart from it, in `specs/Text/`.
+//! The meaning of a program stands in `specs/`: every crate above cites it. What a text spells
+//! stands apart from it, in `specs/Text/`.
 #![tactic(auto)]
 
 mod body;

@@ -115,7 +115,8 @@ pub enum Op {
         flag: u16,
     },
 
-    /// One update of a group: its keys as declared, and a number for each aggregate that isn't a count.
+    /// One update of a group: its keys as declared, and a number for each aggregate that isn't a
+    /// count.
     Put {
         group: u16,
         keys: RegisterList,

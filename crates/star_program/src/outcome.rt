@@ -17,7 +17,8 @@ pub enum Cell {
     Null,
 }
 
-/// What a run gives: a name for each show line, the rows in order, each a cell for each name, and three counts.
+/// What a run gives: a name for each show line, the rows in order, each a cell for each name, and
+/// three counts.
 #[derive(Drop)]
 pub struct Outcome {
     pub names: Items<Name>,

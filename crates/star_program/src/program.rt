@@ -60,7 +60,8 @@ pub type Shows = Items<Show>;
 /// What the rows of the report are sorted by, the first key first.
 pub type Sorts = Items<SortKey>;
 
-/// What a program is made of: how many registers it declares, its groups, its instructions, and which group it reports and how.
+/// What a program is made of: how many registers it declares, its groups, its instructions, and
+/// which group it reports and how.
 #[derive(Drop)]
 pub struct Parts {
     pub registers: u16,
@@ -113,12 +114,15 @@ impl Program {
         &self.parts
     }
 
-    /// The program that a text spells, or its first fault: the first line that is refused decides, at one line an open scan before a bad line and that before a limit. Want of memory may come before any fault.
+    /// The program that a text spells, or its first fault: the first line that is refused decides,
+    /// at one line an open scan before a bad line and that before a limit. Want of memory may come
+    /// before any fault.
     pub fn parse(alloc: Global, text: &[u8]) -> Result<Program, TextFault>
         // What is read is what the text spells.
         ensures spelled { IfOk result (λ program. Spells text.now program) }
         // A text that spells a program within the limits is read as it, unless memory runs out.
-        ensures only { (parts : Parts) → Spells text.now parts → IsWithinLimits parts → IsRead parts result }
+        ensures only { (parts : Parts) → Spells text.now parts → IsWithinLimits parts
+            → IsRead parts result }
         // A refusal is the first fault.
         ensures fault { IfErr result (λ fault. IsFirstFault text.now fault) }
     {
@@ -126,7 +130,8 @@ impl Program {
         Ok(Program { parts })
     }
 
-    /// The program's text: a line for each statement, one space between words, two before a line for each scan round it, numbers without zeros in front, a line feed after each line.
+    /// The program's text: a line for each statement, one space between words, two before a line
+    /// for each scan round it, numbers without zeros in front, a line feed after each line.
     pub fn to_text(&self) -> Result<Vec<u8>, AllocError>
         ensures written { IfOk result (λ text. text.items ≡ text_of self.now) }
         // Where some text spells the program, this one does, and is read back as it.

@@ -228,8 +228,8 @@ fn an_absent_key_is_told(rt: HostRuntime) -> Result<(), Fail> {
     Ok(())
 }
 
-// The texts of the sample with the first OLD in each of them made NEW: two of dates, and one each of
-// customers, suppliers and parts.
+// The texts of the sample with the first OLD in each of them made NEW: two of dates, and one each
+// of customers, suppliers and parts.
 fn faulty_texts(alloc: Global) -> Result<Vec<String>, Fail> {
     let texts = sample();
     let mut faulty = Vec::new(alloc);

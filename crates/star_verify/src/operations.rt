@@ -116,7 +116,8 @@ fn is_open(pending: [bool; 8], steps: &[Step], group: u16) -> bool
     opened[group as usize]
 }
 
-// Refuses a find by what is no foreign key to its table, and a read of a group that is still put to.
+// Refuses a find by what is no foreign key to its table, and a read of a group that is still put
+// to.
 pub(crate) fn check_source(
     parts: &Parts,
     registers: &[Register],

@@ -18,8 +18,8 @@ pub enum Refusal {
     TooCostly { visits: u128 },
     /// An instruction is refused, by its number.
     Refused { at: u16, reason: Reason },
-    /// A line of the report names what is not there: 0 for its group or where it shows nothing, else
-    /// the number of the line among the show and then the sort lines, from 1.
+    /// A line of the report names what is not there: 0 for its group or where it shows nothing,
+    /// else the number of the line among the show and then the sort lines, from 1.
     BadShow { place: u8 },
 }
 

@@ -48,8 +48,8 @@ fn bad_sort(declared: &GroupDecl, first: u8, sorts: &[SortKey]) -> Option<u8>
     None
 }
 
-// Where a report names what is not there: 0 for its group or where it shows nothing, else the number
-// of the first such line among the show and then the sort lines, from 1.
+// Where a report names what is not there: 0 for its group or where it shows nothing, else the
+// number of the first such line among the show and then the sort lines, from 1.
 pub(crate) fn misnamed_line(parts: &Parts) -> Option<u8>
     requires { IsWithinLimits parts.now }
     ensures { result ≡ shown.shown_fault parts.now }

@@ -57,8 +57,8 @@ pub struct Refused {
 }
 
 impl<'c> Verified<'c> {
-    /// What holds of every verified program: it is admissible over the rows of its catalogue, no more
-    /// visits are quoted than any run may make, and it is within the limits of programs.
+    /// What holds of every verified program: it is admissible over the rows of its catalogue, no
+    /// more visits are quoted than any run may make, and it is within the limits of programs.
     pub fn law(&self)
         ensures verified { IsVerified self.now }
         ensures limits { IsWithinLimits self.now.program }
@@ -96,9 +96,10 @@ impl<'c> Verified<'c> {
     }
 }
 
-/// Checks a program against a catalogue, with at most so many visits: it is verified exactly where it
-/// is admissible and no more are quoted, unless memory runs out. Else it is handed back with what
-/// refuses it first: too many visits, then the first instruction that is refused, then the report.
+/// Checks a program against a catalogue, with at most so many visits: it is verified exactly where
+/// it is admissible and no more are quoted, unless memory runs out. Else it is handed back with
+/// what refuses it first: too many visits, then the first instruction that is refused, then the
+/// report.
 pub fn verify<'c>(
     alloc: Global,
     catalogue: &'c Catalogue,

@@ -94,7 +94,8 @@ pub(crate) fn all_rows(
     requires count { count ≤ base.trie.width }
     requires few { length aggregates.now ≤ 8 }
     requires many { length aggregates.now ≡ base.many }
-    requires room { HasBaseWithRoom (group_with shape count aggregates.now) (entries_of base) total }
+    requires room { HasBaseWithRoom (group_with shape count aggregates.now)
+        (entries_of base) total }
     ensures many { IfOk result (λ rows. rows.many ≡ base.many) }
     ensures rows { IfOk result (λ rows. (puts : List Put)
         → IsBase (group_with shape count aggregates.now) (entries_of base) total puts

@@ -31,7 +31,8 @@ pub(crate) fn is_given(shape: Shape, count: usize, key: &Key) -> bool
 fn shown_at(aggregates: &[Aggregate], row: &[Option<i64>], place: usize) -> Option<i64>
     requires place { place < length aggregates.now }
     requires wide { length aggregates.now ≤ length row.now }
-    ensures { result ≡ spec.shown (slice_index_or aggregates.now place Aggregate.Count) (slice_index_or row.now place None) }
+    ensures { result ≡ spec.shown (slice_index_or aggregates.now place Aggregate.Count)
+        (slice_index_or row.now place None) }
 {
     shown(aggregates[place], row[place])
 }
@@ -79,7 +80,9 @@ fn given_at(
     requires few_keys { count ≤ 6 }
     requires few { length aggregates.now ≤ 8 }
     ensures fits { IfSome result (Fits count (length aggregates.now)) }
-    ensures given { (e : List (Option Value) × List (Option ℤ)) → slice_get rows.now.entries place ≡ Some e → result ≡ (if spec.is_given shape count e.0 then Some (spec.row_given count aggregates.now e) else None) }
+    ensures given { (e : List (Option Value) × List (Option ℤ)) → slice_get rows.now.entries place
+        ≡ Some e → result ≡ (if spec.is_given shape count e.0 then Some
+        (spec.row_given count aggregates.now e) else None) }
 {
     match rows.get_index(place) {
         Some((key, row)) if is_given(shape, count, key) => {
@@ -100,7 +103,8 @@ pub(crate) fn rows_given(
     requires few_keys { count ≤ 6 }
     requires few { length aggregates.now ≤ 8 }
     ensures unique { IsUnique key_eq rows.now }
-    ensures given { IfOk result (λ given. given ≡ spec.rows_given shape count aggregates.now rows.now.entries) }
+    ensures given { IfOk result (λ given. given
+        ≡ spec.rows_given shape count aggregates.now rows.now.entries) }
 {
     let mut given = Gathered::with_capacity(alloc, rows.len(), count, aggregates.len())?;
     for place in 0..rows.len() {

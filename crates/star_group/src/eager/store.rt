@@ -19,12 +19,14 @@ use indexmap::IndexMap;
 use star_program::GroupDecl;
 use std::alloc::{AllocError, Global};
 
-// So many rows a put changes at most: those of a cube of six keys. Their room is reserved, so that a put into rows that are there takes no memory.
+// So many rows a put changes at most: those of a cube of six keys. Their room is reserved, so that
+// a put into rows that are there takes no memory.
 const MOST_OWN: usize = 64;
 
 // The row of all puts alone.
 fn first_rows(alloc: Global) -> Result<IndexMap<Key, Row>, AllocError>
-    ensures { IfOk result (λ rows. (q : List (Option Value)) → get key_eq rows q ≡ (if key_eq (None ∷ None ∷ None ∷ None ∷ None ∷ None ∷ []) q then Some blank else None)) }
+    ensures { IfOk result (λ rows. (q : List (Option Value)) → get key_eq rows q
+        ≡ (if key_eq (None ∷ None ∷ None ∷ None ∷ None ∷ None ∷ []) q then Some blank else None)) }
 {
     let mut rows = IndexMap::new(alloc);
     rows.insert(ALL, BLANK)?;
@@ -33,7 +35,8 @@ fn first_rows(alloc: Global) -> Result<IndexMap<Key, Row>, AllocError>
 
 // The row of all puts.
 fn all_row(rows: &IndexMap<Key, Row>) -> Option<&Row>
-    ensures { option_copied result ≡ get key_eq rows.now (None ∷ None ∷ None ∷ None ∷ None ∷ None ∷ []) }
+    ensures { option_copied result ≡ get key_eq rows.now
+        (None ∷ None ∷ None ∷ None ∷ None ∷ None ∷ []) }
 {
     rows.get(&ALL)
 }

@@ -15,7 +15,8 @@ use std::alloc::AllocError;
 #[cycle(writing)]
 pub(crate) fn push_body(out: &mut Vec<u8>, depth: u8, body: &Body) -> Result<(), AllocError>
     requires { depth + scan_depth body.now ≤ 3 }
-    ensures { OnOk result (out.new.items ≡ out.old.items ++ flat_map line_text (lines_of_code depth body.now)) }
+    ensures { OnOk result (out.new.items ≡ out.old.items
+        ++ flat_map line_text (lines_of_code depth body.now)) }
 {
     for step in body.as_slice() {
         push_step(out, depth, step)?;
@@ -26,7 +27,8 @@ pub(crate) fn push_body(out: &mut Vec<u8>, depth: u8, body: &Body) -> Result<(),
 #[cycle(writing)]
 fn push_step(out: &mut Vec<u8>, depth: u8, step: &Step) -> Result<(), AllocError>
     requires { depth + scan_depth (code_of_step step.now) ≤ 3 }
-    ensures { OnOk result (out.new.items ≡ out.old.items ++ flat_map line_text (lines_of_code depth (code_of_step step.now))) }
+    ensures { OnOk result (out.new.items ≡ out.old.items
+        ++ flat_map line_text (lines_of_code depth (code_of_step step.now))) }
 {
     match step {
         Step::Act(op) => push_op_line(out, depth, op),

@@ -20,7 +20,8 @@ pub struct OpenScan {
     pub target: u16,
 }
 
-/// What was read of a program. `scans` are the open scans, the outermost first, and `body` the steps after the line of the innermost.
+/// What was read of a program. `scans` are the open scans, the outermost first, and `body` the
+/// steps after the line of the innermost.
 #[derive(Drop)]
 pub struct Draft {
     pub registers: u16,

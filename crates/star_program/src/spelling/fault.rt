@@ -30,7 +30,8 @@ impl<T: Drop> From<AllocFailed<T>> for LineFault {
     }
 }
 
-/// Why a text is no program. Lines count from 1, blank ones too; a line that is missing at the end has the number after the last.
+/// Why a text is no program. Lines count from 1, blank ones too; a line that is missing at the end
+/// has the number after the last.
 #[derive(Clone, Copy, Debug, PartialEq, Eq)]
 pub enum TextFault {
     /// Memory was refused.

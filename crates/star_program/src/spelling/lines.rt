@@ -31,7 +31,8 @@ fn without_return(line: &[u8]) -> &[u8]
 
 /// The first line of a text, and the text after it.
 pub(crate) fn split_line(text: &[u8]) -> Option<(&[u8], &[u8])>
-    ensures line { MatchOption result (spec.lines_of text.now ≡ []) (λ parts. spec.lines_of text.now ≡ parts.0.now ∷ spec.lines_of parts.1.now) }
+    ensures line { MatchOption result (spec.lines_of text.now ≡ [])
+        (λ parts. spec.lines_of text.now ≡ parts.0.now ∷ spec.lines_of parts.1.now) }
     ensures shorter { IfSome result (λ parts. length parts.1.now < length text.now) }
 {
     if text.is_empty() {
@@ -58,7 +59,8 @@ fn word_end(line: &[u8]) -> Option<usize>
 
 /// The first word of a line, and the line after it.
 pub(crate) fn split_word(line: &[u8]) -> Option<(&[u8], &[u8])>
-    ensures word { MatchOption result (spec.words_of line.now ≡ []) (λ parts. spec.words_of line.now ≡ parts.0.now ∷ spec.words_of parts.1.now) }
+    ensures word { MatchOption result (spec.words_of line.now ≡ [])
+        (λ parts. spec.words_of line.now ≡ parts.0.now ∷ spec.words_of parts.1.now) }
     ensures shorter { IfSome result (λ parts. length parts.1.now < length line.now) }
 {
     let start = word_start(line)?;

@@ -76,7 +76,8 @@ pub(crate) fn read_table(word: &[u8]) -> Option<TableId>
 // The words up to a colon, and the line after it.
 fn read_until_colon<T: Listed>(alloc: Global, line: &[u8]) -> Result<(Items<T>, &[u8]), LineFault>
     ensures { MatchResult result
-        (λ parts. spec.until_colon T.meaning (words_of line.now) ≡ Some (parts.0, words_of parts.1.now))
+        (λ parts. spec.until_colon T.meaning (words_of line.now)
+        ≡ Some (parts.0, words_of parts.1.now))
         (λ fault. reading.IsMissed fault (spec.until_colon T.meaning (words_of line.now))) }
 {
     let mut items = Vec::new(alloc);
@@ -126,7 +127,8 @@ pub(crate) fn read_lists<A: Listed, B: Listed>(
 fn text_byte(quoted: &[u8]) -> Option<(u8, &[u8])>
     ensures byte { MatchOption result
         (spec.unquoted quoted.now ≡ (if reading.closes quoted.now then Some [] else None))
-        (λ parts. spec.unquoted quoted.now ≡ option_map (λ text. parts.0 ∷ text) (spec.unquoted parts.1.now)) }
+        (λ parts. spec.unquoted quoted.now ≡ option_map (λ text. parts.0 ∷ text)
+        (spec.unquoted parts.1.now)) }
     ensures shorter { IfSome result (λ parts. length parts.1.now < length quoted.now) }
 {
     let (byte, rest) = quoted.split_first()?;

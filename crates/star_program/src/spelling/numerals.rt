@@ -31,7 +31,8 @@ pub(crate) fn read_count(word: &[u8]) -> Option<u16>
 
 // The number below zero of this magnitude.
 fn negative(magnitude: u64) -> Option<i64>
-    ensures { result ≡ option_map (λ n. neg_ℤ (pos n)) (spec.up_to 9223372036854775808 (Some magnitude)) }
+    ensures { result ≡ option_map (λ n. neg_ℤ (pos n))
+        (spec.up_to 9223372036854775808 (Some magnitude)) }
 {
     if magnitude <= 1 << 63 {
         Some((-(magnitude as i128)) as i64)

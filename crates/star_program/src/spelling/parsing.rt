@@ -23,7 +23,8 @@ fn take_statement(
 ) -> Result<Place, TextFault>
     requires at { spec.IsAt place draft.old }
     requires filled { blank text.now ≡ false }
-    ensures { MatchResult result (λ next. spec.IsPassed place draft.old line text.now next draft.new) (λ fault. spec.IsRefused fault place line text.now) }
+    ensures { MatchResult result (λ next. spec.IsPassed place draft.old line text.now next
+        draft.new) (λ fault. spec.IsRefused fault place line text.now) }
 {
     match advance(alloc, place, line, text) {
         Ok((next, statement)) => {
@@ -43,7 +44,8 @@ fn take_line(
     text: &[u8],
 ) -> Result<Place, TextFault>
     requires { spec.IsAt place draft.old }
-    ensures { MatchResult result (λ next. spec.IsPassed place draft.old line text.now next draft.new) (λ fault. spec.IsRefused fault place line text.now) }
+    ensures { MatchResult result (λ next. spec.IsPassed place draft.old line text.now next
+        draft.new) (λ fault. spec.IsRefused fault place line text.now) }
 {
     if is_blank(text) {
         Ok(place)
@@ -54,7 +56,8 @@ fn take_line(
 
 /// What a text spells, or its first fault.
 pub(crate) fn read_parts(alloc: Global, text: &[u8]) -> Result<Parts, TextFault>
-    ensures { MatchResult result (λ parts. Spells text.now parts × IsWithinLimits parts) (λ fault. IsFirstFault text.now fault) }
+    ensures { MatchResult result (λ parts. Spells text.now parts × IsWithinLimits parts)
+        (λ fault. IsFirstFault text.now fault) }
 {
     let mut place = Place::start();
     let mut draft = Draft::new(alloc);

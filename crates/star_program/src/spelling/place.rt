@@ -18,7 +18,8 @@ use crate::spelling::reading::read_line;
 use crate::spelling::statement::Statement;
 use std::alloc::Global;
 
-/// The part of a program that a text is in: the header or the registers are still to come, or others go on.
+/// The part of a program that a text is in: the header or the registers are still to come, or
+/// others go on.
 #[derive(Clone, Copy)]
 pub enum Stage {
     Header,
@@ -29,7 +30,8 @@ pub enum Stage {
     Sorts,
 }
 
-/// Where a text stands: its part, and how many of each kind stood before. `depth` counts the open scans.
+/// Where a text stands: its part, and how many of each kind stood before. `depth` counts the open
+/// scans.
 #[derive(Clone, Copy)]
 pub struct Place {
     pub stage: Stage,
@@ -281,8 +283,10 @@ pub(crate) fn advance(
 ) -> Result<(Place, Statement), TextFault>
     requires { IsWithin place }
     ensures { MatchResult result
-        (λ (next, statement). (said text.now ≡ Some statement) × (spec.advance place line text.now ≡ Ok next))
-        (λ fault. UnlessMemory faults.OutOfMemory fault (spec.advance place line text.now ≡ Err fault)) }
+        (λ (next, statement). (said text.now ≡ Some statement)
+        × (spec.advance place line text.now ≡ Ok next))
+        (λ fault. UnlessMemory faults.OutOfMemory fault
+        (spec.advance place line text.now ≡ Err fault)) }
 {
     if place.depth > 0 && begins_report(text) {
         return Err(TextFault::OpenScan);

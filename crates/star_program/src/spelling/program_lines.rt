@@ -30,7 +30,8 @@ fn push_indent(out: &mut Vec<u8>, depth: u8) -> Result<(), AllocError>
 /// Adds the line of an instruction.
 #[tactic(auto, unfolding(crate::specs::Text::Written::line_text))]
 pub(crate) fn push_op_line(out: &mut Vec<u8>, depth: u8, op: &Op) -> Result<(), AllocError>
-    ensures { OnOk result (out.new.items ≡ out.old.items ++ spec.line_text (lines.line depth (says.Act op.now))) }
+    ensures { OnOk result (out.new.items ≡ out.old.items
+        ++ spec.line_text (lines.line depth (says.Act op.now))) }
 {
     push_indent(out, depth)?;
     push_op(out, op)?;
@@ -46,7 +47,8 @@ pub(crate) fn push_scan_line(
     table: TableId,
     target: u16,
 ) -> Result<(), AllocError>
-    ensures { OnOk result (out.new.items ≡ out.old.items ++ spec.line_text (lines.line depth (says.Scan table target))) }
+    ensures { OnOk result (out.new.items ≡ out.old.items
+        ++ spec.line_text (lines.line depth (says.Scan table target))) }
 {
     push_indent(out, depth)?;
     let text = format!(in *out.allocator(); "scan {table}")?;
@@ -59,7 +61,8 @@ pub(crate) fn push_scan_line(
 /// Adds the line that ends a scan.
 #[tactic(auto, unfolding(crate::specs::Text::Written::line_text))]
 pub(crate) fn push_end_line(out: &mut Vec<u8>, depth: u8) -> Result<(), AllocError>
-    ensures { OnOk result (out.new.items ≡ out.old.items ++ spec.line_text (lines.line depth says.End)) }
+    ensures { OnOk result (out.new.items ≡ out.old.items
+        ++ spec.line_text (lines.line depth says.End)) }
 {
     push_indent(out, depth)?;
     out.extend_from_slice(b"end\n")
@@ -67,7 +70,9 @@ pub(crate) fn push_end_line(out: &mut Vec<u8>, depth: u8) -> Result<(), AllocErr
 
 #[tactic(auto, unfolding(crate::specs::Text::Written::line_text))]
 fn push_head(out: &mut Vec<u8>, registers: u16) -> Result<(), AllocError>
-    ensures { OnOk result (out.new.items ≡ out.old.items ++ (spec.line_text (lines.line 0 says.Header) ++ spec.line_text (lines.line 0 (says.Registers registers)))) }
+    ensures { OnOk result (out.new.items ≡ out.old.items
+        ++ (spec.line_text (lines.line 0 says.Header)
+        ++ spec.line_text (lines.line 0 (says.Registers registers)))) }
 {
     let text = format!(in *out.allocator(); "star program 1\nregisters {registers}\n")?;
     out.extend_from_slice(text.as_bytes())
@@ -75,7 +80,8 @@ fn push_head(out: &mut Vec<u8>, registers: u16) -> Result<(), AllocError>
 
 #[tactic(auto, unfolding(crate::specs::Text::Written::line_text))]
 fn push_group_line(out: &mut Vec<u8>, place: u16, group: &GroupDecl) -> Result<(), AllocError>
-    ensures { OnOk result (out.new.items ≡ out.old.items ++ spec.line_text (lines.line 0 (says.Group place group.now))) }
+    ensures { OnOk result (out.new.items ≡ out.old.items
+        ++ spec.line_text (lines.line 0 (says.Group place group.now))) }
 {
     push_group(out, place, group)?;
     out.push(b'\n')?;
@@ -91,7 +97,8 @@ fn group_at(groups: &[GroupDecl], place: usize) -> &GroupDecl
 
 fn push_groups(out: &mut Vec<u8>, groups: &[GroupDecl]) -> Result<(), AllocError>
     requires { length groups.now ≤ 8 }
-    ensures { OnOk result (out.new.items ≡ out.old.items ++ flat_map spec.line_text (lines.group_lines 0 groups.now)) }
+    ensures { OnOk result (out.new.items ≡ out.old.items
+        ++ flat_map spec.line_text (lines.group_lines 0 groups.now)) }
 {
     for place in 0..groups.len() {
         push_group_line(out, place as u16, group_at(groups, place))?;
@@ -101,7 +108,8 @@ fn push_groups(out: &mut Vec<u8>, groups: &[GroupDecl]) -> Result<(), AllocError
 
 #[tactic(auto, unfolding(crate::specs::Text::Written::line_text))]
 fn push_report(out: &mut Vec<u8>, group: u16) -> Result<(), AllocError>
-    ensures { OnOk result (out.new.items ≡ out.old.items ++ spec.line_text (lines.line 0 (says.Report group))) }
+    ensures { OnOk result (out.new.items ≡ out.old.items
+        ++ spec.line_text (lines.line 0 (says.Report group))) }
 {
     let text = format!(in *out.allocator(); "report {group}\n")?;
     out.extend_from_slice(text.as_bytes())
@@ -109,7 +117,8 @@ fn push_report(out: &mut Vec<u8>, group: u16) -> Result<(), AllocError>
 
 #[tactic(auto, unfolding(crate::specs::Text::Written::line_text))]
 fn push_show_line(out: &mut Vec<u8>, show: &Show) -> Result<(), AllocError>
-    ensures { OnOk result (out.new.items ≡ out.old.items ++ spec.line_text (lines.show_line show.now)) }
+    ensures { OnOk result (out.new.items ≡ out.old.items
+        ++ spec.line_text (lines.show_line show.now)) }
 {
     push_show(out, show)?;
     out.push(b'\n')?;
@@ -117,7 +126,8 @@ fn push_show_line(out: &mut Vec<u8>, show: &Show) -> Result<(), AllocError>
 }
 
 fn push_shows(out: &mut Vec<u8>, shows: &[Show]) -> Result<(), AllocError>
-    ensures { OnOk result (out.new.items ≡ out.old.items ++ flat_map (λ show. spec.line_text (lines.show_line show)) shows.now) }
+    ensures { OnOk result (out.new.items ≡ out.old.items
+        ++ flat_map (λ show. spec.line_text (lines.show_line show)) shows.now) }
 {
     for show in shows {
         push_show_line(out, show)?;
@@ -135,7 +145,8 @@ fn push_sort_line(out: &mut Vec<u8>, key: SortKey) -> Result<(), AllocError>
 }
 
 fn push_sorts(out: &mut Vec<u8>, sorts: &[SortKey]) -> Result<(), AllocError>
-    ensures { OnOk result (out.new.items ≡ out.old.items ++ flat_map (λ key. spec.line_text (lines.sort_line key)) sorts.now) }
+    ensures { OnOk result (out.new.items ≡ out.old.items
+        ++ flat_map (λ key. spec.line_text (lines.sort_line key)) sorts.now) }
 {
     for key in sorts {
         push_sort_line(out, *key)?;

@@ -63,7 +63,8 @@ fn two_registers(line: &[u8]) -> Option<(u16, u16)>
 }
 
 fn three_registers(line: &[u8]) -> Option<(u16, (u16, u16))>
-    ensures { result ≡ spec.three numerals.register_of numerals.register_of numerals.register_of (words_of line.now) }
+    ensures { result ≡ spec.three numerals.register_of numerals.register_of numerals.register_of
+        (words_of line.now) }
 {
     let (first, rest) = split_word(line)?;
     Some((read_register(first)?, two_registers(rest)?))
@@ -91,35 +92,40 @@ fn count_and_constant(line: &[u8]) -> Option<(u16, i64)>
 }
 
 fn two_counts_and_constant(line: &[u8]) -> Option<(u16, (u16, i64))>
-    ensures { result ≡ spec.three numerals.count_of numerals.count_of numerals.constant_of (words_of line.now) }
+    ensures { result ≡ spec.three numerals.count_of numerals.count_of numerals.constant_of
+        (words_of line.now) }
 {
     let (first, rest) = split_word(line)?;
     Some((read_count(first)?, count_and_constant(rest)?))
 }
 
 fn constant(operands: &[u8]) -> Option<Operation>
-    ensures { result ≡ option_map operation.Const (spec.one numerals.constant_of (words_of operands.now)) }
+    ensures { result ≡ option_map operation.Const
+        (spec.one numerals.constant_of (words_of operands.now)) }
 {
     let number = one_constant(operands)?;
     Some(Operation::Const { number })
 }
 
 fn load(operands: &[u8]) -> Option<Operation>
-    ensures { result ≡ option_map (λ (c, row). operation.Load c row) (spec.two words.column_of numerals.register_of (words_of operands.now)) }
+    ensures { result ≡ option_map (λ (c, row). operation.Load c row)
+        (spec.two words.column_of numerals.register_of (words_of operands.now)) }
 {
     let (column, row) = column_and_register(operands)?;
     Some(Operation::Load { column, row })
 }
 
 fn find(operands: &[u8]) -> Option<Operation>
-    ensures { result ≡ option_map (λ (table, k). operation.Find table k) (spec.two words.table_of numerals.register_of (words_of operands.now)) }
+    ensures { result ≡ option_map (λ (table, k). operation.Find table k)
+        (spec.two words.table_of numerals.register_of (words_of operands.now)) }
 {
     let (table, key) = table_and_register(operands)?;
     Some(Operation::Find { table, key })
 }
 
 fn binary(operator: Operator, operands: &[u8]) -> Option<Operation>
-    ensures { result ≡ option_map (λ (a, b). operation.Binary operator a b) (spec.two numerals.register_of numerals.register_of (words_of operands.now)) }
+    ensures { result ≡ option_map (λ (a, b). operation.Binary operator a b)
+        (spec.two numerals.register_of numerals.register_of (words_of operands.now)) }
 {
     let (left, right) = two_registers(operands)?;
     Some(Operation::Binary {
@@ -130,21 +136,26 @@ fn binary(operator: Operator, operands: &[u8]) -> Option<Operation>
 }
 
 fn within(operands: &[u8]) -> Option<Operation>
-    ensures { result ≡ option_map (λ (x, (a, b)). operation.Within x a b) (spec.three numerals.register_of numerals.register_of numerals.register_of (words_of operands.now)) }
+    ensures { result ≡ option_map (λ (x, (a, b)). operation.Within x a b)
+        (spec.three numerals.register_of numerals.register_of numerals.register_of
+        (words_of operands.now)) }
 {
     let (value, (from, below)) = three_registers(operands)?;
     Some(Operation::Within { value, from, below })
 }
 
 fn not(operands: &[u8]) -> Option<Operation>
-    ensures { result ≡ option_map operation.Not (spec.one numerals.register_of (words_of operands.now)) }
+    ensures { result ≡ option_map operation.Not
+        (spec.one numerals.register_of (words_of operands.now)) }
 {
     let flag = one_register(operands)?;
     Some(Operation::Not { flag })
 }
 
 fn read(operands: &[u8]) -> Option<Operation>
-    ensures { result ≡ option_map (λ (g, (a, n)). operation.Read g a n) (spec.three numerals.count_of numerals.count_of numerals.constant_of (words_of operands.now)) }
+    ensures { result ≡ option_map (λ (g, (a, n)). operation.Read g a n)
+        (spec.three numerals.count_of numerals.count_of numerals.constant_of
+        (words_of operands.now)) }
 {
     let (group, (aggregate, default)) = two_counts_and_constant(operands)?;
     Some(Operation::Read {
@@ -165,7 +176,8 @@ fn readable<T>(option: Option<T>) -> Result<T, LineFault>
 }
 
 fn read_first(line: &[u8]) -> Result<(&[u8], &[u8]), LineFault>
-    ensures { MatchResult result (λ parts. words_of line.now ≡ parts.0.now ∷ words_of parts.1.now) (λ fault. (fault ≡ LineFault.Unreadable) × (words_of line.now ≡ [])) }
+    ensures { MatchResult result (λ parts. words_of line.now ≡ parts.0.now ∷ words_of parts.1.now)
+        (λ fault. (fault ≡ LineFault.Unreadable) × (words_of line.now ≡ [])) }
 {
     match split_word(line) {
         Some(parts) => Ok(parts),
@@ -184,7 +196,8 @@ fn column_and_text(alloc: Global, line: &[u8]) -> Result<(ColumnId, Text), LineF
 }
 
 fn read_edge(alloc: Global, edge: Edge, operands: &[u8]) -> Result<Operation, LineFault>
-    ensures { Reads result (option_map (λ (c, text). operation.Edge edge c text) (spec.two words.column_of spec.quoted_text_of (words_of operands.now))) }
+    ensures { Reads result (option_map (λ (c, text). operation.Edge edge c text)
+        (spec.two words.column_of spec.quoted_text_of (words_of operands.now))) }
 {
     let (column, text) = column_and_text(alloc, operands)?;
     Ok(Operation::Edge { edge, column, text })
@@ -226,7 +239,8 @@ fn read_assigned(alloc: Global, target: u16, line: &[u8]) -> Result<Op, LineFaul
 
 // The number of a group, its shape, and the line after them.
 fn group_head(line: &[u8]) -> Option<(u16, (Shape, &[u8]))>
-    ensures { option_map (λ head. (head.0, (head.1.0, words_of head.1.1.now))) result ≡ spec.group_head (words_of line.now) }
+    ensures { option_map (λ head. (head.0, (head.1.0, words_of head.1.1.now))) result
+        ≡ spec.group_head (words_of line.now) }
 {
     let (place, rest) = split_word(line)?;
     let (shape, rest) = split_word(rest)?;
@@ -248,7 +262,8 @@ fn read_group(alloc: Global, line: &[u8]) -> Result<Statement, LineFault>
 
 // The number of a group, and the line after it.
 fn put_head(line: &[u8]) -> Option<(u16, &[u8])>
-    ensures { option_map (λ head. (head.0, words_of head.1.now)) result ≡ spec.put_head (words_of line.now) }
+    ensures { option_map (λ head. (head.0, words_of head.1.now)) result
+        ≡ spec.put_head (words_of line.now) }
 {
     let (group, rest) = split_word(line)?;
     Some((read_count(group)?, rest))
@@ -303,14 +318,16 @@ fn read_name(word: &[u8]) -> Option<&[u8]>
 }
 
 fn place_column(word: &[u8], line: &[u8]) -> Option<GroupColumn>
-    ensures { result ≡ option_and_then (spec.group_column_of word.now) (spec.only (words_of line.now)) }
+    ensures { result ≡ option_and_then (spec.group_column_of word.now)
+        (spec.only (words_of line.now)) }
 {
     read_group_column(word, only_word(line)?)
 }
 
 // A name and what it shows.
 fn show_parts(line: &[u8]) -> Option<(&[u8], GroupColumn)>
-    ensures { option_map (λ parts. record { name = parts.0.now; column = parts.1 }) result ≡ spec.show_of (words_of line.now) }
+    ensures { option_map (λ parts. record { name = parts.0.now; column = parts.1 }) result
+        ≡ spec.show_of (words_of line.now) }
 {
     let (word, rest) = split_word(line)?;
     let (kind, rest) = split_word(rest)?;
@@ -327,7 +344,8 @@ fn read_show(alloc: Global, line: &[u8]) -> Result<Show, LineFault>
 }
 
 fn is_version(line: &[u8]) -> Option<Statement>
-    ensures { result ≡ option_and_then (λ version. if words.same version (codes "1") then Some says.Header else None) (spec.only (words_of line.now)) }
+    ensures { result ≡ option_and_then (λ version. if words.same version
+        (codes "1") then Some says.Header else None) (spec.only (words_of line.now)) }
 {
     if only_word(line)? == "1".as_bytes() {
         Some(Statement::Header)
@@ -369,14 +387,16 @@ fn read_report(line: &[u8]) -> Option<Statement>
 }
 
 fn read_keep(line: &[u8]) -> Option<Statement>
-    ensures { result ≡ option_map (λ f. says.Act (op.Keep f)) (spec.one numerals.register_of (words_of line.now)) }
+    ensures { result ≡ option_map (λ f. says.Act (op.Keep f))
+        (spec.one numerals.register_of (words_of line.now)) }
 {
     let flag = one_register(line)?;
     Some(Statement::Act(Op::Keep { flag }))
 }
 
 fn read_scan(line: &[u8]) -> Option<Statement>
-    ensures { result ≡ option_map (λ (table, t). says.Scan table t) (spec.two words.table_of numerals.register_of (words_of line.now)) }
+    ensures { result ≡ option_map (λ (table, t). says.Scan table t)
+        (spec.two words.table_of numerals.register_of (words_of line.now)) }
 {
     let (table, target) = table_and_register(line)?;
     Some(Statement::Scan { table, target })

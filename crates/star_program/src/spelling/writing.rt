@@ -25,7 +25,8 @@ pub(crate) fn push_register(out: &mut Vec<u8>, register: u16) -> Result<(), Allo
 }
 
 fn push_registers(out: &mut Vec<u8>, registers: &[u16]) -> Result<(), AllocError>
-    ensures { OnOk result (out.new.items ≡ out.old.items ++ flat_map spec.register_text registers.now) }
+    ensures { OnOk result (out.new.items ≡ out.old.items
+        ++ flat_map spec.register_text registers.now) }
 {
     for register in registers {
         push_register(out, *register)?;
@@ -50,7 +51,9 @@ fn push_binary(
     left: u16,
     right: u16,
 ) -> Result<(), AllocError>
-    ensures { OnOk result (out.new.items ≡ out.old.items ++ (spec.target_text target (mnemonic.Binary operator) ++ (spec.register_text left ++ spec.register_text right))) }
+    ensures { OnOk result (out.new.items ≡ out.old.items
+        ++ (spec.target_text target (mnemonic.Binary operator)
+        ++ (spec.register_text left ++ spec.register_text right))) }
 {
     push_target(out, target, Mnemonic::Binary(operator))?;
     push_register(out, left)?;
@@ -72,7 +75,9 @@ fn push_edge(
     column: ColumnId,
     text: &[u8],
 ) -> Result<(), AllocError>
-    ensures { OnOk result (out.new.items ≡ out.old.items ++ (spec.target_text target (mnemonic.Edge edge) ++ (codes " " ++ (column_name column ++ (codes " " ++ quoted text.now))))) }
+    ensures { OnOk result (out.new.items ≡ out.old.items
+        ++ (spec.target_text target (mnemonic.Edge edge)
+        ++ (codes " " ++ (column_name column ++ (codes " " ++ quoted text.now))))) }
 {
     push_target(out, target, Mnemonic::Edge(edge))?;
     push_column(out, column)?;
@@ -82,7 +87,8 @@ fn push_edge(
 
 // Adds a constant.
 fn push_constant(out: &mut Vec<u8>, target: u16, number: i64) -> Result<(), AllocError>
-    ensures { OnOk result (out.new.items ≡ out.old.items ++ (spec.target_text target mnemonic.Const ++ (codes " " ++ signed_decimal number))) }
+    ensures { OnOk result (out.new.items ≡ out.old.items
+        ++ (spec.target_text target mnemonic.Const ++ (codes " " ++ signed_decimal number))) }
 {
     push_target(out, target, Mnemonic::Const)?;
     let text = format!(in *out.allocator(); " {number}")?;
@@ -97,7 +103,10 @@ fn push_read(
     aggregate: u16,
     default: i64,
 ) -> Result<(), AllocError>
-    ensures { OnOk result (out.new.items ≡ out.old.items ++ (spec.target_text target mnemonic.Read ++ (codes " " ++ (decimal group ++ (codes " " ++ (decimal aggregate ++ (codes " " ++ signed_decimal default))))))) }
+    ensures { OnOk result (out.new.items ≡ out.old.items
+        ++ (spec.target_text target mnemonic.Read
+        ++ (codes " " ++ (decimal group ++ (codes " "
+        ++ (decimal aggregate ++ (codes " " ++ signed_decimal default))))))) }
 {
     push_target(out, target, Mnemonic::Read)?;
     let text = format!(in *out.allocator(); " {group} {aggregate} {default}")?;
@@ -106,7 +115,9 @@ fn push_read(
 
 // Adds a look-up of a row.
 fn push_find(out: &mut Vec<u8>, target: u16, table: TableId, key: u16) -> Result<(), AllocError>
-    ensures { OnOk result (out.new.items ≡ out.old.items ++ (spec.target_text target mnemonic.Find ++ (codes " " ++ (table_name table ++ spec.register_text key)))) }
+    ensures { OnOk result (out.new.items ≡ out.old.items
+        ++ (spec.target_text target mnemonic.Find
+        ++ (codes " " ++ (table_name table ++ spec.register_text key)))) }
 {
     push_target(out, target, Mnemonic::Find)?;
     let text = format!(in *out.allocator(); " {table}")?;
@@ -116,7 +127,10 @@ fn push_find(out: &mut Vec<u8>, target: u16, table: TableId, key: u16) -> Result
 
 // Adds an update of a group.
 fn push_put(out: &mut Vec<u8>, group: u16, keys: &[u16], values: &[u16]) -> Result<(), AllocError>
-    ensures { OnOk result (out.new.items ≡ out.old.items ++ (codes "put " ++ (decimal group ++ (flat_map spec.register_text keys.now ++ (codes " :" ++ flat_map spec.register_text values.now))))) }
+    ensures { OnOk result (out.new.items ≡ out.old.items
+        ++ (codes "put " ++ (decimal group ++
+        (flat_map spec.register_text keys.now
+        ++ (codes " :" ++ flat_map spec.register_text values.now))))) }
 {
     let text = format!(in *out.allocator(); "put {group}")?;
     out.extend_from_slice(text.as_bytes())?;
@@ -126,7 +140,9 @@ fn push_put(out: &mut Vec<u8>, group: u16, keys: &[u16], values: &[u16]) -> Resu
 }
 
 fn push_load(out: &mut Vec<u8>, target: u16, column: ColumnId, row: u16) -> Result<(), AllocError>
-    ensures { OnOk result (out.new.items ≡ out.old.items ++ (spec.target_text target mnemonic.Load ++ (codes " " ++ (column_name column ++ spec.register_text row)))) }
+    ensures { OnOk result (out.new.items ≡ out.old.items
+        ++ (spec.target_text target mnemonic.Load
+        ++ (codes " " ++ (column_name column ++ spec.register_text row)))) }
 {
     push_target(out, target, Mnemonic::Load)?;
     push_column(out, column)?;
@@ -140,7 +156,9 @@ fn push_within(
     from: u16,
     below: u16,
 ) -> Result<(), AllocError>
-    ensures { OnOk result (out.new.items ≡ out.old.items ++ (spec.target_text target mnemonic.Within ++ (spec.register_text value ++ (spec.register_text from ++ spec.register_text below)))) }
+    ensures { OnOk result (out.new.items ≡ out.old.items
+        ++ (spec.target_text target mnemonic.Within
+        ++ (spec.register_text value ++ (spec.register_text from ++ spec.register_text below)))) }
 {
     push_target(out, target, Mnemonic::Within)?;
     push_register(out, value)?;
@@ -149,14 +167,16 @@ fn push_within(
 }
 
 fn push_not(out: &mut Vec<u8>, target: u16, flag: u16) -> Result<(), AllocError>
-    ensures { OnOk result (out.new.items ≡ out.old.items ++ (spec.target_text target mnemonic.Not ++ spec.register_text flag)) }
+    ensures { OnOk result (out.new.items ≡ out.old.items
+        ++ (spec.target_text target mnemonic.Not ++ spec.register_text flag)) }
 {
     push_target(out, target, Mnemonic::Not)?;
     push_register(out, flag)
 }
 
 fn push_keep(out: &mut Vec<u8>, flag: u16) -> Result<(), AllocError>
-    ensures { OnOk result (out.new.items ≡ out.old.items ++ (codes "keep" ++ spec.register_text flag)) }
+    ensures { OnOk result (out.new.items ≡ out.old.items
+        ++ (codes "keep" ++ spec.register_text flag)) }
 {
     out.extend_from_slice(b"keep")?;
     push_register(out, flag)
@@ -234,7 +254,8 @@ fn push_aggregate(out: &mut Vec<u8>, aggregate: Aggregate) -> Result<(), AllocEr
 }
 
 fn push_aggregates(out: &mut Vec<u8>, aggregates: &[Aggregate]) -> Result<(), AllocError>
-    ensures { OnOk result (out.new.items ≡ out.old.items ++ flat_map spec.aggregate_text aggregates.now) }
+    ensures { OnOk result (out.new.items ≡ out.old.items
+        ++ flat_map spec.aggregate_text aggregates.now) }
 {
     for aggregate in aggregates {
         push_aggregate(out, *aggregate)?;
