@@ -30,3 +30,5 @@ mod tables;
 mod trials;
 #[cfg(test)]
 mod verified;
+#[cfg(test)]
+mod writing;
