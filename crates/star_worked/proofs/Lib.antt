@@ -12,3 +12,7 @@ mod Words
 mod Trees
 mod Faults
 mod FaultWords
+mod LoadFaults
+mod LoadTexts
+mod Numerals
+mod RawTables
