@@ -1,13 +1,11 @@
 // Programs that are checked and then run: worked reports with their notes, each kind of refusal with
-// its place, limits at and one below what is quoted, and sinks that fail.
+// its place, and limits at and one below what is quoted.
 
-use crate::tables::dear_lines;
 use star_engine::{EngineFault, Texts, answer_program, quote_text, sample};
 use star_fixtures::programs::{
     ABOVE_AVERAGE, ABSENT_KEY, DISCOUNTED_REVENUE, MISPLACED, NESTED, NO_TEXTS, READ_INSIDE, UNSET,
     counting,
 };
-use star_fixtures::streams::Short;
 use star_schema::{Limits, MOST_ROWS, MOST_VISITS, Out};
 use std::alloc::{AllocError, Global};
 use std::test::Fail;
@@ -17,7 +15,7 @@ const ROOM: usize = 4096;
 
 // A program, a bound on visits, and what it prints: its report, and its notes with the line of its
 // fault, if it has one.
-type Case = (&'static str, u64, &'static str, &'static str);
+pub(crate) type Case = (&'static str, u64, &'static str, &'static str);
 
 // The report of a program; and its notes, with its fault line behind them.
 #[derive(Drop)]
@@ -86,7 +84,7 @@ fn executed(
     Printed::of(alloc, report, notes, answer)
 }
 
-fn all_agree(alloc: Global, texts: &Texts<'_>, cases: &[Case]) -> Result<(), Fail> {
+pub(crate) fn all_agree(alloc: Global, texts: &Texts<'_>, cases: &[Case]) -> Result<(), Fail> {
     for (program, visits, report, notes) in cases {
         executed(alloc, texts, program, *visits)?.agree(report, notes)?;
     }
@@ -383,136 +381,6 @@ fn tells_refusals_of_reports(rt: HostRuntime) -> Result<(), Fail> {
     Ok(())
 }
 
-// The sum of the prices of the first line of an order.
-const FIRST_PRICES: &str = concat!(
-    "star program 1\nregisters 5\ngroup 0 plain : sum\nscan lineorder r0\n",
-    "r1 = load lo_linenumber r0\nr2 = const 1\nr3 = eq r1 r2\nkeep r3\n",
-    "r4 = load lo_extendedprice r0\nput 0 : r4\nend\n",
-    "report 0\nshow s aggregate 0\n",
-);
-
-// Twice by how much a sum of prices is below 9,000,000,000,000,000,000.
-const BELOW_NINE: &str = concat!(
-    "star program 1\nregisters 10\ngroup 0 plain : sum\ngroup 1 plain : max\n",
-    "scan lineorder r0\nr1 = load lo_linenumber r0\nr2 = const 1\nr3 = eq r1 r2\nkeep r3\n",
-    "r4 = load lo_extendedprice r0\nput 0 : r4\nend\n",
-    "r5 = read 0 0 0\nr6 = const 9000000000000000000\nr7 = sub r5 r6\nr8 = const 2\nr9 = mul r7 r8\nput 1 : r9\n",
-    "report 1\nshow m aggregate 0\n",
-);
-
-// The sum of the squares of prices.
-const SQUARES: &str = concat!(
-    "star program 1\nregisters 3\ngroup 0 plain : sum\nscan lineorder r0\n",
-    "r1 = load lo_extendedprice r0\nr2 = mul r1 r1\nput 0 : r2\nend\n",
-    "report 0\nshow s aggregate 0\n",
-);
-
-// The greatest of the prices times quantities, and of a price less a discount, loaded out of order.
-const TWO_COLUMNS: &str = concat!(
-    "star program 1\nregisters 5\ngroup 0 plain : max\nscan lineorder r0\n",
-    "r1 = load lo_discount r0\nr2 = load lo_extendedprice r0\nr3 = sub r1 r2\nr4 = mul r3 r2\n",
-    "put 0 : r4\nend\n",
-    "report 0\nshow m aggregate 0\n",
-);
-
-const OF_TEN_DEAR_LINES: &[Case] = &[
-    (
-        FIRST_PRICES,
-        10,
-        "s\n900000000000000000\n",
-        "quote 10\nvisits 10 lookups 0 updates 1\n",
-    ),
-    (
-        BELOW_NINE,
-        10,
-        "",
-        "quote 10\nrefused 69 Overflow at 12: -18000000000000000000..0\n",
-    ),
-    (
-        TWO_COLUMNS,
-        10,
-        "",
-        concat!(
-            "quote 10\nrefused 69 Overflow at 5: ",
-            "-809999999999999998200000000000000000..-809999999999999998200000000000000000",
-            " from lo_extendedprice 900000000000000000..900000000000000000, lo_discount 2..2\n",
-        ),
-    ),
-];
-
-const OF_ELEVEN_DEAR_LINES: &[Case] = &[
-    (
-        FIRST_PRICES,
-        11,
-        "",
-        concat!(
-            "quote 11\nrefused 69 Overflow at 7: 0..9900000000000000000",
-            " from lo_extendedprice 900000000000000000..900000000000000000\n",
-        ),
-    ),
-    (
-        BELOW_NINE,
-        11,
-        "",
-        concat!(
-            "quote 11\nrefused 69 Overflow at 7: 0..9900000000000000000",
-            " from lo_extendedprice 900000000000000000..900000000000000000\n",
-        ),
-    ),
-];
-
-fn dear_agree(alloc: Global, count: u64, cases: &[Case]) -> Result<(), Fail> {
-    let lines = dear_lines(alloc, count)?;
-    let dear = Texts {
-        lineorder: lines.as_bytes(),
-        ..sample()
-    };
-    all_agree(alloc, &dear, cases)
-}
-
-// The sample's orders, one of them with the greatest price.
-const GREAT_PRICE: &str = concat!(
-    "1|1|1|1|2|19930210|2-HIGH|0|10|1000|3000|2|980|600|2|19940105|MAIL|\n",
-    "1|2|1|2|1|19930210|2-HIGH|0|30|2000|3000|3|1940|1200|0|19940105|RAIL|\n",
-    "2|1|2|1|2|19940105|5-LOW|0|24|500|500|1|495|700|4|19940105|SHIP|\n",
-    "3|1|3|3|2|19971215|1-URGENT|0|50|999999999999999999|3700|0|3000|1000|8|19971215|TRUCK|\n",
-    "3|2|1|2|1|19971215|1-URGENT|0|1|700|3700|10|630|100|1|19971215|AIR|\n",
-);
-
-const OF_A_GREAT_PRICE: &[Case] = &[(
-    SQUARES,
-    5,
-    "",
-    concat!(
-        "quote 5\nrefused 69 Overflow at 3: 250000..999999999999999998000000000000000001",
-        " from lo_extendedprice 500..999999999999999999\n",
-    ),
-)];
-
-#[test]
-fn tells_ranges_that_leave_64_bits(rt: HostRuntime) -> Result<(), Fail> {
-    dear_agree(rt.alloc(), 10, OF_TEN_DEAR_LINES)?;
-    dear_agree(rt.alloc(), 11, OF_ELEVEN_DEAR_LINES)?;
-    let great = Texts {
-        lineorder: GREAT_PRICE.as_bytes(),
-        ..sample()
-    };
-    all_agree(rt.alloc(), &great, OF_A_GREAT_PRICE)
-}
-
-// Counts the triples of lines.
-const TRIPLES: &str = concat!(
-    "star program 1\nregisters 3\ngroup 0 plain : count\n",
-    "scan lineorder r0\nscan lineorder r1\nscan lineorder r2\nput 0 :\nend\nend\nend\n",
-    "report 0\nshow n aggregate 0\n",
-);
-
-#[test]
-fn refuses_too_many_triples_before_any_is_visited(rt: HostRuntime) -> Result<(), Fail> {
-    let refused = "quote 1000040000600003\nrefused 71 TooCostly visits 1000040000600003\n";
-    dear_agree(rt.alloc(), 100_001, &[(TRIPLES, MOST_VISITS, "", refused)])
-}
-
 // The file decides before the tables, and no note is written of what is no program or not loaded.
 const UNREAD: &[(&str, &str, &str)] = &[
     ("star program 2\n", "x", "program 50 BadHeader\n"),
@@ -599,95 +467,5 @@ fn quotes_without_a_check(rt: HostRuntime) -> Result<(), Fail> {
     for (file, report, line) in QUOTED {
         quoted(rt.alloc(), &sample(), file, 0)?.agree(report, line)?;
     }
-    Ok(())
-}
-
-// How many bytes are told as sent: none where there is no fault.
-fn sent_of(answer: Result<(), EngineFault>) -> Result<Option<u64>, Fail> {
-    match answer {
-        Ok(()) => Ok(None),
-        Err(EngineFault::Write { sent }) => Ok(Some(sent)),
-        Err(EngineFault::OutOfMemory) => Err(Fail::from(AllocError)),
-        Err(fault) => Err(Fail::from(format_args!("{fault}"))),
-    }
-}
-
-const REPORT: &str = "n\n2\n";
-
-const NOTES: &str = "quote 10\nvisits 10 lookups 0 updates 7\n";
-
-// Whether a program whose report and notes are taken up to so many bytes leaves just these bytes, and
-// tells so many as sent.
-fn leaves(
-    alloc: Global,
-    room: usize,
-    noted: usize,
-    report: usize,
-    notes: usize,
-    sent: Option<u64>,
-) -> Result<bool, Fail> {
-    let mut out = Short::with_room(alloc, room, 3)?;
-    let mut err = Short::with_room(alloc, noted, 2)?;
-    let answer = answer_program(
-        alloc,
-        &sample(),
-        ABOVE_AVERAGE.as_bytes(),
-        Limits::widest(),
-        &mut Out::new(&mut out),
-        &mut Out::new(&mut err),
-    );
-    Ok(
-        sent_of(answer)? == sent
-            && REPORT.as_bytes().get(..report) == Some(out.taken.as_slice())
-            && NOTES.as_bytes().get(..notes) == Some(err.taken.as_slice()),
-    )
-}
-
-// Notes that fail at each of their bytes: at the first line nothing was sent, and at the last the
-// whole report.
-#[test]
-fn tells_notes_that_fail(rt: HostRuntime) -> Result<(), Fail> {
-    for noted in 0..NOTES.len() + 1 {
-        let (report, sent) = match noted {
-            0..9 => (0, Some(0)),
-            9..39 => (4, Some(4)),
-            _ => (4, None),
-        };
-        assert!(rt;
-            leaves(rt.alloc(), 10, noted, report, noted, sent)?,
-            "{noted}"
-        );
-    }
-    Ok(())
-}
-
-// A report that fails at each of its bytes: no last note is written.
-#[test]
-fn tells_reports_that_fail(rt: HostRuntime) -> Result<(), Fail> {
-    for room in 0..REPORT.len() {
-        let sent = Some(room as u64);
-        assert!(rt; leaves(rt.alloc(), room, 100, room, 9, sent)?, "{room}");
-    }
-    Ok(())
-}
-
-fn quote_sends(alloc: Global, room: usize, sent: Option<u64>) -> Result<bool, Fail> {
-    let mut out = Short::with_room(alloc, room, 1)?;
-    let answer = quote_text(
-        alloc,
-        &sample(),
-        ABOVE_AVERAGE.as_bytes(),
-        Limits::widest(),
-        &mut Out::new(&mut out),
-    );
-    Ok(sent_of(answer)? == sent && b"quote 10\n".get(..room) == Some(out.taken.as_slice()))
-}
-
-#[test]
-fn tells_quotes_that_fail(rt: HostRuntime) -> Result<(), Fail> {
-    for room in 0..9usize {
-        assert!(rt; quote_sends(rt.alloc(), room, Some(room as u64))?, "{room}");
-    }
-    assert!(rt; quote_sends(rt.alloc(), 9, None)?);
     Ok(())
 }

@@ -13,7 +13,11 @@ mod faults;
 #[cfg(test)]
 mod printed;
 #[cfg(test)]
+mod ranges;
+#[cfg(test)]
 mod reading;
+#[cfg(test)]
+mod sent;
 #[cfg(test)]
 mod sinks;
 #[cfg(test)]

@@ -2,6 +2,7 @@
 
 use crate::printed::{AMPLE, Printed, Room, answered, explained, quoted};
 use star_engine::{BenchmarkQuery, sample};
+use star_fixtures::programs::DISCOUNTED_REVENUE;
 use star_schema::Limits;
 use std::alloc::{AllocError, Global};
 use std::test::Fail;
@@ -84,35 +85,6 @@ fn reports_of_groups_are_told(rt: HostRuntime) -> Result<(), Fail> {
     Ok(())
 }
 
-// The program of the first query of the benchmark.
-const PROGRAM: &str = concat!(
-    "star program 1\n",
-    "registers 15\n",
-    "group 0 plain : sum\n",
-    "scan lineorder r0\n",
-    "  r1 = load lo_orderdate r0\n",
-    "  r2 = find date r1\n",
-    "  r3 = load d_year r2\n",
-    "  r4 = const 1993\n",
-    "  r5 = eq r3 r4\n",
-    "  keep r5\n",
-    "  r6 = load lo_discount r0\n",
-    "  r7 = const 1\n",
-    "  r8 = const 4\n",
-    "  r9 = within r6 r7 r8\n",
-    "  keep r9\n",
-    "  r10 = load lo_quantity r0\n",
-    "  r11 = const 25\n",
-    "  r12 = lt r10 r11\n",
-    "  keep r12\n",
-    "  r13 = load lo_extendedprice r0\n",
-    "  r14 = mul r13 r6\n",
-    "  put 0 : r14\n",
-    "end\n",
-    "report 0\n",
-    "show revenue aggregate 0\n",
-);
-
 // The line of a fault after so many bytes: none, where these are all.
 fn write_fault(alloc: Global, count: usize, whole: &str) -> Result<String, AllocError> {
     if count < whole.len() {
@@ -125,10 +97,10 @@ fn write_fault(alloc: Global, count: usize, whole: &str) -> Result<String, Alloc
 #[test]
 fn programs_and_quotes_are_written(rt: HostRuntime) -> Result<(), Fail> {
     let query = BenchmarkQuery::Q11.text().as_bytes();
-    for count in 0..PROGRAM.len() + 1 {
-        let fault = write_fault(rt.alloc(), count, PROGRAM)?;
+    for count in 0..DISCOUNTED_REVENUE.len() + 1 {
+        let fault = write_fault(rt.alloc(), count, DISCOUNTED_REVENUE)?;
         explained(rt.alloc(), query, count)?.agree(
-            first_bytes(PROGRAM, count)?,
+            first_bytes(DISCOUNTED_REVENUE, count)?,
             b"",
             fault.as_str(),
         )?;

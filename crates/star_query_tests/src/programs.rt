@@ -1,6 +1,7 @@
 // The programs of queries, as their texts.
 
 use star_compile::compile;
+use star_fixtures::programs::DISCOUNTED_REVENUE;
 use star_plan::plan;
 use star_query::Query;
 use std::alloc::Global;
@@ -17,33 +18,7 @@ fn program_of(alloc: Global, text: &str) -> Result<Vec<u8>, Fail> {
 const PROGRAMS: [(&str, &str); 2] = [
     (
         "select sum(lo_extendedprice*lo_discount) as revenue from lineorder, date where lo_orderdate = d_datekey and d_year = 1993 and lo_discount between 1 and 3 and lo_quantity < 25;",
-        concat!(
-            "star program 1\n",
-            "registers 15\n",
-            "group 0 plain : sum\n",
-            "scan lineorder r0\n",
-            "  r1 = load lo_orderdate r0\n",
-            "  r2 = find date r1\n",
-            "  r3 = load d_year r2\n",
-            "  r4 = const 1993\n",
-            "  r5 = eq r3 r4\n",
-            "  keep r5\n",
-            "  r6 = load lo_discount r0\n",
-            "  r7 = const 1\n",
-            "  r8 = const 4\n",
-            "  r9 = within r6 r7 r8\n",
-            "  keep r9\n",
-            "  r10 = load lo_quantity r0\n",
-            "  r11 = const 25\n",
-            "  r12 = lt r10 r11\n",
-            "  keep r12\n",
-            "  r13 = load lo_extendedprice r0\n",
-            "  r14 = mul r13 r6\n",
-            "  put 0 : r14\n",
-            "end\n",
-            "report 0\n",
-            "show revenue aggregate 0\n",
-        ),
+        DISCOUNTED_REVENUE,
     ),
     (
         "select count(*), max(lo_revenue - lo_supplycost) as most, c_nation from lineorder, customer, supplier where lo_custkey = c_custkey and lo_suppkey = s_suppkey and (c_region = 'ASIA' or s_region <> 'ASIA') and not c_city <= 'B' and lo_tax > 2 and s_city > 'C' and lo_quantity >= 5 and c_mktsegment between 'A' and 'B' group by cube(c_nation, lo_tax) order by most desc, c_nation;",
