@@ -14,8 +14,7 @@ use Rattle.star_query.specs.Tree as tree
 use Rattle.star_query.specs.Tree.{Condition, Name}
 use Rattle.star_report.proofs.OneOrder.{value_turned}
 use Rattle.star_plan.specs.declared.tree.Join.{Join}
-use Rattle.star_plan.specs.declared.joins.Pair.{Pair}
-use Rattle.star_plan.specs.Joins.{is_foreign, join_by, join_of, joins_of, pairs_of, where_pairs}
+use Rattle.star_plan.specs.Joins.{Pair, is_foreign, join_by, join_of, joins_of, pairs_of, where_pairs}
 use Rattle.star_plan.specs.Meaning as plan
 use Rattle.star_plan.specs.Meaning.{Joined, all_hold, holds, tests, value_of, either, both, negation, compare, between}
 use Rattle.star_plan.specs.Names.{column_at, literal_value}

@@ -17,8 +17,7 @@ use Rattle.star_schema.proofs.NamesApart.{found_named}
 use Rattle.star_query.specs.Tree as tree
 use Rattle.star_query.specs.Tree.{Condition, Name}
 use Rattle.star_plan.specs.declared.tree.Join.{Join}
-use Rattle.star_plan.specs.declared.joins.Pair.{Pair}
-use Rattle.star_plan.specs.Joins.{join_by, join_of, joins_of, pairs_of, where_pairs}
+use Rattle.star_plan.specs.Joins.{Pair, join_by, join_of, joins_of, pairs_of, where_pairs}
 use Rattle.star_plan.specs.Names.{column_at, has_name, table_at, table_called}
 use Rattle.star_plan.specs.Sound.{in_scope, joins_table}
 use Rattle.star_plan.specs.Uses.{condition_uses, where_uses}

@@ -39,8 +39,9 @@ pub fn groups_ignore_the_order_of_rows()
 {}
 
 /// The rows of a well named query, which are those of the product of FROM's tables for which WHERE
-/// is true, are the joined rows of its plan for which all its conjuncts hold, up to their order; and
-/// in that order too where FROM names lineorder first, and then the dimensions as they are joined.
+/// is true, are the joined rows of its plan for which all its conjuncts hold, up to their order;
+/// and in that order too where FROM names lineorder first, and then the dimensions as they are
+/// joined.
 pub fn plans_select_the_rows_of_their_queries()
     ensures rows { (tables : Tables) (query : Tree) (p : Plan)
         → IsWellNamed query → IsResolved query p

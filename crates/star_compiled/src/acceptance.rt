@@ -19,10 +19,10 @@ ghost use Rattle.star_compiled.specs.Judged.{AreBoundsI64, IsOverflow};
 /// instructions is refused since a range leaves 64 bits. There is no other refusal.
 ///
 /// What isn't refused fits, and what else is refused is refused so, over any catalogue and for any
-/// constants. What fits isn't refused where the bounds of the columns of numbers are of 64 bits, and
-/// where the numbers of the query have at most 18 digits: a query is asked for the ranges of what it
-/// aggregates alone, and its program for those of all columns that it loads, and of the constants of
-/// its conditions.
+/// constants. What fits isn't refused where the bounds of the columns of numbers are of 64 bits,
+/// and where the numbers of the query have at most 18 digits: a query is asked for the ranges of
+/// what it aggregates alone, and its program for those of all columns that it loads, and of the
+/// constants of its conditions.
 pub fn compiled_programs_are_accepted_where_they_fit()
     ensures fitting { (w : World) (most : ℕ) (p : Plan)
         → AreBoundsI64 w.bounds → IsSoundPlan p → IsSpelledPlan p

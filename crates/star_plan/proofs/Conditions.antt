@@ -12,11 +12,10 @@ use Rattle.star_schema.specs.Schema.{is_table, table_name, table_of}
 use Rattle.star_query.specs.Tree.{Item, Name, Tree, aggregate, plain}
 use Rattle.star_plan.specs.declared.fault.PlanFault.{PlanFault}
 use Rattle.star_plan.specs.declared.tree.Join.{Join}
-use Rattle.star_plan.specs.declared.joins.Pair.{Pair}
 use Rattle.star_plan.specs.First.{first_after, first_beside}
 use Rattle.star_plan.specs.Names.{has_name, table_at}
 use Rattle.star_plan.specs.Uses.{uses_of}
-use Rattle.star_plan.specs.Joins.{is_joined, joins, joins_of, where_pairs}
+use Rattle.star_plan.specs.Joins.{Pair, is_joined, joins, joins_of, where_pairs}
 use Rattle.star_plan.specs.Naming.{aggregate_name, aggregate_names, has_text, names_from}
 use Rattle.star_plan.specs.Faults.{aggregates_fault, fact_fault, from_fault, group_fault, grouping_fault, item_fault, item_fault_after, join_fault, key_fault, kind_fault, missing_fault, naming_fault, of_column, of_missing, of_pair, of_table, order_fault, pair_fault, plan_fault, scope_fault, select_fault, table_fault}
 use Rattle.star_plan.specs.Sound.{are_distinct}

@@ -10,10 +10,9 @@ use Rattle.star_schema.specs.Schema.{is_table, key_of, references, table_of}
 use Rattle.star_schema.proofs.Same.{table_same}
 use Rattle.star_query.specs.Tree.{Condition, between, both, compare, either, negation, pair}
 use Rattle.star_plan.specs.declared.tree.Join.{Join}
-use Rattle.star_plan.specs.declared.joins.Pair.{Pair}
 use Rattle.star_plan.specs.First.{first_after}
 use Rattle.star_plan.specs.Names.{column_at}
-use Rattle.star_plan.specs.Joins.{is_foreign, is_joined, is_lone_key, join_by, join_of, joins, joins_of, pairs_of, refers, where_pairs}
+use Rattle.star_plan.specs.Joins.{Pair, is_foreign, is_joined, is_lone_key, join_by, join_of, joins, joins_of, pairs_of, refers, where_pairs}
 use Rattle.star_plan.specs.Faults.{of_pair, pair_fault}
 use Rattle.star_plan.specs.Sound.{are_distinct}
 use Rattle.star_plan.proofs.Known.{or_none}

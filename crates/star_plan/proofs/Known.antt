@@ -21,13 +21,11 @@ use Rattle.star_query.specs.declared.token.Fold.TheVariants as fold
 use Rattle.star_query.specs.Tree as tree
 use Rattle.star_query.specs.Tree.{Item, Literal, Name, SortKey}
 use Rattle.star_plan.specs.declared.tree.Join.{Join}
-use Rattle.star_plan.specs.declared.uses.Use.{Use}
-use Rattle.star_plan.specs.declared.joins.Pair.{Pair}
 use Rattle.star_plan.specs.First.{first_after}
 use Rattle.star_plan.specs.Meaning.{Condition, either, both, negation, Expression, column, constant, add, sub, mul, Measure, counted, compare, between}
 use Rattle.star_plan.specs.Names.{column_at, has_name, is_of, literal_value, same_kind, table_called}
-use Rattle.star_plan.specs.Uses.{condition_uses, expression_uses, groups_uses, items_uses, kind_of_literal, measure_uses, where_uses}
-use Rattle.star_plan.specs.Joins.{is_joined, joins_of, pairs_of, where_pairs}
+use Rattle.star_plan.specs.Uses.{Use, condition_uses, expression_uses, groups_uses, items_uses, kind_of_literal, measure_uses, where_uses}
+use Rattle.star_plan.specs.Joins.{Pair, is_joined, joins_of, pairs_of, where_pairs}
 use Rattle.star_plan.specs.Naming.{has_text}
 use Rattle.star_plan.specs.Faults.{item_fault, key_fault, kind_fault, missing_fault, pair_fault, scope_fault, of_column, of_missing}
 use Rattle.star_plan.specs.Resolved.{aggregate_column, conjuncts_of, where_conjuncts, items_from, key_column, measures_of, option_all, option_both, resolved_condition, resolved_expression, resolved_key, resolved_measure}

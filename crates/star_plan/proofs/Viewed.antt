@@ -65,6 +65,15 @@ answer_found v f xs i x e r is_e within so_far at found =
     plain.answer_found_at (λ y. f (v y)) xs i x e r is_e within (so_far_plain v f xs i so_far) at found
     ∙ answers v f xs
 
+-- the same where the element is a copy
+pub answer_of_copy : {X Y T : Type 0} (v : X → Y) (f : Y → Option PlanFault) (xs : List X) (i : ℕ)
+    (d : X) (e : PlanFault) (r : Result T PlanFault) → IsErrAnd r (λ y. y ≡ e) → i < length xs
+    → AnswerSoFar v f xs i → Some e ≡ f (v (get_or xs i d))
+    → result_err r ≡ first_answer f (map v xs)
+answer_of_copy v f xs i d e r is_e within so_far found =
+    plain.answer_found (λ y. f (v y)) xs i d e r is_e within (so_far_plain v f xs i so_far) found
+    ∙ answers v f xs
+
 -- ---- beside the elements before it
 
 besides : {X Y A : Type 0} (v : X → Y) (f : List Y → Y → Option A) (before xs : List X)
@@ -110,4 +119,14 @@ pub beside_found : {X Y T : Type 0} (v : X → Y) (f : List Y → Y → Option P
 beside_found v f xs i x e r is_e within so_far at found =
     plain.beside_found_at (λ seen y. f (map v seen) (v y)) xs i x e r is_e within
     (beside_plain v f xs i so_far) at found
+    ∙ besides v f [] xs
+
+-- the same where the element is a copy
+pub beside_of_copy : {X Y T : Type 0} (v : X → Y) (f : List Y → Y → Option PlanFault) (xs : List X)
+    (i : ℕ) (d : X) (e : PlanFault) (r : Result T PlanFault) → IsErrAnd r (λ y. y ≡ e)
+    → i < length xs → BesideSoFar v f xs i → Some e ≡ f (map v (take i xs)) (v (get_or xs i d))
+    → result_err r ≡ first_beside f (map v xs)
+beside_of_copy v f xs i d e r is_e within so_far found =
+    plain.beside_found (λ seen y. f (map v seen) (v y)) xs i d e r is_e within
+    (beside_plain v f xs i so_far) found
     ∙ besides v f [] xs

@@ -10,12 +10,10 @@ use Rattle.star_query.specs.Tree.{Aggregate, Item, Name, SortKey, Tree, aggregat
 use Rattle.star_plan.specs.declared.fault.PlanFault.{PlanFault}
 use Rattle.star_plan.specs.declared.fault.PlanFault.TheVariants.{UnknownName, NoFactTable, TableTwice, TableNotNamed, JoinMissing, JoinTwice, NotAKeyPair, WrongKind, NotGrouped, DuplicateGroup, UnknownOrderKey, DuplicateAlias, NoAggregate}
 use Rattle.star_plan.specs.declared.tree.Join.{Join}
-use Rattle.star_plan.specs.declared.uses.Use.{Use}
-use Rattle.star_plan.specs.declared.joins.Pair.{Pair}
 use Rattle.star_plan.specs.First.{first_beside}
 use Rattle.star_plan.specs.Names.{has_name, table_at}
-use Rattle.star_plan.specs.Uses.{uses_of}
-use Rattle.star_plan.specs.Joins.{is_joined, where_pairs}
+use Rattle.star_plan.specs.Uses.{Use, uses_of}
+use Rattle.star_plan.specs.Joins.{Pair, is_joined, where_pairs}
 use Rattle.star_plan.specs.Naming.{aggregate_name, aggregate_names, has_text, name_place}
 
 -- ---- the names of FROM

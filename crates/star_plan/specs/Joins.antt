@@ -1,5 +1,5 @@
 -- The joins of a query: comparisons of a foreign key with the key that it references.
-use Rattle.std.specs.Prelude.{Bool, true, false, ◌&&◌, ◌==◌, List, [], ◌∷◌, ◌++◌, Option, Some, None, if◌then◌else◌}
+use Rattle.std.specs.Prelude.{ℕ, Bool, true, false, ◌&&◌, ◌==◌, List, [], ◌∷◌, ◌++◌, Option, Some, None, if◌then◌else◌}
 use Rattle.std.specs.List.{flat_map, list_any}
 use Rattle.std.specs.Option.{option_or, option_to_list}
 use Rattle.star_schema.specs.declared.table.TableId.{TableId}
@@ -9,7 +9,6 @@ use Rattle.star_schema.specs.declared.column.ColumnId.{ColumnId}
 use Rattle.star_schema.specs.Schema.{index_of, is_table, key_of, references, table_of}
 use Rattle.star_query.specs.Tree.{Condition, between, both, compare, either, negation, pair}
 use Rattle.star_plan.specs.declared.tree.Join.{Join}
-use Rattle.star_plan.specs.declared.joins.Pair.{Pair}
 use Rattle.star_plan.specs.Names.{column_at}
 
 abbrev pub is_lone_key : ColumnId → Key → Bool
@@ -31,6 +30,11 @@ join_by f k = if is_foreign f k then Some (record { foreign = f; key = k }) else
 abbrev pub join_of : Option ColumnId → Option ColumnId → Option Join
 join_of (Some a) (Some b) = option_or (join_by a b) (join_by b a)
 join_of _ _ = None
+
+-- two columns that are compared: the join that they make there, if they make one, and where the first of them stands
+pub record Pair : Type 0 where
+  pub join : Option Join
+  pub at : ℕ
 
 -- the comparisons of two columns, from the left; they join where they are reached through AND alone
 abbrev pub pairs_of : (is_conjunct : Bool) → Condition → List Pair

@@ -1,11 +1,18 @@
 -- The columns that a query names, from the left.
-use Rattle.std.specs.Prelude.{true, ◌&&◌, List, [], ◌∷◌, ◌++◌, Option, Some, None, map}
+use Rattle.std.specs.Prelude.{ℕ, Bool, true, ◌&&◌, List, [], ◌∷◌, ◌++◌, Option, Some, None, map}
 use Rattle.std.specs.List.{flat_map}
+use Rattle.star_schema.specs.declared.column.ColumnId.{ColumnId}
 use Rattle.star_schema.specs.declared.column.Kind.{Kind}
 use Rattle.star_schema.specs.declared.column.Kind.TheVariants as kind
 use Rattle.star_query.specs.Tree.{Condition, Expression, Item, Literal, Measure, Name, Tree, add, aggregate, between, both, column, compare, constant, count, either, fold, mul, negation, number, pair, plain, sub, text}
-use Rattle.star_plan.specs.declared.uses.Use.{Use}
 use Rattle.star_plan.specs.Names.{column_at, is_of}
+
+-- a column where a query names it: the column, if there is one of this name, and whether it is of the kind that is
+-- asked of it there
+pub record Use : Type 0 where
+  pub column : Option ColumnId
+  pub fits : Bool
+  pub at : ℕ
 
 -- a column of any kind
 abbrev pub any_use : Name → Use

@@ -7,10 +7,9 @@ use Rattle.star_schema.specs.declared.table.TableId.TheVariants.{Lineorder}
 use Rattle.star_schema.specs.declared.column.ColumnId.{ColumnId}
 use Rattle.star_schema.specs.Schema.{is_table, table_name, table_of}
 use Rattle.star_query.specs.Tree.{Item, Name, Tree, aggregate, plain}
-use Rattle.star_plan.specs.declared.joins.Pair.{Pair}
 use Rattle.star_plan.specs.Names.{has_name, table_at}
 use Rattle.star_plan.specs.Uses.{uses_of}
-use Rattle.star_plan.specs.Joins.{is_joined, joins_of, where_pairs}
+use Rattle.star_plan.specs.Joins.{Pair, is_joined, joins_of, where_pairs}
 use Rattle.star_plan.specs.Naming.{aggregate_names, has_text}
 use Rattle.star_plan.specs.Sound.{are_distinct}
 

@@ -3,6 +3,7 @@
 // again, and nothing is proved from it.
 
 use crate::tree::{Aggregate, Condition, Expression, Join, Measure, PlanTree};
+use star_query::{Operand, write_operand, write_operation};
 use star_schema::{Direction, GroupColumn, Shape, SortKey, table_of};
 use std::fmt;
 
@@ -14,76 +15,53 @@ impl fmt::Display for Join {
     }
 }
 
-// How tightly an expression's operator binds.
-fn tightness(expression: &Expression) -> u8 {
-    match expression {
-        Expression::Add(_, _) | Expression::Sub(_, _) => 0,
-        Expression::Mul(_, _) => 1,
-        Expression::Column(_) | Expression::Number(_) => 2,
+impl Operand for Expression {
+    fn tightness(&self) -> u8 {
+        match self {
+            Expression::Add(_, _) | Expression::Sub(_, _) => 0,
+            Expression::Mul(_, _) => 1,
+            Expression::Column(_) | Expression::Number(_) => 2,
+        }
     }
 }
 
 impl fmt::Display for Expression {
     fn fmt<W: fmt::Write>(&self, f: &mut fmt::Formatter<W>) -> fmt::Result {
-        let (left, operator, right) = match self {
-            Expression::Column(column) => return write!(f, "{column}"),
-            Expression::Number(number) => return write!(f, "{number}"),
-            Expression::Add(left, right) => (left, '+', right),
-            Expression::Sub(left, right) => (left, '-', right),
-            Expression::Mul(left, right) => (left, '*', right),
-        };
-        let own = tightness(self);
-        if tightness(left) < own {
-            write!(f, "({left}) {operator} ")?;
-        } else {
-            write!(f, "{left} {operator} ")?;
-        }
-        if tightness(right) <= own {
-            write!(f, "({right})")
-        } else {
-            write!(f, "{right}")
+        match self {
+            Expression::Column(column) => write!(f, "{column}"),
+            Expression::Number(number) => write!(f, "{number}"),
+            Expression::Add(left, right) => write_operation(f, &**left, "+", &**right, 0),
+            Expression::Sub(left, right) => write_operation(f, &**left, "-", &**right, 0),
+            Expression::Mul(left, right) => write_operation(f, &**left, "*", &**right, 1),
         }
     }
 }
 
-// How tightly a condition's operator binds.
-fn condition_tightness(condition: &Condition) -> u8 {
-    match condition {
-        Condition::Or(_, _) => 0,
-        Condition::And(_, _) => 1,
-        _ => 2,
+impl Operand for Condition {
+    fn tightness(&self) -> u8 {
+        match self {
+            Condition::Or(_, _) => 0,
+            Condition::And(_, _) => 1,
+            _ => 2,
+        }
     }
 }
 
 impl fmt::Display for Condition {
     fn fmt<W: fmt::Write>(&self, f: &mut fmt::Formatter<W>) -> fmt::Result {
-        let (left, operator, right) = match self {
+        match self {
+            Condition::Or(left, right) => write_operation(f, &**left, "or", &**right, 0),
+            Condition::And(left, right) => write_operation(f, &**left, "and", &**right, 1),
+            Condition::Not(negated) => {
+                f.write_str("not ")?;
+                write_operand(f, negated, negated.tightness() < 2)
+            }
             Condition::Compare(column, relation, literal) => {
-                return write!(f, "{column} {relation} {literal}");
+                write!(f, "{column} {relation} {literal}")
             }
             Condition::Between(column, from, upto) => {
-                return write!(f, "{column} between {from} and {upto}");
+                write!(f, "{column} between {from} and {upto}")
             }
-            Condition::Not(negated) => {
-                return if condition_tightness(negated) < 2 {
-                    write!(f, "not ({negated})")
-                } else {
-                    write!(f, "not {negated}")
-                };
-            }
-            Condition::Or(left, right) => (left, "or", right),
-            Condition::And(left, right) => (left, "and", right),
-        };
-        let own = condition_tightness(self);
-        if condition_tightness(left) < own {
-            write!(f, "({left}) {operator} ")?;
-        } else {
-            write!(f, "{left} {operator} ")?;
-        }
-        if condition_tightness(right) <= own {
-            write!(f, "({right})")
-        } else {
-            write!(f, "{right}")
         }
     }
 }
@@ -160,11 +138,8 @@ impl PlanTree {
             " and "
         };
         for conjunct in &self.conjuncts {
-            if condition_tightness(conjunct) < 1 {
-                write!(f, "{separator}({conjunct})")?;
-            } else {
-                write!(f, "{separator}{conjunct}")?;
-            }
+            f.write_str(separator)?;
+            write_operand(f, conjunct, conjunct.tightness() < 1)?;
             separator = " and ";
         }
         Ok(())

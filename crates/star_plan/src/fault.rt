@@ -23,10 +23,11 @@ pub enum PlanFault {
     JoinMissing { at: usize },
     /// A dimension is joined again.
     JoinTwice { at: usize },
-    /// Two columns are compared that aren't a foreign key and the key that it references, or not by a conjunct of the
-    /// whole condition.
+    /// Two columns are compared that aren't a foreign key and the key that it references, or not by
+    /// a conjunct of the whole condition.
     NotAKeyPair { at: usize },
-    /// A column of texts stands inside an aggregate, or a column beside a literal of the other kind.
+    /// A column of texts stands inside an aggregate, or a column beside a literal of the other
+    /// kind.
     WrongKind { at: usize },
     /// A plain column isn't in GROUP BY.
     NotGrouped { at: usize },

@@ -1,6 +1,7 @@
 // The comparisons of two columns in a query's condition.
 
 ghost use Rattle.std.specs.Prelude.{◌≡◌, ◌++◌, OnOk, IfOk, map, option_map};
+ghost use Rattle.std.specs.List.{list_any};
 ghost use Rattle.std.specs.Result.{result_err};
 ghost use Rattle.star_schema.specs.Schema as schema;
 ghost use Rattle.star_common.specs.First.{first_answer};
@@ -8,6 +9,7 @@ ghost use Rattle.star_query.specs.Views.{condition_view, name_view};
 ghost use Rattle.star_plan.specs.First.{first_beside};
 ghost use Rattle.star_plan.specs.Joins as spec;
 ghost use Rattle.star_plan.specs.Faults.{join_fault, missing_fault, pair_fault};
+ghost use Rattle.star_plan.specs.Private.Found.{pair_shown, pairs_shown};
 
 use crate::fault::PlanFault;
 use crate::names::{column_at, table_at};
@@ -18,11 +20,12 @@ use std::alloc::{AllocError, Global};
 
 /// Two columns that are compared.
 #[derive(Clone, Copy)]
-pub struct Pair {
-    /// The join that they make, if they make one and the comparison is a conjunct of the whole condition.
-    pub join: Option<Join>,
+pub(crate) struct Pair {
+    /// The join that they make, if they make one and the comparison is a conjunct of the whole
+    /// condition.
+    join: Option<Join>,
     /// Where the first of them stands.
-    pub at: usize,
+    at: usize,
 }
 
 // Whether the column alone is the key.
@@ -81,7 +84,7 @@ fn add_pairs(
     is_conjunct: bool,
     condition: &Condition,
 ) -> Result<(), AllocError>
-    ensures { OnOk result (pairs.new.items ≡ pairs.old.items
+    ensures { OnOk result (pairs_shown pairs.new.items ≡ pairs_shown pairs.old.items
         ++ spec.pairs_of is_conjunct (condition_view condition.now)) }
 {
     match condition {
@@ -113,7 +116,7 @@ pub(crate) fn pairs_of(
     alloc: Global,
     condition: &Option<Condition>,
 ) -> Result<Vec<Pair>, AllocError>
-    ensures { IfOk result (λ pairs. pairs.items
+    ensures { IfOk result (λ pairs. pairs_shown pairs.items
         ≡ spec.where_pairs (option_map condition_view condition.now)) }
 {
     let mut pairs = Vec::new(alloc);
@@ -125,7 +128,7 @@ pub(crate) fn pairs_of(
 
 /// The joins among the comparisons.
 pub(crate) fn joins_of(alloc: Global, pairs: &[Pair]) -> Result<Vec<Join>, AllocError>
-    ensures { IfOk result (λ joins. joins.items ≡ spec.joins_of pairs.now) }
+    ensures { IfOk result (λ joins. joins.items ≡ spec.joins_of (pairs_shown pairs.now)) }
 {
     let mut joins = Vec::new(alloc);
     for pair in pairs {
@@ -136,11 +139,17 @@ pub(crate) fn joins_of(alloc: Global, pairs: &[Pair]) -> Result<Vec<Join>, Alloc
     Ok(joins)
 }
 
-// Whether one of the comparisons joins the table.
-fn is_joined(pairs: &[Pair], table: TableId) -> bool
-    ensures { result ≡ spec.is_joined pairs.now table }
+fn any_joins(pairs: &[Pair], table: TableId) -> bool
+    ensures { result ≡ list_any (λ p. spec.joins table p.join) pairs.now }
 {
     pairs.iter().any(|pair| joins(table, pair.join))
+}
+
+// Whether one of the comparisons joins the table.
+fn is_joined(pairs: &[Pair], table: TableId) -> bool
+    ensures { result ≡ spec.is_joined (pairs_shown pairs.now) table }
+{
+    any_joins(pairs, table)
 }
 
 fn joins(table: TableId, join: Option<Join>) -> bool
@@ -161,7 +170,7 @@ fn is_table(table: TableId, other: TableId) -> bool
 impl Pair {
     // Whether the columns join, and their dimension has no join before.
     fn check(&self, before: &[Pair]) -> Result<(), PlanFault>
-        ensures { result_err result ≡ pair_fault before.now self.now }
+        ensures { result_err result ≡ pair_fault (pairs_shown before.now) (pair_shown self.now) }
     {
         match self.join {
             None => Err(PlanFault::NotAKeyPair { at: self.at }),
@@ -173,10 +182,10 @@ impl Pair {
     }
 }
 
-#[tactic(auto, using(crate::proofs::Firsts::beside_passed, crate::proofs::Firsts::beside_whole))]
+#[tactic(auto, using(crate::proofs::Viewed::beside_passed, crate::proofs::Viewed::beside_whole))]
 // Whether each comparison joins a dimension that has no join before.
 fn check_pairs(pairs: &[Pair]) -> Result<(), PlanFault>
-    ensures { result_err result ≡ first_beside pair_fault pairs.now }
+    ensures { result_err result ≡ first_beside pair_fault (pairs_shown pairs.now) }
 {
     for place in 0..pairs.len() {
         pairs[place].check(&pairs[..place])?;
@@ -186,7 +195,7 @@ fn check_pairs(pairs: &[Pair]) -> Result<(), PlanFault>
 
 // Whether a name of FROM is lineorder's, or a dimension's that is joined.
 fn check_dimension(pairs: &[Pair], name: &Name) -> Result<(), PlanFault>
-    ensures { result_err result ≡ missing_fault pairs.now (name_view name.now) }
+    ensures { result_err result ≡ missing_fault (pairs_shown pairs.now) (name_view name.now) }
 {
     match table_at(name) {
         Some(table) if table != TableId::Lineorder && !is_joined(pairs, table) => {
@@ -199,7 +208,7 @@ fn check_dimension(pairs: &[Pair], name: &Name) -> Result<(), PlanFault>
 #[tactic(auto, using(crate::proofs::Viewed::answer_passed, crate::proofs::Viewed::answer_whole))]
 // Whether each dimension of FROM is joined.
 fn check_dimensions(pairs: &[Pair], tables: &[Name]) -> Result<(), PlanFault>
-    ensures { result_err result ≡ first_answer (missing_fault pairs.now)
+    ensures { result_err result ≡ first_answer (missing_fault (pairs_shown pairs.now))
         (map name_view tables.now) }
 {
     for name in tables {
@@ -208,9 +217,10 @@ fn check_dimensions(pairs: &[Pair], tables: &[Name]) -> Result<(), PlanFault>
     Ok(())
 }
 
-/// Whether each comparison of two columns joins a dimension, and each dimension of FROM is joined once.
+/// Whether each comparison of two columns joins a dimension, and each dimension of FROM is joined
+/// once.
 pub(crate) fn check_joins(tables: &[Name], pairs: &[Pair]) -> Result<(), PlanFault>
-    ensures { result_err result ≡ join_fault (map name_view tables.now) pairs.now }
+    ensures { result_err result ≡ join_fault (map name_view tables.now) (pairs_shown pairs.now) }
 {
     check_pairs(pairs)?;
     check_dimensions(pairs, tables)

@@ -7,6 +7,7 @@ ghost use Rattle.star_query.specs.Shown.{query_shown};
 ghost use Rattle.star_query.specs.Views.{item_view, key_view, name_view, tree_view};
 ghost use Rattle.star_plan.specs.declared.fault.PlanFault.TheVariants.{OutOfMemory};
 ghost use Rattle.star_plan.specs.Private.Answers.{Tells};
+ghost use Rattle.star_plan.specs.Private.Found.{pairs_shown, uses_shown};
 ghost use Rattle.star_plan.specs.Faults.{grouping_fault, naming_fault, plan_fault};
 ghost use Rattle.star_plan.specs.WellNamed.{IsWellNamed};
 ghost use Rattle.star_plan.specs.Resolved.{IsResolved};
@@ -26,7 +27,8 @@ use star_query::{Item, Name, Query, SortKey, Tree};
 use std::alloc::Global;
 
 fn check_naming(tables: &[Name], uses: &[Use], pairs: &[Pair]) -> Result<(), PlanFault>
-    ensures { Tells (naming_fault (map name_view tables.now) uses.now pairs.now) result }
+    ensures { Tells (naming_fault (map name_view tables.now) (uses_shown uses.now)
+        (pairs_shown pairs.now)) result }
 {
     check_from(tables)?;
     check_scope(tables, uses)?;
@@ -86,7 +88,8 @@ fn resolve(alloc: Global, tree: &Tree) -> Result<PlanTree, PlanFault>
     })
 }
 
-/// The plan of a query, exactly where the query is well named; else the first fault. Want of memory may come before it.
+/// The plan of a query, exactly where the query is well named; else the first fault. Want of memory
+/// may come before it.
 pub fn plan(alloc: Global, query: &Query) -> Result<Plan, PlanFault>
     // Only a well named query has one.
     ensures named { IfOk result (λ _. IsWellNamed (query_shown query.now)) }

@@ -1,4 +1,5 @@
-// A query's names resolved. Each function tells a name that stands for nothing, which a well named query doesn't have.
+// A query's names resolved. Each function tells a name that stands for nothing, which a well named
+// query doesn't have.
 
 ghost use Rattle.std.specs.Prelude.{◌≡◌, ◌+◌, ◌<◌, ◌≤◌, [], ◌∷◌, IfOk, IfSome, length, map, option_map, nat_eq};
 ghost use Rattle.std.specs.Option.{option_or};

@@ -46,8 +46,8 @@ pub struct Aggregate {
     pub name: Vec<u8>,
 }
 
-/// What a plan says: which rows of lineorder are joined and selected, how they are grouped, what is computed over each
-/// group, what is shown of it and in which order.
+/// What a plan says: which rows of lineorder are joined and selected, how they are grouped, what is
+/// computed over each group, what is shown of it and in which order.
 #[derive(Drop)]
 pub struct PlanTree {
     pub joins: Vec<Join>,

@@ -6,6 +6,7 @@ ghost use Rattle.star_common.specs.First.{first_answer};
 ghost use Rattle.star_query.specs.Views.{condition_view, expression_view, item_view, literal_view, measure_view, name_view, tree_view};
 ghost use Rattle.star_plan.specs.Uses as spec;
 ghost use Rattle.star_plan.specs.Faults.{kind_fault, scope_fault};
+ghost use Rattle.star_plan.specs.Private.Found.{use_shown, uses_shown};
 
 use crate::fault::PlanFault;
 use crate::names::{column_at, has_name, is_of};
@@ -15,18 +16,18 @@ use std::alloc::{AllocError, Global};
 
 /// A column where a query names it.
 #[derive(Clone, Copy)]
-pub struct Use {
+pub(crate) struct Use {
     /// The column, if there is one of this name.
-    pub column: Option<ColumnId>,
+    column: Option<ColumnId>,
     /// Whether it is of the kind that is asked of it there.
-    pub fits: bool,
-    pub at: usize,
+    fits: bool,
+    at: usize,
 }
 
 impl Use {
     // A column of any kind.
     fn any(name: &Name) -> Use
-        ensures { result ≡ spec.any_use (name_view name.now) }
+        ensures { use_shown result ≡ spec.any_use (name_view name.now) }
     {
         Use {
             column: column_at(name),
@@ -36,7 +37,7 @@ impl Use {
     }
 
     fn of_kind(kind: Kind, name: &Name) -> Use
-        ensures { result ≡ spec.use_as kind (name_view name.now) }
+        ensures { use_shown result ≡ spec.use_as kind (name_view name.now) }
     {
         let column = column_at(name);
         Use {
@@ -47,8 +48,8 @@ impl Use {
     }
 
     fn between(from: &Literal, upto: &Literal, name: &Name) -> Use
-        ensures { result ≡ spec.use_between (literal_view from.now) (literal_view upto.now)
-            (name_view name.now) }
+        ensures { use_shown result ≡ spec.use_between (literal_view from.now)
+            (literal_view upto.now) (name_view name.now) }
     {
         let column = column_at(name);
         Use {
@@ -59,7 +60,8 @@ impl Use {
     }
 
     fn scope_fault(&self, tables: &[Name]) -> Result<(), PlanFault>
-        ensures { result_err result ≡ scope_fault (map name_view tables.now) self.now }
+        ensures { result_err result ≡ scope_fault (map name_view tables.now)
+            (use_shown self.now) }
     {
         match self.column {
             None => Err(PlanFault::UnknownName { at: self.at }),
@@ -71,7 +73,7 @@ impl Use {
     }
 
     fn kind_fault(&self) -> Result<(), PlanFault>
-        ensures { result_err result ≡ kind_fault self.now }
+        ensures { result_err result ≡ kind_fault (use_shown self.now) }
     {
         if self.fits {
             Ok(())
@@ -91,7 +93,7 @@ fn kind_of_literal(literal: &Literal) -> Kind
 }
 
 fn add_expression(uses: &mut Vec<Use>, expression: &Expression) -> Result<(), AllocError>
-    ensures { OnOk result (uses.new.items ≡ uses.old.items
+    ensures { OnOk result (uses_shown uses.new.items ≡ uses_shown uses.old.items
         ++ spec.expression_uses (expression_view expression.now)) }
 {
     match expression {
@@ -110,7 +112,7 @@ fn add_expression(uses: &mut Vec<Use>, expression: &Expression) -> Result<(), Al
 }
 
 fn add_measure(uses: &mut Vec<Use>, measure: &Measure) -> Result<(), AllocError>
-    ensures { OnOk result (uses.new.items ≡ uses.old.items
+    ensures { OnOk result (uses_shown uses.new.items ≡ uses_shown uses.old.items
         ++ spec.measure_uses (measure_view measure.now)) }
 {
     match measure {
@@ -120,7 +122,8 @@ fn add_measure(uses: &mut Vec<Use>, measure: &Measure) -> Result<(), AllocError>
 }
 
 fn add_item(uses: &mut Vec<Use>, item: &Item) -> Result<(), AllocError>
-    ensures { OnOk result (uses.new.items ≡ uses.old.items ++ spec.item_uses (item_view item.now)) }
+    ensures { OnOk result (uses_shown uses.new.items ≡ uses_shown uses.old.items
+        ++ spec.item_uses (item_view item.now)) }
 {
     match item {
         Item::Column(name) => {
@@ -132,7 +135,7 @@ fn add_item(uses: &mut Vec<Use>, item: &Item) -> Result<(), AllocError>
 }
 
 fn add_condition(uses: &mut Vec<Use>, condition: &Condition) -> Result<(), AllocError>
-    ensures { OnOk result (uses.new.items ≡ uses.old.items
+    ensures { OnOk result (uses_shown uses.new.items ≡ uses_shown uses.old.items
         ++ spec.condition_uses (condition_view condition.now)) }
 {
     match condition {
@@ -154,7 +157,7 @@ fn add_condition(uses: &mut Vec<Use>, condition: &Condition) -> Result<(), Alloc
 }
 
 fn add_items(uses: &mut Vec<Use>, items: &[Item]) -> Result<(), AllocError>
-    ensures { OnOk result (uses.new.items ≡ uses.old.items
+    ensures { OnOk result (uses_shown uses.new.items ≡ uses_shown uses.old.items
         ++ spec.items_uses (map item_view items.now)) }
 {
     for item in items {
@@ -164,7 +167,7 @@ fn add_items(uses: &mut Vec<Use>, items: &[Item]) -> Result<(), AllocError>
 }
 
 fn add_groups(uses: &mut Vec<Use>, names: &[Name]) -> Result<(), AllocError>
-    ensures { OnOk result (uses.new.items ≡ uses.old.items
+    ensures { OnOk result (uses_shown uses.new.items ≡ uses_shown uses.old.items
         ++ spec.groups_uses (map name_view names.now)) }
 {
     for name in names {
@@ -175,7 +178,7 @@ fn add_groups(uses: &mut Vec<Use>, names: &[Name]) -> Result<(), AllocError>
 
 /// The columns that a query names: in SELECT, in WHERE and in GROUP BY.
 pub(crate) fn uses_of(alloc: Global, tree: &Tree) -> Result<Vec<Use>, AllocError>
-    ensures { IfOk result (λ uses. uses.items ≡ spec.uses_of (tree_view tree.now)) }
+    ensures { IfOk result (λ uses. uses_shown uses.items ≡ spec.uses_of (tree_view tree.now)) }
 {
     let mut uses = Vec::new(alloc);
     add_items(&mut uses, &tree.items)?;
@@ -186,10 +189,11 @@ pub(crate) fn uses_of(alloc: Global, tree: &Tree) -> Result<Vec<Use>, AllocError
     Ok(uses)
 }
 
-#[tactic(auto, using(crate::proofs::Firsts::answer_passed, crate::proofs::Firsts::answer_whole))]
+#[tactic(auto, using(crate::proofs::Viewed::answer_passed, crate::proofs::Viewed::answer_whole))]
 /// Whether each name is a column's whose table is named.
 pub(crate) fn check_scope(tables: &[Name], uses: &[Use]) -> Result<(), PlanFault>
-    ensures { result_err result ≡ first_answer (scope_fault (map name_view tables.now)) uses.now }
+    ensures { result_err result ≡ first_answer (scope_fault (map name_view tables.now))
+        (uses_shown uses.now) }
 {
     for named in uses {
         named.scope_fault(tables)?;
@@ -197,10 +201,10 @@ pub(crate) fn check_scope(tables: &[Name], uses: &[Use]) -> Result<(), PlanFault
     Ok(())
 }
 
-#[tactic(auto, using(crate::proofs::Firsts::answer_passed, crate::proofs::Firsts::answer_whole))]
+#[tactic(auto, using(crate::proofs::Viewed::answer_passed, crate::proofs::Viewed::answer_whole))]
 /// Whether each column is of the kind that is asked of it.
 pub(crate) fn check_kinds(uses: &[Use]) -> Result<(), PlanFault>
-    ensures { result_err result ≡ first_answer kind_fault uses.now }
+    ensures { result_err result ≡ first_answer kind_fault (uses_shown uses.now) }
 {
     for named in uses {
         named.kind_fault()?;

@@ -1,22 +1,23 @@
 -- The readers of the lexer read what begins at a place.
-use Rattle.std.proofs.Common.{◌≡◌, ◌∙◌, ◌↔◌, ℕ, Bool, true, false, List, [], ◌∷◌, IsTrue, nat_eq, refl, sym, ap, subst, ◌+◌, ◌*◌, ◌^◌, ◌<◌, ◌≤◌, ◌-◌, arith, lit<, length, drop, take, get_or, zero, suc, Result, Ok, Err, ◌++◌, append_assoc, append-nil, length-take, drop-drop}
+use Rattle.std.proofs.Common.{None, ◌≡◌, ◌∙◌, ◌↔◌, ℕ, Bool, true, false, List, [], ◌∷◌, IsTrue, nat_eq, refl, sym, ap, subst, ◌+◌, ◌<◌, ◌≤◌, ◌-◌, arith, length, drop, take, zero, suc, Result, Ok, Err, ◌++◌, append_assoc, append-nil, drop-drop}
 use Rattle.std.specs.Cmp.Lexicographic.{pointwise, same_text}
-use Rattle.std.proofs.lemmas.Bool.{eq-eqb}
+use Rattle.std.proofs.lemmas.Bool.{and_from, eq-eqb, le-leb, lt-ltb, ltb-false, ltb-true, or_right}
 use Rattle.star_query.specs.declared.token.Word.{Word}
 use Rattle.star_query.specs.declared.token.Word.TheVariants.{Keyword, Fold, Count}
 use Rattle.star_query.specs.declared.token.Keyword.TheVariants.{Select}
 use Rattle.star_query.specs.declared.token.Fold.TheVariants.{Sum}
 use Rattle.star_query.specs.Symbols.{Symbol, Placed, spelling, lowered}
-use Rattle.star_query.specs.Cut.{is_spelled, Ending, closed, stopped, open_ended, farther, blank, token, bad, cut_from, cut_of, with_token, begins_with_letter, is_word_byte}
-use Rattle.star_query.specs.declared.fault.QueryFault.TheVariants.{OutOfMemory, TooLong}
+use Rattle.star_query.specs.Cut.{is_spelled, Ending, closed, stopped, open_ended, farther, blank, token, bad, cut_from, cut_of, with_token, begins_with_letter, is_word_byte, number_piece}
+use Rattle.star_query.specs.declared.fault.QueryFault.TheVariants.{BadNumber, OutOfMemory, TooLong}
 use Rattle.star_query.specs.declared.fault.QueryFault.{QueryFault}
 use Rattle.std.specs.Char.{is_ascii_digit}
-use Rattle.std.proofs.lemmas.List.{get_or-take, drop_all}
+use Rattle.std.proofs.lemmas.List.{drop_all}
 use Rattle.star_query.specs.Private.Lexed.{ended_at, front_piece, with_tokens, begins_with_digit, IsCutFault}
-use Rattle.std.proofs.Math.Nat.{pow-le-pow_right}
-use Rattle.std.proofs.lemmas.Grind.{pow_more}
-use Rattle.std.specs.List.{prefix_len}
-use Rattle.std.proofs.lemmas.List.Sums.{prefix_len-le-length, prefix_len_passes}
+use Rattle.std.specs.List.{list_all, prefix_len}
+use Rattle.std.specs.Prelude.{nat_lt}
+use Rattle.star_common.specs.Numerals.{is_numeral, numeral_of}
+use Rattle.std.proofs.lemmas.List.Sums.{prefix_len-le-length}
+use Rattle.std.proofs.lemmas.List.Folds.{length-prefix_len}
 
 lowered-spelling : (w : Word) → lowered (spelling w) ≡ spelling w
 unfolding spelling
@@ -41,15 +42,6 @@ by_bytes false xs ys e = by_test (pointwise nat_eq xs ys) refl
 pub spelled : (w : Word) (word : List ℕ) (b : Bool) → (IsTrue b ↔ (lowered (spelling w) ≡ lowered word)) → b ≡ is_spelled word w
 spelled w word b e = by_bytes b (spelling w) (lowered word) (subst (λ xs. IsTrue b ↔ (xs ≡ lowered word)) (lowered-spelling w) e)
 
--- one digit more
-pub one_digit_more : (v i : ℕ) → v < 10 ^ i → i < 18 → 10 * v + 9 < 10 ^ 18
-one_digit_more v i below few =
-    let most : 10 ^ (i + 1) ≤ 10 ^ 18 = pow-le-pow_right (lit< tt) {i = i + 1} {j = 18} (omega arith) in omega (arith, most, pow_more 10 i)
-
-pub all_digits : (v i : ℕ) → v < 10 ^ i → i ≤ 18 → v < 10 ^ 18
-all_digits v i below few =
-    let most : 10 ^ i ≤ 10 ^ 18 = pow-le-pow_right (lit< tt) {i = i} {j = 18} few in omega (arith, most)
-
 pub ended-farther : (n : ℕ) (e : Ending) → ended_at n (farther e) ≡ ended_at (n + 1) e
 ended-farther n (closed m) = ap closed (omega arith)
 ended-farther n (stopped m) = ap stopped (omega arith)
@@ -58,11 +50,13 @@ ended-farther n open_ended = refl
 pub prefix_within : {X : Type 0} (p : X → Bool) (xs : List X) → prefix_len p xs ≤ length xs
 prefix_within p xs = prefix_len-le-length p xs
 
--- a quote is behind a quote
-pub digits_pass : (bytes : List ℕ) (width : ℕ) → width ≡ prefix_len is_ascii_digit bytes → (k : ℕ) → k < length (take width bytes) → is_ascii_digit (get_or (take width bytes) k 0) ≡ true
-digits_pass bytes width e k below =
-    let within : k < width = omega (arith, length-take width bytes) in
-    rw (get_or-take width bytes k 0 within) (prefix_len_passes is_ascii_digit bytes k 0 (omega arith))
+pub prefix_passes : (p : ℕ → Bool) (xs : List ℕ) → list_all p (take (prefix_len p xs) xs) ≡ true
+prefix_passes p [] = refl
+prefix_passes p (x ∷ xs) = go (p x) refl (prefix_passes p xs)
+  where
+    go : (b : Bool) → p x ≡ b → list_all p (take (prefix_len p xs) xs) ≡ true → list_all p (take (prefix_len p (x ∷ xs)) (x ∷ xs)) ≡ true
+    go true h rest = let one : 1 + prefix_len p xs ≡ suc (prefix_len p xs) = omega arith in rw (h, one) (and_from _ _ h rest)
+    go false h rest = rw h refl
 
 -- the cut goes on behind what lies inside a token
 skipped : (place inside : ℕ) (bytes : List ℕ) → cut_from place inside bytes ≡ cut_from (place + inside) 0 (drop inside bytes)
@@ -116,6 +110,36 @@ word_some (b ∷ bs) e = rw e (omega arith)
 pub number_some : (bytes : List ℕ) → begins_with_digit bytes ≡ true → 1 ≤ prefix_len is_ascii_digit bytes
 number_some [] e = cc
 number_some (b ∷ bs) e = rw e (omega arith)
+
+-- ---- numbers
+
+-- the digits at the front are a numeral, unless there are more than 19
+front_numeral : (bytes : List ℕ) → begins_with_digit bytes ≡ true → prefix_len is_ascii_digit bytes ≤ 19
+    → is_numeral 19 (take (prefix_len is_ascii_digit bytes) bytes) ≡ true
+front_numeral bytes begins few =
+    let digits = take (prefix_len is_ascii_digit bytes) bytes in
+    let many : length digits ≡ prefix_len is_ascii_digit bytes = length-prefix_len is_ascii_digit bytes in
+    let some = number_some bytes begins in
+    and_from _ _ (and_from _ _ (le-leb 1 (length digits) (omega (arith, many, some))) (le-leb (length digits) 19 (omega (arith, many, few))))
+    (prefix_passes is_ascii_digit bytes)
+
+pub number_long : (place : ℕ) (bytes : List ℕ) → 18 < prefix_len is_ascii_digit bytes → number_piece place bytes ≡ bad (BadNumber place)
+number_long place bytes long = rw (lt-ltb 18 (prefix_len is_ascii_digit bytes) long) refl
+
+pub number_followed : (place : ℕ) (bytes : List ℕ) → begins_with_letter (drop (prefix_len is_ascii_digit bytes) bytes) ≡ true
+    → number_piece place bytes ≡ bad (BadNumber place)
+number_followed place bytes letter = rw (or_right (nat_lt 18 (prefix_len is_ascii_digit bytes)) _ letter) refl
+
+-- too many digits for any number
+pub number_too_long : (place : ℕ) (bytes : List ℕ) → begins_with_digit bytes ≡ true
+    → numeral_of 19 (take (prefix_len is_ascii_digit bytes) bytes) ≡ None → number_piece place bytes ≡ bad (BadNumber place)
+number_too_long place bytes begins none = go (nat_lt 18 (prefix_len is_ascii_digit bytes)) refl
+  where
+    go : (b : Bool) → nat_lt 18 (prefix_len is_ascii_digit bytes) ≡ b → number_piece place bytes ≡ bad (BadNumber place)
+    go true long = number_long place bytes (ltb-true 18 (prefix_len is_ascii_digit bytes) long)
+    go false short =
+        let few = ltb-false 18 (prefix_len is_ascii_digit bytes) short in
+        absurd (let wrong = rw (front_numeral bytes begins (omega (arith, few))) at none in cc)
 
 pub fault_of_cut : (bytes : List ℕ) (fault : QueryFault) → cut_of bytes ≡ Err fault → IsCutFault bytes fault
 fault_of_cut bytes OutOfMemory e = tt

@@ -1,21 +1,24 @@
 -- The names, numbers and texts of tokens are spelled as the grammar wants.
-use Rattle.std.proofs.Common.{◌≡◌, sym, subst, refl, ℕ, zero, suc, ◌+◌, ◌-◌, ◌*◌, ◌^◌, ◌<◌, ◌≤◌, Bool, true, false, ◌&&◌, ◌||◌, List, [], ◌∷◌, take, drop, length, Option, Some, None, Result, Ok, Err, arith}
-use Rattle.std.specs.Prelude.{nat_lt, nat_le, if◌then◌else◌, ◌==◌}
+use Rattle.std.proofs.Common.{◌≡◌, sym, subst, refl, ℕ, zero, suc, ◌+◌, ◌-◌, ◌^◌, ◌<◌, ◌≤◌, Bool, true, false, ◌&&◌, ◌||◌, List, [], ◌∷◌, take, drop, length, Option, Some, None, Result, Ok, Err, arith}
+use Rattle.std.specs.Prelude.{nat_lt, if◌then◌else◌, ◌==◌}
 use Rattle.std.specs.List.{list_all, prefix_len, slice_get}
 use Rattle.std.specs.Char.{is_ascii_digit, to_ascii_lowercase}
 use Rattle.std.specs.Int.{is_in_range}
-use Rattle.std.proofs.lemmas.Bool.{and_from, and_parts, eqb-true, le-leb, leb-true, lt-ltb, ltb-true, ltb-false, or_left, or_parts, or_right}
-use Rattle.std.proofs.lemmas.Grind.{pow_more}
+use Rattle.std.proofs.lemmas.Bool.{and_from, and_parts, eqb-true, le-leb, lt-ltb, ltb-true, ltb-false, or_left, or_parts, or_right}
+use Rattle.std.specs.Str.Parse.{digits_value}
+use Rattle.std.proofs.lemmas.Int.Digits.{digits_value-lt}
 use Rattle.std.proofs.lemmas.List.Folds.{length-prefix_len}
+use Rattle.star_common.proofs.NumeralLemmas.{all_digits, below_power}
+use Rattle.star_schema.specs.Tables.{is_printable}
 use Rattle.star_query.specs.declared.token.Word.{Word}
 use Rattle.star_query.specs.declared.token.Word.TheVariants as words
 use Rattle.star_query.specs.declared.fault.QueryFault.{QueryFault}
 use Rattle.star_query.specs.declared.fault.QueryFault.TheVariants.{BadNumber}
 use Rattle.star_query.specs.Symbols.{Symbol, Placed, name, number, text, symbols, word_symbol, lowered, unquoted_after}
-use Rattle.star_query.specs.Cut.{Piece, blank, token, bad, Ending, closed, stopped, open_ended, farther, goes_on, ending_after, is_blank, is_letter, is_word_byte, is_printed, begins_with_letter, reserved, word_of, word_piece, value_after, number_piece, text_piece, sign_piece, less_piece, greater_piece, piece_at, with_token, before_rest, cut_from, cut_of}
+use Rattle.star_query.specs.Cut.{Piece, blank, token, bad, Ending, closed, stopped, open_ended, farther, goes_on, ending_after, is_blank, is_letter, is_word_byte, begins_with_letter, reserved, word_of, word_piece, number_piece, text_piece, sign_piece, less_piece, greater_piece, piece_at, with_token, before_rest, cut_from, cut_of}
 use Rattle.star_query.specs.Spelled.{is_text}
 use Rattle.star_query.proofs.Counting.{by_bool}
-use Rattle.star_query.proofs.Lexing.{all_digits}
+use Rattle.star_query.proofs.Lexing.{prefix_passes}
 
 -- as the token is spelled; a name's length is asked for elsewhere
 abbrev pub token_is_spelled : Symbol → Bool
@@ -39,14 +42,6 @@ small_letter c low high = or_left _ _ (or_right (is_in_range 65 90 c) _ (in_rang
 
 small_word_byte : (c : ℕ) → 97 ≤ c → c ≤ 122 → is_word_byte c ≡ true
 small_word_byte c low high = or_left _ _ (small_letter c low high)
-
-prefix_passes : (p : ℕ → Bool) (xs : List ℕ) → list_all p (take (prefix_len p xs) xs) ≡ true
-prefix_passes p [] = refl
-prefix_passes p (x ∷ xs) = go (p x) refl (prefix_passes p xs)
-  where
-    go : (b : Bool) → p x ≡ b → list_all p (take (prefix_len p xs) xs) ≡ true → list_all p (take (prefix_len p (x ∷ xs)) (x ∷ xs)) ≡ true
-    go true h rest = let one : 1 + prefix_len p xs ≡ suc (prefix_len p xs) = omega arith in rw (h, one) (and_from _ _ h rest)
-    go false h rest = rw h refl
 
 lowered_passes : (word : List ℕ) → list_all is_word_byte word ≡ true → list_all is_word_byte (lowered word) ≡ true
 lowered_passes [] e = refl
@@ -76,44 +71,32 @@ word_spelled place word begins all = go (reserved word) refl
     go None h = rw h (and_from _ _ begins all)
     go (Some w) h = rw h (reserved_spelled w place)
 
--- ---- numbers
-
--- so many digits behind a number that isn't too large
-value_below : (n i : ℕ) (ds : List ℕ) → n < 10 ^ i → list_all is_ascii_digit ds ≡ true → value_after n ds < 10 ^ (i + length ds)
-value_below n i [] below digits = let e : i + 0 ≡ i = omega arith in rw e below
-value_below n i (d ∷ ds) below digits =
-    let both = and_parts (is_ascii_digit d) (list_all is_ascii_digit ds) digits in
-    let small : d ≤ 57 = leb-true d 57 ((and_parts (nat_le 48 d) (nat_le d 57) both.0).1) in
-    let one_more : 10 * n + (d - 48) < 10 ^ (i + 1) = omega (arith, pow_more 10 i) in
-    let e : i + suc (length ds) ≡ i + 1 + length ds = omega arith in
-    rw e (value_below (10 * n + (d - 48)) (i + 1) ds one_more both.1)
-
 -- ---- texts
 
-quote_printed : (b : ℕ) → (b == 39) ≡ true → is_printed b ≡ true
-quote_printed b e = subst (λ c. is_printed c ≡ true) (sym (eqb-true b 39 e)) refl
+quote_printed : (b : ℕ) → (b == 39) ≡ true → is_printable b ≡ true
+quote_printed b e = subst (λ c. is_printable c ≡ true) (sym (eqb-true b 39 e)) refl
 
 -- what a text goes on with is printed
-goes_on_printed : (q p : Bool) (b : ℕ) → goes_on q b ≡ Some p → is_printed b ≡ true
+goes_on_printed : (q p : Bool) (b : ℕ) → goes_on q b ≡ Some p → is_printable b ≡ true
 goes_on_printed true p b e = by_bool (b == 39) (λ quote. quote_printed b quote) (λ other. absurd (let wrong = rw other at e in cc))
 goes_on_printed false p b e =
-    by_bool (b == 39) (λ quote. quote_printed b quote) (λ other. by_bool (is_printed b) (λ printed. printed) (λ bad. absurd (let wrong = rw (other, bad) at e in cc)))
+    by_bool (b == 39) (λ quote. quote_printed b quote) (λ other. by_bool (is_printable b) (λ printed. printed) (λ bad. absurd (let wrong = rw (other, bad) at e in cc)))
 
 farther_closed : (e : Ending) (n : ℕ) → farther e ≡ closed n → (m : ℕ) × (e ≡ closed m) × (n ≡ m + 1)
 farther_closed (closed m) n h = (m, refl, cc)
 farther_closed (stopped m) n h = absurd (cc)
 farther_closed open_ended n h = absurd (cc)
 
-ended_printed : (q : Bool) (n : ℕ) (xs : List ℕ) → (if q then closed 0 else stopped 0) ≡ closed n → list_all is_printed (take n xs) ≡ true
+ended_printed : (q : Bool) (n : ℕ) (xs : List ℕ) → (if q then closed 0 else stopped 0) ≡ closed n → list_all is_printable (take n xs) ≡ true
 ended_printed true n xs e = let none : 0 ≡ n = cc in rw (← none) refl
 ended_printed false n xs e = absurd (cc)
 
-text_printed : (q : Bool) (bytes : List ℕ) (n : ℕ) → ending_after q bytes ≡ closed n → list_all is_printed (take n bytes) ≡ true
+text_printed : (q : Bool) (bytes : List ℕ) (n : ℕ) → ending_after q bytes ≡ closed n → list_all is_printable (take n bytes) ≡ true
 text_printed true [] n e = ended_printed true n [] e
 text_printed false [] n e = absurd (cc)
 text_printed q (b ∷ bs) n e = go (goes_on q b) refl e (λ p m h. text_printed p bs m h)
   where
-    go : (o : Option Bool) → goes_on q b ≡ o → ending_after q (b ∷ bs) ≡ closed n → ((p : Bool) (m : ℕ) → ending_after p bs ≡ closed m → list_all is_printed (take m bs) ≡ true) → list_all is_printed (take n (b ∷ bs)) ≡ true
+    go : (o : Option Bool) → goes_on q b ≡ o → ending_after q (b ∷ bs) ≡ closed n → ((p : Bool) (m : ℕ) → ending_after p bs ≡ closed m → list_all is_printable (take m bs) ≡ true) → list_all is_printable (take n (b ∷ bs)) ≡ true
     go None h e rest = ended_printed q n (b ∷ bs) (rw h at e)
     go (Some p) h e rest =
         let f = farther_closed (ending_after p bs) n (rw h at e) in
@@ -144,16 +127,16 @@ word_piece_spelled : (place b : ℕ) (bs : List ℕ) → is_letter b ≡ true �
 word_piece_spelled place b bs letter =
     word_spelled place (take (prefix_len is_word_byte (b ∷ bs)) (b ∷ bs)) (word_begins b bs letter) (lowered_passes (take (prefix_len is_word_byte (b ∷ bs)) (b ∷ bs)) (prefix_passes is_word_byte (b ∷ bs)))
 
-few_digits : (bytes : List ℕ) → prefix_len is_ascii_digit bytes ≤ 18 → nat_lt (value_after 0 (take (prefix_len is_ascii_digit bytes) bytes)) (10 ^ 18) ≡ true
+few_digits : (bytes : List ℕ) → prefix_len is_ascii_digit bytes ≤ 18 → nat_lt (digits_value 10 (take (prefix_len is_ascii_digit bytes) bytes)) (10 ^ 18) ≡ true
 few_digits bytes few =
     let digits = take (prefix_len is_ascii_digit bytes) bytes in
-    let below : value_after 0 digits < 10 ^ (0 + length digits) = value_below 0 0 digits (omega arith) (prefix_passes is_ascii_digit bytes) in
+    let below : digits_value 10 digits < 10 ^ length digits = digits_value-lt 10 digits (all_digits digits (prefix_passes is_ascii_digit bytes)) in
     let many : length digits ≡ prefix_len is_ascii_digit bytes = length-prefix_len is_ascii_digit bytes in
-    lt-ltb _ _ (all_digits (value_after 0 digits) (0 + length digits) below (omega arith))
+    lt-ltb _ _ (below_power (length digits) 18 (digits_value 10 digits) below (omega arith))
 
 number_piece_spelled : (place : ℕ) (bytes : List ℕ) → IsSpelledPiece (number_piece place bytes)
 number_piece_spelled place bytes =
-    either_way (nat_lt 18 (prefix_len is_ascii_digit bytes) || begins_with_letter (drop (prefix_len is_ascii_digit bytes) bytes)) (bad (BadNumber place)) (token (number (value_after 0 (take (prefix_len is_ascii_digit bytes) bytes))) (prefix_len is_ascii_digit bytes)) (λ e. tt)
+    either_way (nat_lt 18 (prefix_len is_ascii_digit bytes) || begins_with_letter (drop (prefix_len is_ascii_digit bytes) bytes)) (bad (BadNumber place)) (token (number (digits_value 10 (take (prefix_len is_ascii_digit bytes) bytes))) (prefix_len is_ascii_digit bytes)) (λ e. tt)
     (λ e. few_digits bytes (ltb-false 18 (prefix_len is_ascii_digit bytes) ((or_parts (nat_lt 18 (prefix_len is_ascii_digit bytes)) (begins_with_letter (drop (prefix_len is_ascii_digit bytes) bytes)) e).0)))
 
 text_piece_spelled : (place : ℕ) (bytes : List ℕ) → IsSpelledPiece (text_piece place bytes)
@@ -161,7 +144,7 @@ unfolding is_text
 text_piece_spelled place bytes = go (ending_after false bytes) refl
   where
     go : (e : Ending) → ending_after false bytes ≡ e → IsSpelledPiece (text_piece place bytes)
-    go (closed n) h = rw h (unquoted_passes is_printed false (take (n - 1) bytes) (fewer_pass is_printed bytes n (text_printed false bytes n h)))
+    go (closed n) h = rw h (unquoted_passes is_printable false (take (n - 1) bytes) (fewer_pass is_printable bytes n (text_printed false bytes n h)))
     go (stopped n) h = rw h tt
     go open_ended h = rw h tt
 

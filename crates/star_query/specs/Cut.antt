@@ -1,9 +1,10 @@
 -- How a text is cut into tokens, and its first fault from the left where it can't be (this project's profile of SQL).
-use Rattle.std.specs.Prelude.{ℕ, zero, suc, ◌+◌, ◌-◌, ◌*◌, nat_lt, Bool, true, false, ◌==◌, ◌||◌, if◌then◌else◌, List, [], ◌∷◌, find, drop, take, nat_eq, Option, Some, None, Result, Ok, Err}
+use Rattle.std.specs.Prelude.{ℕ, zero, suc, ◌+◌, ◌-◌, nat_lt, Bool, true, false, ◌==◌, ◌||◌, if◌then◌else◌, List, [], ◌∷◌, find, drop, take, nat_eq, Option, Some, None, Result, Ok, Err}
 use Rattle.std.specs.List.{prefix_len, slice_get}
 use Rattle.std.specs.Char.{is_ascii_alphabetic, is_ascii_digit}
-use Rattle.std.specs.Int.{is_in_range}
+use Rattle.std.specs.Str.Parse.{digits_value}
 use Rattle.std.specs.Cmp.Lexicographic.{pointwise}
+use Rattle.star_schema.specs.Tables.{is_printable}
 use Rattle.star_query.specs.declared.token.Word.{Word}
 use Rattle.star_query.specs.declared.token.Relation.TheVariants as r
 use Rattle.star_query.specs.declared.token.Sign.TheVariants as s
@@ -22,10 +23,6 @@ is_letter b = is_ascii_alphabetic b || (b == 95)
 
 abbrev pub is_word_byte : ℕ → Bool
 is_word_byte b = is_letter b || is_ascii_digit b
-
--- what may stand in a text
-abbrev pub is_printed : ℕ → Bool
-is_printed b = is_in_range 32 126 b
 
 -- what begins at a place: white space, a token and how many bytes it has, or a fault
 pub data Piece : Type 0 where
@@ -54,11 +51,6 @@ abbrev pub word_piece : ℕ → List ℕ → Piece
 word_piece place bytes =
     let width = prefix_len is_word_byte bytes in token (word_of place (take width bytes)) width
 
--- the value of digits, behind those that give n
-abbrev pub value_after : ℕ → List ℕ → ℕ
-value_after n [] = n
-value_after n (d ∷ ds) = value_after (10 * n + (d - 48)) ds
-
 abbrev pub begins_with_letter : List ℕ → Bool
 begins_with_letter [] = false
 begins_with_letter (b ∷ bs) = is_letter b
@@ -67,7 +59,7 @@ begins_with_letter (b ∷ bs) = is_letter b
 abbrev pub number_piece : ℕ → List ℕ → Piece
 number_piece place bytes =
     let width = prefix_len is_ascii_digit bytes in
-    if nat_lt most_digits width || begins_with_letter (drop width bytes) then bad (BadNumber place) else token (number (value_after 0 (take width bytes))) width
+    if nat_lt most_digits width || begins_with_letter (drop width bytes) then bad (BadNumber place) else token (number (digits_value 10 (take width bytes))) width
 
 -- how a text ends: by its closing quote, behind this many bytes; at a byte that may not stand in it; or not at all
 pub data Ending : Type 0 where
@@ -83,7 +75,7 @@ farther open_ended = open_ended
 -- whether a text goes on with a byte, and whether that byte is then a quote that closes the text unless another follows
 abbrev pub goes_on : (a_quote : Bool) → ℕ → Option Bool
 goes_on true b = if b == 39 then Some false else None
-goes_on false b = if b == 39 then Some true else if is_printed b then Some false else None
+goes_on false b = if b == 39 then Some true else if is_printable b then Some false else None
 
 -- the end of a text, behind a quote that closes it unless another one follows, or behind any other byte
 abbrev pub ending_after : (a_quote : Bool) → List ℕ → Ending

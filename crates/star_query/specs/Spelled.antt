@@ -1,7 +1,8 @@
 -- How the names, numbers and texts of a query's tree are spelled.
 use Rattle.std.specs.Prelude.{◌≡◌, ℕ, ℤ, ◌^◌, unsigned_abs, Bool, true, ◌&&◌, nat_le, nat_lt, List, length, Option, Some, None}
 use Rattle.std.specs.List.{list_all}
-use Rattle.star_query.specs.Cut.{begins_with_letter, is_printed, is_word_byte}
+use Rattle.star_schema.specs.Tables.{is_printable}
+use Rattle.star_query.specs.Cut.{begins_with_letter, is_word_byte}
 use Rattle.star_query.specs.Maxima.{most_digits, most_name_bytes}
 use Rattle.star_query.specs.Tree.{Name, Literal, number, text, Expression, column, constant, add, sub, mul, Condition, either, both, negation, pair, compare, between, Measure, fold, count, Item, plain, aggregate, Tree}
 
@@ -15,7 +16,7 @@ is_number z = nat_lt (unsigned_abs z) (10 ^ most_digits)
 
 -- bytes from the space to the tilde
 unfoldable pub is_text : List ℕ → Bool
-is_text bytes = list_all is_printed bytes
+is_text bytes = list_all is_printable bytes
 
 abbrev pub literal_is_spelled : Literal → Bool
 literal_is_spelled (number z) = is_number z

@@ -1,4 +1,5 @@
-// The limits of a query: how long it and its tokens may be, how deep it may nest, and how many of each part it may have.
+// The limits of a query: how long it and its tokens may be, how deep it may nest, and how many of
+// each part it may have.
 
 ghost use Rattle.std.specs.Prelude.{◌≡◌, ◌≤◌, ◌<◌};
 ghost use Rattle.star_query.specs.Maxima.{limit};

@@ -1,6 +1,7 @@
 // Queries as SQL, with the parentheses that their grouping needs. No contract says what is printed:
 // its definition would be this file again, and nothing is proved from it.
 
+use crate::operation::{Operand, write_operand, write_operation};
 use crate::token::{Fold, Relation};
 use crate::tree::{
     Aggregate, Condition, Expression, Grouping, Item, Literal, Measure, Name, SortKey, Tree,
@@ -61,77 +62,54 @@ impl fmt::Display for Literal {
     }
 }
 
-// How tightly an expression's operator binds.
-fn tightness(expression: &Expression) -> u8 {
-    match expression {
-        Expression::Add(_, _) | Expression::Sub(_, _) => 0,
-        Expression::Mul(_, _) => 1,
-        Expression::Column(_) | Expression::Number(_) => 2,
+impl Operand for Expression {
+    fn tightness(&self) -> u8 {
+        match self {
+            Expression::Add(_, _) | Expression::Sub(_, _) => 0,
+            Expression::Mul(_, _) => 1,
+            Expression::Column(_) | Expression::Number(_) => 2,
+        }
     }
 }
 
 impl fmt::Display for Expression {
     fn fmt<W: fmt::Write>(&self, f: &mut fmt::Formatter<W>) -> fmt::Result {
-        let (left, operator, right) = match self {
-            Expression::Column(name) => return write!(f, "{name}"),
-            Expression::Number(number) => return write!(f, "{number}"),
-            Expression::Add(left, right) => (left, '+', right),
-            Expression::Sub(left, right) => (left, '-', right),
-            Expression::Mul(left, right) => (left, '*', right),
-        };
-        let own = tightness(self);
-        if tightness(left) < own {
-            write!(f, "({left}) {operator} ")?;
-        } else {
-            write!(f, "{left} {operator} ")?;
-        }
-        if tightness(right) <= own {
-            write!(f, "({right})")
-        } else {
-            write!(f, "{right}")
+        match self {
+            Expression::Column(name) => write!(f, "{name}"),
+            Expression::Number(number) => write!(f, "{number}"),
+            Expression::Add(left, right) => write_operation(f, &**left, "+", &**right, 0),
+            Expression::Sub(left, right) => write_operation(f, &**left, "-", &**right, 0),
+            Expression::Mul(left, right) => write_operation(f, &**left, "*", &**right, 1),
         }
     }
 }
 
-// How tightly a condition's operator binds.
-fn condition_tightness(condition: &Condition) -> u8 {
-    match condition {
-        Condition::Or(_, _) => 0,
-        Condition::And(_, _) => 1,
-        _ => 2,
+impl Operand for Condition {
+    fn tightness(&self) -> u8 {
+        match self {
+            Condition::Or(_, _) => 0,
+            Condition::And(_, _) => 1,
+            _ => 2,
+        }
     }
 }
 
 impl fmt::Display for Condition {
     fn fmt<W: fmt::Write>(&self, f: &mut fmt::Formatter<W>) -> fmt::Result {
-        let (left, operator, right) = match self {
-            Condition::Pair(first, second) => return write!(f, "{first} = {second}"),
+        match self {
+            Condition::Or(left, right) => write_operation(f, &**left, "or", &**right, 0),
+            Condition::And(left, right) => write_operation(f, &**left, "and", &**right, 1),
+            Condition::Not(negated) => {
+                f.write_str("not ")?;
+                write_operand(f, negated, negated.tightness() < 2)
+            }
+            Condition::Pair(first, second) => write!(f, "{first} = {second}"),
             Condition::Compare(name, relation, literal) => {
-                return write!(f, "{name} {relation} {literal}");
+                write!(f, "{name} {relation} {literal}")
             }
             Condition::Between(name, from, upto) => {
-                return write!(f, "{name} between {from} and {upto}");
+                write!(f, "{name} between {from} and {upto}")
             }
-            Condition::Not(negated) => {
-                return if condition_tightness(negated) < 2 {
-                    write!(f, "not ({negated})")
-                } else {
-                    write!(f, "not {negated}")
-                };
-            }
-            Condition::Or(left, right) => (left, "or", right),
-            Condition::And(left, right) => (left, "and", right),
-        };
-        let own = condition_tightness(self);
-        if condition_tightness(left) < own {
-            write!(f, "({left}) {operator} ")?;
-        } else {
-            write!(f, "{left} {operator} ")?;
-        }
-        if condition_tightness(right) <= own {
-            write!(f, "({right})")
-        } else {
-            write!(f, "{right}")
         }
     }
 }

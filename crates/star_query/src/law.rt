@@ -21,7 +21,8 @@ pub fn one_tree()
     ensures { (bytes : List ℕ) (a b : Tree) → Means bytes a → Means bytes b → a ≡ b }
 {}
 
-/// How deep a symbol lies and what is counted at it hangs on the symbols up to it alone, so a fault is the first by every query that goes on so.
+/// How deep a symbol lies and what is counted at it hangs on the symbols up to it alone, so a fault
+/// is the first by every query that goes on so.
 pub fn one_front()
     ensures { (a b : List Mark) → Begins a → Begins b → symbols_at a ≡ symbols_at b → a ≡ b }
 {}

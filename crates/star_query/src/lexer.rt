@@ -1,15 +1,16 @@
 // A text cut into tokens.
 
-ghost use Rattle.std.specs.Prelude.{◌≡◌, ◌≤◌, ◌<◌, ◌+◌, ◌-◌, ◌*◌, ◌^◌, length, IfOk, Ok, Some, None, Option, false, true, ℕ, slice_index, IfErr, option_to_list, max, map, Err};
+ghost use Rattle.std.specs.Prelude.{◌≡◌, ◌≤◌, ◌+◌, length, IfOk, Ok, Some, None, Option, false, true, IfErr, option_to_list, max, map, Err};
 ghost use Rattle.std.specs.List.{prefix_len, take_while};
 ghost use Rattle.std.specs.Char.{is_ascii_digit};
-ghost use Rattle.star_query.specs.Maxima.{most_digits};
+ghost use Rattle.star_schema.specs.Tables as tables;
 ghost use Rattle.star_query.specs.Cut as spec;
 ghost use Rattle.star_query.specs.Private.Lexed as lexed;
 
 use crate::counts::MAX_DIGITS;
 use crate::fault::QueryFault;
 use crate::token::{Additive, Digits, Kind, Relation, Sign, Token, WORDS, Word};
+use star_common::numeral_value;
 use std::alloc::Global;
 
 // What begins at a place.
@@ -20,7 +21,8 @@ enum Piece<'a> {
     Bad(QueryFault),
 }
 
-// How a text ends: by its closing quote, behind this many bytes; at a byte that may not stand in it; or not at all.
+// How a text ends: by its closing quote, behind this many bytes; at a byte that may not stand in
+// it; or not at all.
 #[derive(Clone, Copy)]
 enum Ending {
     Closed(usize),
@@ -46,8 +48,8 @@ fn is_word_byte(byte: u8) -> bool
     is_letter(byte) || byte.is_ascii_digit()
 }
 
-fn is_printed(byte: u8) -> bool
-    ensures { result ≡ spec.is_printed byte }
+fn is_printable(byte: u8) -> bool
+    ensures { result ≡ tables.is_printable byte }
 {
     (b' '..=b'~').contains(&byte)
 }
@@ -87,29 +89,6 @@ fn word_width(text: &[u8]) -> usize
     text.iter().take_while(|byte| is_word_byte(**byte)).count()
 }
 
-fn digit_value(digit: u8) -> u64
-    requires { is_ascii_digit digit ≡ true }
-    ensures value { result ≡ digit - 48 }
-    ensures digit { result < 10 }
-{
-    u64::from(digit - b'0')
-}
-
-// The value of digits.
-fn value_of(digits: &[u8]) -> u64
-    requires few { length digits.now ≤ most_digits }
-    requires digits { (k : ℕ) → k < length digits.now → is_ascii_digit (slice_index digits.now k)
-        ≡ true }
-    ensures value { result ≡ spec.value_after 0 digits.now }
-    ensures few { result < 10 ^ most_digits }
-{
-    let mut value = 0;
-    for digit in digits {
-        value = 10 * value + digit_value(*digit);
-    }
-    value
-}
-
 // Whether a text goes on with a byte, and whether it then ends unless a quote follows.
 fn goes_on(quote: bool, byte: u8) -> Option<bool>
     ensures { result ≡ spec.goes_on quote byte }
@@ -118,7 +97,7 @@ fn goes_on(quote: bool, byte: u8) -> Option<bool>
         if byte == b'\'' { Some(false) } else { None }
     } else if byte == b'\'' {
         Some(true)
-    } else if is_printed(byte) {
+    } else if is_printable(byte) {
         Some(false)
     } else {
         None
@@ -197,11 +176,12 @@ fn number<'a>(text: &'a [u8], place: usize) -> Piece<'a>
 {
     let width = digits_width(text);
     let (digits, rest) = text.split_at(width);
-    if width > MAX_DIGITS || begins_with_letter(rest) {
-        return Piece::Bad(QueryFault::BadNumber { at: place });
+    match numeral_value(digits) {
+        Some(value) if width <= MAX_DIGITS && !begins_with_letter(rest) => {
+            Piece::Token(Kind::Number(Digits { value }), width)
+        }
+        _ => Piece::Bad(QueryFault::BadNumber { at: place }),
     }
-    let value = value_of(digits);
-    Piece::Token(Kind::Number(Digits { value }), width)
 }
 
 // The longest run of letters, digits and `_`: a reserved word or a name.

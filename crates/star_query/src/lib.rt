@@ -1,6 +1,7 @@
 //! Query texts: their tokens, their grammar, and the tree that a text means.
 //!
-//! What the tokens of a text are, which tokens are a query and what else is the first fault stands in `specs/`.
+//! What the tokens of a text are, which tokens are a query and what else is the first fault stands
+//! in `specs/`.
 #![tactic(auto)]
 
 mod clauses;
@@ -11,6 +12,7 @@ mod expressions;
 mod fault;
 pub mod law;
 mod lexer;
+mod operation;
 mod parser;
 mod query;
 mod token;
@@ -18,6 +20,7 @@ mod tree;
 
 pub use counts::MAX_TEXT;
 pub use fault::QueryFault;
+pub use operation::{Operand, write_operand, write_operation};
 pub use query::Query;
 pub use token::{Fold, Relation};
 pub use tree::{

@@ -1,4 +1,5 @@
-// A query from its tokens, by recursive descent: what is next, what is counted, names, numbers and texts.
+// A query from its tokens, by recursive descent: what is next, what is counted, names, numbers and
+// texts.
 
 ghost use Rattle.std.specs.Prelude.{◌≡◌, ◌≤◌, [], ◌∷◌, ◌-◌, length, map, drop, IfErr, IfOk, IfSome, IfNone};
 ghost use Rattle.std.specs.Bool.{OnTrue, OnFalse};

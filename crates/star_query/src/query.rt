@@ -12,7 +12,8 @@ use crate::parser::parse_tokens;
 use crate::tree::Tree;
 use std::alloc::Global;
 
-/// A query: its tree is what some text means, so it is within all limits. It is made by parsing a text alone.
+/// A query: its tree is what some text means, so it is within all limits. It is made by parsing a
+/// text alone.
 #[derive(Drop)]
 pub struct Query {
     tree: Tree,
@@ -27,8 +28,9 @@ impl Query {
     ghost use Rattle.star_query.specs.Derives.{Means, IsFirstFault};
     ghost use Rattle.star_query.specs.Shown.{query_shown, tree_of, IsRead};
 
-    /// The query that a text is, or the first fault: of its length, then of its tokens from the left, then of the
-    /// grammar and its limits at the first token that breaks one. Want of memory may come before any other fault.
+    /// The query that a text is, or the first fault: of its length, then of its tokens from the
+    /// left, then of the grammar and its limits at the first token that breaks one. Want of memory
+    /// may come before any other fault.
     pub fn parse(alloc: Global, text: &[u8]) -> Result<Query, QueryFault>
         // What is read is what the text means.
         ensures found { IfOk result (λ query. Means text.now (query_shown query)) }
@@ -50,9 +52,11 @@ impl Query {
         ensures lent { result.now ≡ tree_of self.now }
         // Some text means it.
         ensures meant { ∥ IsMeant (tree_view result.now) ∥₁ }
-        // It has at most 16 items, 8 aggregates, 512 operands in them, 256 comparisons, 6 group columns and 16 sort keys.
+        // It has at most 16 items, 8 aggregates, 512 operands in them, 256 comparisons, 6 group
+        // columns and 16 sort keys.
         ensures limits { IsQueryWithinLimits (tree_view result.now) }
-        // Names have 1 to 64 letters, digits and `_`, numbers at most 18 digits, and texts bytes from 0x20 to 0x7E.
+        // Names have 1 to 64 letters, digits and `_`, numbers at most 18 digits, and texts bytes
+        // from 0x20 to 0x7E.
         ensures spelled { IsSpelledQuery (tree_view result.now) }
     {
         &self.tree

@@ -1,12 +1,17 @@
-use Rattle.std.proofs.Common.{◌≡◌, ℕ, ◌<◌, length, true, get_or, sym, subst, List, rules}
-use Rattle.std.specs.Char.{is_ascii_digit}
-use Rattle.star_query.proofs.Lexing.{digits_pass}
+use Rattle.std.proofs.Common.{◌∙◌, arith, rules, sym}
+use Rattle.star_common.proofs.NumeralLemmas.{below_power}
+use Rattle.star_query.proofs.Lexing.{number_long, number_followed, number_too_long}
 use Rattle.star_query.proofs.lexer.number.Goals as goal
+use Rattle.star_query.proofs.lexer.number.Goals.{in_default-via-in-Some+then-width-le-MAX_DIGITS+else-not-begins_with_letter, in_default-via-in-Some+else-width-le-MAX_DIGITS, in_default-via-in_default}
 
-pub value_of-value-requires-clause-digits : goal.value_of-value-requires-clause-digits
-value_of-value-requires-clause-digits c =
-    let Pass : List ℕ → Type 0 = λ ds. (k : ℕ) → k < length ds → is_ascii_digit (get_or ds k 0) ≡ true in
-    subst Pass (sym c.split_at.ensures.front) (digits_pass c.args.text.now c.digits_width-width.result c.digits_width-width.ensures.width)
+pub invariant_of-result : goal.invariant_of-result
+invariant_of-result c =
+    record { few = below_power _ 18 c.in-Some.value c.in-Some.ensures.bound (omega (arith, c.split_at.ensures.front_len, c.if-width-le-MAX_DIGITS.true)) }
 
-pub returns-clause-piece : goal.returns-clause-piece
-returns-clause-piece c = search rules
+pub returns-in_default-clause-piece : goal.returns-in_default-clause-piece
+returns-in_default-clause-piece c =
+    elim c.in_default.branch [
+      | in_default-via-in-Some+then-width-le-MAX_DIGITS+else-not-begins_with_letter w ↦ sym (number_followed c.args.place c.args.text.now (search rules))
+      | in_default-via-in-Some+else-width-le-MAX_DIGITS w ↦ sym (number_long c.args.place c.args.text.now (search rules))
+      | in_default-via-in_default w ↦ sym (number_too_long c.args.place c.args.text.now c.requires (rw (c.split_at.ensures.front, c.digits_width-width.ensures.width) at (sym c.numeral_value.ensures.value ∙ w.in_default.is)))
+    ]
