@@ -4,10 +4,10 @@ use Rattle.std.specs.Prelude.{Result, Ok, Err, IsOk, OnOk, OnErr, IfErr, codes}
 use Rattle.std.specs.Io.KnownBytes.{Appends}
 use Rattle.star_report.specs.declared.deliver.WriteFault.{WriteFault}
 use Rattle.star_engine.specs.Answered.{Change}
-use Rattle.star_engine.specs.FaultTexts.{fault_text}
+use Rattle.star_engine.specs.FaultTexts.{engine_fault_text}
 use Rattle.star_engine.specs.declared.fault.EngineFault.TheVariants as engine
 use Rattle.star_cli.specs.Failures.{IsTextOf, failure_text}
-use Rattle.star_cli.specs.Lines.{IsTold, fault_line}
+use Rattle.star_cli.specs.Lines.{IsTextTold, fault_line}
 use Rattle.star_cli.specs.declared.failure.Failure.TheVariants.{OutOfMemory}
 
 -- by what the one call that writes ensures
@@ -18,7 +18,7 @@ pub told : {S : Type 0} (sink : Change S) (text : List ℕ) (result : Result (Un
     → IfErr result (λ fault. (fault.sent < length text)
     × Appends (sink.contents sink.old) (sink.contents sink.new) (take fault.sent text))
     → OnErr result (sink.is_failed sink.new ≡ true)
-    → IsTold sink text
+    → IsTextTold sink text
 told sink [] result empty ok whole prefix failed = inl (refl, (empty refl).1)
 told sink (x ∷ xs) (Ok answer) empty ok whole prefix failed =
     inr (inl (record { gained = whole; not_failed = (ok (omega arith)).0 refl }))
@@ -28,7 +28,7 @@ told sink (x ∷ xs) (Err fault) empty ok whole prefix failed =
 -- as it is told of the engine, and of a command
 pub memory_line : (text : List ℕ) → text ≡ codes "memory\n"
     → text ≡ fault_line engine.OutOfMemory
-unfolding fault_line fault_text
+unfolding fault_line engine_fault_text
 memory_line text e = e
 
 pub memory_text : (text : List ℕ) → text ≡ codes "memory\n" → IsTextOf OutOfMemory text

@@ -5,14 +5,14 @@ use Rattle.std.specs.Prelude.{codes, map}
 use lib.Utf8.{encode, scalars}
 use Rattle.std.specs.Fmt.{digits}
 use Rattle.clap.specs.declared.error.kind.ErrorKind.TheVariants.{DisplayHelp, DisplayVersion, UnknownArgument}
-use Rattle.star_engine.specs.FaultTexts.{fault_text}
+use Rattle.star_engine.specs.FaultTexts.{engine_fault_text}
 use Rattle.star_engine.specs.declared.fault.EngineFault.TheVariants.{OutOfMemory, Write}
 use Rattle.star_cli.specs.Failures.{words_status}
 use Rattle.star_cli.specs.Lines.{fault_line}
 use Rattle.star_cli.specs.Names.{shown_letter, shown_name}
 
 lines : map fault_line (OutOfMemory ∷ Write 65536 ∷ []) ≡ codes "memory\n" ∷ codes "write 65536\n" ∷ []
-unfolding fault_line fault_text digits
+unfolding fault_line engine_fault_text digits
 lines = refl
 
 -- of a name in UTF-8 the letters are shown

@@ -72,9 +72,9 @@ IsExecuted out notes texts file answer =
     (IsUntold MOST_ROWS MOST_VISITS texts file) answer
 
 -- it is told how many visits of the query, or of the program, of a file are quoted over them
-abbrev pub IsQuote : {S : Type 0} → Change S → (TableId → List ℕ) → List ℕ
+abbrev pub IsQuoted : {S : Type 0} → Change S → (TableId → List ℕ) → List ℕ
     → Result (Unit {0}) EngineFault → Type 0
-IsQuote out texts file answer =
+IsQuoted out texts file answer =
     IsAnswered out (IsQuoteText MOST_ROWS texts file) (IsUnquoted MOST_ROWS texts file) answer
 
 -- the program of a file is run over them under these limits
@@ -100,7 +100,7 @@ IsGiven (Explain file) bytes out notes result =
 IsGiven (Exec folder file) bytes out notes result =
     IsWhole (IsExecuted out notes (text_of bytes.texts) bytes.file.now) result
 IsGiven (Quote folder file) bytes out notes result =
-    IsWhole (IsQuote out (text_of bytes.texts) bytes.file.now) result × IsUntouched notes
+    IsWhole (IsQuoted out (text_of bytes.texts) bytes.file.now) result × IsUntouched notes
 IsGiven (Trial folder file limits) bytes out notes result =
     IsWhole (IsTried limits out (text_of bytes.texts) bytes.file.now) result × IsUntouched notes
 

@@ -6,7 +6,7 @@ use Rattle.clap.specs.declared.error.kind.ErrorKind.{ErrorKind}
 use Rattle.clap.specs.declared.error.kind.ErrorKind.TheVariants as kinds
 use Rattle.clap.specs.declared.error.kind.ErrorKind.TheVariants.{DisplayHelp, DisplayVersion}
 use Rattle.star_engine.specs.Answered.{Change, IsUntouched}
-use Rattle.star_cli.specs.Lines.{IsTold}
+use Rattle.star_cli.specs.Lines.{IsTextTold}
 use Rattle.star_cli.specs.Names.{shown_name}
 use Rattle.star_cli.specs.declared.failure.Failure.{Failure}
 use Rattle.star_cli.specs.declared.failure.Failure.TheVariants.{Words, NotText, EmptyFolder, NoCommand, File, OutOfMemory}
@@ -52,8 +52,8 @@ IsTextOf failure text = IfSome (failure_text failure) (λ line. text ≡ line)
 
 -- a text is told on standard output, or else on standard error; the other is as it was
 abbrev pub IsToldOn : {S E : Type 0} → Bool → Change S → Change E → List ℕ → Type 0
-IsToldOn true out err text = IsTold out text × IsUntouched err
-IsToldOn false out err text = IsUntouched out × IsTold err text
+IsToldOn true out err text = IsTextTold out text × IsUntouched err
+IsToldOn false out err text = IsUntouched out × IsTextTold err text
 
 -- a failure is told, on standard output where it is none, and gives its status; or want of memory
 -- where there is none for its text

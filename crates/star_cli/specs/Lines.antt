@@ -3,11 +3,11 @@ use Rattle.std.specs.Prelude.{◌≡◌, ◌++◌, ◌⊎◌, ℕ, List, [], cod
 use Rattle.star_engine.specs.declared.fault.EngineFault.{EngineFault}
 use Rattle.star_engine.specs.declared.fault.EngineFault.TheVariants as engine
 use Rattle.star_engine.specs.Answered.{Change, HasGained, HasGainedPart, IsUntouched}
-use Rattle.star_engine.specs.FaultTexts.{fault_text}
+use Rattle.star_engine.specs.FaultTexts.{engine_fault_text}
 
 -- of a fault of the engine
 unfoldable pub fault_line : EngineFault → List ℕ
-fault_line fault = fault_text fault ++ codes "\n"
+fault_line fault = engine_fault_text fault ++ codes "\n"
 
 abbrev pub fault_status : EngineFault → ℕ
 fault_status (engine.Refused refusal) = 1
@@ -20,12 +20,12 @@ fault_status (engine.Write sent) = 6
 fault_status engine.OutOfMemory = 7
 
 -- a sink has gained a whole text; or its first bytes, and is failed; nothing is written of no text
-abbrev pub IsTold : {S : Type 0} → Change S → List ℕ → Type 0
-IsTold sink text = ((text ≡ []) × IsUntouched sink)
+abbrev pub IsTextTold : {S : Type 0} → Change S → List ℕ → Type 0
+IsTextTold sink text = ((text ≡ []) × IsUntouched sink)
     ⊎ (HasGained sink text ⊎ ((sent : ℕ) × HasGainedPart sink text sent))
 
 -- a fault is told with its status, or want of memory where there is none for its line
 abbrev pub IsFaultTold : {S : Type 0} → Change S → EngineFault → ℕ → Type 0
 IsFaultTold err fault status = (told : EngineFault)
     × ((told ≡ fault) ⊎ (told ≡ engine.OutOfMemory))
-    × IsTold err (fault_line told) × (status ≡ fault_status told)
+    × IsTextTold err (fault_line told) × (status ≡ fault_status told)

@@ -3,7 +3,7 @@
 ghost use Rattle.std.specs.Prelude.{◌≡◌};
 ghost use Rattle.star_catalogue.specs.Load.{text_of};
 ghost use Rattle.star_cli.specs.Answers as spec;
-ghost use Rattle.star_cli.specs.Answers.{IsBenched, IsExecuted, IsExplanation, IsListed, IsListedAndBenched, IsQueried, IsQuote, IsTried, IsWhole};
+ghost use Rattle.star_cli.specs.Answers.{IsBenched, IsExecuted, IsExplanation, IsListed, IsListedAndBenched, IsQueried, IsQuoted, IsTried, IsWhole};
 ghost use Rattle.star_engine.specs.Answered.{change};
 
 use star_engine::{
@@ -99,7 +99,7 @@ pub(crate) fn quote<S: Sink>(
     file: &[u8],
     out: &mut S,
 ) -> Result<bool, EngineFault>
-    ensures { IsWhole (IsQuote (change S.contents S.is_failed out.old out.new)
+    ensures { IsWhole (IsQuoted (change S.contents S.is_failed out.old out.new)
         (text_of texts.now) file.now) result }
 {
     whole(quote_text(alloc, texts, file, Limits::widest(), out))

@@ -2,7 +2,7 @@
 
 ghost use Rattle.std.specs.Prelude.{◌≡◌, IfOk, string_bytes};
 ghost use Rattle.star_engine.specs.Answered.{change};
-ghost use Rattle.star_cli.specs.Lines.{IsFaultTold, IsTold, fault_line, fault_status};
+ghost use Rattle.star_cli.specs.Lines.{IsFaultTold, IsTextTold, fault_line, fault_status};
 
 use star_engine::EngineFault;
 use star_report::write_whole;
@@ -17,7 +17,7 @@ pub(crate) const MEMORY_STATUS: u8 = 7;
 
 /// Writes a text on a sink, as far as the sink takes it.
 pub(crate) fn tell<S: Sink>(sink: &mut S, text: &[u8])
-    ensures { IsTold (change S.contents S.is_failed sink.old sink.new) text.now }
+    ensures { IsTextTold (change S.contents S.is_failed sink.old sink.new) text.now }
 {
     let _ = write_whole(sink, text);
 }

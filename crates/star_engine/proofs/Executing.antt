@@ -18,7 +18,7 @@ use Rattle.star_world.specs.WorldOf.{world_of}
 use Rattle.star_engine.specs.declared.fault.EngineFault.{EngineFault}
 use Rattle.star_engine.specs.declared.fault.EngineFault.TheVariants.{Refused}
 use Rattle.star_engine.specs.Answered.{Change}
-use Rattle.star_engine.specs.Executions.{IsQuote, IsQuoteOf, IsRefusal, IsTold, IsToldOf, IsUntold, quote_over}
+use Rattle.star_engine.specs.Executions.{IsQuote, IsQuoteOf, IsRefusal, IsProgramTold, IsToldOf, IsUntold, quote_over}
 use Rattle.star_engine.specs.Faults.{fault_of_refusal}
 use Rattle.star_engine.specs.Loads.{IsProgramOf}
 use Rattle.star_engine.specs.Noted.{IsNoted, Telling}
@@ -80,7 +80,7 @@ refused database most program (why.BadShow place) none is =
 -- what is told of a run
 pub told_run : (database : Database) (most : ℕ) (program : Parts) (outcome : Outcome)
     → IsRun database most program outcome
-    → IsTold database most program (record {
+    → IsProgramTold database most program (record {
       quoted = quote_line (quote_over database program);
       report = report_text outcome.names outcome.rows;
       done = counts_line outcome.visits outcome.lookups outcome.updates;
@@ -99,7 +99,7 @@ told_run database most program outcome has_run = record {
 
 told_of_file : (most visits : ℕ) (texts : TableId → List ℕ) (file : List ℕ) (program : Parts)
     (telling : Telling) → IsLoadable most texts → IsProgramOf file program
-    → IsTold (database_of texts) visits program telling → IsToldOf most visits texts file telling
+    → IsProgramTold (database_of texts) visits program telling → IsToldOf most visits texts file telling
 told_of_file most visits texts file program telling loadable of_file told = record {
   loadable = loadable;
   program = program;
@@ -132,16 +132,16 @@ pub of_file : {S N : Type 0} (out : Change S) (notes : Change N) (most visits : 
     (texts : TableId → List ℕ) (file : List ℕ) (database : Database) (program : Parts)
     (result : Result (Unit {0}) EngineFault) → database ≡ database_of texts
     → IsLoadable most texts → IsProgramOf file program
-    → IsNoted out notes (IsQuote database program) (IsTold database visits program)
+    → IsNoted out notes (IsQuote database program) (IsProgramTold database visits program)
     (IsNotVerified database visits program) result
     → IsNoted out notes (IsQuoteOf most texts file) (IsToldOf most visits texts file)
     (IsUntold most visits texts file) result
 of_file out notes most visits texts file database program result same loadable spelled noted =
     noted_as out notes (IsQuote (database_of texts) program) (IsQuoteOf most texts file)
-    (IsTold (database_of texts) visits program) (IsToldOf most visits texts file)
+    (IsProgramTold (database_of texts) visits program) (IsToldOf most visits texts file)
     (IsNotVerified (database_of texts) visits program) (IsUntold most visits texts file) result
     (λ note quoted. quote_of_file most texts file program note loadable spelled quoted)
     (λ telling told. told_of_file most visits texts file program telling loadable spelled told)
     (λ fault refused. fault_of_file most visits texts file program fault loadable spelled refused)
-    (subst (λ d. IsNoted out notes (IsQuote d program) (IsTold d visits program)
+    (subst (λ d. IsNoted out notes (IsQuote d program) (IsProgramTold d visits program)
     (IsNotVerified d visits program) result) same noted)

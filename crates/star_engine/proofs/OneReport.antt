@@ -19,11 +19,11 @@ use Rattle.star_program.proofs.Text.Faultless.{faultless}
 use Rattle.star_verify.specs.declared.refusal.Refusal.{Refusal}
 use Rattle.star_engine.specs.declared.fault.EngineFault.{EngineFault}
 use Rattle.star_engine.specs.declared.fault.EngineFault.TheVariants.{Load, Program, Refused}
-use Rattle.star_engine.specs.Executions.{IsAccepted, IsRefusal, IsToldOf, IsUntold, quote_over}
+use Rattle.star_engine.specs.Executions.{IsAcceptedWithin, IsRefusal, IsToldOf, IsUntold, quote_over}
 use Rattle.star_engine.specs.Loads.{IsProgramOf}
 use Rattle.star_engine.specs.Noted.{Telling}
 use Rattle.star_engine.specs.Notes.{counts_line, quote_line}
-use Rattle.star_engine.specs.Trials.{IsReport}
+use Rattle.star_engine.specs.Trials.{IsBoundedReport}
 
 -- a run that comes to its end has one outcome
 yields_one : (w : World) (parts : Parts) (end : End) (a b : Outcome) → Yields w parts end a → Yields w parts end b → a ≡ b
@@ -31,7 +31,7 @@ yields_one w parts end a b h k =
     let same : h.s ≡ k.s = cc (h.ended, k.ended) in
     one_outcome w parts k.s a b (subst (λ s. IsOutcome w parts s a) same h.told) k.told
 
-pub report_is_one : (database : Database) (file : List ℕ) (visits : ℕ) (report other : List ℕ) → IsReport database file visits report → IsReport database file visits other → report ≡ other
+pub report_is_one : (database : Database) (file : List ℕ) (visits : ℕ) (report other : List ℕ) → IsBoundedReport database file visits report → IsBoundedReport database file visits other → report ≡ other
 report_is_one database file visits report other h k =
     let w = world_of database in
     let program = one_program file h.program k.program h.of_file.spelled k.of_file.spelled in
@@ -67,10 +67,10 @@ no_fault file program fault of_file is =
 
 accepted_is_not_refused : (database : Database) (most : ℕ) (file : List ℕ) (told refused : Parts)
     (refusal : Refusal) → IsProgramOf file told → IsProgramOf file refused
-    → IsAccepted database most told → IsRefusal database most refused refusal → ⊥
+    → IsAcceptedWithin database most told → IsRefusal database most refused refusal → ⊥
 accepted_is_not_refused database most file told refused refusal h k accepted is =
     is.not_accepted
-    (subst (IsAccepted database most) (one_program file told refused h.spelled k.spelled) accepted)
+    (subst (IsAcceptedWithin database most) (one_program file told refused h.spelled k.spelled) accepted)
 
 pub told_is_not_untold : (most visits : ℕ) (texts : TableId → List ℕ) (file : List ℕ)
     (telling : Telling) (fault : EngineFault) → IsToldOf most visits texts file telling

@@ -17,7 +17,7 @@ use Rattle.star_compiled.specs.Judged.{IsOverflow}
 use Rattle.star_engine.specs.declared.fault.EngineFault.{EngineFault}
 use Rattle.star_engine.specs.declared.fault.EngineFault.TheVariants as engine
 use Rattle.star_engine.specs.Answered.{Change}
-use Rattle.star_engine.specs.Executions.{IsAccepted, IsQuote, IsRefusal, IsTold, quote_over}
+use Rattle.star_engine.specs.Executions.{IsAcceptedWithin, IsQuote, IsRefusal, IsProgramTold, quote_over}
 use Rattle.star_engine.specs.Noted.{IsNoted, Telling}
 use Rattle.star_engine.specs.Notes.{counts_line, quote_line}
 use Rattle.star_engine.specs.Queries.{IsPlanOf, IsQueryQuote, IsQueryTold, IsUnanswered, IsUnfit, fact_rows}
@@ -29,7 +29,7 @@ use Rattle.star_engine.proofs.NotedAs.{noted_as}
 -- what the laws say of the program of a query over five texts
 pub record IsJudged (most : ℕ) (texts : TableId → List ℕ) (query : List ℕ) (p : Plan) : Type 0 where
   pub accepted : FitsTables most (rows_in (database_of texts)) p
-      ↔ IsAccepted (database_of texts) most (compiled p)
+      ↔ IsAcceptedWithin (database_of texts) most (compiled p)
   pub costly : most < fact_rows texts
       → first_refusal (world_of (database_of texts)) most (compiled p)
       ≡ Some (TooCostly (fact_rows texts))
@@ -53,7 +53,7 @@ module _ (rows most : ℕ) (texts : TableId → List ℕ) (query : List ℕ) (p 
     quoted = quoted ∙ ap quote_line judged.quoted;
   }
 
-  pub report_told : (telling : Telling) → IsTold database most (compiled p) telling
+  pub report_told : (telling : Telling) → IsProgramTold database most (compiled p) telling
       → IsQueryTold rows most texts query telling
   report_told telling told =
       let s = told.yields.s in
@@ -96,13 +96,13 @@ module _ (rows most : ℕ) (texts : TableId → List ℕ) (query : List ℕ) (p 
 
   query_told : {S N : Type 0} (out : Change S) (notes : Change N)
       (result : Result (Unit {0}) EngineFault)
-      → IsNoted out notes (IsQuote database (compiled p)) (IsTold database most (compiled p))
+      → IsNoted out notes (IsQuote database (compiled p)) (IsProgramTold database most (compiled p))
       (IsNotVerified database most (compiled p)) result
       → IsNoted out notes (IsQueryQuote rows texts query) (IsQueryTold rows most texts query)
       (IsUnanswered rows most texts query) result
   query_told out notes result noted =
       noted_as out notes (IsQuote database (compiled p)) (IsQueryQuote rows texts query)
-      (IsTold database most (compiled p)) (IsQueryTold rows most texts query)
+      (IsProgramTold database most (compiled p)) (IsQueryTold rows most texts query)
       (IsNotVerified database most (compiled p)) (IsUnanswered rows most texts query) result
       quote_told report_told fault_told noted
 
@@ -111,14 +111,14 @@ pub of_query : {S N : Type 0} (out : Change S) (notes : Change N) (rows most : �
     (texts : TableId → List ℕ) (query : List ℕ) (held : Database) (program : Parts)
     (result : Result (Unit {0}) EngineFault) → held ≡ database_of texts → IsLoadable rows texts
     → (of_query : IsProgramOfQuery query program) → IsJudged most texts query of_query.p
-    → IsNoted out notes (IsQuote held program) (IsTold held most program)
+    → IsNoted out notes (IsQuote held program) (IsProgramTold held most program)
     (IsNotVerified held most program) result
     → IsNoted out notes (IsQueryQuote rows texts query) (IsQueryTold rows most texts query)
     (IsUnanswered rows most texts query) result
 of_query out notes rows most texts query held program result same loadable is judged noted =
     query_told rows most texts query is.p loadable is.meant judged out notes result
     (subst (λ made. IsNoted out notes (IsQuote (database_of texts) made)
-    (IsTold (database_of texts) most made) (IsNotVerified (database_of texts) most made) result)
+    (IsProgramTold (database_of texts) most made) (IsNotVerified (database_of texts) most made) result)
     is.made
-    (subst (λ d. IsNoted out notes (IsQuote d program) (IsTold d most program)
+    (subst (λ d. IsNoted out notes (IsQuote d program) (IsProgramTold d most program)
     (IsNotVerified d most program) result) same noted))

@@ -29,23 +29,23 @@ abbrev pub IsQuote : Database → Parts → List ℕ → Type 0
 IsQuote database program text = text ≡ quote_line (quote_over database program)
 
 -- nothing refuses a program over these tables where so many visits are allowed
-pub record IsAccepted (database : Database) (most : ℕ) (program : Parts) : Type 0 where
+pub record IsAcceptedWithin (database : Database) (most : ℕ) (program : Parts) : Type 0 where
   pub admissible : IsAdmissible (world_of database) program
   pub cheap : quote_over database program ≤ most
 
 -- what refuses it first
 pub record IsRefusal (database : Database) (most : ℕ) (program : Parts) (refusal : Refusal)
     : Type 0 where
-  pub not_accepted : ¬ IsAccepted database most program
+  pub not_accepted : ¬ IsAcceptedWithin database most program
   pub shown : admissible.Refusal
   pub first : first_refusal (world_of database) most program ≡ Some shown
   pub told : refusal_shown refusal ≡ Some shown
 
 -- what is told of an accepted program: its quote, the printed rows of its run, which visits no more
 -- than that, and what the run did
-pub record IsTold (database : Database) (most : ℕ) (program : Parts) (telling : Telling)
+pub record IsProgramTold (database : Database) (most : ℕ) (program : Parts) (telling : Telling)
     : Type 0 where
-  pub accepted : IsAccepted database most program
+  pub accepted : IsAcceptedWithin database most program
   pub outcome : Outcome
   pub yields : Yields (world_of database) program (run_of (world_of database) program) outcome
   pub within : outcome.visits ≤ quote_over database program
@@ -69,7 +69,7 @@ pub record IsToldOf (most visits : ℕ) (texts : TableId → List ℕ) (file : L
   pub loadable : IsLoadable most texts
   pub program : Parts
   pub of_file : IsProgramOf file program
-  pub told : IsTold (database_of texts) visits program telling
+  pub told : IsProgramTold (database_of texts) visits program telling
 
 -- it is refused
 pub record IsRefusalOf (most visits : ℕ) (texts : TableId → List ℕ) (file : List ℕ)

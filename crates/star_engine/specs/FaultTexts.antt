@@ -9,12 +9,12 @@ use Rattle.star_machine.specs.FaultTexts as trial
 use Rattle.star_engine.specs.declared.fault.EngineFault.{EngineFault}
 use Rattle.star_engine.specs.declared.fault.EngineFault.TheVariants.{OutOfMemory, Query, Plan, Program, Load, Refused, Trial, Write}
 
-unfoldable pub fault_text : EngineFault → List ℕ
-fault_text OutOfMemory = codes "memory"
-fault_text (Query fault) = codes "query " ++ query_fault_text fault
-fault_text (Plan fault) = codes "query " ++ plan_fault_text fault
-fault_text (Program fault) = codes "program " ++ program.fault_text fault
-fault_text (Load fault) = codes "load " ++ load.fault_text fault
-fault_text (Refused refusal) = refusal_text refusal
-fault_text (Trial fault) = trial.fault_text fault
-fault_text (Write sent) = codes "write " ++ decimal sent
+unfoldable pub engine_fault_text : EngineFault → List ℕ
+engine_fault_text OutOfMemory = codes "memory"
+engine_fault_text (Query fault) = codes "query " ++ query_fault_text fault
+engine_fault_text (Plan fault) = codes "query " ++ plan_fault_text fault
+engine_fault_text (Program fault) = codes "program " ++ program.fault_text fault
+engine_fault_text (Load fault) = codes "load " ++ load.fault_text fault
+engine_fault_text (Refused refusal) = refusal_text refusal
+engine_fault_text (Trial fault) = trial.fault_text fault
+engine_fault_text (Write sent) = codes "write " ++ decimal sent

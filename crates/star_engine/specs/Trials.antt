@@ -17,7 +17,7 @@ use Rattle.star_engine.specs.Loads.{IsProgramOf, IsUnread}
 
 -- the printed rows of the program that a file spells, run over these tables with so many visits at
 -- most
-pub record IsReport (database : Database) (file : List ℕ) (visits : ℕ)
+pub record IsBoundedReport (database : Database) (file : List ℕ) (visits : ℕ)
     (report : List ℕ) : Type 0 where
   pub program : Parts
   pub of_file : IsProgramOf file program
@@ -44,7 +44,7 @@ pub record IsStopped (database : Database) (file : List ℕ) (visits : ℕ)
 pub record IsTrialReport (most : ℕ) (texts : TableId → List ℕ) (file : List ℕ) (visits : ℕ)
     (report : List ℕ) : Type 0 where
   pub loadable : IsLoadable most texts
-  pub reported : IsReport (database_of texts) file visits report
+  pub reported : IsBoundedReport (database_of texts) file visits report
 
 -- why there is none
 abbrev pub IsNoTrial : ℕ → (TableId → List ℕ) → List ℕ → ℕ → EngineFault → Type 0

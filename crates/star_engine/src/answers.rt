@@ -56,9 +56,9 @@ pub fn trial_program<S: Sink>(
 }
 
 /// Checks the program whose text a file holds over the tables, runs it, and writes its report on
-/// `out`. A note of how many visits are quoted goes to `notes` before the check, and one of what the
-/// run did behind the report. A program is refused where it is not admissible over the tables, or
-/// more visits are quoted than the limits allow. The file is read first, and then the tables.
+/// `out`. A note of how many visits are quoted goes to `notes` before the check, and one of what
+/// the run did behind the report. A program is refused where it is not admissible over the tables,
+/// or more visits are quoted than the limits allow. The file is read first, and then the tables.
 pub fn answer_program<S: Sink, N: Sink>(
     alloc: Global,
     texts: &Texts<'_>,

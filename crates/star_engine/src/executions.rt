@@ -3,7 +3,7 @@
 ghost use Rattle.std.specs.Prelude.{◌≡◌, ◌<◌, MatchResult, length};
 ghost use Rattle.star_report.specs.Report.{report_text};
 ghost use Rattle.star_engine.specs.Answered.{HasGained, change};
-ghost use Rattle.star_engine.specs.Executions.{IsAccepted, IsQuote, IsTold};
+ghost use Rattle.star_engine.specs.Executions.{IsAcceptedWithin, IsQuote, IsProgramTold};
 ghost use Rattle.star_engine.specs.Faults.{fault_of_refusal};
 ghost use Rattle.star_engine.specs.Noted.{IsNoted};
 ghost use Rattle.star_engine.specs.Notes.{counts_line};
@@ -38,7 +38,7 @@ fn checked<'c>(
 ) -> Result<Verified<'c>, EngineFault>
     ensures { MatchResult result
         (λ verified. (verified.database ≡ catalogue.now) × (verified.program ≡ program)
-        × IsAccepted catalogue.now limits.visits program)
+        × IsAcceptedWithin catalogue.now limits.visits program)
         (OrMemory (IsNotVerified catalogue.now limits.visits program)) }
 {
     admissible_programs_within_the_limit_are_not_refused();
@@ -107,7 +107,7 @@ pub(crate) fn execute<S: Sink, N: Sink>(
 ) -> Result<(), EngineFault>
     ensures { IsNoted (change S.contents S.is_failed out.old out.new)
         (change N.contents N.is_failed notes.old notes.new) (IsQuote catalogue.now program)
-        (IsTold catalogue.now limits.visits program)
+        (IsProgramTold catalogue.now limits.visits program)
         (IsNotVerified catalogue.now limits.visits program) result }
 {
     let note = quote_note(alloc, catalogue, &program)?;

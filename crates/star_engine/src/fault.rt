@@ -2,7 +2,7 @@
 
 ghost use Rattle.std.specs.Prelude.{◌≡◌, Some};
 ghost use Rattle.star_common.specs.Memory.{TellsMemory};
-ghost use Rattle.star_engine.specs.FaultTexts.{fault_text};
+ghost use Rattle.star_engine.specs.FaultTexts.{engine_fault_text};
 ghost use Rattle.star_engine.specs.Faults.{fault_of_load, fault_of_plan, fault_of_query, fault_of_refusal, fault_of_text, fault_of_trial};
 ghost use Rattle.star_engine.specs.declared.fault.EngineFault.TheVariants.{OutOfMemory, Write};
 
@@ -38,9 +38,9 @@ pub enum EngineFault {
 }
 
 impl fmt::Display for EngineFault {
-    ghost output = { λ fault. Some (fault_text fault) };
+    ghost output = { λ fault. Some (engine_fault_text fault) };
 
-    #[tactic(auto, unfolding(crate::specs::FaultTexts::fault_text))]
+    #[tactic(auto, unfolding(crate::specs::FaultTexts::engine_fault_text))]
     fn fmt<W: fmt::Write>(&self, f: &mut fmt::Formatter<W>) -> fmt::Result {
         match self {
             EngineFault::OutOfMemory => f.write_str("memory"),

@@ -6,16 +6,17 @@ ghost use Rattle.star_schema.specs.declared.table.TableId.{TableId};
 ghost use Rattle.star_engine.specs.declared.fault.EngineFault.{EngineFault};
 ghost use Rattle.star_engine.specs.Executions.{IsToldOf, IsUntold};
 ghost use Rattle.star_engine.specs.Noted.{Telling};
-ghost use Rattle.star_engine.specs.Trials.{IsReport};
+ghost use Rattle.star_engine.specs.Trials.{IsBoundedReport};
 
 /// Of one file, run over the same tables with the same bound, no two texts are reports.
 pub fn one_report()
     ensures { (database : Database) (file : List ℕ) (visits : ℕ) (report other : List ℕ)
-        → IsReport database file visits report → IsReport database file visits other → report ≡ other }
+        → IsBoundedReport database file visits report → IsBoundedReport database file visits other
+        → report ≡ other }
 {}
 
-/// Of the program of one file, checked and run over the same texts under the same limits, one report
-/// and one pair of notes is told; and where these are told, no fault is due.
+/// Of the program of one file, checked and run over the same texts under the same limits, one
+/// report and one pair of notes is told; and where these are told, no fault is due.
 pub fn one_telling()
     ensures one { (most visits : ℕ) (texts : TableId → List ℕ) (file : List ℕ)
         (telling other : Telling) → IsToldOf most visits texts file telling

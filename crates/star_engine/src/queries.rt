@@ -74,8 +74,8 @@ pub fn explain_query<S: Sink>(alloc: Global, query: &[u8], out: &mut S) -> Resul
 /// Answers the query that a text means over the tables of five texts: writes its report on `out`.
 ///
 /// A note of the quote, which is lineorder's row count, goes to `notes` before the query is judged,
-/// and one of what the run of its program did behind the report. A query that doesn't fit is refused.
-/// The query is read first, and then the tables.
+/// and one of what the run of its program did behind the report. A query that doesn't fit is
+/// refused. The query is read first, and then the tables.
 pub fn answer_query<S: Sink, N: Sink>(
     alloc: Global,
     texts: &Texts<'_>,

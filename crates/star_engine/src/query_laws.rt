@@ -16,7 +16,7 @@ ghost use Rattle.star_world.specs.WorldOf.{world_of};
 ghost use Rattle.star_answers.specs.Fitting.{FitsTables};
 ghost use Rattle.star_compiled.specs.Compiled.{compiled};
 ghost use Rattle.star_compiled.specs.Judged.{IsOverflow};
-ghost use Rattle.star_engine.specs.Executions.{IsAccepted, quote_over};
+ghost use Rattle.star_engine.specs.Executions.{IsAcceptedWithin, quote_over};
 ghost use Rattle.star_engine.specs.declared.fault.EngineFault.{EngineFault};
 ghost use Rattle.star_engine.specs.declared.thirteen.BenchmarkQuery.{BenchmarkQuery};
 ghost use Rattle.star_engine.specs.Queries.{IsNoQuery, IsPlanOf, fact_rows};
@@ -41,7 +41,7 @@ pub fn queries_that_fit_are_answered()
     ensures accepted { (rows most : ℕ) (texts : TableId → List ℕ) (query : List ℕ) (p : Plan)
         → IsLoadable rows texts → IsPlanOf query p
         → FitsTables most (rows_in (database_of texts)) p
-        ↔ IsAccepted (database_of texts) most (compiled p) }
+        ↔ IsAcceptedWithin (database_of texts) most (compiled p) }
     ensures answered { (rows most : ℕ) (texts : TableId → List ℕ) (query : List ℕ) (p : Plan)
         → IsLoadable rows texts → IsPlanOf query p
         → FitsTables most (rows_in (database_of texts)) p → most ≤ 10 ^ 15
@@ -65,8 +65,8 @@ pub fn queries_that_fit_are_answered()
     sound_rows_are_loaded();
 }
 
-/// The program of a query is quoted lineorder's row count, some text spells it, and wherever its run
-/// comes to its end, what is printed of it is the query's report.
+/// The program of a query is quoted lineorder's row count, some text spells it, and wherever its
+/// run comes to its end, what is printed of it is the query's report.
 pub fn programs_of_queries_report_them()
     ensures quoted { (texts : TableId → List ℕ) (p : Plan)
         → quote_over (database_of texts) (compiled p) ≡ fact_rows texts }

@@ -3,7 +3,8 @@
 ghost use Rattle.std.specs.Prelude.{◌≡◌};
 ghost use Rattle.star_engine.specs.Thirteen as spec;
 
-/// A query of the Star Schema Benchmark (revision 3, section 3), by its flight and its number in it.
+/// A query of the Star Schema Benchmark (revision 3, section 3), by its flight and its number in
+/// it.
 #[derive(Clone, Copy, Debug, PartialEq, Eq)]
 pub enum BenchmarkQuery {
     Q11,

@@ -12,7 +12,7 @@ use Rattle.star_world.specs.WorldOf.{world_of}
 use Rattle.star_engine.specs.declared.fault.EngineFault.{EngineFault}
 use Rattle.star_engine.specs.declared.fault.EngineFault.TheVariants.{Load, OutOfMemory, Program, Refused, Trial, Write}
 use Rattle.star_engine.specs.Answered.{Change, HasGained, HasGainedPart, IsUntouched}
-use Rattle.star_engine.specs.Executions.{IsAccepted, IsRefusal, quote_over}
+use Rattle.star_engine.specs.Executions.{IsAcceptedWithin, IsRefusal, quote_over}
 use Rattle.star_engine.specs.Loads.{IsLoadFault}
 use Rattle.star_engine.specs.Trials.{IsStop}
 
@@ -53,7 +53,7 @@ IsNotVerified database most program _ = ⊥
 -- a program that was accepted has run
 pub record IsRun (database : Database) (most : ℕ) (program : Parts) (outcome : Outcome)
     : Type 0 where
-  pub accepted : IsAccepted database most program
+  pub accepted : IsAcceptedWithin database most program
   pub yields : Yields (world_of database) program (run_of (world_of database) program) outcome
   pub within : outcome.visits ≤ quote_over database program
 

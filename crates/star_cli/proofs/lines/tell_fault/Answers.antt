@@ -1,7 +1,7 @@
 use Rattle.std.proofs.Common.{refl, inr, rules, subst}
 use Rattle.star_engine.specs.declared.fault.EngineFault.TheVariants.{OutOfMemory}
 use Rattle.star_engine.specs.Answered.{change}
-use Rattle.star_cli.specs.Lines.{IsTold}
+use Rattle.star_cli.specs.Lines.{IsTextTold}
 use Rattle.star_cli.proofs.Telling.{memory_line}
 use Rattle.star_cli.proofs.lines.tell_fault.Goals as goal
 
@@ -9,7 +9,7 @@ pub returns-in-Err : goal.returns-in-Err
 returns-in-Err g c = (
   OutOfMemory,
   inr refl,
-  subst (IsTold (change g.S.Sink.contents g.S.Sink.is_failed c.args.err.now c.tell-in-Err.new.sink))
+  subst (IsTextTold (change g.S.Sink.contents g.S.Sink.is_failed c.args.err.now c.tell-in-Err.new.sink))
       (memory_line _ (search rules)) c.tell-in-Err.ensures,
   refl,
 )

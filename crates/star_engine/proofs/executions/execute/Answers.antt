@@ -2,7 +2,7 @@ use Rattle.std.proofs.Common.{◌∙◌, Err, ap, refl}
 use Rattle.std.proofs.lemmas.Result.{err_from_is_err_and}
 use Rattle.star_report.specs.Report.{report_text}
 use Rattle.star_engine.specs.Answered.{change}
-use Rattle.star_engine.specs.Executions.{IsQuote, IsTold, quote_over}
+use Rattle.star_engine.specs.Executions.{IsQuote, IsProgramTold, quote_over}
 use Rattle.star_engine.specs.Notes.{counts_line, quote_line}
 use Rattle.star_engine.specs.Private.Steps.{IsNotVerified}
 use Rattle.star_engine.proofs.Executing.{quote_some, told_run}
@@ -22,7 +22,7 @@ returns-in_err-write_note g c =
     note_broken (change g.S.Sink.contents g.S.Sink.is_failed c.args.out.now c.args.out.now)
     (change g.N.Sink.contents g.N.Sink.is_failed c.args.notes.now c.write_note.new.notes)
     (IsQuote c.args.catalogue.now c.args.program)
-    (IsTold c.args.catalogue.now c.args.limits.visits c.args.program)
+    (IsProgramTold c.args.catalogue.now c.args.limits.visits c.args.program)
     (IsNotVerified c.args.catalogue.now c.args.limits.visits c.args.program)
     c.as_bytes.result.now c.from_residual-in_err-write_note.result
     (p.1 ∙ ap Err (p.2 ∙ told.0)) (c.as_bytes.ensures.value ∙ c.in_ok-note.ensures) told.1 refl
@@ -34,7 +34,7 @@ returns g c =
     delivered (change g.S.Sink.contents g.S.Sink.is_failed c.args.out.now c.tell.new.out)
     g.N.Sink.contents g.N.Sink.is_failed c.args.notes.now c.write_note.new.notes c.tell.new.notes
     (IsQuote c.args.catalogue.now c.args.program)
-    (IsTold c.args.catalogue.now c.args.limits.visits c.args.program)
+    (IsProgramTold c.args.catalogue.now c.args.limits.visits c.args.program)
     (IsNotVerified c.args.catalogue.now c.args.limits.visits c.args.program)
     (record {
       quoted = quote_line (quote_over c.args.catalogue.now c.args.program);
