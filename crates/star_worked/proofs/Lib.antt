@@ -16,3 +16,11 @@ mod LoadFaults
 mod LoadTexts
 mod Numerals
 mod RawTables
+mod Texts
+mod Meanings
+mod FirstFaults
+mod NameFaults
+mod Views
+mod Resolving
+mod Functions
+mod Defaults

@@ -6,7 +6,7 @@ use Rattle.star_query.specs.declared.token.Relation.TheVariants.{Equal}
 use Rattle.star_schema.specs.declared.group.Shape.TheVariants.{Plain}
 use Rattle.star_schema.specs.declared.group.Direction.TheVariants.{Ascending}
 use Rattle.star_query.specs.Tree.{Name, number, text, Expression, column, constant, add, sub, mul, Condition, either, both, negation, pair, compare, between, Measure, fold, count, Item, plain, aggregate, Tree}
-use Rattle.star_query.specs.Limits.{IsQueryWithinLimits, operands_of, comparisons_of}
+use Rattle.star_query.specs.Limits.{IsQueryWithinLimits, operands_of, comparisons_of, where_comparisons}
 use Rattle.star_query.specs.Spelled.{IsSpelledQuery, is_name, is_number, is_text, expression_is_spelled, condition_is_spelled, item_is_spelled}
 
 abbrev called : List ℕ → Name
@@ -29,6 +29,9 @@ good = compare a Equal (number (pos 1))
 comparisons_counted : map comparisons_of (good ∷ pair a a ∷ between a (number (pos 1)) (number (pos 2)) ∷ negation good ∷ either good (negation good) ∷ both (negation good) (both good good) ∷ [])
     ≡ 1 ∷ 1 ∷ 1 ∷ 2 ∷ 3 ∷ 4 ∷ []
 comparisons_counted = refl
+
+no_comparisons : where_comparisons None ≡ 0
+no_comparisons = refl
 
 operands_counted : map operands_of (column a ∷ constant (pos 1) ∷ add (column a) (column a) ∷ sub (column a) (add (column a) (column a)) ∷ mul (sub (column a) (column a)) (mul (column a) (column a)) ∷ [])
     ≡ 1 ∷ 1 ∷ 2 ∷ 3 ∷ 4 ∷ []
@@ -108,6 +111,10 @@ small = record { items = plain a ∷ []; tables = a ∷ []; condition = Some goo
 small_spelled : IsSpelledQuery small
 unfolding is_name is_number
 small_spelled = record { items = refl; tables = refl; condition = refl; columns = refl; keys = refl }
+
+with_no_condition : IsSpelledQuery (record small { condition = None })
+unfolding is_name is_number
+with_no_condition = record { items = refl; tables = refl; condition = refl; columns = refl; keys = refl }
 
 item_with_a_hyphen : IsSpelledQuery (record small { items = plain a ∷ plain hyphened ∷ [] }) → ⊥
 unfolding is_name

@@ -1,0 +1,92 @@
+-- The trees of the code as the trees of the definitions: each kind of phrase as its own, its parts in order.
+use Rattle.std.proofs.Common.{◌≡◌, ℕ, List, [], ◌∷◌, Option, Some, None, Ok, Err, refl}
+use Rattle.std.specs.Prelude.{pos, map}
+use Rattle.star_schema.specs.declared.column.ColumnId.TheVariants.{LoTax}
+use Rattle.star_schema.specs.Tables as of_table
+use Rattle.star_schema.specs.Tables.{Value}
+use Rattle.star_query.specs.declared.fault.QueryFault.TheVariants as faults
+use Rattle.star_query.specs.declared.query.Query.{Query}
+use Rattle.star_query.specs.declared.token.Fold.TheVariants.{Sum, Min, Max}
+use Rattle.star_query.specs.declared.token.Relation.TheVariants.{Less}
+use Rattle.star_query.specs.declared.tree.Name.{Name}
+use Rattle.star_query.specs.declared.tree.Literal.TheVariants as literal
+use Rattle.star_query.specs.declared.tree.Expression.TheVariants.{Column, Number, Add', Sub', Mul'}
+use Rattle.star_query.specs.declared.tree.Condition.TheVariants.{Or', And', Not', Pair, Compare, Between}
+use Rattle.star_query.specs.declared.tree.Measure.TheVariants as measure
+use Rattle.star_query.specs.declared.tree.Item.TheVariants as item
+use Rattle.star_query.specs.Tree as tree
+use Rattle.star_query.specs.Tree.{Tree}
+use Rattle.star_query.specs.Shown.{IsRead, query_shown}
+use Rattle.star_query.specs.Views.{literal_view, expression_view, condition_view, measure_view, item_view, name_view}
+use Rattle.star_plan.specs.declared.tree.Condition.{Condition}
+use Rattle.star_plan.specs.declared.tree.Condition.TheVariants as of_plan
+use Rattle.star_plan.specs.declared.tree.Expression.TheVariants as operand
+use Rattle.star_plan.specs.declared.tree.Measure.TheVariants as of_measure
+use Rattle.star_plan.specs.Meaning.{either, both, negation, compare, between, column, constant, add, sub, mul, counted, summed, least, greatest}
+use Rattle.star_plan.specs.Shown.{condition_shown, expression_shown, measure_shown}
+
+abbrev value : ℕ → Value
+value n = of_table.Number (pos n)
+
+abbrev one_tax : Condition
+one_tax = of_plan.Compare LoTax Less (literal.Number (pos 1))
+
+abbrev some_taxes : Condition
+some_taxes = of_plan.Between LoTax (literal.Number (pos 1)) (literal.Number (pos 2))
+
+literals_viewed : map literal_view (literal.Number (pos 1) ∷ []) ≡ tree.number (pos 1) ∷ []
+literals_viewed = refl
+
+texts_viewed : (t : _) → literal_view (literal.Text t) ≡ tree.text t.items
+texts_viewed t = refl
+
+operands_viewed : (n : Name) → map expression_view (Column n ∷ Number (pos 1) ∷ []) ≡ tree.column (record { text = n.text.items; place = n.place }) ∷ tree.constant (pos 1) ∷ []
+operands_viewed n = refl
+
+operators_viewed : (p q : _) → map expression_view (Add' p (Number (pos 1)) q (Number (pos 2)) ∷ Sub' p (Number (pos 1)) q (Number (pos 2)) ∷ Mul' p (Number (pos 1)) q (Number (pos 2)) ∷ [])
+    ≡ tree.add (tree.constant (pos 1)) (tree.constant (pos 2)) ∷ tree.sub (tree.constant (pos 1)) (tree.constant (pos 2)) ∷ tree.mul (tree.constant (pos 1)) (tree.constant (pos 2)) ∷ []
+operators_viewed p q = refl
+
+comparisons_viewed : (m n : Name) → map condition_view (Pair m n ∷ Compare m Less (literal.Number (pos 1)) ∷ Between m (literal.Number (pos 1)) (literal.Number (pos 2)) ∷ [])
+    ≡ tree.pair (name_view m) (name_view n) ∷ tree.compare (name_view m) Less (tree.number (pos 1)) ∷ tree.between (name_view m) (tree.number (pos 1)) (tree.number (pos 2)) ∷ []
+comparisons_viewed m n = refl
+
+conditions_viewed : (m n : Name) (p q : _) → map condition_view (Or' p (Pair m n) q (Pair n m) ∷ And' p (Pair m n) q (Pair n m) ∷ Not' p (Pair m n) ∷ [])
+    ≡ tree.either (tree.pair (name_view m) (name_view n)) (tree.pair (name_view n) (name_view m)) ∷ tree.both (tree.pair (name_view m) (name_view n)) (tree.pair (name_view n) (name_view m)) ∷ tree.negation (tree.pair (name_view m) (name_view n)) ∷ []
+conditions_viewed m n p q = refl
+
+measures_viewed : map measure_view (measure.Fold Sum (Number (pos 1)) ∷ measure.Count ∷ []) ≡ tree.fold Sum (tree.constant (pos 1)) ∷ tree.count ∷ []
+measures_viewed = refl
+
+items_viewed : (n : Name) → map item_view (item.Column n ∷ item.Aggregate (record { measure = measure.Count; place = 7; name = None }) ∷ item.Aggregate (record { measure = measure.Count; place = 8; name = Some n }) ∷ [])
+    ≡ tree.plain (name_view n) ∷ tree.aggregate (record { measure = tree.count; place = 7; name = None }) ∷ tree.aggregate (record { measure = tree.count; place = 8; name = Some (name_view n) }) ∷ []
+items_viewed n = refl
+
+-- ---- what an answer says
+
+a_tree_is_read : (q : Query) (t : Tree) → query_shown q ≡ t → IsRead t (Ok q)
+a_tree_is_read q t e = e
+
+another_tree_is_not : (q : Query) (t : Tree) → (query_shown q ≡ t → ⊥) → IsRead t (Ok q) → ⊥
+another_tree_is_not q t other read = other read
+
+want_of_memory : (t : Tree) → IsRead t (Err faults.OutOfMemory)
+want_of_memory t = tt
+
+no_other_fault : (t : Tree) → IsRead t (Err faults.TooDeep) → ⊥
+no_other_fault t read = read
+
+-- ---- the trees of plans
+
+plan_conditions_shown : (p q : _) → map condition_shown (of_plan.Or' p one_tax q some_taxes ∷ of_plan.And' p one_tax q some_taxes ∷ of_plan.Not' p one_tax ∷ one_tax ∷ some_taxes ∷ [])
+    ≡ either (compare LoTax Less (value 1)) (between LoTax (value 1) (value 2)) ∷ both (compare LoTax Less (value 1)) (between LoTax (value 1) (value 2))
+    ∷ negation (compare LoTax Less (value 1)) ∷ compare LoTax Less (value 1) ∷ between LoTax (value 1) (value 2) ∷ []
+plan_conditions_shown p q = refl
+
+plan_expressions_shown : (p q : _) → map expression_shown (operand.Column LoTax ∷ operand.Number (pos 1) ∷ operand.Add' p (operand.Column LoTax) q (operand.Number (pos 1)) ∷ operand.Sub' p (operand.Column LoTax) q (operand.Number (pos 1)) ∷ operand.Mul' p (operand.Column LoTax) q (operand.Number (pos 1)) ∷ [])
+    ≡ column LoTax ∷ constant (pos 1) ∷ add (column LoTax) (constant (pos 1)) ∷ sub (column LoTax) (constant (pos 1)) ∷ mul (column LoTax) (constant (pos 1)) ∷ []
+plan_expressions_shown p q = refl
+
+plan_measures_shown : map measure_shown (of_measure.Count ∷ of_measure.Fold Sum (operand.Number (pos 1)) ∷ of_measure.Fold Min (operand.Number (pos 2)) ∷ of_measure.Fold Max (operand.Number (pos 3)) ∷ [])
+    ≡ counted ∷ summed (constant (pos 1)) ∷ least (constant (pos 2)) ∷ greatest (constant (pos 3)) ∷ []
+plan_measures_shown = refl
