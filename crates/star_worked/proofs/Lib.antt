@@ -24,3 +24,4 @@ mod Views
 mod Resolving
 mod Functions
 mod Defaults
+mod QueryRows
