@@ -1,5 +1,5 @@
 -- What stands for what isn't there, and a total of numbers below zero alone.
-use Rattle.std.proofs.Common.{◌≡◌, [], ◌∷◌, Some, None, true, refl}
+use Rattle.std.proofs.Common.{◌≡◌, [], ◌∷◌, None, true, refl}
 use Rattle.std.specs.Prelude.{codes, map, pos, neg_ℤ}
 use Rattle.star_schema.specs.declared.column.ColumnId.TheVariants.{DYear}
 use Rattle.star_schema.specs.declared.column.Kind.TheVariants as kind

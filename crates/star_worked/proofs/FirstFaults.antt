@@ -1,7 +1,6 @@
 -- Which fault of a text comes first: its length, its tokens from the left, and then the grammar and its limits.
-use Rattle.std.proofs.Common.{◌≡◌, ℕ, zero, suc, ◌+◌, ◌<◌, ◌≤◌, List, [], ◌++◌, Ok, Err, drop, length, refl, sym, arith, lit≤}
+use Rattle.std.proofs.Common.{◌≡◌, ℕ, zero, suc, ◌<◌, ◌≤◌, List, [], ◌++◌, Ok, Err, drop, length, refl, sym, arith, lit≤}
 use Rattle.std.specs.Prelude.{codes, replicate}
-use Rattle.star_query.specs.declared.fault.QueryFault.{QueryFault}
 use Rattle.star_query.specs.declared.fault.QueryFault.TheVariants.{TooLong, BadCharacter, BadNumber, OpenText, Unexpected, TooDeep, TooMany}
 use Rattle.star_query.specs.Symbols.{Placed, spelling, reserved_words, symbols}
 use Rattle.star_query.specs.Cut.{cut_of, cut_from, reserved}

@@ -1,10 +1,10 @@
 -- What queries with each operator and each function answer over the sample, and with no WHERE; and what plans answer.
-use Rattle.std.proofs.Common.{◌≡◌, ℕ, List, [], ◌∷◌, Option, Some, None, refl, lit≤}
-use Rattle.std.specs.Prelude.{ℤ, pos, neg_ℤ, codes, map}
+use Rattle.std.proofs.Common.{ℕ, List, [], ◌∷◌, Option, Some, None, refl, lit≤}
+use Rattle.std.specs.Prelude.{ℤ, pos, neg_ℤ, codes}
 use Rattle.std.specs.Fmt.{digits}
 use Rattle.star_schema.specs.declared.column.ColumnId.TheVariants.{DYear, PBrand1, PCategory, SRegion}
 use Rattle.star_schema.specs.declared.group.Shape.TheVariants.{Plain, Cube}
-use Rattle.star_schema.specs.declared.group.Direction.TheVariants.{Ascending, Descending}
+use Rattle.star_schema.specs.declared.group.Direction.TheVariants.{Descending}
 use Rattle.star_schema.specs.declared.group.GroupColumn.TheVariants.{Key, Aggregate}
 use Rattle.star_schema.specs.Groups.{GroupRow}
 use Rattle.star_schema.specs.Records.{pieces}
@@ -21,7 +21,7 @@ use Rattle.star_plan.specs.Names.{column_called, table_called}
 use Rattle.star_plan.specs.Naming.{function_word}
 use Rattle.star_program.specs.declared.outcome.Cell.{Cell}
 use Rattle.star_program.specs.declared.outcome.Cell.TheVariants as cell
-use Rattle.star_answers.specs.Answers.{IsAnswer, IsPlanAnswer, shown_name}
+use Rattle.star_answers.specs.Answers.{IsAnswer, IsPlanAnswer}
 use Rattle.star_worked.proofs.Checks.{are_groups, checked_groups, checked_order, each_mask, has_empty_subset, in_order, is_group, is_masked, is_right, is_there, same_each, same_value}
 use Rattle.star_worked.proofs.Sample.{number, text, sample, by_order, of_part, of_supplier, revenue, cost}
 use Rattle.star_worked.proofs.Texts.{tokens_of}

@@ -1,7 +1,7 @@
 -- What is wrong with the texts of tables: of a cell, a record, a text, keys and foreign keys, and
 -- which of it comes first.
-use Rattle.std.proofs.Common.{◌≡◌, ◌+◌, ◌++◌, ℕ, zero, suc, List, [], ◌∷◌, Option, Some, None, Bool, true, false, refl}
-use Rattle.std.specs.Prelude.{codes, map, pos, neg_ℤ, ℤ}
+use Rattle.std.proofs.Common.{◌≡◌, ◌++◌, ℕ, zero, suc, List, [], ◌∷◌, Option, Some, None, refl}
+use Rattle.std.specs.Prelude.{codes, map, pos}
 use Rattle.star_schema.specs.declared.table.TableId.{TableId}
 use Rattle.star_schema.specs.declared.table.TableId.TheVariants.{Date, Customer, Supplier, Part, Lineorder}
 use Rattle.star_schema.specs.declared.column.ColumnId.TheVariants.{LoCommitdate, LoCustkey, LoOrderdate, LoPartkey, LoSuppkey, LoTax}
@@ -15,9 +15,8 @@ use Rattle.star_reader.specs.declared.fault.ReadFault.TheVariants as read
 use Rattle.star_reader.specs.Faults as reader
 use Rattle.star_reader.specs.Faults.{record_fault, records_fault, text_fault}
 use Rattle.star_common.specs.First.{first_answer}
-use Rattle.star_catalogue.specs.declared.fault.LoadFault.{LoadFault}
 use Rattle.star_catalogue.specs.declared.fault.LoadFault.TheVariants as load
-use Rattle.star_catalogue.specs.Load.{absent_fault, cell_fault, fault_of_read, first_repeat, is_found, load_fault, same_key, tables_fault}
+use Rattle.star_catalogue.specs.Load.{absent_fault, cell_fault, fault_of_read, first_repeat, load_fault, same_key, tables_fault}
 
 unfoldable as_many : ℕ → List ℕ
 as_many zero = []

@@ -7,7 +7,7 @@ use Rattle.star_query.specs.declared.token.Fold.TheVariants.{Sum, Min, Max}
 use Rattle.star_query.specs.declared.token.Relation.TheVariants.{Equal, Unequal, Less, AtMost, Greater, AtLeast}
 use Rattle.star_query.specs.Symbols.{spelling, reserved_words}
 use Rattle.star_query.specs.Cut.{cut_from, reserved}
-use Rattle.star_query.specs.Tree.{Name, number, text, Expression, column, constant, add, sub, mul, Condition, either, both, negation, pair, compare, between, fold, count, Item, plain, aggregate, Grouping, Tree}
+use Rattle.star_query.specs.Tree.{Name, number, text, column, constant, add, sub, mul, either, both, negation, pair, compare, between, fold, count, plain, aggregate, Grouping, Tree}
 use Rattle.star_query.specs.Derives.{Means}
 use Rattle.star_query.specs.Meant.{IsMeant}
 use Rattle.star_query.proofs.Verdicts.{derives}

@@ -1,5 +1,5 @@
 -- Numbers in digits, texts in quotes, the first answer of some elements, and want of memory.
-use Rattle.std.proofs.Common.{◌≡◌, ℕ, List, [], ◌∷◌, Option, Some, None, Bool, true, false, inl, inr, refl}
+use Rattle.std.proofs.Common.{◌≡◌, ℕ, [], ◌∷◌, Option, Some, None, Bool, true, false, inl, inr, refl}
 use Rattle.std.specs.Prelude.{codes, map}
 use Rattle.star_common.specs.First.{first_answer}
 use Rattle.star_common.specs.Memory.{UnlessMemory}

@@ -6,7 +6,7 @@ use Rattle.star_schema.specs.Records.{pieces}
 use Rattle.star_schema.specs.Schema.{column_of, columns_of, place_of}
 use Rattle.star_schema.specs.Tables as of_table
 use Rattle.star_schema.specs.Tables.{row_of}
-use Rattle.star_query.specs.Tree.{Condition, Literal, Name, between, count, number, text}
+use Rattle.star_query.specs.Tree.{Condition, Name, between, count, number, text}
 use Rattle.star_plan.specs.Meaning.{Joined, only_row}
 use Rattle.star_plan.specs.Names.{column_called}
 use Rattle.star_answers.specs.Rows.{is_true, measured, value_named}

@@ -1,5 +1,5 @@
 -- Queries with their names resolved: whole plans, from their texts.
-use Rattle.std.proofs.Common.{◌≡◌, ℕ, List, [], ◌∷◌, refl, lit≤}
+use Rattle.std.proofs.Common.{ℕ, List, [], ◌∷◌, refl, lit≤}
 use Rattle.std.specs.Prelude.{pos, codes}
 use Rattle.std.specs.Fmt.{digits}
 use Rattle.star_common.specs.First.{first_answer}
@@ -14,7 +14,7 @@ use Rattle.star_query.specs.Cut.{cut_from, reserved}
 use Rattle.star_query.specs.Derives.{Means}
 use Rattle.star_query.specs.Tree.{Tree}
 use Rattle.star_query.proofs.Verdicts.{derives}
-use Rattle.star_plan.specs.Meaning.{either, both, negation, compare, between, column, constant, add, sub, mul, counted, summed, least, greatest, Plan}
+use Rattle.star_plan.specs.Meaning.{either, both, negation, compare, between, constant, add, sub, mul, counted, summed, least, greatest, Plan}
 use Rattle.star_plan.specs.Names.{column_called, has_name, table_called}
 use Rattle.star_plan.specs.Naming.{function_word, has_text}
 use Rattle.star_plan.specs.Planned.{IsPlanned}

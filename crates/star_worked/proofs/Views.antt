@@ -1,5 +1,5 @@
 -- The trees of the code as the trees of the definitions: each kind of phrase as its own, its parts in order.
-use Rattle.std.proofs.Common.{◌≡◌, ℕ, List, [], ◌∷◌, Option, Some, None, Ok, Err, refl}
+use Rattle.std.proofs.Common.{◌≡◌, ℕ, [], ◌∷◌, Some, None, Ok, Err, refl}
 use Rattle.std.specs.Prelude.{pos, map}
 use Rattle.star_schema.specs.declared.column.ColumnId.TheVariants.{LoTax}
 use Rattle.star_schema.specs.Tables as of_table
