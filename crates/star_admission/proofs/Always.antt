@@ -14,7 +14,7 @@ use Rattle.star_program.specs.declared.value.Value.TheVariants.{Row}
 use Rattle.star_program.specs.Values.{Registers, no_registers, with_entry}
 use Rattle.star_program.specs.declared.fault.Fault.TheVariants.{BadRegister, WrittenTwice}
 use Rattle.star_program.specs.Faults.{unless, group_at}
-use Rattle.star_program.specs.Keys.{value_cmp}
+use Rattle.star_program.specs.Keys.{key_value_cmp}
 use Rattle.star_program.specs.Effects.{Store, empty_store, Effect, GoesOn, EndsTurn, Traps, act}
 use Rattle.star_program.specs.Run.{End, Ended, Trapped, Limited, EndsWith, visited, turns, meaning}
 use Rattle.star_common.proofs.Firsts.{or_none}
@@ -238,5 +238,5 @@ pub totals_lie : (w : World) (parts : Parts) (s : Store) → AreTallied (whole_g
     → TotalsLie w parts s
 totals_lie w parts s tallied =
     λ g place keys. shares_lie (slice_index_or (group_at parts g).aggregates place Count)
-    (all_shares w parts g place) (numbers_for place (members value_cmp keys (s.updates_of g)))
+    (all_shares w parts g place) (numbers_for place (members key_value_cmp keys (s.updates_of g)))
     (tallied_members (whole_gain w parts g place) place keys (s.updates_of g) (tallied g place))

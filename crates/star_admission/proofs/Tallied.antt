@@ -12,7 +12,7 @@ use Rattle.star_schema.specs.Groups.{belongs, members, joined, joined_with, aggr
 use Rattle.star_interval.specs.Range.{Range, Holds, only, is_i64, fits_i64}
 use Rattle.star_interval.proofs.Ranges.{holds_within}
 use Rattle.star_program.specs.declared.key.KeyValue.{KeyValue}
-use Rattle.star_program.specs.Keys.{value_cmp}
+use Rattle.star_program.specs.Keys.{key_value_cmp}
 use Rattle.star_program.specs.Puts.{Update, leaves, some_leaves}
 use Rattle.star_admission.specs.Tallies.{Share, sum_range, aggregate_range, hull_with, read_range}
 use Rattle.star_admission.proofs.Tally.{Tally, once, joined_range, plus, tally_of, tally_sum, tally_range, sum_fits, sum_range_is, range_is}
@@ -264,14 +264,14 @@ one_more false o a u us ms p =
     }
 
 fewer : (o : Option Range) (a : ℕ) (m : List (Option KeyValue)) (us : List Update)
-    → IsNoMore o (numbers_for a (members value_cmp m us)) (numbers_for a us)
+    → IsNoMore o (numbers_for a (members key_value_cmp m us)) (numbers_for a us)
 fewer o a m [] =
     record { above = omega arith; below = omega arith; many = omega arith; each = λ h. h }
 fewer o a m (u ∷ us) =
-    one_more (belongs value_cmp m u.keys) o a u us (members value_cmp m us) (fewer o a m us)
+    one_more (belongs key_value_cmp m u.keys) o a u us (members key_value_cmp m us) (fewer o a m us)
 
 pub tallied_members : (t : Tally) (a : ℕ) (m : List (Option KeyValue)) (us : List Update)
-    → IsTallied t (numbers_for a us) → IsTallied t (numbers_for a (members value_cmp m us))
+    → IsTallied t (numbers_for a us) → IsTallied t (numbers_for a (members key_value_cmp m us))
 tallied_members t a m us w =
     let p = fewer t.each a m us in
     record {
@@ -285,12 +285,12 @@ tallied_members t a m us w =
 pub no_overflow : (gs : List Aggregate) (t : ℕ → Tally) (us : List Update)
     (ms : List (List (Option KeyValue))) → ((k : ℕ) → IsTallied (t k) (numbers_for k us))
     → tallies_fit gs 0 t ≡ true
-    → list_any (λ keys. some_leaves gs 0 (members value_cmp keys us)) ms ≡ false
+    → list_any (λ keys. some_leaves gs 0 (members key_value_cmp keys us)) ms ≡ false
 no_overflow gs t us [] w e = refl
 no_overflow gs t us (m ∷ ms) w e =
-    or_from (some_leaves gs 0 (members value_cmp m us))
-    (list_any (λ keys. some_leaves gs 0 (members value_cmp keys us)) ms)
-    (all_stay gs 0 t (members value_cmp m us) (λ k. tallied_members (t k) k m us (w k)) e)
+    or_from (some_leaves gs 0 (members key_value_cmp m us))
+    (list_any (λ keys. some_leaves gs 0 (members key_value_cmp keys us)) ms)
+    (all_stay gs 0 t (members key_value_cmp m us) (λ k. tallied_members (t k) k m us (w k)) e)
     (no_overflow gs t us ms w e)
 
 -- ---- a read

@@ -7,7 +7,7 @@ use Rattle.star_program.specs.declared.key.KeyValue.{KeyValue}
 use Rattle.star_program.specs.declared.program.Parts.{Parts}
 use Rattle.star_program.specs.Limits.{IsWithinLimits}
 use Rattle.star_program.specs.World.{World, IsLoaded}
-use Rattle.star_program.specs.Keys.{value_cmp}
+use Rattle.star_program.specs.Keys.{key_value_cmp}
 use Rattle.star_program.specs.Faults.{group_at}
 use Rattle.star_program.specs.Effects.{Store}
 use Rattle.star_program.specs.Run.{End, EndsWith}
@@ -40,7 +40,7 @@ TotalsLie w parts s = (g place : ℕ) (keys : List (Option KeyValue))
     → TotalLies (aggregate_range (slice_index_or (group_at parts g).aggregates place Count)
     (all_shares w parts g place))
     (aggregate (slice_index_or (group_at parts g).aggregates place Count)
-    (numbers_for place (members value_cmp keys (s.updates_of g))))
+    (numbers_for place (members key_value_cmp keys (s.updates_of g))))
 
 -- what can add up to the SUMs and the COUNTs of all groups fits 64 bits
 pub record SumsFit (w : World) (parts : Parts) : Type 0 where

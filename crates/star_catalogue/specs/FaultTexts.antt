@@ -23,14 +23,14 @@ cell_text fault t at_row field =
     ++ (codes " record " ++ (decimal at_row ++ (codes " field " ++ decimal field)))))
 
 -- the number and name of a fault, and its place
-abbrev pub fault_text : LoadFault → List ℕ
-fault_text OutOfMemory = codes "1 OutOfMemory"
-fault_text (ByteOrderMark t) = table_text (codes "2 ByteOrderMark") t
-fault_text (TooManyRows t) = table_text (codes "3 TooManyRows") t
-fault_text (FieldCount t at_row) = record_text (codes "4 FieldCount") t at_row
-fault_text (CellTooLong t at_row field) = cell_text (codes "5 CellTooLong") t at_row field
-fault_text (BadByte t at_row field) = cell_text (codes "6 BadByte") t at_row field
-fault_text (BadNumber t at_row field) = cell_text (codes "7 BadNumber") t at_row field
-fault_text (DuplicateKey t at_row) = record_text (codes "8 DuplicateKey") t at_row
-fault_text (AbsentKey at_row c) =
+abbrev pub load_fault_text : LoadFault → List ℕ
+load_fault_text OutOfMemory = codes "1 OutOfMemory"
+load_fault_text (ByteOrderMark t) = table_text (codes "2 ByteOrderMark") t
+load_fault_text (TooManyRows t) = table_text (codes "3 TooManyRows") t
+load_fault_text (FieldCount t at_row) = record_text (codes "4 FieldCount") t at_row
+load_fault_text (CellTooLong t at_row field) = cell_text (codes "5 CellTooLong") t at_row field
+load_fault_text (BadByte t at_row field) = cell_text (codes "6 BadByte") t at_row field
+load_fault_text (BadNumber t at_row field) = cell_text (codes "7 BadNumber") t at_row field
+load_fault_text (DuplicateKey t at_row) = record_text (codes "8 DuplicateKey") t at_row
+load_fault_text (AbsentKey at_row c) =
     record_text (codes "9 AbsentKey") Lineorder at_row ++ (codes " column " ++ column_name c)

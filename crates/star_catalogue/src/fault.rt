@@ -105,9 +105,9 @@ impl<T: Drop> From<AllocFailed<T>> for LoadFault {
 
 impl fmt::Display for LoadFault {
     ghost use Rattle.std.specs.Prelude.{Some};
-    ghost use Rattle.star_catalogue.specs.FaultTexts.{fault_text};
+    ghost use Rattle.star_catalogue.specs.FaultTexts.{load_fault_text};
 
-    ghost output = { λ fault. Some (fault_text fault) };
+    ghost output = { λ fault. Some (load_fault_text fault) };
 
     #[tactic(auto, unfolding(crate::specs::FaultTexts::cell_text, crate::specs::FaultTexts::record_text, crate::specs::FaultTexts::table_text))]
     fn fmt<W: fmt::Write>(&self, f: &mut fmt::Formatter<W>) -> fmt::Result {

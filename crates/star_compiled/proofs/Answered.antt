@@ -54,7 +54,7 @@ decoded_same w c n (Text v) shows =
     ∙ ap Text (ap (w.text c) (sym shows.1.place) ∙ shows.1.shown)
 
 key_kept : (w : World) (c : ColumnId) (n m : ℕ) (v u : Value) → Shows w c n v → Shows w c m u
-    → is_eq (value_cmp v u) ≡ is_eq (by_code.value_cmp (coded w c v) (coded w c u))
+    → is_eq (value_cmp v u) ≡ is_eq (by_code.key_value_cmp (coded w c v) (coded w c u))
 key_kept w c n m (Number z) (Number y) p q = refl
 key_kept w c n m (Text v) (Text u) p q =
     code_eq (w.low c v) (w.low c u) v u (ap (λ k. nat_lt k (w.low c u)) (sym p.1.place) ∙ p.1.low u)
@@ -75,7 +75,7 @@ keys_decoded w (c ∷ cs) row h =
     λ i. decoded_same w c h.0.0 (value_of c row) h.0.1 i ∷ keys_decoded w cs row h.1 i
 
 keys_kept : (w : World) (cs : List ColumnId) (a b : Joined) → ShowsAll w cs a → ShowsAll w cs b
-    → Keeps by_code.value_cmp value_cmp (decoded_at w cs) (map (λ c. coded w c (value_of c a)) cs)
+    → Keeps by_code.key_value_cmp value_cmp (decoded_at w cs) (map (λ c. coded w c (value_of c a)) cs)
     (map (λ c. coded w c (value_of c b)) cs)
 keys_kept w [] a b p q = tt
 keys_kept w (c ∷ cs) a b p q = (
@@ -143,12 +143,12 @@ module _ (ts : Tables) (w : World) (seen : Sees ts w) (p : Plan) (sound : IsSoun
 
   entry_kept : (a b : Entry KeyValue) → Contains (map (update_of_row w p) (plan_rows ts p)) a
       → Contains (map (update_of_row w p) (plan_rows ts p)) b
-      → Keeps by_code.value_cmp value_cmp (decoded_at w p.keys) a.keys b.keys
+      → Keeps by_code.key_value_cmp value_cmp (decoded_at w p.keys) a.keys b.keys
   entry_kept a b g h =
       let x = from_contains_map (update_of_row w p) (plan_rows ts p) a g in
       let y = from_contains_map (update_of_row w p) (plan_rows ts p) b h in
-      subst (λ z. Keeps by_code.value_cmp value_cmp (decoded_at w p.keys) z.keys b.keys) x.2
-      (subst (λ z. Keeps by_code.value_cmp value_cmp (decoded_at w p.keys)
+      subst (λ z. Keeps by_code.key_value_cmp value_cmp (decoded_at w p.keys) z.keys b.keys) x.2
+      (subst (λ z. Keeps by_code.key_value_cmp value_cmp (decoded_at w p.keys)
       (update_of_row w p x.0).keys z.keys) y.2
       (keys_kept w p.keys x.0 y.0 (row_shows x.0 x.1) (row_shows y.0 y.1)))
 
@@ -170,19 +170,19 @@ module _ (ts : Tables) (w : World) (seen : Sees ts w) (p : Plan) (sound : IsSoun
 
   groups_the_rows : (us : List (Entry KeyValue)) (groups : List (GroupRow KeyValue))
       → us ≡ reverse (map (update_of_row w p) (plan_rows ts p))
-      → AreGroups by_code.value_cmp p.shape (length p.keys) (map aggregate_of p.measures) us groups
+      → AreGroups by_code.key_value_cmp p.shape (length p.keys) (map aggregate_of p.measures) us groups
       → AreGroups value_cmp p.shape (length p.keys) (map aggregate_of p.measures)
       (map (entry_of p) (plan_rows ts p)) (map (decoded_row w (group_of p)) groups)
   groups_the_rows us groups are h =
       let k = length p.keys in
       let gs = map aggregate_of p.measures in
       let es = map (update_of_row w p) (plan_rows ts p) in
-      let turned = subst (λ us. AreGroups by_code.value_cmp p.shape k gs us groups) are h in
+      let turned = subst (λ us. AreGroups by_code.key_value_cmp p.shape k gs us groups) are h in
       let straight =
-      groups_reordered by_code.value_cmp p.shape k gs (reverse es) es groups
+      groups_reordered by_code.key_value_cmp p.shape k gs (reverse es) es groups
       (IsPermutation-sym es (reverse es) (IsPermutation-reverse es)) turned in
       let there =
-      groups_applied by_code.value_cmp value_cmp p.shape k gs (decoded_at w p.keys) es entry_kept
+      groups_applied by_code.key_value_cmp value_cmp p.shape k gs (decoded_at w p.keys) es entry_kept
       groups straight in
       let same : map (row_applied (decoded_at w p.keys)) groups ≡ map (decoded_row w (group_of p))
       groups =
@@ -198,7 +198,7 @@ module _ (ts : Tables) (w : World) (seen : Sees ts w) (p : Plan) (sound : IsSoun
   answers_the_plan may e outcome run told =
       let reported = told.reported in
       let counted =
-      subst (λ n. AreGroups by_code.value_cmp p.shape n (map aggregate_of p.measures)
+      subst (λ n. AreGroups by_code.key_value_cmp p.shape n (map aggregate_of p.measures)
       (e.updates_of 0) reported.groups) (length-map p.keys key_of_group) reported.each_group in
       let groups =
       groups_the_rows (e.updates_of 0) reported.groups (puts_the_rows ts w seen p sound may e run)

@@ -13,8 +13,8 @@ unfoldable pub engine_fault_text : EngineFault → List ℕ
 engine_fault_text OutOfMemory = codes "memory"
 engine_fault_text (Query fault) = codes "query " ++ query_fault_text fault
 engine_fault_text (Plan fault) = codes "query " ++ plan_fault_text fault
-engine_fault_text (Program fault) = codes "program " ++ program.fault_text fault
-engine_fault_text (Load fault) = codes "load " ++ load.fault_text fault
+engine_fault_text (Program fault) = codes "program " ++ program.text_fault_text fault
+engine_fault_text (Load fault) = codes "load " ++ load.load_fault_text fault
 engine_fault_text (Refused refusal) = refusal_text refusal
-engine_fault_text (Trial fault) = trial.fault_text fault
+engine_fault_text (Trial fault) = trial.trial_fault_text fault
 engine_fault_text (Write sent) = codes "write " ++ decimal sent

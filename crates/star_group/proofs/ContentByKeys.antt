@@ -8,7 +8,7 @@ use Rattle.star_schema.specs.declared.group.Aggregate.{Aggregate}
 use Rattle.star_schema.specs.declared.group.Aggregate.TheVariants.{Sum, Count, Min, Max}
 use Rattle.star_schema.specs.Groups.{IsGroup, IsMasked, aggregate, belongs, joined, numbers_for}
 use Rattle.star_program.specs.declared.key.KeyValue.{KeyValue}
-use Rattle.star_program.specs.Keys.{same_keys, value_cmp}
+use Rattle.star_program.specs.Keys.{same_keys, key_value_cmp}
 use Rattle.star_group.specs.Stores.{Put, Group, aggregate_at, AreOfContent, IsContent, combined, key_lists, number_at, puts_of}
 use Rattle.star_group.proofs.JoinedParts.{joined_by_parts, joined_more, more}
 use Rattle.star_group.proofs.KeyLists.{all_there, listed, of_key_lists, put_with, some_put}
@@ -108,5 +108,5 @@ module _ (d : Group) (us es : List Put) (is : IsContent d us es) where
   pub are_of_content : AreOfContent d us es
   are_of_content = record {
     groups = λ m. (group_of us es is.keys m, group_of es us (λ ks. sym (is.keys ks)) m);
-    aggregates = λ m place declared. all_combined place declared (belongs value_cmp m) (aggregate_at d place) refl;
+    aggregates = λ m place declared. all_combined place declared (belongs key_value_cmp m) (aggregate_at d place) refl;
   }

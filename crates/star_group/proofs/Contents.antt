@@ -5,7 +5,7 @@ use Rattle.star_schema.specs.declared.group.Aggregate.{Aggregate}
 use Rattle.star_schema.specs.declared.group.Aggregate.TheVariants.{Sum, Count, Min, Max}
 use Rattle.star_schema.specs.Groups.{aggregate, members, numbers_for}
 use Rattle.star_program.specs.declared.key.KeyValue.{KeyValue}
-use Rattle.star_program.specs.Keys.{value_cmp}
+use Rattle.star_program.specs.Keys.{key_value_cmp}
 use Rattle.star_program.specs.Puts.{own_groups, some_leaves, leaves as leaves_total}
 use Rattle.star_group.specs.Cells.{held}
 use Rattle.star_group.specs.OwnKeys.{key_eq, padded, own_keys}
@@ -64,10 +64,10 @@ one_leaves (g ∷ gs) p ps (suc a) lt h =
 
 -- the aggregates of a group that has the put, in the row with its key
 module _ (d : Group) (us : List Put) (u : Put) (m : List (Option KeyValue)) (few : d.count ≤ 6) (fits : length u.keys ≡ d.count) (own : IsOwn d m u) where
-  one_member : members value_cmp m (u ∷ us) ≡ u ∷ members value_cmp m us
-  one_member = ap (λ b. cond b (u ∷ members value_cmp m us) (members value_cmp m us)) (own_belongs d m u fits own)
+  one_member : members key_value_cmp m (u ∷ us) ≡ u ∷ members key_value_cmp m us
+  one_member = ap (λ b. cond b (u ∷ members key_value_cmp m us) (members key_value_cmp m us)) (own_belongs d m u fits own)
 
-  pub held_is : AllByRecursion (λ w. length w.keys ≡ d.count) us → (place : ℕ) → held_at d (u ∷ us) (in_places 6 m) place ≡ aggregate (aggregate_at d place) (numbers_for place (members value_cmp m (u ∷ us)))
+  pub held_is : AllByRecursion (λ w. length w.keys ≡ d.count) us → (place : ℕ) → held_at d (u ∷ us) (in_places 6 m) place ≡ aggregate (aggregate_at d place) (numbers_for place (members key_value_cmp m (u ∷ us)))
   held_is fit place =
       ap (λ ps. held (aggregate_at d place) (numbers_for place ps)) (members_at d m (u ∷ us) (own_mask d m u fits own) few (fits, fit) ∙ one_member)
       ∙ some_aggregate (aggregate_at d place) _ _
@@ -77,26 +77,26 @@ module _ (d : Group) (us : List Put) (u : Put) (few : d.count ≤ 6) (fits : len
   row_of_group : (m : List (Option KeyValue)) → IsOwn d m u → changes d (in_places 6 m) u ≡ true
   row_of_group m own = changes_belongs d m u (own_mask d m u fits own) fits few ∙ own_belongs d m u fits own
 
-  none_leaves : PutStays d us u → (m : List (Option KeyValue)) → IsOwn d m u → some_leaves d.aggregates 0 (members value_cmp m (u ∷ us)) ≡ false
-  none_leaves s m own = no_leaves d.aggregates 0 (members value_cmp m (u ∷ us)) each
+  none_leaves : PutStays d us u → (m : List (Option KeyValue)) → IsOwn d m u → some_leaves d.aggregates 0 (members key_value_cmp m (u ∷ us)) ≡ false
+  none_leaves s m own = no_leaves d.aggregates 0 (members key_value_cmp m (u ∷ us)) each
     where
-      by : (a : ℕ) → a < length d.aggregates → (r : Option ℤ) → aggregate (aggregate_at d a) (numbers_for a (members value_cmp m (u ∷ us))) ≡ r → leaves_total (aggregate_at d a) r ≡ false
+      by : (a : ℕ) → a < length d.aggregates → (r : Option ℤ) → aggregate (aggregate_at d a) (numbers_for a (members key_value_cmp m (u ∷ us))) ≡ r → leaves_total (aggregate_at d a) r ≡ false
       by a lt None e = null_stays (aggregate_at d a)
       by a lt (Some z) e = leaves_same (aggregate_at d a) z ∙ s.stays (in_places 6 m) a z (row_of_group m own) lt (held_is d us u m few fits own fit a ∙ e)
 
-      each : (a : ℕ) → a < length d.aggregates → leaves_total (get_or d.aggregates a Count) (aggregate (get_or d.aggregates a Count) (numbers_for (0 + a) (members value_cmp m (u ∷ us)))) ≡ false
-      each a lt = let zeros : 0 + a ≡ a = omega arith in rw zeros (by a lt (aggregate (aggregate_at d a) (numbers_for a (members value_cmp m (u ∷ us)))) refl)
+      each : (a : ℕ) → a < length d.aggregates → leaves_total (get_or d.aggregates a Count) (aggregate (get_or d.aggregates a Count) (numbers_for (0 + a) (members key_value_cmp m (u ∷ us)))) ≡ false
+      each a lt = let zeros : 0 + a ≡ a = omega arith in rw zeros (by a lt (aggregate (aggregate_at d a) (numbers_for a (members key_value_cmp m (u ∷ us)))) refl)
 
   pub stays_all : PutStays d us u → overflows d us u ≡ false
-  stays_all s = any_false (λ m. some_leaves d.aggregates 0 (members value_cmp m (u ∷ us))) (own_groups d.shape u.keys)
-      (all_more (λ m. IsOwn d m u) (λ m. some_leaves d.aggregates 0 (members value_cmp m (u ∷ us)) ≡ false) (none_leaves s) (own_groups d.shape u.keys) (groups_own d u fits))
+  stays_all s = any_false (λ m. some_leaves d.aggregates 0 (members key_value_cmp m (u ∷ us))) (own_groups d.shape u.keys)
+      (all_more (λ m. IsOwn d m u) (λ m. some_leaves d.aggregates 0 (members key_value_cmp m (u ∷ us)) ≡ false) (none_leaves s) (own_groups d.shape u.keys) (groups_own d u fits))
 
   pub overflows_some : PutLeaves d us u → overflows d us u ≡ true
   overflows_some l =
       let at = own_at d l.key u fits few l.own in
-      let is : aggregate (aggregate_at d l.place) (numbers_for l.place (members value_cmp at.keys (u ∷ us))) ≡ Some l.number = sym (held_is d us u at.keys few fits at.own fit l.place) ∙ ap (λ k. held_at d (u ∷ us) k l.place) (sym at.is) ∙ l.is_held in
-      own_any d at.keys u fits at.own (λ m. some_leaves d.aggregates 0 (members value_cmp m (u ∷ us)))
-      (one_leaves d.aggregates 0 (members value_cmp at.keys (u ∷ us)) l.place l.declared
+      let is : aggregate (aggregate_at d l.place) (numbers_for l.place (members key_value_cmp at.keys (u ∷ us))) ≡ Some l.number = sym (held_is d us u at.keys few fits at.own fit l.place) ∙ ap (λ k. held_at d (u ∷ us) k l.place) (sym at.is) ∙ l.is_held in
+      own_any d at.keys u fits at.own (λ m. some_leaves d.aggregates 0 (members key_value_cmp m (u ∷ us)))
+      (one_leaves d.aggregates 0 (members key_value_cmp at.keys (u ∷ us)) l.place l.declared
       (let zeros : 0 + l.place ≡ l.place = omega arith in rw zeros (ap (leaves_total (aggregate_at d l.place)) is ∙ leaves_same (aggregate_at d l.place) l.number ∙ l.leaves)))
 
 module _ (d : Group) (u : Put) (own : List (List (Option KeyValue))) (gs : List Aggregate) (old new : List (Option KeyValue) → Option (List (Option ℤ)))

@@ -16,7 +16,7 @@ use Rattle.star_schema.specs.Groups.{aggregate, HasEmptySubset, IsGroup, GroupRo
 use Rattle.star_program.specs.declared.key.KeyValue.{KeyValue}
 use Rattle.star_group.specs.declared.group_row.GroupRow.{GroupRow}
 use Rattle.star_group.specs.Cells.{held}
-use Rattle.star_program.specs.Keys.{value_cmp}
+use Rattle.star_program.specs.Keys.{key_value_cmp}
 use Rattle.star_group.specs.OwnKeys.{key_eq, padded}
 use Rattle.star_group.specs.Stores.{Put, Group}
 use Rattle.star_group.specs.Held.{changes, puts_at, has_puts, IsRow, IsFound, Holds}
@@ -227,14 +227,14 @@ module _ (d : Group) (us : List Put) (es : List (List (Option KeyValue) × List 
       let long = mask_length d.shape d.count g.keys g.mask in
       ap (take d.count) g.is ∙ ap (λ n. take n (in_places 6 g.keys)) (sym long) ∙ take_in 6 g.keys (omega (arith, long, few))
 
-  totals_of_entry : (e : List (Option KeyValue) × List (Option ℤ)) (k : Kept (λ f. is_given d.shape d.count f.0) es e) (g : GroupAt d us e.0) → shown_from d.aggregates 0 e.1 ≡ totals_of d.aggregates (members value_cmp g.keys us)
+  totals_of_entry : (e : List (Option KeyValue) × List (Option ℤ)) (k : Kept (λ f. is_given d.shape d.count f.0) es e) (g : GroupAt d us e.0) → shown_from d.aggregates 0 e.1 ≡ totals_of d.aggregates (members key_value_cmp g.keys us)
   totals_of_entry e k g =
       let row_is : IsFound d us e.0 e.1 = subst (IsRow d us e.0) (found_at k.place e k.at) (holds.rows e.0) in
-      let same : puts_at d e.0 us ≡ members value_cmp g.keys us = ap (λ q. puts_at d q us) g.is ∙ members_at d g.keys us g.mask few holds.fit in
-      totals_shown d.aggregates 0 e.1 (members value_cmp g.keys us)
+      let same : puts_at d e.0 us ≡ members key_value_cmp g.keys us = ap (λ q. puts_at d q us) g.is ∙ members_at d g.keys us g.mask few holds.fit in
+      totals_shown d.aggregates 0 e.1 (members key_value_cmp g.keys us)
       (λ a lt. let zeros : 0 + a ≡ a = omega arith in rw zeros (row_is.cells a lt ∙ ap (λ ps. held (get_or d.aggregates a Count) (numbers_for a ps)) same))
 
-  each_given : (group : Shown KeyValue) → Contains (map row_shown (map given_row (filter (λ f. is_given d.shape d.count f.0) es))) group → IsGroup d.shape d.count us group.keys × (group.totals ≡ totals_of d.aggregates (members value_cmp group.keys us))
+  each_given : (group : Shown KeyValue) → Contains (map row_shown (map given_row (filter (λ f. is_given d.shape d.count f.0) es))) group → IsGroup d.shape d.count us group.keys × (group.totals ≡ totals_of d.aggregates (members key_value_cmp group.keys us))
   each_given group c =
       let at = place_of (map row_shown (map given_row (filter (λ f. is_given d.shape d.count f.0) es))) group c in
       let row = mapped row_shown (map given_row (filter (λ f. is_given d.shape d.count f.0) es)) at.0 group at.1 in
@@ -244,7 +244,7 @@ module _ (d : Group) (us : List Put) (es : List (List (Option KeyValue) × List 
       let is : row_shown (given_row e.0) ≡ group = ap row_shown e.2 ∙ row.2 in
       let keys : group.keys ≡ g.keys = ap (λ r. r.keys) (sym is) ∙ keys_shown e.0 g in (
         subst (IsGroup d.shape d.count us) (sym keys) g.group,
-        ap (λ r. r.totals) (sym is) ∙ totals_of_entry e.0 k g ∙ ap (λ m. totals_of d.aggregates (members value_cmp m us)) (sym keys),
+        ap (λ r. r.totals) (sym is) ∙ totals_of_entry e.0 k g ∙ ap (λ m. totals_of d.aggregates (members key_value_cmp m us)) (sym keys),
       )
 
   all_given : (keys : List (Option KeyValue)) → IsGroup d.shape d.count us keys → (group : Shown KeyValue) × Contains (map row_shown (map given_row (filter (λ f. is_given d.shape d.count f.0) es))) group × (group.keys ≡ keys)

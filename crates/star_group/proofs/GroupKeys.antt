@@ -14,7 +14,7 @@ use Rattle.star_schema.specs.Groups.{IsMasked, belongs, members}
 use Rattle.star_program.specs.declared.key.KeyValue.{KeyValue}
 use Rattle.star_program.specs.declared.key.KeyValue.TheVariants.{Number, Code}
 use Rattle.star_program.specs.contracts.key.KeyValueEq.TheImpl.Laws.{laws-law}
-use Rattle.star_program.specs.Keys.{value_cmp, value_eq}
+use Rattle.star_program.specs.Keys.{key_value_cmp, value_eq}
 use Rattle.star_group.specs.OwnKeys.{key_eq, padded, vary, own_keys}
 use Rattle.star_group.specs.Stores.{Put, Group}
 use Rattle.star_group.specs.Held.{changes, puts_at}
@@ -40,7 +40,7 @@ value_decides (Code m) (Code n) = (λ e. ap Code ((unsigned_Decides m n).0 e), �
 value_decides (Number x) (Code n) = (λ e. absurd (true≢false (sym e)), λ e. cc e)
 value_decides (Code m) (Number y) = (λ e. absurd (true≢false (sym e)), λ e. cc e)
 
-value_same : (a b : KeyValue) → is_eq (value_cmp a b) ≡ value_eq a b
+value_same : (a b : KeyValue) → is_eq (key_value_cmp a b) ≡ value_eq a b
 value_same (Number x) (Number y) = refl
 value_same (Code m) (Code n) = sym (unsigned_ties m n)
 value_same (Number x) (Code n) = refl
@@ -91,7 +91,7 @@ own_mask d m u fits own = by d.shape own
     by Plain (inl h) = inl (u.keys, fits, masked_all m u.keys h)
     by Plain (inr e) = inr e
 
-masked_belongs : (s : Shape) (m : List (Option KeyValue)) (ks : List KeyValue) → IsMasked s m ks → belongs value_cmp m ks ≡ true
+masked_belongs : (s : Shape) (m : List (Option KeyValue)) (ks : List KeyValue) → IsMasked s m ks → belongs key_value_cmp m ks ≡ true
 masked_belongs Plain [] [] h = refl
 masked_belongs Cube [] [] h = refl
 masked_belongs Plain [] (k ∷ ks) h = absurd h
@@ -102,16 +102,16 @@ masked_belongs Plain (None ∷ m) [] h = absurd h
 masked_belongs Cube (None ∷ m) [] h = absurd h
 masked_belongs Plain (None ∷ m) (k ∷ ks) h = absurd h
 masked_belongs Cube (None ∷ m) (k ∷ ks) h = masked_belongs Cube m ks h
-masked_belongs Plain (Some x ∷ m) (k ∷ ks) h = ap (λ b. b && belongs value_cmp m ks) (value_same x k ∙ (value_decides x k).1 h.0) ∙ masked_belongs Plain m ks h.1
-masked_belongs Cube (Some x ∷ m) (k ∷ ks) h = ap (λ b. b && belongs value_cmp m ks) (value_same x k ∙ (value_decides x k).1 h.0) ∙ masked_belongs Cube m ks h.1
+masked_belongs Plain (Some x ∷ m) (k ∷ ks) h = ap (λ b. b && belongs key_value_cmp m ks) (value_same x k ∙ (value_decides x k).1 h.0) ∙ masked_belongs Plain m ks h.1
+masked_belongs Cube (Some x ∷ m) (k ∷ ks) h = ap (λ b. b && belongs key_value_cmp m ks) (value_same x k ∙ (value_decides x k).1 h.0) ∙ masked_belongs Cube m ks h.1
 
-all_belong : (ks : List KeyValue) → belongs value_cmp (replicate (length ks) None) ks ≡ true
+all_belong : (ks : List KeyValue) → belongs key_value_cmp (replicate (length ks) None) ks ≡ true
 all_belong [] = refl
 all_belong (k ∷ ks) = all_belong ks
 
-pub own_belongs : (d : Group) (m : List (Option KeyValue)) (u : Put) → length u.keys ≡ d.count → IsOwn d m u → belongs value_cmp m u.keys ≡ true
+pub own_belongs : (d : Group) (m : List (Option KeyValue)) (u : Put) → length u.keys ≡ d.count → IsOwn d m u → belongs key_value_cmp m u.keys ≡ true
 own_belongs d m u fits (inl h) = masked_belongs d.shape m u.keys h
-own_belongs d m u fits (inr e) = ap (λ n. belongs value_cmp n u.keys) (e ∙ ap (λ n. replicate n None) (sym fits)) ∙ all_belong u.keys
+own_belongs d m u fits (inr e) = ap (λ n. belongs key_value_cmp n u.keys) (e ∙ ap (λ n. replicate n None) (sym fits)) ∙ all_belong u.keys
 
 -- ---- the same in six places
 
@@ -150,7 +150,7 @@ none_begin b (x ∷ xs) = none_begin b xs
 itself : (n : ℕ) → key_eq (in_places n []) (padded n []) ≡ true
 itself n = (key_decides (in_places n []) (padded n [])).1 (in_padded n [])
 
-full_key : (n : ℕ) (js ks : List KeyValue) → length js ≡ length ks → length ks ≤ n → key_eq (in_places n (map Some js)) (padded n ks) ≡ belongs value_cmp (map Some js) ks
+full_key : (n : ℕ) (js ks : List KeyValue) → length js ≡ length ks → length ks ≤ n → key_eq (in_places n (map Some js)) (padded n ks) ≡ belongs key_value_cmp (map Some js) ks
 unfolding in_places padded
 full_key n [] [] e h = itself n
 full_key n [] (k ∷ ks) e h = absurd (omega (arith, e))
@@ -158,7 +158,7 @@ full_key n (j ∷ js) [] e h = absurd (omega (arith, e))
 full_key zero (j ∷ js) (k ∷ ks) e h = absurd (omega (arith, h))
 full_key (suc n) (j ∷ js) (k ∷ ks) e h = λ i. sym (value_same j k) i && full_key n js ks (omega (arith, e)) (omega (arith, h)) i
 
-cube_changes : (n : ℕ) (m : List (Option KeyValue)) (ks : List KeyValue) → length m ≡ length ks → length ks ≤ n → list_any (key_eq (in_places n m)) (vary (length ks) (padded n ks)) ≡ belongs value_cmp m ks
+cube_changes : (n : ℕ) (m : List (Option KeyValue)) (ks : List KeyValue) → length m ≡ length ks → length ks ≤ n → list_any (key_eq (in_places n m)) (vary (length ks) (padded n ks)) ≡ belongs key_value_cmp m ks
 unfolding in_places vary padded
 cube_changes n [] [] e h = or_false _ ∙ itself n
 cube_changes n [] (k ∷ ks) e h = absurd (omega (arith, e))
@@ -184,7 +184,7 @@ some_key : (j k : KeyValue) (js ks : List KeyValue) → (key_eq (in_places 6 (ma
 unfolding in_places padded
 some_key j k js ks = or_false _
 
-plain_changes : (m : List (Option KeyValue)) (ks : List KeyValue) → IsMask Plain (length ks) m → length ks ≤ 6 → list_any (key_eq (in_places 6 m)) (own_keys Plain (length ks) (padded 6 ks)) ≡ belongs value_cmp m ks
+plain_changes : (m : List (Option KeyValue)) (ks : List KeyValue) → IsMask Plain (length ks) m → length ks ≤ 6 → list_any (key_eq (in_places 6 m)) (own_keys Plain (length ks) (padded 6 ks)) ≡ belongs key_value_cmp m ks
 plain_changes m [] (inl ([], e, is)) h = rw is (or_false _ ∙ itself 6)
 plain_changes m [] (inl (j ∷ js, e, is)) h = absurd (omega (arith, e))
 plain_changes m [] (inr is) h = rw is (or_false _ ∙ itself 6)
@@ -193,14 +193,14 @@ plain_changes m (k ∷ ks) (inl (j ∷ js, e, is)) h = rw is (some_key j k js ks
 plain_changes m (k ∷ ks) (inr is) h = rw is (all_key (length ks) k ks ∙ sym (all_belong (k ∷ ks)))
 
 -- the puts that change a row are the members of its group
-pub changes_belongs : (d : Group) (m : List (Option KeyValue)) (u : Put) → IsMask d.shape d.count m → length u.keys ≡ d.count → d.count ≤ 6 → changes d (in_places 6 m) u ≡ belongs value_cmp m u.keys
+pub changes_belongs : (d : Group) (m : List (Option KeyValue)) (u : Put) → IsMask d.shape d.count m → length u.keys ≡ d.count → d.count ≤ 6 → changes d (in_places 6 m) u ≡ belongs key_value_cmp m u.keys
 changes_belongs d m u mask fits few = by d.shape mask
   where
-    by : (shape : Shape) → IsMask shape d.count m → list_any (key_eq (in_places 6 m)) (own_keys shape (length u.keys) (padded 6 u.keys)) ≡ belongs value_cmp m u.keys
+    by : (shape : Shape) → IsMask shape d.count m → list_any (key_eq (in_places 6 m)) (own_keys shape (length u.keys) (padded 6 u.keys)) ≡ belongs key_value_cmp m u.keys
     by Plain mask = plain_changes m u.keys (subst (λ n. IsMask Plain n m) (sym fits) mask) (omega (arith, fits, few))
     by Cube mask = cube_changes 6 m u.keys (mask ∙ sym fits) (omega (arith, fits, few))
 
-pub members_at : (d : Group) (m : List (Option KeyValue)) (us : List Put) → IsMask d.shape d.count m → d.count ≤ 6 → AllByRecursion (λ u. length u.keys ≡ d.count) us → puts_at d (in_places 6 m) us ≡ members value_cmp m us
+pub members_at : (d : Group) (m : List (Option KeyValue)) (us : List Put) → IsMask d.shape d.count m → d.count ≤ 6 → AllByRecursion (λ u. length u.keys ≡ d.count) us → puts_at d (in_places 6 m) us ≡ members key_value_cmp m us
 members_at d m [] mask few fit = refl
 members_at d m (u ∷ us) mask few fit = λ i. cond (changes_belongs d m u mask fit.0 few i) (u ∷ members_at d m us mask few fit.1 i) (members_at d m us mask few fit.1 i)
 

@@ -8,7 +8,7 @@ use Rattle.star_schema.specs.declared.group.Aggregate.TheVariants.{Sum, Count, M
 use Rattle.star_schema.specs.Groups.{aggregate, belongs, joined, members, numbers_for}
 use Rattle.star_interval.specs.Range.{is_i64}
 use Rattle.star_program.specs.declared.key.KeyValue.{KeyValue}
-use Rattle.star_program.specs.Keys.{value_cmp}
+use Rattle.star_program.specs.Keys.{key_value_cmp}
 use Rattle.star_program.specs.Puts.{own_groups, some_leaves, leaves}
 use Rattle.star_group.specs.Cells.{held}
 use Rattle.star_group.specs.Stores.{Put, Group, aggregate_at, number_at, overflows, above_zero, below_zero, HasRoom}
@@ -129,6 +129,6 @@ all_always P each [] = tt
 all_always P each (x ∷ xs) = (each x, all_always P each xs)
 
 pub room_stays : (d : Group) (us : List Put) (u : Put) → HasRoom d (u ∷ us) → overflows d us u ≡ false
-room_stays d us u room = any_false (λ m. some_leaves d.aggregates 0 (members value_cmp m (u ∷ us))) (own_groups d.shape u.keys)
-    (all_always (λ m. some_leaves d.aggregates 0 (members value_cmp m (u ∷ us)) ≡ false)
-    (λ m. no_leaves d.aggregates 0 (members value_cmp m (u ∷ us)) (λ a lt. let zeros : 0 + a ≡ a = omega arith in rw zeros (stays_at d (u ∷ us) room (belongs value_cmp m) a lt (aggregate_at d a) refl))) (own_groups d.shape u.keys))
+room_stays d us u room = any_false (λ m. some_leaves d.aggregates 0 (members key_value_cmp m (u ∷ us))) (own_groups d.shape u.keys)
+    (all_always (λ m. some_leaves d.aggregates 0 (members key_value_cmp m (u ∷ us)) ≡ false)
+    (λ m. no_leaves d.aggregates 0 (members key_value_cmp m (u ∷ us)) (λ a lt. let zeros : 0 + a ≡ a = omega arith in rw zeros (stays_at d (u ∷ us) room (belongs key_value_cmp m) a lt (aggregate_at d a) refl))) (own_groups d.shape u.keys))

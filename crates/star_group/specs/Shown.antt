@@ -3,7 +3,7 @@ use Rattle.std.specs.Prelude.{◌≡◌, ℕ, List, [], Some, map, slice_get, sl
 use Rattle.star_schema.specs.Groups.{AreGroups, GroupRow as Row}
 use Rattle.star_program.specs.declared.key.KeyValue.{KeyValue}
 use Rattle.star_group.specs.declared.group_row.GroupRow.{GroupRow}
-use Rattle.star_program.specs.Keys.{value_cmp}
+use Rattle.star_program.specs.Keys.{key_value_cmp}
 use Rattle.star_group.specs.Stores.{Put, Group}
 
 abbrev pub row_shown : GroupRow → Row KeyValue
@@ -15,5 +15,5 @@ row_at rows number = slice_index_or rows number (record { keys = []; aggregates 
 
 -- the rows are the groups of the puts with their aggregates, each once
 pub record AreRows (d : Group) (puts : List Put) (rows : List GroupRow) : Type 0 where
-  pub groups : AreGroups value_cmp d.shape d.count d.aggregates puts (map row_shown rows)
+  pub groups : AreGroups key_value_cmp d.shape d.count d.aggregates puts (map row_shown rows)
   pub once : (i j : ℕ) (a b : GroupRow) → slice_get rows i ≡ Some a → slice_get rows j ≡ Some b → a.keys ≡ b.keys → i ≡ j

@@ -8,7 +8,7 @@ use Rattle.star_schema.specs.declared.group.Shape.{Shape}
 use Rattle.star_schema.specs.Groups.{Entry, IsGroup, members, aggregate, numbers_for}
 use Rattle.star_program.specs.declared.group.GroupDecl.{GroupDecl}
 use Rattle.star_program.specs.declared.key.KeyValue.{KeyValue}
-use Rattle.star_program.specs.Keys.{value_cmp, same_keys}
+use Rattle.star_program.specs.Keys.{key_value_cmp, same_keys}
 use Rattle.star_program.specs.Puts.{own_groups, some_leaves}
 
 -- one put: its keys, and a number for each aggregate (of a COUNT it does not matter which)
@@ -33,7 +33,7 @@ total_of d puts place = aggregate (aggregate_at d place) (numbers_for place puts
 
 -- with this put after those a SUM or a COUNT over one of its groups, or over all of them, leaves 64 bits
 abbrev pub overflows : Group → List Put → Put → Bool
-overflows d puts put = list_any (λ keys. some_leaves d.aggregates 0 (members value_cmp keys (put ∷ puts))) (own_groups d.shape put.keys)
+overflows d puts put = list_any (λ keys. some_leaves d.aggregates 0 (members key_value_cmp keys (put ∷ puts))) (own_groups d.shape put.keys)
 
 -- ---- the content of puts, as a finite map from key lists
 
@@ -68,8 +68,8 @@ pub record AreOfContent (d : Group) (puts content : List Put) : Type 0 where
   pub groups : (keys : List (Option KeyValue))
       → IsGroup d.shape d.count puts keys ↔ IsGroup d.shape d.count content keys
   pub aggregates : (keys : List (Option KeyValue)) (place : ℕ) → place < length d.aggregates
-      → aggregate (aggregate_at d place) (numbers_for place (members value_cmp keys puts))
-      ≡ combined (aggregate_at d place) (numbers_for place (members value_cmp keys content))
+      → aggregate (aggregate_at d place) (numbers_for place (members key_value_cmp keys puts))
+      ≡ combined (aggregate_at d place) (numbers_for place (members key_value_cmp keys content))
 
 -- ---- the condition of a put
 

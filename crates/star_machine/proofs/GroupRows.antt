@@ -14,7 +14,7 @@ use Rattle.star_schema.specs.declared.group.Shape.{Shape}
 use Rattle.star_schema.specs.Groups.{AreGroups, Entry, GroupRow as Row, IsGroup, aggregate, belongs, joined, joined_with, members, totals_from}
 use Rattle.star_common.proofs.Members.{at_each, contains_cases, contains_here, contains_mapped, contains_none}
 use Rattle.star_program.specs.declared.key.KeyValue.{KeyValue}
-use Rattle.star_program.specs.Keys.{value_cmp}
+use Rattle.star_program.specs.Keys.{key_value_cmp}
 use Rattle.star_group.specs.declared.group_row.GroupRow.{GroupRow}
 use Rattle.star_group.specs.Held.{has_puts}
 use Rattle.star_group.specs.Shown.{AreRows, row_shown}
@@ -75,14 +75,14 @@ has_passing p (v ∷ us) u c e = by (p v) refl (λ later. has_passing p us u lat
     by false at more = ⊎_elim {C = has_puts (filter p us) ≡ true} (λ same. absurd (true≢false (sym e ∙ ap p (sym same) ∙ at))) more (contains_cases v us u c)
 
 -- a group has rows where there are some at all
-has_members : (d : Group) (us : List Put) (keys : List (Option KeyValue)) → AllByRecursion (λ u. length u.keys ≡ d.count) us → IsGroup d.shape d.count us keys → has_puts (members value_cmp keys us) ≡ has_puts us
+has_members : (d : Group) (us : List Put) (keys : List (Option KeyValue)) → AllByRecursion (λ u. length u.keys ≡ d.count) us → IsGroup d.shape d.count us keys → has_puts (members key_value_cmp keys us) ≡ has_puts us
 has_members d [] keys fit is = refl
 has_members d (u ∷ us) keys fit (inl is) =
-    has_passing (λ v. belongs value_cmp keys v.keys) (u ∷ us) is.0 is.1 (own_belongs d keys is.0 (at_each (λ v. length v.keys ≡ d.count) (u ∷ us) is.0 fit is.1) (inl is.2))
+    has_passing (λ v. belongs key_value_cmp keys v.keys) (u ∷ us) is.0 is.1 (own_belongs d keys is.0 (at_each (λ v. length v.keys ≡ d.count) (u ∷ us) is.0 fit is.1) (inl is.2))
 has_members d (u ∷ us) keys fit (inr is) =
-    has_passing (λ v. belongs value_cmp keys v.keys) (u ∷ us) u (contains_here u us) (own_belongs d keys u fit.0 (inr is.1))
+    has_passing (λ v. belongs key_value_cmp keys v.keys) (u ∷ us) u (contains_here u us) (own_belongs d keys u fit.0 (inr is.1))
 
-pub groups_nulls : (d : Group) (puts : List Put) (rows : List GroupRow) → AllByRecursion (λ u. length u.keys ≡ d.count) puts → AreGroups value_cmp d.shape d.count d.aggregates puts (map row_shown rows) → AllHaveSameNulls rows
+pub groups_nulls : (d : Group) (puts : List Put) (rows : List GroupRow) → AllByRecursion (λ u. length u.keys ≡ d.count) puts → AreGroups key_value_cmp d.shape d.count d.aggregates puts (map row_shown rows) → AllHaveSameNulls rows
 groups_nulls d puts rows fit are = record { each = each }
   where
     each : (a b : GroupRow) → Contains rows a → Contains rows b → HaveSameNulls (row_shown a) (row_shown b)
@@ -91,5 +91,5 @@ groups_nulls d puts rows fit are = record { each = each }
         let group_b = are.each (row_shown b) (contains_mapped row_shown rows b in_b) in
         let same = has_members d puts a.keys fit group_a.0 ∙ sym (has_members d puts b.keys fit group_b.0) in
         record {
-          same = λ place. ap (λ ts. is_some (get_or ts place None)) group_a.1 ∙ same_nulls d.aggregates 0 place (members value_cmp a.keys puts) (members value_cmp b.keys puts) same ∙ sym (ap (λ ts. is_some (get_or ts place None)) group_b.1);
+          same = λ place. ap (λ ts. is_some (get_or ts place None)) group_a.1 ∙ same_nulls d.aggregates 0 place (members key_value_cmp a.keys puts) (members key_value_cmp b.keys puts) same ∙ sym (ap (λ ts. is_some (get_or ts place None)) group_b.1);
         }

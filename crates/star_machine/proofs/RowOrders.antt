@@ -17,21 +17,21 @@ use Rattle.star_schema.specs.Order as report
 use Rattle.star_schema.specs.Order.{key_cmp}
 use Rattle.star_program.specs.declared.key.KeyValue.{KeyValue}
 use Rattle.star_program.specs.declared.key.KeyValue.TheVariants.{Number, Code}
-use Rattle.star_program.specs.Keys.{value_cmp}
+use Rattle.star_program.specs.Keys.{key_value_cmp}
 use Rattle.star_machine.specs.Private.RowOrder.{HaveSameNulls, column_order, directed_order, row_order}
 
 -- ---- an order
 
-value_total : IsTotalOrder value_cmp
+value_total : IsTotalOrder key_value_cmp
 value_total = record { antisymm = antisymm; trans = trans; congr = congr }
   where
-    antisymm : (a b : KeyValue) → value_cmp a b ≡ ordering_reverse (value_cmp b a)
+    antisymm : (a b : KeyValue) → key_value_cmp a b ≡ ordering_reverse (key_value_cmp b a)
     antisymm (Number x) (Number y) = int_cmp_total.antisymm x y
     antisymm (Number x) (Code n) = refl
     antisymm (Code m) (Number y) = refl
     antisymm (Code m) (Code n) = nat_cmp_total.antisymm m n
 
-    trans : (a b c : KeyValue) → value_cmp a b ≡ Less → value_cmp b c ≡ Less → value_cmp a c ≡ Less
+    trans : (a b c : KeyValue) → key_value_cmp a b ≡ Less → key_value_cmp b c ≡ Less → key_value_cmp a c ≡ Less
     trans (Number x) (Number y) (Number z) p q = int_cmp_total.trans x y z p q
     trans (Number x) b (Code o) p q = refl
     trans (Number x) (Code n) (Number z) p q = cc q
@@ -39,7 +39,7 @@ value_total = record { antisymm = antisymm; trans = trans; congr = congr }
     trans (Code m) (Code n) (Number z) p q = q
     trans (Code m) (Code n) (Code o) p q = nat_cmp_total.trans m n o p q
 
-    congr : (a b c : KeyValue) → value_cmp a b ≡ Equal → value_cmp a c ≡ value_cmp b c
+    congr : (a b c : KeyValue) → key_value_cmp a b ≡ Equal → key_value_cmp a c ≡ key_value_cmp b c
     congr (Number x) (Number y) (Number z) p = int_cmp_total.congr x y z p
     congr (Number x) (Number y) (Code o) p = refl
     congr (Number x) (Code n) c p = cc p
@@ -75,24 +75,24 @@ both_equal Less b e = cc e
 both_equal Equal b e = (refl, e)
 both_equal Greater b e = cc e
 
-value_level : (a b : KeyValue) → value_cmp a b ≡ Equal → a ≡ b
+value_level : (a b : KeyValue) → key_value_cmp a b ≡ Equal → a ≡ b
 value_level (Number x) (Number y) e = ap Number (subst (λ o. MatchOrdering o (x <ℤ y) (x ≡ y) (y <ℤ x)) e (int_ranks x y))
 value_level (Number x) (Code n) e = cc e
 value_level (Code m) (Number y) e = cc e
 value_level (Code m) (Code n) e = ap Code (subst (λ o. MatchOrdering o (m < n) (m ≡ n) (n < m)) e (ranks m n))
 
-key_level : (a b : Option KeyValue) → key_cmp value_cmp a b ≡ Equal → a ≡ b
+key_level : (a b : Option KeyValue) → key_cmp key_value_cmp a b ≡ Equal → a ≡ b
 key_level (Some a) (Some b) e = ap Some (value_level a b e)
 key_level (Some a) None e = cc e
 key_level None (Some b) e = cc e
 key_level None None e = refl
 
-keys_level : (xs ys : List (Option KeyValue)) → slice_cmp (key_cmp value_cmp) xs ys ≡ Equal → xs ≡ ys
+keys_level : (xs ys : List (Option KeyValue)) → slice_cmp (key_cmp key_value_cmp) xs ys ≡ Equal → xs ≡ ys
 keys_level [] [] e = refl
 keys_level [] (b ∷ ys) e = cc e
 keys_level (a ∷ xs) [] e = cc e
 keys_level (a ∷ xs) (b ∷ ys) e =
-    let both = both_equal (key_cmp value_cmp a b) (slice_cmp (key_cmp value_cmp) xs ys) e in
+    let both = both_equal (key_cmp key_value_cmp a b) (slice_cmp (key_cmp key_value_cmp) xs ys) e in
     λ i. key_level a b both.0 i ∷ keys_level xs ys both.1 i
 
 pub rows_level : (sorts : List SortKey) (a b : Row KeyValue) → row_order sorts a b ≡ Equal → a.keys ≡ b.keys
@@ -107,14 +107,14 @@ same_total (Some x) None e = absurd (true≢false e)
 same_total None (Some y) e = absurd (true≢false (sym e))
 same_total None None e = refl
 
-same_column : (c : GroupColumn) (a b : Row KeyValue) → HaveSameNulls a b → report.column_cmp value_cmp c a b ≡ column_order c a b
+same_column : (c : GroupColumn) (a b : Row KeyValue) → HaveSameNulls a b → report.column_cmp key_value_cmp c a b ≡ column_order c a b
 same_column (column.Key place) a b h = refl
 same_column (column.Aggregate place) a b h = same_total (get_or a.totals place None) (get_or b.totals place None) (h.same place)
 
-same_directed : (c : GroupColumn) (d : Direction) (a b : Row KeyValue) → HaveSameNulls a b → report.sort_cmp value_cmp (record { column = c; direction = d }) a b ≡ directed_order c d a b
+same_directed : (c : GroupColumn) (d : Direction) (a b : Row KeyValue) → HaveSameNulls a b → report.sort_cmp key_value_cmp (record { column = c; direction = d }) a b ≡ directed_order c d a b
 same_directed c Ascending a b h = same_column c a b h
 same_directed c Descending a b h = same_column c b a (record { same = λ place. sym (h.same place) })
 
-pub same_order : (sorts : List SortKey) (a b : Row KeyValue) → HaveSameNulls a b → report.row_cmp value_cmp sorts a b ≡ row_order sorts a b
+pub same_order : (sorts : List SortKey) (a b : Row KeyValue) → HaveSameNulls a b → report.row_cmp key_value_cmp sorts a b ≡ row_order sorts a b
 same_order [] a b h = refl
 same_order (sort ∷ sorts) a b h = λ i. ordering_then (same_directed sort.column sort.direction a b h i) (same_order sorts a b h i)

@@ -21,7 +21,7 @@ use Rattle.star_schema.specs.Groups.{GroupRow as Row}
 use Rattle.star_schema.specs.Order.{AreInOrder, row_cmp}
 use Rattle.star_common.proofs.Members.{at_each, contains_here, contains_later, from_contains_map, of_each}
 use Rattle.star_program.specs.declared.key.KeyValue.{KeyValue}
-use Rattle.star_program.specs.Keys.{value_cmp}
+use Rattle.star_program.specs.Keys.{key_value_cmp}
 use Rattle.star_group.specs.declared.group_row.GroupRow.{GroupRow}
 use Rattle.star_group.specs.OwnKeys.{key_eq}
 use Rattle.star_group.specs.Shown.{row_at, row_shown}
@@ -86,10 +86,10 @@ sorted_under f lt (x ∷ xs) up = λ k d from next.
     (λ i. lt (second i) (first i)) ∙ up k x from within
 
 sorted_rows : (sorts : List SortKey) (old new : List GroupRow) → AreApart old → AllHaveSameNulls old → IsPermutation old new → IsSortedBy (λ a b. is_lt (shown_cmp sorts a b)) new
-    → AreInOrder value_cmp sorts (map row_shown new)
+    → AreInOrder key_value_cmp sorts (map row_shown new)
 sorted_rows sorts old new apart nulls moved up =
     let back = IsPermutation-sym old new moved in
-    sorted_mapped row_shown (shown_cmp sorts) (row_cmp value_cmp sorts) new
+    sorted_mapped row_shown (shown_cmp sorts) (row_cmp key_value_cmp sorts) new
     (λ a b in_a in_b. same_order sorts (row_shown a) (row_shown b) (nulls.each a b (Contains-permutation new old a back in_a) (Contains-permutation new old b back in_b)))
     (strictly sorts new up (IsDistinct-IsPermutation key_eq key_equiv.symm (map keys_of_row old) (map keys_of_row new) (IsPermutation-map keys_of_row old new moved) apart))
 
@@ -122,6 +122,6 @@ pub number_total : (sorts : List SortKey) (rows : List GroupRow) → IsTotalOrde
 number_total sorts rows = on_total (row_at rows) (shown_total sorts)
 
 pub sorted_by_number : (sorts : List SortKey) (rows : List GroupRow) (numbers : List ℕ) → AreApart rows → AllHaveSameNulls rows → IsPermutation (range_with_len 0 (length rows)) numbers
-    → IsSortedBy (λ i j. is_lt (number_cmp sorts rows i j)) numbers → AreInOrder value_cmp sorts (map row_shown (map (row_at rows) numbers))
+    → IsSortedBy (λ i j. is_lt (number_cmp sorts rows i j)) numbers → AreInOrder key_value_cmp sorts (map row_shown (map (row_at rows) numbers))
 sorted_by_number sorts rows numbers apart nulls moved up =
     sorted_rows sorts rows (map (row_at rows) numbers) apart nulls (rows_moved rows numbers moved) (sorted_under (row_at rows) (λ a b. is_lt (shown_cmp sorts a b)) numbers up)

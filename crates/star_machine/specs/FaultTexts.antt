@@ -4,7 +4,7 @@ use Rattle.star_program.specs.TrapTexts.{kind_text}
 use Rattle.star_machine.specs.declared.fault.TrialFault.{TrialFault}
 use Rattle.star_machine.specs.declared.fault.TrialFault.TheVariants.{OutOfMemory, Trap, Limit}
 
-unfoldable pub fault_text : TrialFault → List ℕ
-fault_text OutOfMemory = codes "memory"
-fault_text (Trap at kind) = codes "trap " ++ (kind_text kind ++ (codes " at " ++ decimal at))
-fault_text Limit = codes "limit"
+unfoldable pub trial_fault_text : TrialFault → List ℕ
+trial_fault_text OutOfMemory = codes "memory"
+trial_fault_text (Trap at kind) = codes "trap " ++ (kind_text kind ++ (codes " at " ++ decimal at))
+trial_fault_text Limit = codes "limit"

@@ -34,11 +34,11 @@ impl From<AllocError> for TrialFault {
 
 impl fmt::Display for TrialFault {
     ghost use Rattle.std.specs.Prelude.{Some};
-    ghost use Rattle.star_machine.specs.FaultTexts.{fault_text};
+    ghost use Rattle.star_machine.specs.FaultTexts.{trial_fault_text};
 
-    ghost output = { λ fault. Some (fault_text fault) };
+    ghost output = { λ fault. Some (trial_fault_text fault) };
 
-    #[tactic(auto, unfolding(crate::specs::FaultTexts::fault_text))]
+    #[tactic(auto, unfolding(crate::specs::FaultTexts::trial_fault_text))]
     fn fmt<W: fmt::Write>(&self, f: &mut fmt::Formatter<W>) -> fmt::Result {
         match self {
             TrialFault::OutOfMemory => write!(f, "memory"),

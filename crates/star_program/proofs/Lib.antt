@@ -1,6 +1,7 @@
 pub mod Sample
 pub mod Unless
 pub mod Steps
+pub mod Rows
 mod WorkedFaults
 mod WorkedInstructions
 mod WorkedLimits

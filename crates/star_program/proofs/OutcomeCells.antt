@@ -35,7 +35,7 @@ use Rattle.star_program.specs.declared.fault.TrapKind.TheVariants.{Wrong}
 use Rattle.star_program.specs.declared.fault.Fault.TheVariants.{BadGroup}
 use Rattle.star_program.specs.Faults.{group_at, value_count, fits_key, kind_fault, keys_fault, numbers_fault, operand_fault, operands_fault, place_fault, fault_of}
 use Rattle.star_program.proofs.Unless.{unless_none}
-use Rattle.star_program.specs.Keys.{value_cmp}
+use Rattle.star_program.specs.Keys.{key_value_cmp}
 use Rattle.star_program.specs.Outcome.{decoded, decoded_keys, decoded_row, key_cell, total_cell, cell_of, shown_cells, IsOutcome}
 use Rattle.star_program.specs.Puts.{Update}
 use Rattle.star_program.specs.Run.{End, Ended, Trapped, Limited, follow, after, visited, begin, turns, scans, meaning, meaning_of, unless_unshown, run_while}
@@ -398,6 +398,6 @@ cells_fit w may parts done outcome e told =
         let h = told.reported.each_group.each group there in
         let ended = ended_fits w parts may done e in
         row_fits w (group_at parts parts.report) group
-        (members value_cmp group.keys (done.updates_of parts.report)) parts.shows
+        (members key_value_cmp group.keys (done.updates_of parts.report)) parts.shows
         (group_fits (group_at parts parts.report) (done.updates_of parts.report) group.keys
         (ended.1 parts.report) h.0) h.1 (report_shown parts ended.0)

@@ -9,7 +9,7 @@ use Rattle.star_schema.specs.declared.group.Aggregate.{Aggregate}
 use Rattle.star_schema.specs.declared.group.Aggregate.TheVariants.{Count}
 use Rattle.star_schema.specs.Groups.{IsMasked, members, aggregate, numbers_for}
 use Rattle.star_program.specs.declared.group.GroupDecl.{GroupDecl}
-use Rattle.star_program.specs.Keys.{value_cmp}
+use Rattle.star_program.specs.Keys.{key_value_cmp}
 use Rattle.star_program.specs.Puts.{Update, masks, own_groups, leaves, some_leaves, overflows}
 use Rattle.star_program.specs.Overflow.{IsOwn, LeavesSomewhere}
 
@@ -142,12 +142,12 @@ each_place (g ∷ gs) start (suc place) updates h e =
 
 pub overflow_somewhere : (d : GroupDecl) (others : List Update) (update : Update) → overflows d others update ≡ true → LeavesSomewhere d others update
 overflow_somewhere d others update e =
-    let found = own_passes d.shape (λ keys. some_leaves d.aggregates 0 (members value_cmp keys (update ∷ others))) update.keys e in
-    let there = some_place d.aggregates 0 (members value_cmp found.group (update ∷ others)) found.passes in
-    record { group = found.group; own = found.kind; place = there.place; declared = there.declared; leaves_there = subst (λ n. leaves (slice_index_or d.aggregates there.place Count) (aggregate (slice_index_or d.aggregates there.place Count) (numbers_for n (members value_cmp found.group (update ∷ others)))) ≡ true) (zero-add there.place) there.leaves_there }
+    let found = own_passes d.shape (λ keys. some_leaves d.aggregates 0 (members key_value_cmp keys (update ∷ others))) update.keys e in
+    let there = some_place d.aggregates 0 (members key_value_cmp found.group (update ∷ others)) found.passes in
+    record { group = found.group; own = found.kind; place = there.place; declared = there.declared; leaves_there = subst (λ n. leaves (slice_index_or d.aggregates there.place Count) (aggregate (slice_index_or d.aggregates there.place Count) (numbers_for n (members key_value_cmp found.group (update ∷ others)))) ≡ true) (zero-add there.place) there.leaves_there }
 
 pub somewhere_overflows : (d : GroupDecl) (others : List Update) (update : Update) → LeavesSomewhere d others update → overflows d others update ≡ true
 somewhere_overflows d others update there =
-    passes_own d.shape (λ keys. some_leaves d.aggregates 0 (members value_cmp keys (update ∷ others))) update.keys there.group there.own
-    (each_place d.aggregates 0 there.place (members value_cmp there.group (update ∷ others)) there.declared
-    (subst (λ n. leaves (slice_index_or d.aggregates there.place Count) (aggregate (slice_index_or d.aggregates there.place Count) (numbers_for n (members value_cmp there.group (update ∷ others)))) ≡ true) (sym (zero-add there.place)) there.leaves_there))
+    passes_own d.shape (λ keys. some_leaves d.aggregates 0 (members key_value_cmp keys (update ∷ others))) update.keys there.group there.own
+    (each_place d.aggregates 0 there.place (members key_value_cmp there.group (update ∷ others)) there.declared
+    (subst (λ n. leaves (slice_index_or d.aggregates there.place Count) (aggregate (slice_index_or d.aggregates there.place Count) (numbers_for n (members key_value_cmp there.group (update ∷ others)))) ≡ true) (sym (zero-add there.place)) there.leaves_there))

@@ -13,7 +13,7 @@ use Rattle.star_program.specs.declared.key.KeyValue.{KeyValue}
 use Rattle.star_program.specs.declared.key.KeyValue.TheVariants.{Number}
 use Rattle.star_program.specs.declared.outcome.Cell.TheVariants as cell
 use Rattle.star_program.specs.declared.outcome.Outcome.{Outcome}
-use Rattle.star_program.specs.Keys.{value_cmp}
+use Rattle.star_program.specs.Keys.{key_value_cmp}
 use Rattle.star_program.specs.Outcome.{IsOutcome, decoded_row}
 use Rattle.star_program.specs.Puts.{Update}
 use Rattle.star_program.specs.Run.{EndsWith, run_of}
@@ -30,7 +30,7 @@ abbrev rows : List (GroupRow KeyValue)
 rows = row (Some (pos 1)) (Some (pos 2)) ∷ row (Some (pos 1)) None ∷ row None (Some (pos 2)) ∷ row None None ∷ []
 
 abbrev IsRight : GroupRow KeyValue → Type 0
-IsRight group = IsGroup Cube 2 (update ∷ []) group.keys × (group.totals ≡ totals_of (Sum ∷ Count ∷ []) (members value_cmp group.keys (update ∷ [])))
+IsRight group = IsGroup Cube 2 (update ∷ []) group.keys × (group.totals ≡ totals_of (Sum ∷ Count ∷ []) (members key_value_cmp group.keys (update ∷ [])))
 
 each_is_a_group : (group : GroupRow KeyValue) (k : ℕ) → k < 4 → slice_index_or rows k group ≡ group → IsRight group
 each_is_a_group group zero less e = subst IsRight e (inl (update, (0, omega arith, refl), (refl, (refl, tt))), refl)
@@ -68,7 +68,7 @@ each_group_stands keys h = ⊎_elim
     of_row other zero less e mask = each_mask_stands keys (subst (λ u. IsMasked Cube keys u.keys) (sym e) mask)
     of_row other (suc k) less e mask = absurd (omega (arith, less))
 
-are_groups : AreGroups value_cmp Cube 2 (Sum ∷ Count ∷ []) (update ∷ []) rows
+are_groups : AreGroups key_value_cmp Cube 2 (Sum ∷ Count ∷ []) (update ∷ []) rows
 are_groups = record {
   each = λ group there. each_is_a_group group there.0 there.1 there.2;
   all = each_group_stands;

@@ -21,7 +21,7 @@ use Rattle.star_program.specs.declared.value.Kind.TheVariants as kind
 use Rattle.star_program.specs.Cells.{IsCellOf, IsTotalCell}
 use Rattle.star_program.specs.Code.{Code, Each, Stop, Then, code_size, scan_depth}
 use Rattle.star_program.specs.Faults.{is_row_of}
-use Rattle.star_program.specs.Keys.{value_cmp}
+use Rattle.star_program.specs.Keys.{key_value_cmp}
 use Rattle.star_program.specs.Limits.{IsSmall, IsWithinLimits}
 use Rattle.star_program.specs.Outcome.{decoded}
 use Rattle.star_program.specs.Puts.{leaves}
@@ -117,7 +117,7 @@ too_many_sorts h = let e : 17 ≤ 16 = h.sorts in omega (arith, e)
 
 -- ---- how keys compare
 
-keys : (value_cmp (key.Number (pos 9)) (key.Number (pos 10)) ≡ Less) × (value_cmp (key.Number (pos 1)) (key.Number (negsuc 4)) ≡ Greater) × (value_cmp (key.Code 9) (key.Code 10) ≡ Less) × (value_cmp (key.Code 3) (key.Code 3) ≡ Equal) × (value_cmp (key.Number (pos 9)) (key.Code 0) ≡ Less) × (value_cmp (key.Code 0) (key.Number (pos 9)) ≡ Greater)
+keys : (key_value_cmp (key.Number (pos 9)) (key.Number (pos 10)) ≡ Less) × (key_value_cmp (key.Number (pos 1)) (key.Number (negsuc 4)) ≡ Greater) × (key_value_cmp (key.Code 9) (key.Code 10) ≡ Less) × (key_value_cmp (key.Code 3) (key.Code 3) ≡ Equal) × (key_value_cmp (key.Number (pos 9)) (key.Code 0) ≡ Less) × (key_value_cmp (key.Code 0) (key.Number (pos 9)) ≡ Greater)
 keys = (refl, refl, refl, refl, refl, refl)
 
 -- ---- what leaves 64 bits

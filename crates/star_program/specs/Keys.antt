@@ -8,11 +8,11 @@ use Rattle.star_program.specs.declared.key.KeyValue.{KeyValue}
 use Rattle.star_program.specs.declared.key.KeyValue.TheVariants.{Number, Code}
 
 -- by value or by code; the keys of one column are all of one kind
-abbrev pub value_cmp : KeyValue → KeyValue → Ordering
-value_cmp (Number x) (Number y) = int_cmp x y
-value_cmp (Code m) (Code n) = nat_cmp m n
-value_cmp (Number x) (Code n) = Less
-value_cmp (Code m) (Number y) = Greater
+abbrev pub key_value_cmp : KeyValue → KeyValue → Ordering
+key_value_cmp (Number x) (Number y) = int_cmp x y
+key_value_cmp (Code m) (Code n) = nat_cmp m n
+key_value_cmp (Number x) (Code n) = Less
+key_value_cmp (Code m) (Number y) = Greater
 
 abbrev pub value_eq : KeyValue → KeyValue → Bool
 value_eq (Number x) (Number y) = int_eq x y

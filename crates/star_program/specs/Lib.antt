@@ -10,6 +10,7 @@ pub mod Puts
 pub mod Effects
 pub mod Shown
 pub mod Run
+pub mod Rows
 pub mod Outcome
 pub mod Cells
 pub mod Overflow

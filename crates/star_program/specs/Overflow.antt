@@ -5,7 +5,7 @@ use Rattle.star_schema.specs.declared.group.Aggregate.TheVariants.{Count}
 use Rattle.star_schema.specs.Groups.{IsMasked, members, aggregate, numbers_for}
 use Rattle.star_program.specs.declared.group.GroupDecl.{GroupDecl}
 use Rattle.star_program.specs.declared.key.KeyValue.{KeyValue}
-use Rattle.star_program.specs.Keys.{value_cmp}
+use Rattle.star_program.specs.Keys.{key_value_cmp}
 use Rattle.star_program.specs.Puts.{Update, leaves}
 
 -- the keys of a group that some keys belong to, or ALL in each place, which is the group of all updates
@@ -18,4 +18,4 @@ pub record LeavesSomewhere (d : GroupDecl) (others : List Update) (update : Upda
   pub own : IsOwn d.shape update.keys group
   pub place : ℕ
   pub declared : place < length d.aggregates
-  pub leaves_there : IsTrue (leaves (slice_index_or d.aggregates place Count) (aggregate (slice_index_or d.aggregates place Count) (numbers_for place (members value_cmp group (update ∷ others)))))
+  pub leaves_there : IsTrue (leaves (slice_index_or d.aggregates place Count) (aggregate (slice_index_or d.aggregates place Count) (numbers_for place (members key_value_cmp group (update ∷ others)))))

@@ -5,6 +5,7 @@
 #![tactic(auto)]
 
 mod body;
+mod cell_rows;
 mod fault;
 mod group;
 mod key;
@@ -16,11 +17,12 @@ mod spelling;
 mod value;
 
 pub use body::{Body, Step};
+pub use cell_rows::CellRows;
 pub use fault::{Fault, TrapKind};
 pub use group::{Aggregates, GroupDecl, GroupKey, GroupKeys};
 pub use key::KeyValue;
 pub use op::{Edge, Op, Operation, Operator, RegisterList, Text};
-pub use outcome::{Cell, Outcome};
+pub use outcome::{Cell, CellText, Outcome};
 pub use program::{
     Groups, MOST_AGGREGATES, MOST_GROUPS, MOST_INSTRUCTIONS, MOST_KEYS, MOST_REGISTERS, MOST_SCANS,
     MOST_SHOWS, MOST_SORTS, Name, Parts, Program, Show, Shows, Sorts,

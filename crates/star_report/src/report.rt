@@ -111,8 +111,8 @@ pub fn report_text(alloc: Global, outcome: &Outcome) -> Result<Vec<u8>, AllocErr
 {
     let mut text = Vec::new(alloc);
     push_line(&mut text, outcome.names.as_slice())?;
-    for row in outcome.rows.as_slice() {
-        push_line(&mut text, row.as_slice())?;
+    for number in 0..outcome.rows.len() {
+        push_line(&mut text, outcome.rows.row(number))?;
     }
     Ok(text)
 }

@@ -2,7 +2,7 @@
 
 ghost use Rattle.std.specs.Prelude.{None};
 
-use star_program::{Cell, Items, Outcome};
+use star_program::{Cell, CellRows, CellText, Items, Outcome};
 use star_report::{WriteFault, report_text, write_whole};
 use star_schema::{Out, Sink, SinkFault};
 use std::alloc::{AllocError, Global};
@@ -23,24 +23,8 @@ fn names_of(alloc: Global, names: &[&str]) -> Result<Items<Items<u8>>, AllocErro
     Ok(Items::from_vec(listed))
 }
 
-fn row<const N: usize>(alloc: Global, cells: [Cell; N]) -> Result<Items<Cell>, AllocError> {
-    Ok(Items::from_vec(Vec::from_array(alloc, cells)?))
-}
-
-// A row of a text and a number.
-fn counted(alloc: Global, text: &str, number: i64) -> Result<Items<Cell>, AllocError> {
-    row(
-        alloc,
-        [Cell::Text(bytes(alloc, text)?), Cell::Number(number)],
-    )
-}
-
-fn row_of_texts(alloc: Global, texts: &[&str]) -> Result<Items<Cell>, AllocError> {
-    let mut cells = Vec::new(alloc);
-    for text in texts {
-        cells.push(Cell::Text(bytes(alloc, text)?))?;
-    }
-    Ok(Items::from_vec(cells))
+fn text_cell(alloc: Global, text: &str) -> Result<Cell, AllocError> {
+    Ok(Cell::Text(CellText::new(alloc, bytes(alloc, text)?)?))
 }
 
 fn check_text(
@@ -54,17 +38,19 @@ fn check_text(
     Ok(())
 }
 
-// These rows under these names are printed so.
+// So many rows of these cells under these names are printed so.
 fn check_report(
     rt: &impl Abort,
     alloc: Global,
     names: &[&str],
-    rows: Vec<Items<Cell>>,
+    len: usize,
+    cells: Vec<Cell>,
     expected: &str,
 ) -> Result<(), AllocError> {
+    assert_eq!(rt; cells.len(), len * names.len());
     let outcome = Outcome {
         names: names_of(alloc, names)?,
-        rows: Items::from_vec(rows),
+        rows: CellRows::from_cells(names.len(), len, cells),
         visits: 10,
         lookups: 2,
         updates: 7,
@@ -75,38 +61,40 @@ fn check_report(
 #[test]
 fn prints_texts_apart_from_all(rt: HostRuntime) -> Result<(), Fail> {
     let alloc = rt.alloc();
-    let mut rows = Vec::new(alloc);
+    let mut cells = Vec::new(alloc);
     for (text, number) in [("'x", 3), ("ALL", 2)] {
-        rows.push(counted(alloc, text, number)?)?;
+        cells.push(text_cell(alloc, text)?)?;
+        cells.push(Cell::Number(number))?;
     }
-    rows.push(row(alloc, [Cell::All, Cell::Number(5)])?)?;
+    cells.push(Cell::All)?;
+    cells.push(Cell::Number(5))?;
     let expected = "s_region|n\n'''x'|3\n'ALL'|2\nALL|5\n";
-    check_report(&rt, alloc, &["s_region", "n"], rows, expected)?;
+    check_report(&rt, alloc, &["s_region", "n"], 3, cells, expected)?;
     Ok(())
 }
 
 #[test]
 fn prints_plain_texts_as_they_are(rt: HostRuntime) -> Result<(), Fail> {
     let alloc = rt.alloc();
-    let mut rows = Vec::new(alloc);
-    for texts in [["", "a'b"], ["ALLY", "NULL"], ["'", "'a'b'"]] {
-        rows.push(row_of_texts(alloc, &texts)?)?;
+    let mut cells = Vec::new(alloc);
+    for text in ["", "a'b", "ALLY", "NULL", "'", "'a'b'"] {
+        cells.push(text_cell(alloc, text)?)?;
     }
     let expected = "c_name|c_city\n|a'b\nALLY|NULL\n''''|'''a''b'''\n";
-    check_report(&rt, alloc, &["c_name", "c_city"], rows, expected)?;
+    check_report(&rt, alloc, &["c_name", "c_city"], 3, cells, expected)?;
     Ok(())
 }
 
 #[test]
 fn prints_numbers_and_null(rt: HostRuntime) -> Result<(), Fail> {
     let alloc = rt.alloc();
-    let mut rows = Vec::new(alloc);
+    let mut cells = Vec::new(alloc);
     for number in [i64::MIN, -1, 0, i64::MAX] {
-        rows.push(row(alloc, [Cell::Number(number)])?)?;
+        cells.push(Cell::Number(number))?;
     }
-    rows.push(row(alloc, [Cell::Null])?)?;
+    cells.push(Cell::Null)?;
     let expected = "revenue\n-9223372036854775808\n-1\n0\n9223372036854775807\nNULL\n";
-    check_report(&rt, alloc, &["revenue"], rows, expected)?;
+    check_report(&rt, alloc, &["revenue"], 5, cells, expected)?;
     Ok(())
 }
 
@@ -115,7 +103,7 @@ fn prints_names_where_there_is_no_row(rt: HostRuntime) -> Result<(), Fail> {
     let alloc = rt.alloc();
     let names = ["revenue", "d_year", "p_brand1"];
     let expected = "revenue|d_year|p_brand1\n";
-    check_report(&rt, alloc, &names, Vec::new(alloc), expected)?;
+    check_report(&rt, alloc, &names, 0, Vec::new(alloc), expected)?;
     Ok(())
 }
 

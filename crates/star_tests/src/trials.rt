@@ -33,9 +33,9 @@ fn told(alloc: Global, outcome: &Outcome) -> Result<String, Fail> {
         text.push_str(str::from_utf8(name.as_slice())?)?;
         text.push('|')?;
     }
-    for row in outcome.rows.as_slice() {
+    for number in 0..outcome.rows.len() {
         text.push('\n')?;
-        for cell in row.as_slice() {
+        for cell in outcome.rows.row(number) {
             push_cell(&mut text, cell)?;
             text.push('|')?;
         }

@@ -5,10 +5,10 @@ use Rattle.std.specs.Prelude.{codes, map}
 use Rattle.star_schema.specs.declared.table.TableId.TheVariants.{Date, Customer, Supplier, Part, Lineorder}
 use Rattle.star_schema.specs.declared.column.ColumnId.TheVariants.{LoCommitdate}
 use Rattle.star_schema.specs.Schema.{column_of, table_name}
-use Rattle.star_catalogue.specs.FaultTexts.{cell_text, fault_text, record_text, table_text}
+use Rattle.star_catalogue.specs.FaultTexts.{cell_text, load_fault_text, record_text, table_text}
 use Rattle.star_catalogue.specs.declared.fault.LoadFault.TheVariants.{OutOfMemory, ByteOrderMark, TooManyRows, FieldCount, CellTooLong, BadByte, BadNumber, DuplicateKey, AbsentKey}
 
-lines_of_faults : map fault_text
+lines_of_faults : map load_fault_text
     (OutOfMemory ∷ ByteOrderMark Date ∷ TooManyRows Lineorder ∷ FieldCount Part 3 ∷ CellTooLong Customer 1 2 ∷ BadByte Supplier 12 7 ∷ BadNumber Part 3 8 ∷ DuplicateKey Lineorder 5 ∷ AbsentKey 1 LoCommitdate ∷ [])
     ≡ codes "1 OutOfMemory"
     ∷ codes "2 ByteOrderMark table date"

@@ -9,7 +9,7 @@ use Rattle.star_program.specs.declared.group.GroupKey.{GroupKey}
 use Rattle.star_program.specs.declared.key.KeyValue.{KeyValue}
 use Rattle.star_program.specs.declared.outcome.Cell.{Cell}
 use Rattle.star_program.specs.declared.program.Show.{Show}
-use Rattle.star_program.specs.Keys.{value_cmp}
+use Rattle.star_program.specs.Keys.{key_value_cmp}
 use Rattle.star_program.specs.Outcome.{cell_of, decoded_row}
 use Rattle.star_program.specs.Puts.{Update}
 use Rattle.star_program.specs.World.{World}
@@ -36,5 +36,5 @@ row_cells w d shows row = map (λ show. cell_of (decoded_row w d (row_shown row)
 -- the groups of some updates as a report has them, but with codes for texts
 pub record AreSortedGroups (d : Group) (sorts : List SortKey) (updates : List Update)
     (rows : List GroupRow) : Type 0 where
-  pub groups : AreGroups value_cmp d.shape d.count d.aggregates updates (map row_shown rows)
-  pub in_order : AreInOrder value_cmp sorts (map row_shown rows)
+  pub groups : AreGroups key_value_cmp d.shape d.count d.aggregates updates (map row_shown rows)
+  pub in_order : AreInOrder key_value_cmp sorts (map row_shown rows)

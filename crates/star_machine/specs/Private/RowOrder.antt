@@ -13,7 +13,7 @@ use Rattle.star_schema.specs.declared.group.SortKey.{SortKey}
 use Rattle.star_schema.specs.Groups.{GroupRow as Row}
 use Rattle.star_schema.specs.Order.{key_cmp}
 use Rattle.star_program.specs.declared.key.KeyValue.{KeyValue}
-use Rattle.star_program.specs.Keys.{value_cmp}
+use Rattle.star_program.specs.Keys.{key_value_cmp}
 use Rattle.star_group.specs.declared.group_row.GroupRow.{GroupRow}
 use Rattle.star_group.specs.OwnKeys.{key_eq}
 use Rattle.star_group.specs.Shown.{row_shown}
@@ -22,7 +22,7 @@ use Rattle.star_group.specs.Shown.{row_shown}
 
 abbrev pub column_order : GroupColumn → Row KeyValue → Row KeyValue → Ordering
 column_order (column.Key place) a b =
-    key_cmp value_cmp (slice_index_or a.keys place None) (slice_index_or b.keys place None)
+    key_cmp key_value_cmp (slice_index_or a.keys place None) (slice_index_or b.keys place None)
 column_order (column.Aggregate place) a b =
     option_cmp int_cmp (slice_index_or a.totals place None) (slice_index_or b.totals place None)
 
@@ -34,7 +34,7 @@ abbrev pub sort_order : SortKey → Row KeyValue → Row KeyValue → Ordering
 sort_order sort a b = directed_order sort.column sort.direction a b
 
 abbrev pub row_order : List SortKey → Row KeyValue → Row KeyValue → Ordering
-row_order [] a b = slice_cmp (key_cmp value_cmp) a.keys b.keys
+row_order [] a b = slice_cmp (key_cmp key_value_cmp) a.keys b.keys
 row_order (sort ∷ sorts) a b = ordering_then (sort_order sort a b) (row_order sorts a b)
 
 -- ---- the rows of one group

@@ -1,6 +1,7 @@
 // The cells of a report: rows with texts for codes, cut to the show lines.
 
-ghost use Rattle.std.specs.Prelude.{◌≡◌, ◌<◌, IfOk, All, length, map, true};
+ghost use Rattle.std.specs.Prelude.{◌≡◌, ◌<◌, ◌++◌, IfOk, OnOk, All, length, map, true};
+ghost use Rattle.std.specs.List.{flat_map};
 ghost use Rattle.std.specs.Option.{option_map};
 ghost use Rattle.star_schema.specs.declared.column.Kind.TheVariants as kind;
 ghost use Rattle.star_schema.specs.Schema.{kind_of};
@@ -14,7 +15,7 @@ ghost use Rattle.star_world.specs.WorldOf.{column_dictionary, world_of};
 use super::order::part_at;
 use star_catalogue::Catalogue;
 use star_group::{GroupRows, KeyValue};
-use star_program::{Cell, GroupDecl, GroupKey, Items, Name, Show};
+use star_program::{Cell, CellRows, CellText, GroupDecl, GroupKey, Items, Name, Show};
 use star_schema::{ColumnId, GroupColumn};
 use std::alloc::{AllocError, Global};
 
@@ -30,7 +31,7 @@ fn text_cell(
     ensures { IfOk result (λ cell. cell ≡ Cell.Text ((world_of catalogue.now).text column code)) }
 {
     let text = catalogue.text(column, code).to_vec(alloc)?;
-    Ok(Cell::Text(Items::from_vec(text)))
+    Ok(Cell::Text(CellText::new(alloc, Items::from_vec(text))?))
 }
 
 // A key, as a report shows it.
@@ -92,29 +93,54 @@ fn cell(
     }
 }
 
-// The cells of a row, one for each show line.
-fn cells(
+// Adds the cells of a row, one for each show line.
+fn push_cells(
     alloc: Global,
     catalogue: &Catalogue,
     declared: &GroupDecl,
     rows: &GroupRows,
     number: usize,
     shows: &[Show],
-) -> Result<Items<Cell>, AllocError>
+    cells: &mut Vec<Cell>,
+) -> Result<(), AllocError>
     requires keys { AreDecodable catalogue.now declared.now.keys (row_at rows.now number).keys }
     requires columns { All (λ show. has_column declared.now show.column ≡ true) shows.now }
-    ensures { IfOk result
-        (λ cells. cells ≡ row_cells (world_of catalogue.now) declared.now shows.now
-        (row_at rows.now number)) }
+    ensures { OnOk result
+        (cells.new.items ≡ cells.old.items
+        ++ row_cells (world_of catalogue.now) declared.now shows.now (row_at rows.now number)) }
 {
-    let mut cells = Vec::with_capacity(alloc, shows.len())?;
     for show in shows {
         cells.push(cell(alloc, catalogue, declared, rows, number, show.column)?)?;
     }
-    Ok(Items::from_vec(cells))
+    Ok(())
 }
 
-// The cells of the rows of these numbers.
+// The cells of the rows of these numbers, one row after another.
+fn all_cells(
+    alloc: Global,
+    catalogue: &Catalogue,
+    declared: &GroupDecl,
+    rows: &GroupRows,
+    numbers: &[usize],
+    shows: &[Show],
+) -> Result<Vec<Cell>, AllocError>
+    requires keys { All (λ number. AreDecodable catalogue.now declared.now.keys
+        (row_at rows.now number).keys) numbers.now }
+    requires columns { All (λ show. has_column declared.now show.column ≡ true) shows.now }
+    ensures { IfOk result
+        (λ cells. cells.items
+        ≡ flat_map (λ number. row_cells (world_of catalogue.now) declared.now shows.now
+        (row_at rows.now number)) numbers.now) }
+{
+    let count = numbers.len().checked_mul(shows.len()).ok_or(AllocError)?;
+    let mut cells = Vec::with_capacity(alloc, count)?;
+    for number in numbers {
+        push_cells(alloc, catalogue, declared, rows, *number, shows, &mut cells)?;
+    }
+    Ok(cells)
+}
+
+// The rows of these numbers, cut to the show lines.
 pub(super) fn cell_rows(
     alloc: Global,
     catalogue: &Catalogue,
@@ -122,7 +148,7 @@ pub(super) fn cell_rows(
     rows: &GroupRows,
     numbers: &[usize],
     shows: &[Show],
-) -> Result<Items<Items<Cell>>, AllocError>
+) -> Result<CellRows, AllocError>
     requires keys { All (λ number. AreDecodable catalogue.now declared.now.keys
         (row_at rows.now number).keys) numbers.now }
     requires columns { All (λ show. has_column declared.now show.column ≡ true) shows.now }
@@ -131,11 +157,8 @@ pub(super) fn cell_rows(
         ≡ map (λ number. row_cells (world_of catalogue.now) declared.now shows.now
         (row_at rows.now number)) numbers.now) }
 {
-    let mut table = Vec::with_capacity(alloc, numbers.len())?;
-    for number in numbers {
-        table.push(cells(alloc, catalogue, declared, rows, *number, shows)?)?;
-    }
-    Ok(Items::from_vec(table))
+    let cells = all_cells(alloc, catalogue, declared, rows, numbers, shows)?;
+    Ok(CellRows::from_cells(shows.len(), numbers.len(), cells))
 }
 
 // The names of the show lines.

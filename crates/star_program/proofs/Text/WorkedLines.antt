@@ -23,7 +23,7 @@ use Rattle.star_program.specs.declared.program.Parts.{Parts}
 use Rattle.star_program.specs.declared.spelling.fault.TextFault.{TextFault}
 use Rattle.star_program.specs.declared.spelling.fault.TextFault.TheVariants.{BadHeader, BadLine, OpenScan, OutOfMemory, TooLarge}
 use Rattle.star_program.specs.Code.{Code, Each, Stop, Then, code_size, scan_depth}
-use Rattle.star_program.specs.Text.FaultTexts.{fault_text}
+use Rattle.star_program.specs.Text.FaultTexts.{text_fault_text}
 use Rattle.star_program.specs.TrapTexts.{kind_text, wrong_text}
 use Rattle.star_program.specs.Text.Keywords.{aggregate_name, aggregate_of, column_of, direction_name, direction_of, keyword_name, keyword_of, mnemonic_name, mnemonic_of, shape_name, shape_of, table_of}
 use Rattle.star_program.specs.Text.Lines.{is_blank, lines_of, pieces_of, words_of}
@@ -148,9 +148,9 @@ too_large = (refl, refl, refl)
 
 -- ---- the words of faults
 
-fault_words : map fault_text (OutOfMemory ∷ BadHeader ∷ BadLine 3 ∷ OpenScan ∷ TooLarge 12 ∷ [])
+fault_words : map text_fault_text (OutOfMemory ∷ BadHeader ∷ BadLine 3 ∷ OpenScan ∷ TooLarge 12 ∷ [])
     ≡ codes "1 OutOfMemory" ∷ codes "50 BadHeader" ∷ codes "51 BadLine line 3" ∷ codes "52 OpenScan" ∷ codes "53 TooLarge line 12" ∷ []
-unfolding fault_text digits
+unfolding text_fault_text digits
 fault_words = refl
 
 -- and of traps

@@ -4,9 +4,9 @@ use Rattle.star_program.specs.declared.spelling.fault.TextFault.{TextFault}
 use Rattle.star_program.specs.declared.spelling.fault.TextFault.TheVariants.{OutOfMemory, BadHeader, BadLine, OpenScan, TooLarge}
 
 -- the number and name of a fault, and its line
-unfoldable pub fault_text : TextFault → List ℕ
-fault_text OutOfMemory = codes "1 OutOfMemory"
-fault_text BadHeader = codes "50 BadHeader"
-fault_text (BadLine line) = codes "51 BadLine line " ++ decimal line
-fault_text OpenScan = codes "52 OpenScan"
-fault_text (TooLarge line) = codes "53 TooLarge line " ++ decimal line
+unfoldable pub text_fault_text : TextFault → List ℕ
+text_fault_text OutOfMemory = codes "1 OutOfMemory"
+text_fault_text BadHeader = codes "50 BadHeader"
+text_fault_text (BadLine line) = codes "51 BadLine line " ++ decimal line
+text_fault_text OpenScan = codes "52 OpenScan"
+text_fault_text (TooLarge line) = codes "53 TooLarge line " ++ decimal line

@@ -56,11 +56,11 @@ impl From<AllocError> for TextFault {
 
 impl fmt::Display for TextFault {
     ghost use Rattle.std.specs.Prelude.{Some};
-    ghost use Rattle.star_program.specs.Text.FaultTexts.{fault_text};
+    ghost use Rattle.star_program.specs.Text.FaultTexts.{text_fault_text};
 
-    ghost output = { λ fault. Some (fault_text fault) };
+    ghost output = { λ fault. Some (text_fault_text fault) };
 
-    #[tactic(auto, unfolding(crate::specs::Text::FaultTexts::fault_text))]
+    #[tactic(auto, unfolding(crate::specs::Text::FaultTexts::text_fault_text))]
     fn fmt<W: fmt::Write>(&self, f: &mut fmt::Formatter<W>) -> fmt::Result {
         match self {
             TextFault::OutOfMemory => write!(f, "1 OutOfMemory"),

@@ -1,0 +1,67 @@
+// The rows of a report, in flat storage.
+
+ghost use Rattle.std.specs.Prelude.{◌≡◌, ◌*◌, [], length, slice_index_or, take, drop, nat_lt, if◌then◌else◌};
+ghost use Rattle.star_program.specs.Rows.{cut};
+
+use crate::outcome::Cell;
+use std::marker::Model;
+
+/// The rows of a report, of as many cells each, one after another. A contract sees the list of the
+/// rows.
+#[derive(Drop)]
+pub struct CellRows {
+    width: usize,
+    len: usize,
+    cells: Vec<Cell>,
+}
+
+impl Model for CellRows {
+    ghost use Rattle.std.specs.Prelude.{◌≡◌, ◌*◌, List, length};
+    ghost use Rattle.star_program.specs.Rows.{cut};
+    ghost use Rattle.star_program.specs.declared.outcome.Cell.{Cell as Shown};
+
+    ghost Value = { List (List Shown) };
+
+    ghost view = { λ rows. cut rows.width rows.len rows.cells.items };
+
+    ghost invariant = { λ rows. length rows.cells.items ≡ rows.len * rows.width };
+}
+
+/// The row of a number from 0, of so many rows of so many items each, one after another; none where
+/// there is no such row.
+pub fn row_of<T>(items: &[T], width: usize, len: usize, number: usize) -> &[T]
+    requires { length items.now ≡ len * width }
+    ensures { result.now
+        ≡ (if nat_lt number len then take width (drop (number * width) items.now) else []) }
+{
+    if number < len {
+        let start = number * width;
+        &items[start..start + width]
+    } else {
+        &[]
+    }
+}
+
+impl CellRows {
+    /// The rows of these cells: so many rows, of so many cells each, one after another.
+    pub fn from_cells(width: usize, len: usize, cells: Vec<Cell>) -> CellRows
+        requires { length cells.items ≡ len * width }
+        ensures { result ≡ cut width len cells.items }
+    {
+        CellRows { width, len, cells }
+    }
+
+    /// How many rows there are.
+    pub fn len(&self) -> usize
+        ensures { result ≡ length self.now }
+    {
+        self.len
+    }
+
+    /// The cells of the row of a number from 0; none where there is no such row.
+    pub fn row(&self, number: usize) -> &[Cell]
+        ensures { result.now ≡ slice_index_or self.now number [] }
+    {
+        row_of(&self.cells, self.width, self.len, number)
+    }
+}
