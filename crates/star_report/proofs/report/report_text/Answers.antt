@@ -1,3 +1,4 @@
+use Rattle.std.proofs.Common.{◌≤◌, length, arith}
 use Rattle.star_report.specs.Report.{report_text, row_text}
 use Rattle.star_report.proofs.Parts.{all_parts}
 use Rattle.star_report.proofs.report.report_text.Goals as goal
@@ -5,6 +6,8 @@ use Rattle.star_report.proofs.report.report_text.Goals as goal
 pub returns : goal.returns
 unfolding report_text
 returns c =
-    let whole = all_parts row_text c.as_slice-row-items.result.now c.loop-row.row-index _
-    c.loop-row.text.items c.loop-row-test.false c.loop-row.invariant in
-    rw c.as_slice-row-items.ensures at whole
+    let rows = c.args.outcome.now.rows in
+    let past : length rows ≤ c.loop-number.number =
+        omega (arith, c.loop-number-test.false, c.len-number-end.ensures) in
+    all_parts row_text rows c.loop-number.number _ c.loop-number.text.items past
+    c.loop-number.invariant
