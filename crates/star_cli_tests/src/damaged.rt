@@ -2,27 +2,12 @@
 
 use crate::commands::{Ran, assert_fault, run, text, write_sample};
 use star_engine::sample;
+use star_fixtures::texts::repeated;
 use std::alloc::{AllocError, Global};
 use std::fs;
 use std::process::Abort;
 use std::rt::Files;
 use std::test::Fail;
-
-// The front, so many times the middle, and the end.
-fn repeated(
-    alloc: Global,
-    front: &str,
-    middle: &str,
-    count: u32,
-    end: &str,
-) -> Result<String, AllocError> {
-    let mut text = String::from_str(alloc, front)?;
-    for _ in 0..count {
-        text.push_str(middle)?;
-    }
-    text.push_str(end)?;
-    Ok(text)
-}
 
 // What `explain` tells of a text.
 fn explained<R: Files + AllocGlobal>(rt: &R, query: &str) -> Result<Ran, Fail> {

@@ -4,10 +4,9 @@ use star_engine::{EngineFault, Texts, check, sample, trial_program};
 use star_fixtures::programs::{
     ABOVE_AVERAGE, ABSENT_KEY, MISPLACED, NESTED, NO_TEXTS, READ_INSIDE, UNSET, counting,
 };
+use star_fixtures::streams::Short;
 use star_schema::{Limits, MOST_VISITS, Out};
 use std::alloc::{AllocError, Global};
-use std::io;
-use std::io::Write;
 use std::test::Fail;
 
 const LISTING: &str = concat!(
@@ -47,29 +46,6 @@ const LISTING: &str = concat!(
     "lo_tax 0..8\n",
     "lo_commitdate 19940105..19971215\n",
 );
-
-// A writer that takes so many bytes, and then fails.
-#[derive(Drop)]
-struct Short {
-    taken: Vec<u8>,
-    left: usize,
-}
-
-impl Write for Short {
-    fn write(&mut self, text: &[u8]) -> io::Result<usize> {
-        let count = text.len().min(self.left);
-        if count == 0 {
-            return Err(io::Error::from(io::ErrorKind::StorageFull));
-        }
-        self.taken.extend_from_slice(&text[..count])?;
-        self.left -= count;
-        Ok(count)
-    }
-
-    fn flush(&mut self) -> io::Result<()> {
-        Ok(())
-    }
-}
 
 // The line of a fault. Want of memory is an error of the test.
 fn fault_line(alloc: Global, fault: EngineFault) -> Result<Vec<u8>, AllocError> {
@@ -292,10 +268,7 @@ fn is_sent(
 }
 
 fn check_sends(alloc: Global, left: usize) -> Result<bool, Fail> {
-    let mut short = Short {
-        taken: Vec::with_capacity(alloc, LISTING.len())?,
-        left,
-    };
+    let mut short = Short::with_room(alloc, left, usize::MAX)?;
     let answer = check(
         alloc,
         &sample(),
@@ -422,10 +395,7 @@ fn tries_bodies(rt: HostRuntime) -> Result<(), Fail> {
 }
 
 fn trial_sends(alloc: Global, left: usize, report: &str) -> Result<bool, Fail> {
-    let mut short = Short {
-        taken: Vec::with_capacity(alloc, report.len())?,
-        left,
-    };
+    let mut short = Short::with_room(alloc, left, usize::MAX)?;
     let answer = trial_program(
         alloc,
         &sample(),

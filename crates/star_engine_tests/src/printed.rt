@@ -3,46 +3,16 @@
 use star_engine::{
     EngineFault, Texts, answer_program, answer_query, bench, explain_query, quote_text,
 };
+use star_fixtures::streams::Short;
 use star_schema::{Limits, MOST_ROWS, MOST_VISITS, Out};
 use std::alloc::{AllocError, Global};
-use std::io;
-use std::io::Write;
 use std::test::Fail;
 
 // More bytes than any text of these tests has.
 pub(crate) const AMPLE: usize = 4096;
 
-// A writer that takes so many bytes, three at once, and then fails. It takes no memory of its own.
-#[derive(Drop)]
-struct Short {
-    taken: Vec<u8>,
-    left: usize,
-}
-
-impl Short {
-    fn with_room(alloc: Global, room: usize) -> Result<Short, AllocError> {
-        Ok(Short {
-            taken: Vec::with_capacity(alloc, room.min(AMPLE))?,
-            left: room,
-        })
-    }
-}
-
-impl Write for Short {
-    fn write(&mut self, text: &[u8]) -> io::Result<usize> {
-        let count = text.len().min(self.left).min(3);
-        if count == 0 {
-            return Err(io::Error::from(io::ErrorKind::StorageFull));
-        }
-        self.taken.extend_from_slice(&text[..count])?;
-        self.left -= count;
-        Ok(count)
-    }
-
-    fn flush(&mut self) -> io::Result<()> {
-        Ok(())
-    }
-}
+// How many bytes a writer takes at once.
+const AT_ONCE: usize = 3;
 
 // How many bytes of a report and of its notes are taken.
 #[derive(Clone, Copy)]
@@ -110,8 +80,8 @@ pub(crate) fn answered(
     limits: Limits,
     room: Room,
 ) -> Result<Printed, AllocError> {
-    let mut report = Short::with_room(alloc, room.report)?;
-    let mut notes = Short::with_room(alloc, room.notes)?;
+    let mut report = Short::with_room(alloc, room.report, AT_ONCE)?;
+    let mut notes = Short::with_room(alloc, room.notes, AT_ONCE)?;
     let mut out = Out::new(&mut report);
     let answer = answer_query(
         alloc,
@@ -133,8 +103,8 @@ pub(crate) fn executed(
     texts: &Texts<'_>,
     program: &[u8],
 ) -> Result<Printed, AllocError> {
-    let mut report = Short::with_room(alloc, AMPLE)?;
-    let mut notes = Short::with_room(alloc, AMPLE)?;
+    let mut report = Short::with_room(alloc, AMPLE, AT_ONCE)?;
+    let mut notes = Short::with_room(alloc, AMPLE, AT_ONCE)?;
     let mut out = Out::new(&mut report);
     let limits = Limits::widest();
     let answer = answer_program(
@@ -153,7 +123,7 @@ pub(crate) fn executed(
 }
 
 pub(crate) fn explained(alloc: Global, query: &[u8], room: usize) -> Result<Printed, AllocError> {
-    let mut report = Short::with_room(alloc, room)?;
+    let mut report = Short::with_room(alloc, room, AT_ONCE)?;
     let answer = explain_query(alloc, query, &mut Out::new(&mut report));
     Ok(Printed {
         report: report.taken,
@@ -168,7 +138,7 @@ pub(crate) fn quoted(
     file: &[u8],
     room: usize,
 ) -> Result<Printed, AllocError> {
-    let mut report = Short::with_room(alloc, room)?;
+    let mut report = Short::with_room(alloc, room, AT_ONCE)?;
     let answer = quote_text(alloc, texts, file, limits_of(0), &mut Out::new(&mut report));
     Ok(Printed {
         report: report.taken,
@@ -184,7 +154,7 @@ pub(crate) fn benched(
     limits: Limits,
     room: usize,
 ) -> Result<(Printed, bool), AllocError> {
-    let mut report = Short::with_room(alloc, room)?;
+    let mut report = Short::with_room(alloc, room, AT_ONCE)?;
     let answer = bench(alloc, texts, limits, &mut Out::new(&mut report));
     let fits = matches!(&answer, Ok(true));
     let printed = Printed {

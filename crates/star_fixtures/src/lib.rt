@@ -1,6 +1,7 @@
-//! What the tests of several crates share: programs, loaded tables, and streams that fail.
+//! What the tests of several crates share: programs, loaded tables, texts, and streams that fail.
 #![tactic(auto)]
 
 pub mod programs;
 pub mod samples;
 pub mod streams;
+pub mod texts;

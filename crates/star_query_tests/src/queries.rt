@@ -2,6 +2,7 @@
 // it.
 
 use crate::places::places_of;
+use star_fixtures::texts::repeated;
 use star_query::{Query, QueryFault};
 use std::alloc::{AllocError, Global};
 use std::test::Fail;
@@ -38,23 +39,6 @@ fn fault_words(alloc: Global, text: &str) -> Result<String, AllocError> {
         None => Ok(String::new(alloc)),
         Some(fault) => format!(in alloc; "{fault}"),
     }
-}
-
-// The front, so many times the middle, and the end.
-fn repeated(
-    alloc: Global,
-    front: &str,
-    middle: &str,
-    count: u32,
-    end: &str,
-) -> Result<String, AllocError> {
-    let mut text = String::new(alloc);
-    text.push_str(front)?;
-    for _ in 0..count {
-        text.push_str(middle)?;
-    }
-    text.push_str(end)?;
-    Ok(text)
 }
 
 fn fault_of_repeated(
