@@ -17,7 +17,7 @@ mod spelling;
 mod value;
 
 pub use body::{Body, Step};
-pub use cell_rows::CellRows;
+pub use cell_rows::{CellRows, row_of};
 pub use fault::{Fault, TrapKind};
 pub use group::{Aggregates, GroupDecl, GroupKey, GroupKeys};
 pub use key::KeyValue;
