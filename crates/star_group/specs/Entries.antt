@@ -1,7 +1,7 @@
--- What a contract sees of the rows of a deferred store.
+-- What a contract sees of rows by their keys.
 use Rattle.std.specs.Prelude.{ℤ, List, Option}
-use Rattle.star_group.specs.declared.deferred.key.KeyPart.{KeyPart}
-use Rattle.star_group.specs.declared.deferred.keyed.KeyedRows.{KeyedRows}
+use Rattle.star_group.specs.declared.keyed.key.KeyPart.{KeyPart}
+use Rattle.star_group.specs.declared.keyed.KeyedRows.{KeyedRows}
 use Rattle.star_group.specs.Keyed.{cut, keyed}
 
 -- the rows with their keys

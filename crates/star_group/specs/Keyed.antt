@@ -1,7 +1,7 @@
 -- Rows with their keys, in flat storage.
 use Rattle.std.specs.Prelude.{ℕ, zero, suc, ℤ, List, [], ◌∷◌, ◌++◌, Option, length, take, drop}
-use Rattle.star_group.specs.declared.deferred.key.KeyPart.{KeyPart}
-use Rattle.star_group.specs.declared.deferred.key.KeyPart.TheVariants.{All}
+use Rattle.star_group.specs.declared.keyed.key.KeyPart.{KeyPart}
+use Rattle.star_group.specs.declared.keyed.key.KeyPart.TheVariants.{All}
 
 -- so many lists of so many elements each, one after another
 unfoldable pub cut : {T : Type 0} → ℕ → ℕ → List T → List (List T)

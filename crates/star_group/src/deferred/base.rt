@@ -4,11 +4,11 @@ ghost use Rattle.std.specs.Prelude.{◌≡◌, ◌≤◌, length, OnOk, OnErr};
 ghost use Rattle.star_group.specs.Entries.{entries_of};
 ghost use Rattle.star_group.specs.Private.BasePut.{HasRoomFor, TakesPut};
 
-use super::key::base_key;
-use super::keyed::KeyedRows;
-use super::merge::{merge_into, row_of};
 use crate::KeyValue;
 use crate::cell::Row;
+use crate::keyed::KeyedRows;
+use crate::keyed::key::base_key;
+use crate::keyed::merge::{merge_into, row_of};
 use star_schema::Aggregate;
 use std::alloc::AllocError;
 
