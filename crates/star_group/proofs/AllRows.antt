@@ -8,7 +8,7 @@ use Rattle.star_schema.specs.declared.group.Shape.{Shape}
 use Rattle.star_schema.specs.declared.group.Shape.TheVariants.{Plain, Cube}
 use Rattle.star_schema.specs.Groups.{numbers_for}
 use Rattle.star_program.specs.declared.key.KeyValue.{KeyValue}
-use Rattle.star_group.specs.declared.deferred.key.KeyPart.{KeyPart}
+use Rattle.star_group.specs.declared.keyed.key.KeyPart.{KeyPart}
 use Rattle.star_group.specs.Base.{HasAggregates, HasBaseWithRoom, IsBase, IsRowOver, key_of, row_at}
 use Rattle.star_group.specs.Cells.{held}
 use Rattle.star_group.specs.Held.{Holds, IsRow, changes, has_puts, puts_at}

@@ -6,15 +6,20 @@ use Rattle.star_schema.specs.declared.group.Aggregate.TheVariants.{Sum, Count, M
 use Rattle.star_schema.specs.Groups.{aggregate, members, numbers_for}
 use Rattle.star_program.specs.declared.key.KeyValue.{KeyValue}
 use Rattle.star_program.specs.Keys.{key_value_cmp}
-use Rattle.star_program.specs.Puts.{own_groups, some_leaves, leaves as leaves_total}
+use Rattle.star_program.specs.Puts.{own_groups, some_leaves, leaves}
 use Rattle.star_group.specs.Cells.{held}
+use Rattle.star_group.specs.Base.{key_of, row_at}
+use Rattle.star_group.specs.declared.keyed.key.KeyPart.{KeyPart}
+use Rattle.star_group.specs.Keyed.{all_hidden}
 use Rattle.star_group.specs.OwnKeys.{key_eq, padded, own_keys}
-use Rattle.star_group.specs.Private.Rows.{leaves, blank, PutsRows, SomeLeaves, with_blanks}
+use Rattle.star_group.specs.Private.Merged.{IsRowOf, IsWithRow}
+use Rattle.star_group.specs.Private.Rows.{IsBlank, PutsRows, SomeLeaves}
 use Rattle.star_group.specs.Stores.{Put, Group, aggregate_at, overflows}
 use Rattle.star_group.specs.Held.{changes, held_at, IsRow, Holds}
 use Rattle.star_group.proofs.OnePut.{PutStays, PutLeaves}
 use Rattle.star_group.proofs.OwnKeyLemmas.{all_padded}
-use Rattle.star_group.proofs.PutSteps.{or_right, holds_more, stays_more, leaves_more, blank_none}
+use Rattle.star_group.proofs.MergedPuts.{holds_more, leaves_more, stays_more}
+use Rattle.star_group.proofs.PutSteps.{or_right}
 use Rattle.star_group.proofs.GroupKeys.{IsOwn, key_equiv, in_places, own_mask, own_belongs, members_at, changes_belongs, own_at}
 use Rattle.star_group.proofs.OwnGroups.{any_false, all_more, groups_own, own_any}
 use Rattle.star_group.proofs.Totals.{some_aggregate}
@@ -33,34 +38,22 @@ if_err P Q (Err e) f h = f e h
 
 -- ---- which aggregates leave 64 bits
 
-leaves_same : (g : Aggregate) (z : ℤ) → leaves_total g (Some z) ≡ leaves g z
-leaves_same Sum z = refl
-leaves_same Count z = refl
-leaves_same Min z = refl
-leaves_same Max z = refl
-
-null_stays : (g : Aggregate) → leaves_total g None ≡ false
-null_stays Sum = refl
-null_stays Count = refl
-null_stays Min = refl
-null_stays Max = refl
-
-pub no_leaves : (gs : List Aggregate) (p : ℕ) (ps : List Put) → ((a : ℕ) → a < length gs → leaves_total (get_or gs a Count) (aggregate (get_or gs a Count) (numbers_for (p + a) ps)) ≡ false) → some_leaves gs p ps ≡ false
+pub no_leaves : (gs : List Aggregate) (p : ℕ) (ps : List Put) → ((a : ℕ) → a < length gs → leaves (get_or gs a Count) (aggregate (get_or gs a Count) (numbers_for (p + a) ps)) ≡ false) → some_leaves gs p ps ≡ false
 no_leaves [] p ps each = refl
 no_leaves (g ∷ gs) p ps each =
     let here : p ≡ p + 0 = omega arith in
     let next : (a : ℕ) → suc p + a ≡ p + suc a = λ a. omega arith in
-    λ i. (ap (λ n. leaves_total g (aggregate g (numbers_for n ps))) here ∙ each 0 (omega arith)) i
-    || no_leaves gs (suc p) ps (λ a lt. ap (λ n. leaves_total (get_or gs a Count) (aggregate (get_or gs a Count) (numbers_for n ps))) (next a) ∙ each (suc a) (omega arith)) i
+    λ i. (ap (λ n. leaves g (aggregate g (numbers_for n ps))) here ∙ each 0 (omega arith)) i
+    || no_leaves gs (suc p) ps (λ a lt. ap (λ n. leaves (get_or gs a Count) (aggregate (get_or gs a Count) (numbers_for n ps))) (next a) ∙ each (suc a) (omega arith)) i
 
-one_leaves : (gs : List Aggregate) (p : ℕ) (ps : List Put) (a : ℕ) → a < length gs → leaves_total (get_or gs a Count) (aggregate (get_or gs a Count) (numbers_for (p + a) ps)) ≡ true → some_leaves gs p ps ≡ true
+one_leaves : (gs : List Aggregate) (p : ℕ) (ps : List Put) (a : ℕ) → a < length gs → leaves (get_or gs a Count) (aggregate (get_or gs a Count) (numbers_for (p + a) ps)) ≡ true → some_leaves gs p ps ≡ true
 one_leaves [] p ps a lt h = absurd (omega (arith, lt))
 one_leaves (g ∷ gs) p ps zero lt h =
     let here : p ≡ p + 0 = omega arith in
-    ap (λ b. b || some_leaves gs (suc p) ps) (ap (λ n. leaves_total g (aggregate g (numbers_for n ps))) here ∙ h)
+    ap (λ b. b || some_leaves gs (suc p) ps) (ap (λ n. leaves g (aggregate g (numbers_for n ps))) here ∙ h)
 one_leaves (g ∷ gs) p ps (suc a) lt h =
     let next : suc p + a ≡ p + suc a = omega arith in
-    or_right (leaves_total g (aggregate g (numbers_for p ps))) _ (one_leaves gs (suc p) ps a (omega (arith, lt)) (ap (λ n. leaves_total (get_or gs a Count) (aggregate (get_or gs a Count) (numbers_for n ps))) next ∙ h))
+    or_right (leaves g (aggregate g (numbers_for p ps))) _ (one_leaves gs (suc p) ps a (omega (arith, lt)) (ap (λ n. leaves (get_or gs a Count) (aggregate (get_or gs a Count) (numbers_for n ps))) next ∙ h))
 
 -- the aggregates of a group that has the put, in the row with its key
 module _ (d : Group) (us : List Put) (u : Put) (m : List (Option KeyValue)) (few : d.count ≤ 6) (fits : length u.keys ≡ d.count) (own : IsOwn d m u) where
@@ -80,12 +73,10 @@ module _ (d : Group) (us : List Put) (u : Put) (few : d.count ≤ 6) (fits : len
   none_leaves : PutStays d us u → (m : List (Option KeyValue)) → IsOwn d m u → some_leaves d.aggregates 0 (members key_value_cmp m (u ∷ us)) ≡ false
   none_leaves s m own = no_leaves d.aggregates 0 (members key_value_cmp m (u ∷ us)) each
     where
-      by : (a : ℕ) → a < length d.aggregates → (r : Option ℤ) → aggregate (aggregate_at d a) (numbers_for a (members key_value_cmp m (u ∷ us))) ≡ r → leaves_total (aggregate_at d a) r ≡ false
-      by a lt None e = null_stays (aggregate_at d a)
-      by a lt (Some z) e = leaves_same (aggregate_at d a) z ∙ s.stays (in_places 6 m) a z (row_of_group m own) lt (held_is d us u m few fits own fit a ∙ e)
-
-      each : (a : ℕ) → a < length d.aggregates → leaves_total (get_or d.aggregates a Count) (aggregate (get_or d.aggregates a Count) (numbers_for (0 + a) (members key_value_cmp m (u ∷ us)))) ≡ false
-      each a lt = let zeros : 0 + a ≡ a = omega arith in rw zeros (by a lt (aggregate (aggregate_at d a) (numbers_for a (members key_value_cmp m (u ∷ us)))) refl)
+      each : (a : ℕ) → a < length d.aggregates → leaves (get_or d.aggregates a Count) (aggregate (get_or d.aggregates a Count) (numbers_for (0 + a) (members key_value_cmp m (u ∷ us)))) ≡ false
+      each a lt =
+          let zeros : 0 + a ≡ a = omega arith in
+          rw zeros (ap (leaves (aggregate_at d a)) (sym (held_is d us u m few fits own fit a)) ∙ s.stays (in_places 6 m) a (row_of_group m own) lt)
 
   pub stays_all : PutStays d us u → overflows d us u ≡ false
   stays_all s = any_false (λ m. some_leaves d.aggregates 0 (members key_value_cmp m (u ∷ us))) (own_groups d.shape u.keys)
@@ -94,33 +85,37 @@ module _ (d : Group) (us : List Put) (u : Put) (few : d.count ≤ 6) (fits : len
   pub overflows_some : PutLeaves d us u → overflows d us u ≡ true
   overflows_some l =
       let at = own_at d l.key u fits few l.own in
-      let is : aggregate (aggregate_at d l.place) (numbers_for l.place (members key_value_cmp at.keys (u ∷ us))) ≡ Some l.number = sym (held_is d us u at.keys few fits at.own fit l.place) ∙ ap (λ k. held_at d (u ∷ us) k l.place) (sym at.is) ∙ l.is_held in
+      let is : aggregate (aggregate_at d l.place) (numbers_for l.place (members key_value_cmp at.keys (u ∷ us))) ≡ held_at d (u ∷ us) l.key l.place = sym (held_is d us u at.keys few fits at.own fit l.place) ∙ ap (λ k. held_at d (u ∷ us) k l.place) (sym at.is) in
       own_any d at.keys u fits at.own (λ m. some_leaves d.aggregates 0 (members key_value_cmp m (u ∷ us)))
       (one_leaves d.aggregates 0 (members key_value_cmp at.keys (u ∷ us)) l.place l.declared
-      (let zeros : 0 + l.place ≡ l.place = omega arith in rw zeros (ap (leaves_total (aggregate_at d l.place)) is ∙ leaves_same (aggregate_at d l.place) l.number ∙ l.leaves)))
+      (let zeros : 0 + l.place ≡ l.place = omega arith in rw zeros (ap (leaves (aggregate_at d l.place)) is ∙ l.over)))
 
-module _ (d : Group) (u : Put) (own : List (List (Option KeyValue))) (gs : List Aggregate) (old new : List (Option KeyValue) → Option (List (Option ℤ)))
-    (is_own : own ≡ own_keys d.shape (length u.keys) (padded 6 u.keys)) (is_gs : gs ≡ d.aggregates) (few : d.count ≤ 6) (fits : length u.keys ≡ d.count) where
-  puts_here : PutsRows key_eq own gs u.values old new → PutsRows key_eq (own_keys d.shape (length u.keys) (padded 6 u.keys)) d.aggregates u.values old new
-  puts_here h = subst (λ o. PutsRows key_eq o d.aggregates u.values old new) is_own (subst (λ g. PutsRows key_eq own g u.values old new) is_gs h)
+module _ (d : Group) (u : Put) (own : List (List (Option KeyValue))) (gs : List Aggregate) (row : List (Option ℤ)) (old new : List (Option KeyValue) → Option (List (Option ℤ)))
+    (is_own : own ≡ own_keys d.shape (length u.keys) (padded 6 u.keys)) (is_gs : gs ≡ d.aggregates) (is_row : IsRowOf gs u.values row) (few : d.count ≤ 6) (fits : length u.keys ≡ d.count) where
+  one : IsRowOf d.aggregates u.values row
+  one = subst (λ g. IsRowOf g u.values row) is_gs is_row
 
-  pub put_holds : PutsRows key_eq own gs u.values old new → (us : List Put) → Holds d old us → Holds d new (u ∷ us)
-  put_holds h us holds = holds_more d us u old new holds fits (puts_here h).changes
+  puts_here : PutsRows own gs row old new → PutsRows (own_keys d.shape (length u.keys) (padded 6 u.keys)) d.aggregates row old new
+  puts_here h = subst (λ o. PutsRows o d.aggregates row old new) is_own (subst (λ g. PutsRows own g row old new) is_gs h)
 
-  pub put_stays : PutsRows key_eq own gs u.values old new → (us : List Put) → Holds d old us → overflows d us u ≡ false
-  put_stays h us holds = stays_all d us u few fits holds.fit (stays_more d us u old new holds (puts_here h).stay)
+  pub put_holds : PutsRows own gs row old new → (us : List Put) → Holds d old us → Holds d new (u ∷ us)
+  put_holds h us holds = holds_more d us u row one old new holds fits (puts_here h).merges
 
-  pub put_leaves : SomeLeaves key_eq (with_blanks key_eq own old) own gs u.values → (us : List Put) → Holds d old us → overflows d us u ≡ true
-  put_leaves h us holds = overflows_some d us u few fits holds.fit (leaves_more d us u old new holds
-      (subst (λ o. SomeLeaves key_eq (with_blanks key_eq o old) o d.aggregates u.values) is_own (subst (λ g. SomeLeaves key_eq (with_blanks key_eq own old) own g u.values) is_gs h)))
+  pub put_stays : PutsRows own gs row old new → (us : List Put) → Holds d old us → overflows d us u ≡ false
+  put_stays h us holds = stays_all d us u few fits holds.fit (stays_more d us u row one old new holds (puts_here h).stay)
+
+  pub put_leaves : SomeLeaves old own gs row → (us : List Put) → Holds d old us → overflows d us u ≡ true
+  put_leaves h us holds = overflows_some d us u few fits holds.fit (leaves_more d us u row one old new holds
+      (subst (λ o. SomeLeaves old o d.aggregates row) is_own (subst (λ g. SomeLeaves old own g row) is_gs h)))
 
 -- the rows of no puts: the row of all of them
-pub holds_new : (d : Group) (look : List (Option KeyValue) → Option (List (Option ℤ))) → ((q : List (Option KeyValue)) → look q ≡ cond (key_eq (None ∷ None ∷ None ∷ None ∷ None ∷ None ∷ []) q) (Some blank) None) → Holds d look []
+pub holds_new : (d : Group) (es : List (List KeyPart × List (Option ℤ))) (row : List (Option ℤ)) → IsBlank row → IsWithRow (key_of all_hidden) row [] es → Holds d (row_at es) []
 unfolding held
-holds_new d look h = record { fit = tt; rows = λ q. by q (key_eq (padded 6 []) q) refl }
+holds_new d es row blank h = record { fit = tt; rows = λ q. by q (key_eq q (padded 6 [])) refl }
   where
-    by : (q : List (Option KeyValue)) (b : Bool) → key_eq (padded 6 []) q ≡ b → IsRow d [] q (look q)
-    by q true e = subst (IsRow d [] q) (sym (h q ∙ ap (λ b. cond b (Some blank) None) (ap (λ k. key_eq k q) (sym all_padded) ∙ e)))
-        (record { due = ap (λ b. b || false) (key_equiv.symm q (padded 6 []) ∙ e); cells = λ a lt. blank_none a })
-    by q false e = subst (IsRow d [] q) (sym (h q ∙ ap (λ b. cond b (Some blank) None) (ap (λ k. key_eq k q) (sym all_padded) ∙ e)))
-        (ap (λ b. b || false) (key_equiv.symm q (padded 6 []) ∙ e))
+    found : (q : List (Option KeyValue)) (b : Bool) → key_eq q (padded 6 []) ≡ b → row_at es q ≡ cond b (Some row) None
+    found q b e = h q ∙ ap (λ c. cond c (Some row) None) (ap (key_eq q) (sym all_padded) ∙ e)
+
+    by : (q : List (Option KeyValue)) (b : Bool) → key_eq q (padded 6 []) ≡ b → IsRow d [] q (row_at es q)
+    by q true e = subst (IsRow d [] q) (sym (found q true e)) (record { due = ap (λ b. b || false) e; cells = λ place lt. blank place })
+    by q false e = subst (IsRow d [] q) (sym (found q false e)) (ap (λ b. b || false) e)

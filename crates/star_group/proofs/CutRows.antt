@@ -5,7 +5,8 @@ use Rattle.std.proofs.lemmas.List.{append_assoc, drop-append-le, drop-drop, get_
 use Rattle.std.proofs.lemmas.Slice.{drop-put_mid, take-put_mid}
 use Rattle.std.proofs.Math.Nat.{add_comm, mul-le-mul_right, suc-mul, zero-mul}
 use Rattle.std.proofs.Math.Seq.{drop-append_seam, take-append_seam}
-use Rattle.star_group.specs.Keyed.{cut}
+use Rattle.star_program.specs.Rows.{cut}
+use Rattle.star_program.proofs.Rows.{cut_at}
 
 pub taken : {X : Type 0} (n : ℕ) (xs ys : List X) → length xs ≡ n → take n (xs ++ ys) ≡ xs
 taken n xs ys long = ap (λ m. take m (xs ++ ys)) (sym long) ∙ take-append_seam xs ys
@@ -14,25 +15,6 @@ pub dropped : {X : Type 0} (n : ℕ) (xs ys : List X) → length xs ≡ n → dr
 dropped n xs ys long = ap (λ m. drop m (xs ++ ys)) (sym long) ∙ drop-append_seam xs ys
 
 module _ {T : Type 0} (w : ℕ) where
-  pub length-cut : (n : ℕ) (ps : List T) → length (cut w n ps) ≡ n
-  unfolding cut
-  length-cut zero ps = refl
-  length-cut (suc n) ps = ap suc (length-cut n (drop w ps))
-
-  pub cut_at : (n : ℕ) (ps : List T) (i : ℕ) → i < n → get_or (cut w n ps) i [] ≡ take w (drop (i * w) ps)
-  unfolding cut
-  cut_at zero ps i h = absurd (omega (arith, h))
-  cut_at (suc n) ps zero h = ap (λ m. take w (drop m ps)) (sym (zero-mul w))
-  cut_at (suc n) ps (suc i) h =
-      cut_at n (drop w ps) i (omega (arith, h)) ∙ ap (take w) (drop-drop (i * w) w ps ∙ ap (λ m. drop m ps) (add_comm w (i * w) ∙ sym (suc-mul i w)))
-
-  pub cut_read : (n : ℕ) (ps : List T) (i : ℕ) → cond (nat_lt i n) (take w (drop (i * w) ps)) [] ≡ get_or (cut w n ps) i []
-  cut_read n ps i = by (nat_lt i n) refl
-    where
-      by : (b : Bool) → nat_lt i n ≡ b → cond b (take w (drop (i * w) ps)) [] ≡ get_or (cut w n ps) i []
-      by true e = let within : i < n = search rules in sym (cut_at n ps i within)
-      by false e = let past : i < n → ⊥ = search rules in sym (get_or_past (cut w n ps) i [] (omega (arith, past, length-cut n ps)))
-
   enough : (n : ℕ) (ps : List T) → length ps ≡ suc n * w → w ≤ length ps
   enough n ps long = omega (arith, long, suc-mul n w)
 
@@ -78,7 +60,7 @@ module _ {T : Type 0} (w : ℕ) where
     room = let most : suc i * w ≤ n * w = mul-le-mul_right w (let le : suc i ≤ n = omega (arith, h) in le) in omega (arith, most, suc-mul i w, long)
 
     pub mid_at : (k : ℕ) → k ≡ w → take k (drop (i * w) ps) ≡ get_or (cut w n ps) i []
-    mid_at k e = ap (λ m. take m (drop (i * w) ps)) e ∙ sym (cut_at n ps i h)
+    mid_at k e = ap (λ m. take m (drop (i * w) ps)) e ∙ sym (cut_at w n ps i h)
 
     old : List T
     old = take w (drop (i * w) ps)

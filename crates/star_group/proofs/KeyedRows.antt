@@ -6,20 +6,22 @@ use Rattle.std.proofs.lemmas.List.{get_or-take, length-set, length-take-le, take
 use Rattle.std.proofs.lemmas.Map.Entries.{place_from_lookup}
 use Rattle.std.proofs.lemmas.Option.{slice_get-get_or, slice_get_within}
 use Rattle.star_program.specs.declared.key.KeyValue.{KeyValue}
-use Rattle.star_group.specs.declared.deferred.key.KeyPart.{KeyPart}
-use Rattle.star_group.specs.declared.deferred.key.KeyPart.TheVariants.{All, Number, Code}
-use Rattle.star_group.specs.declared.deferred.keyed.KeyedRows.{KeyedRows}
+use Rattle.star_group.specs.declared.keyed.key.KeyPart.{KeyPart}
+use Rattle.star_group.specs.declared.keyed.key.KeyPart.TheVariants.{All, Number, Code}
+use Rattle.star_group.specs.declared.keyed.KeyedRows.{KeyedRows}
 use Rattle.star_group.specs.Base.{key_of, row_at, value_of}
 use Rattle.star_group.specs.Entries.{entries_of}
-use Rattle.star_group.specs.Keyed.{all_hidden, cut, filled, keyed}
+use Rattle.star_program.specs.Rows.{cut}
+use Rattle.star_group.specs.Keyed.{all_hidden, filled, keyed}
 use Rattle.star_group.specs.OwnKeys.{key_eq, padded}
 use Rattle.star_group.specs.Private.Coarser.{AreOnce, shown_entries}
-use Rattle.star_group.specs.Private.Merged.{IsMerged, IsMergedAt, IsWithRow}
+use Rattle.star_group.specs.Private.Merged.{IsMerged, IsMergedAt, IsWithRow, MergeStays, RowsStay}
 use Rattle.star_schema.specs.declared.group.Aggregate.{Aggregate}
 use Rattle.std.specs.Option.{unwrap_or}
 use Rattle.std.specs.Vec.{with_items}
 use Rattle.star_group.specs.Private.Tries.{IsHeld, IsMissing}
-use Rattle.star_group.proofs.CutRows.{cut_wide, dropped, length-cut, taken}
+use Rattle.star_program.proofs.Rows.{length-cut}
+use Rattle.star_group.proofs.CutRows.{cut_wide, dropped, taken}
 use Rattle.star_group.proofs.GroupKeys.{key_decides}
 use Rattle.star_group.proofs.Passes.{IsOnceAt, not_true}
 use Rattle.star_group.proofs.Rolling.{row_there}
@@ -235,6 +237,12 @@ module _ (rows : KeyedRows) where
 
       pub row_held : row_at (entries_of rows) (key_of key) ≡ Some (get_or cs number [])
       row_held = ap (λ k. row_at (entries_of rows) (key_of k)) (sym is) ∙ held_row rows.trie.width ks cs same wide rows.trie.trie.once number held.within
+
+      pub number_among : number < length (entries_of rows)
+      number_among = omega (arith, number_within, row_count)
+
+      pub held_stays : (gs : List Aggregate) (more : List (Option ℤ)) → RowsStay gs (row_at (entries_of rows) (key_of key)) more → MergeStays gs (get_or (entries_of rows) number ([], [])).1 more
+      held_stays gs more stays = subst (λ (e : List KeyPart × List (Option ℤ)). MergeStays gs e.1 more) (sym (entry_at number number_among)) (subst (λ r. RowsStay gs r more) row_held stays)
 
       pub set_held : (row : List (Option ℤ)) (ns : List (Option ℤ)) → cut rows.many rows.trie.len ns ≡ set cs number row → length ns ≡ rows.cells.len
           → IsWithRow (key_of key) row (entries_of rows) (keyed ks (cut rows.many rows.trie.len (with_items rows.cells ns).items))

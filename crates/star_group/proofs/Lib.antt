@@ -1,12 +1,7 @@
-pub mod Lists
-pub mod Lookups
-pub mod ChangedCells
-pub mod Changes
 pub mod OwnKeyLemmas
 pub mod OnePut
 pub mod PutSteps
 pub mod Distinct
-pub mod Places
 pub mod GroupKeys
 pub mod Contents
 pub mod Totals
@@ -24,11 +19,13 @@ pub mod ContentMade
 pub mod ContentMore
 pub mod MergedCells
 pub mod Merging
+pub mod MergedPuts
 pub mod Bases
 pub mod Tries
 pub mod Passes
 pub mod Rolling
 pub mod KeyedRows
+pub mod MergedRows
 pub mod AllRows
 pub mod Worked
 pub mod WorkedCells

@@ -1,11 +1,16 @@
 -- How the keys of an update's rows are made.
-use Rattle.std.proofs.Common.{◌≡◌, ℕ, zero, suc, ◌<◌, ◌≤◌, List, [], ◌∷◌, ◌++◌, Option, Some, None, take, drop, set, length, get_or, map, ap, sym, ◌∙◌, refl, arith, take-append-drop}
+use Rattle.std.proofs.Common.{◌≡◌, ℕ, zero, suc, ◌<◌, ◌≤◌, List, [], ◌∷◌, ◌++◌, Option, Some, None, take, drop, set, length, get_or, map, ap, sym, ◌∙◌, subst, refl, arith, take-append-drop}
 use Rattle.std.proofs.Math.Seq.{drop-cons}
-use Rattle.std.proofs.lemmas.List.{map-append}
+use Rattle.std.proofs.lemmas.List.{drop-set-lt, map-append, map-set}
 use Rattle.star_schema.specs.declared.group.Shape.{Shape}
 use Rattle.star_schema.specs.declared.group.Shape.TheVariants.{Plain, Cube}
 use Rattle.star_program.specs.declared.key.KeyValue.{KeyValue}
+use Rattle.star_group.specs.declared.keyed.key.KeyPart.{KeyPart}
+use Rattle.star_group.specs.declared.keyed.key.KeyPart.TheVariants.{All}
+use Rattle.star_group.specs.Base.{key_of, value_of}
+use Rattle.star_group.specs.Keyed.{all_hidden}
 use Rattle.star_group.specs.OwnKeys.{padded, vary, own_keys}
+use Rattle.star_group.specs.Private.Numbers.{AreNarrow}
 
 pub padded-set : (n : ℕ) (ks : List KeyValue) (i : ℕ) (d : KeyValue) → i < length ks → length ks ≤ n → set (padded n (take i ks)) i (Some (get_or ks i d)) ≡ padded n (take (suc i) ks)
 unfolding padded
@@ -58,7 +63,37 @@ pub all_padded : padded 6 [] ≡ None ∷ None ∷ None ∷ None ∷ None ∷ No
 unfolding padded
 all_padded = refl
 
-pub plain_filled : (shape : Shape) (n : ℕ) (key none : List (Option KeyValue)) (start xs ys : List (List (Option KeyValue))) → shape ≡ Plain → 0 < n → start ≡ [] → xs ≡ start ++ key ∷ [] → ys ≡ xs ++ none ∷ [] → none ≡ None ∷ None ∷ None ∷ None ∷ None ∷ None ∷ [] → ys ≡ own_keys shape n key
-plain_filled Cube n key none start xs ys is h e0 e1 e2 e3 = absurd (let no : ⊥ = cc in no)
-plain_filled Plain zero key none start xs ys is h e0 e1 e2 e3 = absurd (omega arith)
-plain_filled Plain (suc n) key none start xs ys is h e0 e1 e2 e3 = e2 ∙ ap (λ s. s ++ none ∷ []) (e1 ∙ ap (λ s. s ++ key ∷ []) e0) ∙ ap (λ s. key ∷ s ∷ []) (e3 ∙ sym all_padded)
+-- ---- keys of rows
+
+pub length-key : (key : List KeyPart) → length (key_of key) ≡ length key
+length-key [] = refl
+length-key (part ∷ key) = ap suc (length-key key)
+
+module _ (p : ℕ) where
+  hidden_keys : (xs : List (List KeyPart)) → map key_of (map (λ key. set key p All) xs) ≡ map (λ key. set key p None) (map key_of xs)
+  hidden_keys [] = refl
+  hidden_keys (x ∷ xs) = λ i. map-set value_of x p All i ∷ hidden_keys xs i
+
+  pub doubled : (xs ys : List (List KeyPart)) → ys ≡ xs ++ map (λ key. set key p All) xs → map key_of ys ≡ map key_of xs ++ map (λ key. set key p None) (map key_of xs)
+  doubled xs ys e = ap (map key_of) e ∙ map-append key_of xs (map (λ key. set key p All) xs) ∙ ap (λ zs. map key_of xs ++ zs) (hidden_keys xs)
+
+module _ (width p : ℕ) (h : p < width) where
+  narrow_hidden : (xs : List (List KeyPart)) → AreNarrow width xs → AreNarrow width (map (λ key. set key p All) xs)
+  narrow_hidden [] are = tt
+  narrow_hidden (x ∷ xs) are = (drop-set-lt width x p All h ∙ are.0, narrow_hidden xs are.1)
+
+  narrow_both : (xs ys : List (List KeyPart)) → AreNarrow width xs → AreNarrow width ys → AreNarrow width (xs ++ ys)
+  narrow_both [] ys a b = b
+  narrow_both (x ∷ xs) ys a b = (a.0, narrow_both xs ys a.1 b)
+
+  pub narrow_doubled : (xs ys : List (List KeyPart)) → ys ≡ xs ++ map (λ key. set key p All) xs → AreNarrow width xs → AreNarrow width ys
+  narrow_doubled xs ys e are = subst (AreNarrow width) (sym e) (narrow_both xs (map (λ key. set key p All) xs) are (narrow_hidden xs are))
+
+pub plain_own : (shape : Shape) (n : ℕ) (base : List KeyPart) (key : List (Option KeyValue)) (ys : List (List KeyPart)) → shape ≡ Plain → 0 < n → key_of base ≡ key → ys ≡ base ∷ all_hidden ∷ [] → map key_of ys ≡ own_keys shape n key
+plain_own Cube n base key ys is h same e = absurd (let no : ⊥ = cc in no)
+plain_own Plain zero base key ys is h same e = absurd (omega arith)
+plain_own Plain (suc n) base key ys is h same e = ap (map key_of) e ∙ (λ i. same i ∷ sym all_padded i ∷ [])
+
+pub cube_own : (shape : Shape) (n : ℕ) (base : List KeyPart) (key : List (Option KeyValue)) (zs : List (List (Option KeyValue))) → shape ≡ Cube → key_of base ≡ key → zs ≡ vary n (key_of base) → zs ≡ own_keys shape n key
+cube_own Cube n base key zs is same e = e ∙ ap (vary n) same
+cube_own Plain n base key zs is same e = absurd (let no : ⊥ = cc in no)

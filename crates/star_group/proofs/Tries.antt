@@ -3,14 +3,14 @@ use Rattle.std.proofs.Common.{◌≡◌, ◌≢◌, ℕ, zero, suc, ◌+◌, ◌
 use Rattle.std.proofs.lemmas.Bool.{cases_eq, cases_lt}
 use Rattle.std.proofs.lemmas.List.{get_or_append_left, get_or_past, get_or_default, get_or_push, length-append, length-set}
 use Rattle.std.proofs.Math.Logic.{∥∥₁_elim, ∥∥₁_map}
-use Rattle.star_group.specs.declared.deferred.key.KeyPart.{KeyPart}
-use Rattle.star_group.specs.declared.deferred.key.KeyPart.TheVariants.{All, Number, Code}
-use Rattle.star_group.specs.contracts.deferred.key.KeyPartPartialEq.TheImpl.{eq-value}
+use Rattle.star_group.specs.declared.keyed.key.KeyPart.{KeyPart}
+use Rattle.star_group.specs.declared.keyed.key.KeyPart.TheVariants.{All, Number, Code}
+use Rattle.star_group.specs.contracts.keyed.key.KeyPartPartialEq.TheImpl.{eq-value}
 use Rattle.std.specs.Bool.{Decides}
 use Rattle.std.specs.Cmp.{signed_Decides, unsigned_Decides}
 use Rattle.std.specs.Cmp.Lexicographic.{pointwise}
 use Rattle.std.proofs.lemmas.Slice.Eq.{slice_eq-Decides}
-use Rattle.star_group.specs.Keyed.{cut}
+use Rattle.star_program.specs.Rows.{cut}
 use Rattle.star_group.specs.Private.Tries.{IsTrie, IsMissing, Leads, child, digit_at, key_at, node_at}
 
 abbrev part_eq : KeyPart → KeyPart → Bool

@@ -5,8 +5,8 @@ use Rattle.star_schema.specs.declared.group.Shape.TheVariants.{Plain}
 use Rattle.star_schema.specs.Groups.{numbers_for}
 use Rattle.star_program.specs.declared.key.KeyValue.{KeyValue}
 use Rattle.star_program.specs.declared.key.KeyValue.TheVariants.{Number, Code}
-use Rattle.star_group.specs.declared.deferred.key.KeyPart.{KeyPart}
-use Rattle.star_group.specs.declared.deferred.key.KeyPart.TheVariants as part
+use Rattle.star_group.specs.declared.keyed.key.KeyPart.{KeyPart}
+use Rattle.star_group.specs.declared.keyed.key.KeyPart.TheVariants as part
 use Rattle.star_group.specs.declared.group_row.GroupRow.{GroupRow}
 use Rattle.star_group.specs.Cells.{held}
 use Rattle.star_group.specs.OwnKeys.{padded}

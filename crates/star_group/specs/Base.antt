@@ -5,8 +5,8 @@ use Rattle.std.specs.Map.{lookup}
 use Rattle.star_schema.specs.Groups.{numbers_for}
 use Rattle.star_program.specs.declared.key.KeyValue.{KeyValue}
 use Rattle.star_program.specs.declared.key.KeyValue.TheVariants.{Number as NumberKey, Code as CodeKey}
-use Rattle.star_group.specs.declared.deferred.key.KeyPart.{KeyPart}
-use Rattle.star_group.specs.declared.deferred.key.KeyPart.TheVariants.{All, Number, Code}
+use Rattle.star_group.specs.declared.keyed.key.KeyPart.{KeyPart}
+use Rattle.star_group.specs.declared.keyed.key.KeyPart.TheVariants.{All, Number, Code}
 use Rattle.star_group.specs.Cells.{held}
 use Rattle.star_group.specs.OwnKeys.{key_eq, padded}
 use Rattle.star_group.specs.Stores.{Put, Group, HasRoom, aggregate_at}

@@ -1,9 +1,9 @@
 -- What a contract sees of an eager store.
 use Rattle.std.specs.Prelude.{ℤ, List, Option}
-use Rattle.indexmap.specs.IndexMap.{get}
 use Rattle.star_program.specs.declared.key.KeyValue.{KeyValue}
 use Rattle.star_group.specs.declared.eager.EagerStore.{EagerStore}
-use Rattle.star_group.specs.OwnKeys.{key_eq}
+use Rattle.star_group.specs.Base.{row_at}
+use Rattle.star_group.specs.Entries.{entries_of}
 use Rattle.star_group.specs.Held.{Holds}
 use Rattle.star_group.specs.Stores.{Put, Group}
 
@@ -12,7 +12,7 @@ group_of s = record { shape = s.shape; count = s.count; aggregates = s.aggregate
 
 -- the row with a key
 abbrev pub look : EagerStore → List (Option KeyValue) → Option (List (Option ℤ))
-look s = get key_eq s.rows
+look s = row_at (entries_of s.rows)
 
 -- the store has the content of these puts
 abbrev pub Has : EagerStore → List Put → Type 0

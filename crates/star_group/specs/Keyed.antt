@@ -1,12 +1,7 @@
 -- Rows with their keys, in flat storage.
-use Rattle.std.specs.Prelude.{ℕ, zero, suc, ℤ, List, [], ◌∷◌, ◌++◌, Option, length, take, drop}
-use Rattle.star_group.specs.declared.deferred.key.KeyPart.{KeyPart}
-use Rattle.star_group.specs.declared.deferred.key.KeyPart.TheVariants.{All}
-
--- so many lists of so many elements each, one after another
-unfoldable pub cut : {T : Type 0} → ℕ → ℕ → List T → List (List T)
-cut width zero parts = []
-cut width (suc count) parts = take width parts ∷ cut width count (drop width parts)
+use Rattle.std.specs.Prelude.{ℤ, List, [], ◌∷◌, ◌++◌, Option, length, drop}
+use Rattle.star_group.specs.declared.keyed.key.KeyPart.{KeyPart}
+use Rattle.star_group.specs.declared.keyed.key.KeyPart.TheVariants.{All}
 
 abbrev pub all_hidden : List KeyPart
 all_hidden = All ∷ All ∷ All ∷ All ∷ All ∷ All ∷ []

@@ -1,4 +1,4 @@
--- The keys of the rows in an eager store: six places, in which ALL and what lies past the group's keys are nothing.
+-- The keys of rows: six places, in which ALL and what lies past the group's keys are nothing.
 use Rattle.std.specs.Prelude.{ℕ, zero, suc, Bool, List, [], ◌∷◌, ◌++◌, Option, Some, None, map}
 use Rattle.std.specs.Option.{option_eq}
 use Rattle.std.specs.Cmp.Lexicographic.{pointwise}

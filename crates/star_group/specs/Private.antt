@@ -4,5 +4,6 @@ pub mod Given
 pub mod FlatRows
 pub mod Merged
 pub mod Tries
+pub mod Numbers
 pub mod BasePut
 pub mod Coarser

@@ -5,18 +5,11 @@ ghost use Rattle.star_group.specs.Base.{HasBaseWithRoom};
 ghost use Rattle.star_group.specs.Entries.{entries_of};
 
 mod base;
-mod cells;
 mod coarser;
-mod given;
-mod key;
-mod keyed;
-mod merge;
-mod rows;
 mod store;
-mod trie;
 
 use crate::cell::Row;
-use keyed::KeyedRows;
+use crate::keyed::KeyedRows;
 use star_schema::{Aggregate, Shape};
 use std::alloc::Global;
 

@@ -4,8 +4,12 @@ ghost use Rattle.std.specs.Prelude.{◌≡◌, ◌≤◌, take};
 
 use crate::KeyValue;
 use crate::cell::Row;
-use crate::own::Key;
 use std::marker::Model;
+
+// A key of a row, in which nothing is ALL; past the group's keys there is nothing.
+pub(crate) type Key = [Option<KeyValue>; 6];
+
+pub(crate) const ALL: Key = [None; 6];
 
 /// A row's keys, in order, in which `None` is ALL. A contract sees the list.
 #[derive(Drop)]

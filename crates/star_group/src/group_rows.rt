@@ -6,6 +6,7 @@ ghost use Rattle.star_group.specs.Shown.{row_at};
 ghost use Rattle.star_group.specs.declared.group_row.GroupRow.{GroupRow as Row};
 
 use crate::{GroupRow, KeyValue};
+use star_program::row_of;
 use std::alloc::{AllocError, Global};
 use std::marker::Model;
 
@@ -34,20 +35,6 @@ impl Model for GroupRows {
         × (length rows.aggregates.items ≡ rows.len * rows.aggregate_count) };
 }
 
-// The parts of the row of a number, of so many rows with so many parts each.
-pub(crate) fn parts_at<T: Copy>(parts: &[T], width: usize, count: usize, number: usize) -> &[T]
-    requires { length parts.now ≡ count * width }
-    ensures { result.now
-        ≡ (if nat_lt number count then take width (drop (number * width) parts.now) else []) }
-{
-    if number < count {
-        let start = number * width;
-        &parts[start..start + width]
-    } else {
-        &[]
-    }
-}
-
 impl GroupRows {
     /// How many rows there are.
     pub fn len(&self) -> usize
@@ -61,7 +48,7 @@ impl GroupRows {
     pub fn keys(&self, number: usize) -> &[Option<KeyValue>]
         ensures { result.now ≡ (row_at self.now number).keys }
     {
-        parts_at(&self.keys, self.key_count, self.len, number)
+        row_of(&self.keys, self.key_count, self.len, number)
     }
 
     /// The aggregates of the row of a number from 0, in order, in which `None` is NULL; none where
@@ -69,7 +56,7 @@ impl GroupRows {
     pub fn aggregates(&self, number: usize) -> &[Option<i64>]
         ensures { result.now ≡ (row_at self.now number).aggregates }
     {
-        parts_at(&self.aggregates, self.aggregate_count, self.len, number)
+        row_of(&self.aggregates, self.aggregate_count, self.len, number)
     }
 }
 

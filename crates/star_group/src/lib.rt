@@ -9,10 +9,11 @@
 mod cell;
 mod deferred;
 mod eager;
+mod given;
 mod group_row;
 mod group_rows;
+mod keyed;
 pub mod law;
-mod own;
 mod rows;
 mod store;
 

@@ -1,19 +1,25 @@
-// The rows of a group by their keys.
+// One more put of the rows of its keys.
 
-ghost use Rattle.std.specs.Prelude.{◌≡◌, ◌≤◌, ◌<◌, true, false, length, take, Some, None, if◌then◌else◌, List, ℤ, Option, IsSome, OnOk, OnErr, MatchBool, MatchResult, IfErr, IfOk};
+ghost use Rattle.std.specs.Prelude.{◌≡◌, ◌≤◌, ◌<◌, ◌+◌, ℕ, true, List, [], length, map, IfErr, IfSome, MatchBool, OnErr, OnOk};
 ghost use Rattle.std.specs.List.{list_any, IsDistinct};
-ghost use Rattle.indexmap.specs.IndexMap.{get, keys, index_map_len};
+ghost use Rattle.std.specs.Option.{is_none, unwrap_or};
 ghost use Rattle.star_common.specs.Memory.{TellsMemory, UnlessMemory};
-ghost use Rattle.star_group.specs.Private.Rows.{IsAt, ArePlaces, with_blank, with_blanks, PutsRows, AllStay, ChangesAll, NextRow, SomeLeaves, StaysIn};
+ghost use Rattle.star_group.specs.Base.{key_of, row_at};
+ghost use Rattle.star_group.specs.Entries.{entries_of};
+ghost use Rattle.star_group.specs.OwnKeys.{key_eq};
+ghost use Rattle.star_group.specs.Private.Merged.{IsMergedAt, MergeLeaves, MergeStays, RowsStay};
+ghost use Rattle.star_group.specs.Private.Numbers.{AreNarrow, AreNumbers, HasSpace, IsKnown, IsNarrow, IsNumber, keys_in};
+ghost use Rattle.star_group.specs.Private.Rows.{AllStay, MergesAll, PutsRows, SomeLeaves};
+ghost use Rattle.star_group.specs.Private.Tries.{IsHeld};
+ghost use Rattle.star_group.specs.declared.keyed.key.KeyPart.{KeyPart};
 ghost use Rattle.star_group.specs.declared.rows.PutFault.TheVariants.{OutOfMemory};
 
-use crate::cell::{Row, changed_row};
-use indexmap::IndexMap;
+use crate::cell::BLANK;
+use crate::keyed::KeyedRows;
+use crate::keyed::key::OrderedKey;
+use crate::keyed::merge::row_stays;
 use star_schema::Aggregate;
 use std::alloc::AllocError;
-use std::hash::Hash;
-
-pub(crate) const BLANK: Row = [None; 8];
 
 /// Why a put is refused.
 #[derive(Clone, Copy, Debug, PartialEq, Eq)]
@@ -30,163 +36,182 @@ impl From<AllocError> for PutFault {
     }
 }
 
-// The place of the row of this key, which is made if it is missing.
-fn place_row<K: Eq + Hash + Copy + Drop>(
-    rows: &mut IndexMap<K, Row>,
-    key: &K,
-) -> Result<usize, AllocError>
-    ensures adds { OnOk result ((q : K) → get K.eq rows.new q
-        ≡ with_blank (K.eq q key.now) (get K.eq rows.old q)) }
-    ensures prefix { take (index_map_len rows.old) rows.new.entries ≡ rows.old.entries }
-    ensures grows { index_map_len rows.old ≤ index_map_len rows.new }
-    ensures placed { IfOk result (λ place. IsAt K.eq (keys rows.new) key.now place) }
-{
-    match rows.get_index_of(key) {
-        Some(place) => Ok(place),
-        None => {
-            let place = rows.len();
-            rows.insert(*key, BLANK)?;
-            Ok(place)
-        }
-    }
-}
-
-// The places of the rows of these keys, which are made where they are missing. Where memory is
-// refused some may have been made.
-fn place_rows<K: Eq + Hash + Copy + Drop>(
-    rows: &mut IndexMap<K, Row>,
-    own: &[K],
-    places: &mut Vec<usize>,
+// The numbers of the rows of these keys, as far as they are there.
+fn find_rows(
+    rows: &KeyedRows,
+    own: &[OrderedKey],
+    numbers: &mut Vec<Option<usize>>,
 ) -> Result<(), AllocError>
-    ensures adds { OnOk result ((q : K) → get K.eq rows.new q
-        ≡ with_blank (list_any (K.eq q) own.now) (get K.eq rows.old q)) }
-    ensures prefix { take (index_map_len rows.old) rows.new.entries ≡ rows.old.entries }
-    ensures placed { OnOk result (ArePlaces K.eq (keys rows.new) own.now places.new.items) }
+    requires narrow { AreNarrow rows.now.trie.width own.now }
+    ensures { OnOk result (AreNumbers rows.now own.now numbers.new.items) }
 {
-    places.clear();
+    numbers.clear();
     for key in own {
-        let place = place_row(rows, key)?;
-        places.push(place)?;
+        numbers.push(rows.find(key))?;
     }
     Ok(())
 }
 
-// The row at a place with one more put, if that leaves no aggregate outside 64 bits.
-fn next_at<K: Eq + Hash + Copy + Drop>(
-    rows: &IndexMap<K, Row>,
-    place: usize,
+// Whether the row of this number, or one that is missing, stays within 64 bits with one more
+// merged in.
+fn stays_at(
+    rows: &KeyedRows,
+    number: Option<usize>,
     aggregates: &[Aggregate],
-    values: &[i64],
-) -> Option<Row>
-    requires within { place < index_map_len rows.now }
-    requires values { length values.now ≡ length aggregates.now }
-    requires few { length aggregates.now ≤ 8 }
-    ensures { (key : K) → IsAt K.eq (keys rows.now) key place → (row : List (Option ℤ))
-        × (get K.eq rows.now key ≡ Some row) × NextRow aggregates.now values.now (Some row) result }
-{
-    match rows.get_index(place) {
-        Some((_, row)) => changed_row(aggregates, values, row),
-        None => unreachable!(),
-    }
-}
-
-// One more put of the row at this place.
-fn change_at<K: Eq + Hash + Copy + Drop>(
-    rows: &mut IndexMap<K, Row>,
-    place: usize,
-    aggregates: &[Aggregate],
-    values: &[i64],
-)
-    requires within { place < index_map_len rows.old }
-    requires stays { (key : K) → IsAt K.eq (keys rows.old) key place
-        → StaysIn (get K.eq rows.old key) aggregates.now values.now }
-    requires values { length values.now ≡ length aggregates.now }
-    requires few { length aggregates.now ≤ 8 }
-    ensures next { (key : K) → IsAt K.eq (keys rows.old) key place → (next : List (Option ℤ))
-        × ((q : K) → get K.eq rows.new q ≡ (if K.eq key q then Some next else get K.eq rows.old q))
-        × NextRow aggregates.now values.now (get K.eq rows.old key) (Some next) }
-    ensures keys { keys rows.new ≡ keys rows.old }
-{
-    let (_, row) = rows.pair_mut(place);
-    match changed_row(aggregates, values, row) {
-        Some(next) => *row = next,
-        None => unreachable!(),
-    }
-}
-
-// Whether no row of these keys, which are at these places, leaves 64 bits by one more put.
-fn all_stay_at<K: Eq + Hash + Copy + Drop>(
-    rows: &IndexMap<K, Row>,
-    own: &[K],
-    places: &[usize],
-    aggregates: &[Aggregate],
-    values: &[i64],
+    more: &[Option<i64>],
 ) -> bool
-    requires placed { ArePlaces K.eq (keys rows.now) own.now places.now }
-    requires values { length values.now ≡ length aggregates.now }
+    requires within { IfSome number (λ place. place < length (entries_of rows.now)) }
     requires few { length aggregates.now ≤ 8 }
-    ensures { MatchBool result (AllStay K.eq (get K.eq rows.now) own.now aggregates.now values.now)
-        (SomeLeaves K.eq (get K.eq rows.now) own.now aggregates.now values.now) }
+    requires many { length aggregates.now ≡ rows.now.many }
+    requires wide { rows.now.many ≤ length more.now }
+    ensures { (key : List KeyPart) → length key ≡ 6 → IsNarrow rows.now.trie.width key
+        → IsNumber rows.now key number → MatchBool result
+        (MergeStays aggregates.now (unwrap_or (row_at (entries_of rows.now) (key_of key)) []) more.now)
+        (MergeLeaves aggregates.now (unwrap_or (row_at (entries_of rows.now) (key_of key)) []) more.now) }
+{
+    match number {
+        Some(number) => row_stays(aggregates, rows.row(number), more),
+        None => row_stays(aggregates, &BLANK, more),
+    }
+}
+
+// Whether no row of these keys, which have these numbers, leaves 64 bits with one more merged in.
+fn all_stay_at(
+    rows: &KeyedRows,
+    own: &[OrderedKey],
+    numbers: &[Option<usize>],
+    aggregates: &[Aggregate],
+    more: &[Option<i64>],
+) -> bool
+    requires narrow { AreNarrow rows.now.trie.width own.now }
+    requires numbers { AreNumbers rows.now own.now numbers.now }
+    requires few { length aggregates.now ≤ 8 }
+    requires many { length aggregates.now ≡ rows.now.many }
+    requires wide { rows.now.many ≤ length more.now }
+    ensures { MatchBool result
+        (AllStay (row_at (entries_of rows.now)) (map key_of own.now) aggregates.now more.now)
+        (SomeLeaves (row_at (entries_of rows.now)) (map key_of own.now) aggregates.now more.now) }
 {
     for index in 0..own.len() {
-        let _key = &own[index];
-        let next = next_at(rows, places[index], aggregates, values);
-        if next.is_none() {
+        if !stays_at(rows, numbers[index], aggregates, more) {
             return false;
         }
     }
     true
 }
 
-// One more put of the rows of these keys, which are at these places.
-fn change_all_at<K: Eq + Hash + Copy + Drop>(
-    rows: &mut IndexMap<K, Row>,
-    own: &[K],
-    places: &[usize],
+// A row merged into that of this key, which has this number, or else is found or made.
+fn merge_at(
+    rows: &mut KeyedRows,
+    key: &OrderedKey,
+    number: Option<usize>,
     aggregates: &[Aggregate],
-    values: &[i64],
+    more: &[Option<i64>],
 )
-    requires placed { ArePlaces K.eq (keys rows.old) own.now places.now }
-    requires distinct { IsDistinct K.eq own.now }
-    requires stay { AllStay K.eq (get K.eq rows.old) own.now aggregates.now values.now }
-    requires values { length values.now ≡ length aggregates.now }
-    requires few { length aggregates.now ≤ 8 }
-    ensures { ChangesAll K.eq own.now aggregates.now values.now (get K.eq rows.old)
-        (get K.eq rows.new) }
+    requires narrow { IsNarrow rows.old.trie.width key.now }
+    requires number { IsKnown rows.old key.now number }
+    requires many { length aggregates.now ≡ rows.old.many }
+    requires wide { rows.old.many ≤ length more.now }
+    requires stays { RowsStay aggregates.now
+        (row_at (entries_of rows.old) (key_of key.now)) more.now }
+    requires space { is_none number ≡ true → HasSpace rows.old 1 }
+    ensures rows { IsMergedAt aggregates.now (key_of key.now) more.now
+        (entries_of rows.old) (entries_of rows.new) }
+    ensures held { (other : List KeyPart) (place : ℕ) → IsHeld (keys_in rows.old) other place
+        → IsHeld (keys_in rows.new) other place }
+    ensures space { (count : ℕ) → HasSpace rows.old (count + 1) → HasSpace rows.new count }
+    ensures width { rows.new.trie.width ≡ rows.old.trie.width }
+    ensures many { rows.new.many ≡ rows.old.many }
 {
-    for index in 0..own.len() {
-        let _key = &own[index];
-        change_at(rows, places[index], aggregates, values);
+    match number {
+        Some(number) => rows.merge_row(number, aggregates, more),
+        None => match rows.merge(key, aggregates, more) {
+            Ok(()) => {}
+            Err(AllocError) => unreachable!(),
+        },
     }
 }
 
-// One more put of the rows of these keys, made where they are missing; or nothing changes.
-pub(crate) fn put_rows<K: Eq + Hash + Copy + Drop>(
-    rows: &mut IndexMap<K, Row>,
-    own: &[K],
-    places: &mut Vec<usize>,
+// A row merged into each of these keys, which have these numbers.
+fn merge_all_at(
+    rows: &mut KeyedRows,
+    own: &[OrderedKey],
+    numbers: &[Option<usize>],
     aggregates: &[Aggregate],
-    values: &[i64],
-) -> Result<(), PutFault>
-    requires distinct { IsDistinct K.eq own.now }
-    requires values { length values.now ≡ length aggregates.now }
-    requires few { length aggregates.now ≤ 8 }
-    ensures ok { OnOk result (PutsRows K.eq own.now aggregates.now values.now (get K.eq rows.old)
-        (get K.eq rows.new)) }
-    ensures refused { OnErr result (rows.new.entries ≡ rows.old.entries) }
-    ensures overflow { IfErr result (λ fault. UnlessMemory PutFault.OutOfMemory fault
-        (SomeLeaves K.eq (with_blanks K.eq own.now (get K.eq rows.old)) own.now aggregates.now
-        values.now)) }
+    more: &[Option<i64>],
+)
+    requires narrow { AreNarrow rows.old.trie.width own.now }
+    requires numbers { AreNumbers rows.old own.now numbers.now }
+    requires distinct { IsDistinct key_eq (map key_of own.now) }
+    requires many { length aggregates.now ≡ rows.old.many }
+    requires wide { rows.old.many ≤ length more.now }
+    requires stay { AllStay (row_at (entries_of rows.old)) (map key_of own.now)
+        aggregates.now more.now }
+    requires space { list_any is_none numbers.now ≡ true → HasSpace rows.old (length own.now) }
+    ensures rows { MergesAll (map key_of own.now) aggregates.now more.now
+        (row_at (entries_of rows.old)) (row_at (entries_of rows.new)) }
+    ensures width { rows.new.trie.width ≡ rows.old.trie.width }
+    ensures many { rows.new.many ≡ rows.old.many }
 {
-    let before = rows.len();
-    if place_rows(rows, own, places).is_err() {
-        rows.truncate(before);
-        return Err(PutFault::OutOfMemory);
+    for index in 0..own.len() {
+        merge_at(rows, &own[index], numbers[index], aggregates, more);
     }
-    if !all_stay_at(rows, own, places.as_slice(), aggregates, values) {
-        rows.truncate(before);
+}
+
+// Whether some row has no number.
+fn some_missing(numbers: &[Option<usize>]) -> bool
+    ensures { result ≡ list_any is_none numbers.now }
+{
+    numbers.iter().any(|number| number.is_none())
+}
+
+// Room for the rows that are missing, so that a put into rows that are there takes no memory.
+fn reserve_missing(
+    rows: &mut KeyedRows,
+    own: &[OrderedKey],
+    numbers: &[Option<usize>],
+) -> Result<(), AllocError>
+    ensures ok { OnOk result
+        (list_any is_none numbers.now ≡ true → HasSpace rows.new (length own.now)) }
+    ensures keys { keys_in rows.new ≡ keys_in rows.old }
+    ensures rows { entries_of rows.new ≡ entries_of rows.old }
+    ensures width { rows.new.trie.width ≡ rows.old.trie.width }
+    ensures many { rows.new.many ≡ rows.old.many }
+{
+    if some_missing(numbers) {
+        rows.reserve(own.len())?;
+    }
+    Ok(())
+}
+
+// The row of one put merged into those of its keys, which are made where they are missing; or
+// nothing changes. Each row is looked up once, and all room is there before the first one changes.
+pub(crate) fn put_rows(
+    rows: &mut KeyedRows,
+    own: &[OrderedKey],
+    numbers: &mut Vec<Option<usize>>,
+    aggregates: &[Aggregate],
+    more: &[Option<i64>],
+) -> Result<(), PutFault>
+    requires narrow { AreNarrow rows.old.trie.width own.now }
+    requires distinct { IsDistinct key_eq (map key_of own.now) }
+    requires few { length aggregates.now ≤ 8 }
+    requires many { length aggregates.now ≡ rows.old.many }
+    requires wide { rows.old.many ≤ length more.now }
+    ensures ok { OnOk result (PutsRows (map key_of own.now) aggregates.now more.now
+        (row_at (entries_of rows.old)) (row_at (entries_of rows.new))) }
+    ensures refused { OnErr result (entries_of rows.new ≡ entries_of rows.old) }
+    ensures overflow { IfErr result (λ fault. UnlessMemory PutFault.OutOfMemory fault
+        (SomeLeaves (row_at (entries_of rows.old)) (map key_of own.now) aggregates.now
+        more.now)) }
+    ensures width { rows.new.trie.width ≡ rows.old.trie.width }
+    ensures many { rows.new.many ≡ rows.old.many }
+{
+    find_rows(rows, own, numbers)?;
+    if !all_stay_at(rows, own, numbers.as_slice(), aggregates, more) {
         return Err(PutFault::Overflow);
     }
-    change_all_at(rows, own, places.as_slice(), aggregates, values);
+    reserve_missing(rows, own, numbers.as_slice())?;
+    merge_all_at(rows, own, numbers.as_slice(), aggregates, more);
     Ok(())
 }

@@ -2,7 +2,7 @@
 use Rattle.std.specs.Prelude.{ℕ, ℤ, List, ◌∷◌, Option, length}
 use Rattle.star_schema.specs.declared.group.Aggregate.{Aggregate}
 use Rattle.star_schema.specs.declared.group.Shape.{Shape}
-use Rattle.star_group.specs.declared.deferred.key.KeyPart.{KeyPart}
+use Rattle.star_group.specs.declared.keyed.key.KeyPart.{KeyPart}
 use Rattle.star_group.specs.Base.{IsBase}
 use Rattle.star_group.specs.Stores.{Group, HasRoom, Put}
 

@@ -1,4 +1,4 @@
--- The rows that an eager store gives in the end.
+-- The rows that a store gives in the end.
 use Rattle.std.specs.Prelude.{◌≡◌, ◌<◌, length, ℕ, ◌+◌, Bool, true, not, ◌||◌, nat_eq, ℤ, pos, List, [], ◌∷◌, Option, Some, None, filter, map, take, slice_index_or}
 use Rattle.star_schema.specs.declared.group.Aggregate.{Aggregate}
 use Rattle.star_schema.specs.declared.group.Shape.{Shape}

@@ -1,12 +1,12 @@
 -- Rows of different puts merged into one.
-use Rattle.std.specs.Prelude.{◌≡◌, ℕ, ◌<◌, false, ℤ, pos, ◌+ℤ◌, List, [], Option, Some, None, length, slice_index_or, if◌then◌else◌}
+use Rattle.std.specs.Prelude.{◌≡◌, ℕ, ◌<◌, true, false, ℤ, pos, ◌+ℤ◌, List, [], Option, Some, None, length, slice_index_or, if◌then◌else◌}
 use Rattle.std.specs.Int.{int_min, int_max}
 use Rattle.std.specs.Option.{unwrap_or}
 use Rattle.star_schema.specs.declared.group.Aggregate.{Aggregate}
 use Rattle.star_schema.specs.declared.group.Aggregate.TheVariants.{Sum, Count, Min, Max}
 use Rattle.star_program.specs.Puts.{leaves}
 use Rattle.star_program.specs.declared.key.KeyValue.{KeyValue}
-use Rattle.star_group.specs.declared.deferred.key.KeyPart.{KeyPart}
+use Rattle.star_group.specs.declared.keyed.key.KeyPart.{KeyPart}
 use Rattle.star_group.specs.Base.{row_at}
 use Rattle.star_group.specs.OwnKeys.{key_eq}
 
@@ -33,7 +33,13 @@ IsMerged gs held more row = (place : ℕ) → place < length gs → slice_index_
 abbrev pub MergeStays : List Aggregate → List (Option ℤ) → List (Option ℤ) → Type 0
 MergeStays gs held more = (place : ℕ) → place < length gs → leaves (slice_index_or gs place Count) (merged_at gs held more place) ≡ false
 
--- nor of a row merged into the one that is found
+-- a SUM or a COUNT of two rows merged leaves them
+pub record MergeLeaves (gs : List Aggregate) (held more : List (Option ℤ)) : Type 0 where
+  pub place : ℕ
+  pub declared : place < length gs
+  pub over : leaves (slice_index_or gs place Count) (merged_at gs held more place) ≡ true
+
+-- nor does one of a row merged into the one that is found
 abbrev pub RowsStay : List Aggregate → Option (List (Option ℤ)) → List (Option ℤ) → Type 0
 RowsStay gs None more = Unit {0}
 RowsStay gs (Some held) more = MergeStays gs held more

@@ -1,10 +1,10 @@
 -- Rows found by the digits of their keys: each row is below one whose key it shares some digits with.
 use Rattle.std.specs.Prelude.{◌≡◌, ℕ, zero, suc, ◌+◌, ◌*◌, ◌/◌, ◌%◌, ◌^◌, ◌<◌, nat_lt, if◌then◌else◌, List, [], length, slice_index_or}
 use Rattle.std.specs.Int.{cast_unsigned, w64}
-use Rattle.star_group.specs.declared.deferred.key.KeyPart.{KeyPart}
-use Rattle.star_group.specs.declared.deferred.trie.Place.{Place}
-use Rattle.star_group.specs.declared.deferred.trie.Place.TheVariants.{Held, Missing}
-use Rattle.star_group.specs.declared.deferred.key.KeyPart.TheVariants.{All, Number, Code}
+use Rattle.star_group.specs.declared.keyed.key.KeyPart.{KeyPart}
+use Rattle.star_group.specs.declared.keyed.trie.Place.{Place}
+use Rattle.star_group.specs.declared.keyed.trie.Place.TheVariants.{Held, Missing}
+use Rattle.star_group.specs.declared.keyed.key.KeyPart.TheVariants.{All, Number, Code}
 
 abbrev pub bits_of : KeyPart → ℕ
 bits_of All = 0

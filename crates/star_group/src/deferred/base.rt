@@ -4,11 +4,11 @@ ghost use Rattle.std.specs.Prelude.{◌≡◌, ◌≤◌, length, OnOk, OnErr};
 ghost use Rattle.star_group.specs.Entries.{entries_of};
 ghost use Rattle.star_group.specs.Private.BasePut.{HasRoomFor, TakesPut};
 
-use super::key::base_key;
-use super::keyed::KeyedRows;
-use super::merge::{merge_into, row_of};
 use crate::KeyValue;
 use crate::cell::Row;
+use crate::keyed::KeyedRows;
+use crate::keyed::key::base_key;
+use crate::keyed::merge::{merge_into, row_of_put};
 use star_schema::Aggregate;
 use std::alloc::AllocError;
 
@@ -35,7 +35,7 @@ pub(crate) fn add_put(
     ensures width { rows.new.trie.width ≡ rows.old.trie.width }
     ensures many { rows.new.many ≡ rows.old.many }
 {
-    let row = row_of(aggregates, values);
+    let row = row_of_put(aggregates, values);
     rows.merge(&base_key(keys), aggregates, &row)?;
     merge_into(aggregates, total, &row);
     Ok(())

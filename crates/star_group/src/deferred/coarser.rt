@@ -8,9 +8,9 @@ ghost use Rattle.star_group.specs.Private.BasePut.{group_with};
 ghost use Rattle.star_group.specs.Private.Coarser.{IsRolledUpWithRoom, RollsUp, first_hidden};
 ghost use Rattle.star_group.specs.Stores.{Put};
 
-use super::key::{ALL_HIDDEN, hidden};
-use super::keyed::KeyedRows;
 use crate::cell::Row;
+use crate::keyed::KeyedRows;
+use crate::keyed::key::{ALL_HIDDEN, hidden};
 use star_schema::{Aggregate, Shape};
 use std::alloc::{AllocError, Global};
 

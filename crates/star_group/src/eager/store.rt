@@ -1,44 +1,55 @@
 // An eager store is a store of groups, which also refuses puts that overflow.
 
-ghost use Rattle.std.specs.Prelude.{◌≡◌, List, ◌∷◌, [], Some, None, Option, IfOk, true, false, if◌then◌else◌};
-ghost use Rattle.std.specs.Option.{option_copied};
-ghost use Rattle.indexmap.specs.IndexMap.{get};
-ghost use Rattle.star_program.specs.declared.key.KeyValue.{KeyValue as Value};
+ghost use Rattle.std.specs.Prelude.{◌≡◌, ◌≤◌, ℤ, List, [], Some, None, Option, length, IfOk, IfSome, MatchOption};
+ghost use Rattle.star_group.specs.Base.{key_of, row_at};
 ghost use Rattle.star_group.specs.Eager.{group_of, Has};
-ghost use Rattle.star_group.specs.OwnKeys.{key_eq};
-ghost use Rattle.star_group.specs.Private.Rows.{blank};
+ghost use Rattle.star_group.specs.Entries.{entries_of};
+ghost use Rattle.star_group.specs.Keyed.{all_hidden};
+ghost use Rattle.star_group.specs.Private.Merged.{IsWithRow};
+ghost use Rattle.star_group.specs.Private.Rows.{IsBlank};
 
 use super::EagerStore;
-use super::given::rows_given;
-use crate::cell::{Row, shown};
-use crate::own::{ALL, Key, fill_own};
-use crate::rows::{BLANK, PutFault, put_rows};
+use super::own::fill_own;
+use crate::cell::{BLANK, shown};
+use crate::given::rows_given;
+use crate::keyed::KeyedRows;
+use crate::keyed::key::ALL_HIDDEN;
+use crate::keyed::merge::row_of_put;
+use crate::rows::{PutFault, put_rows};
 use crate::store::{GroupStore, TryPut};
 use crate::{GroupRows, KeyValue};
-use indexmap::IndexMap;
 use star_program::GroupDecl;
+use star_schema::Aggregate;
 use std::alloc::{AllocError, Global};
 
 // So many rows a put changes at most: those of a cube of six keys. Their room is reserved, so that
 // a put into rows that are there takes no memory.
 const MOST_OWN: usize = 64;
 
-// The row of all puts alone.
-fn first_rows(alloc: Global) -> Result<IndexMap<Key, Row>, AllocError>
-    ensures { IfOk result (λ rows. (q : List (Option Value)) → get key_eq rows q
-        ≡ (if key_eq (None ∷ None ∷ None ∷ None ∷ None ∷ None ∷ []) q then Some blank else None)) }
+// The row of all puts alone, for so many keys and aggregates.
+fn first_rows(alloc: Global, count: usize, many: usize) -> Result<KeyedRows, AllocError>
+    requires few_keys { count ≤ 6 }
+    requires few { many ≤ 8 }
+    ensures rows { IfOk result (λ rows. (row : List (Option ℤ)) × IsBlank row
+        × IsWithRow (key_of all_hidden) row [] (entries_of rows)) }
+    ensures keys { IfOk result (λ rows. count ≤ rows.trie.width) }
+    ensures many { IfOk result (λ rows. rows.many ≡ many) }
 {
-    let mut rows = IndexMap::new(alloc);
-    rows.insert(ALL, BLANK)?;
+    let mut rows = KeyedRows::new(alloc, count, many)?;
+    rows.insert(&ALL_HIDDEN, &BLANK[..many])?;
     Ok(rows)
 }
 
 // The row of all puts.
-fn all_row(rows: &IndexMap<Key, Row>) -> Option<&Row>
-    ensures { option_copied result ≡ get key_eq rows.now
-        (None ∷ None ∷ None ∷ None ∷ None ∷ None ∷ []) }
+fn all_row(rows: &KeyedRows) -> Option<&[Option<i64>]>
+    ensures row { MatchOption result (row_at (entries_of rows.now) (key_of all_hidden) ≡ None)
+        (λ row. row_at (entries_of rows.now) (key_of all_hidden) ≡ Some row.now) }
+    ensures wide { IfSome result (λ row. length row.now ≡ rows.now.many) }
 {
-    rows.get(&ALL)
+    match rows.find(&ALL_HIDDEN) {
+        Some(number) => Some(rows.row(number)),
+        None => None,
+    }
 }
 
 impl GroupStore for EagerStore {
@@ -47,21 +58,22 @@ impl GroupStore for EagerStore {
     ghost has = { Has };
 
     fn new(alloc: Global, declared: &GroupDecl) -> Result<EagerStore, AllocError> {
-        let aggregates = declared
+        let aggregates: Vec<Aggregate> = declared
             .aggregates
             .as_slice()
             .iter()
             .copied()
             .collect(alloc)?;
-        let rows = first_rows(alloc)?;
+        let count = declared.keys.as_slice().len();
+        let rows = first_rows(alloc, count, aggregates.len())?;
         Ok(EagerStore {
             alloc,
             shape: declared.shape,
-            count: declared.keys.as_slice().len(),
+            count,
             aggregates,
             rows,
             own: Vec::with_capacity(alloc, MOST_OWN)?,
-            places: Vec::with_capacity(alloc, MOST_OWN)?,
+            numbers: Vec::with_capacity(alloc, MOST_OWN)?,
         })
     }
 
@@ -94,12 +106,14 @@ impl GroupStore for EagerStore {
 impl TryPut for EagerStore {
     fn try_put(&mut self, keys: &[KeyValue], values: &[i64]) -> Result<(), PutFault> {
         fill_own(&mut self.own, self.shape, keys)?;
+        let aggregates = self.aggregates.as_slice();
+        let row = row_of_put(aggregates, values);
         put_rows(
             &mut self.rows,
             self.own.as_slice(),
-            &mut self.places,
-            self.aggregates.as_slice(),
-            values,
+            &mut self.numbers,
+            aggregates,
+            &row,
         )
     }
 }

@@ -1,44 +1,42 @@
-use Rattle.std.proofs.Common.{◌≡◌, ⊎_elim, sym, ◌∙◌, true, false, Some, refl, get_or}
-use Rattle.std.specs.Option.{is_some}
-use Rattle.std.proofs.lemmas.List.Folds.{list_any_at}
-use Rattle.star_group.specs.Private.Rows.{RowStays}
-use Rattle.star_group.proofs.Lookups.{lookup_same, among_more, stays_next, leaves_next}
-use Rattle.star_group.proofs.Places.{within_at}
+use Rattle.std.proofs.Common.{◌≡◌, [], MatchBool, None, false, get_or, length, map, rules, subst, true}
+use Rattle.std.specs.Option.{unwrap_or}
+use Rattle.star_group.specs.Base.{key_of, row_at}
+use Rattle.star_group.specs.Entries.{entries_of}
+use Rattle.star_group.specs.Private.Merged.{MergeLeaves, MergeStays}
+use Rattle.star_group.proofs.MergedRows.{key_here, key_within, leaves_now, narrow_at, number_in, stays_now}
 use Rattle.star_group.proofs.rows.all_stay_at.Goals as goal
 
-pub next_at-next-requires-clause-within : goal.next_at-next-requires-clause-within
-next_at-next-requires-clause-within g c =
-    let key = c.index-own-index.result in
-    within_at g.K.PartialEq.eq c.args.rows.now.entries _ _ (c.requires.placed.placed c.loop-index.index key c.loop-index-test.true)
-
-pub returns-then-is_none : goal.returns-then-is_none
-returns-then-is_none g c =
-    let key = c.index-own-index.result in
-    let eq = g.K.PartialEq.eq in
+pub stays_at-requires-clause-within : goal.stays_at-requires-clause-within
+stays_at-requires-clause-within c =
     let i = c.loop-index.index in
-    let at = c.requires.placed.placed i key c.loop-index-test.true in
-    let next = c.next_at-next.ensures (get_or c.args.own.now i key) at in
-    let none : is_some c.next_at-next.result ≡ false = c.if-is_none.ensures in
-    let leaves = leaves_next c.args.aggregates.now c.args.values.now (Some next.0) c.next_at-next.result next.2 refl none in
-    record {
-      key = get_or c.args.own.now i key;
-      among = list_any_at (eq (get_or c.args.own.now i key)) c.args.own.now i key c.loop-index-test.true (g.met.K.Eq.laws.refl _);
-      row = leaves.0;
-      found = next.1 ∙ leaves.1;
-      leaves = leaves.2;
-    }
+    number_in c.args.rows.now (get_or c.args.own.now i []) (get_or c.args.numbers.now i None) (c.requires.numbers.each i c.loop-index-test.true)
+
+pub returns-then-not-stays_at : goal.returns-then-not-stays_at
+returns-then-not-stays_at c =
+    let s = c.args.rows.now in
+    let own = c.args.own.now in
+    let gs = c.args.aggregates.now in
+    let more = c.args.more.now in
+    let i = c.loop-index.index in
+    let key = get_or own i [] in
+    let six : length key ≡ 6 = search rules in
+    let h = c.loop-index-test.true in
+    let told = c.stays_at.ensures key six (narrow_at s.trie.width own i [] h c.requires.narrow) (c.requires.numbers.each i h) in
+    let held = unwrap_or (row_at (entries_of s) (key_of key)) [] in
+    let no : c.stays_at.result ≡ false = search rules in
+    leaves_now (map key_of own) i (key_of key) (key_within own i h) (key_here own i h) gs more (row_at (entries_of s)) (subst (λ b. MatchBool b (MergeStays gs held more) (MergeLeaves gs held more)) no told)
 
 pub loop-index-preserved : goal.loop-index-preserved
-loop-index-preserved g c = record {
-  stay = λ key row among found.
-      let item = c.index-own-index.result in
-      let i = c.loop-index.index in
-      let own = c.args.own.now in
-      let at = c.requires.placed.placed i item c.loop-index-test.true in
-      let next = c.next_at-next.ensures (get_or own i item) at in
-      let here : is_some c.next_at-next.result ≡ true = c.if-is_none.ensures in
-      ⊎_elim {C = RowStays c.args.aggregates.now c.args.values.now row}
-      (λ earlier. c.loop-index.invariant.stay key row earlier found)
-      (λ same. stays_next _ _ (Some next.0) _ row next.2 here (sym next.1 ∙ sym (lookup_same g.met.K.Eq.laws key (get_or own i item) c.args.rows.now.entries same) ∙ found))
-      (among_more g.K.PartialEq.eq key own i item c.loop-index-test.true among);
-}
+loop-index-preserved c =
+    let s = c.args.rows.now in
+    let own = c.args.own.now in
+    let gs = c.args.aggregates.now in
+    let more = c.args.more.now in
+    let i = c.loop-index.index in
+    let key = get_or own i [] in
+    let six : length key ≡ 6 = search rules in
+    let h = c.loop-index-test.true in
+    let told = c.stays_at.ensures key six (narrow_at s.trie.width own i [] h c.requires.narrow) (c.requires.numbers.each i h) in
+    let held = unwrap_or (row_at (entries_of s) (key_of key)) [] in
+    let yes : c.stays_at.result ≡ true = search rules in
+    stays_now (map key_of own) i (key_of key) (key_within own i h) (key_here own i h) gs more (row_at (entries_of s)) c.loop-index.invariant (subst (λ b. MatchBool b (MergeStays gs held more) (MergeLeaves gs held more)) yes told)

@@ -1,0 +1,131 @@
+-- One more row merged into those of some keys.
+use Rattle.std.proofs.Common.{◌≡◌, ◌⊎◌, inl, inr, ℕ, zero, suc, ◌+◌, ◌*◌, ◌<◌, ◌≤◌, Bool, true, false, ◌||◌, ℤ, List, [], ◌∷◌, ◌++◌, Option, Some, None, IfSome, MatchBool, length, length-append, get_or, take, map, ap, sym, ◌∙◌, subst, refl, true≢false, arith, below_more}
+use Rattle.std.specs.List.{list_any, IsDistinct}
+use Rattle.std.specs.Option.{unwrap_or}
+use Rattle.std.proofs.Math.Nat.{mul-le-mul_right}
+use Rattle.std.proofs.lemmas.List.{get_or-map, get_or_append_left, get_or_default, get_or_push, length-map}
+use Rattle.std.proofs.lemmas.List.Folds.{list_any_at, list_any_more}
+use Rattle.std.proofs.lemmas.Map.Keys.{apart_from_distinct, IsDistinct-tail}
+use Rattle.star_schema.specs.declared.group.Aggregate.{Aggregate}
+use Rattle.star_schema.specs.declared.group.Aggregate.TheVariants.{Count}
+use Rattle.star_program.specs.declared.key.KeyValue.{KeyValue}
+use Rattle.star_program.specs.Puts.{leaves}
+use Rattle.star_group.specs.declared.keyed.key.KeyPart.{KeyPart}
+use Rattle.star_group.specs.declared.keyed.KeyedRows.{KeyedRows}
+use Rattle.star_group.specs.Base.{key_of, row_at}
+use Rattle.star_group.specs.Entries.{entries_of}
+use Rattle.star_group.specs.OwnKeys.{key_eq}
+use Rattle.star_group.specs.Private.Merged.{IsMergedAt, IsMergedInto, MergeLeaves, MergeStays, RowsStay, merged}
+use Rattle.star_group.specs.Private.Numbers.{AreNarrow, AreNumbers, HasSpace, HasTrieSpace, IsKnown, IsNarrow, IsNumber, keys_in}
+use Rattle.star_group.specs.Private.Rows.{AllStay, IsBlank, MergesAll, SomeLeaves}
+use Rattle.star_group.specs.Private.Tries.{IsHeld}
+use Rattle.star_group.proofs.Bases.{other_row, own_row}
+use Rattle.star_program.proofs.Rows.{length-cut}
+use Rattle.star_group.proofs.GroupKeys.{key_decides, key_equiv}
+use Rattle.star_group.proofs.KeyedRows.{row_count}
+
+-- ---- one more key of a list without repeats
+
+or_false : (a b : Bool) → (a || b) ≡ false → (a ≡ false) × (b ≡ false)
+or_false true b h = absurd (true≢false h)
+or_false false b h = (refl, h)
+
+-- an element is not among those before it
+fresh_at : (own : List (List (Option KeyValue))) (i : ℕ) (d : List (Option KeyValue)) → IsDistinct key_eq own → i < length own → list_any (key_eq (get_or own i d)) (take i own) ≡ false
+fresh_at [] i d distinct h = absurd (omega (arith, h))
+fresh_at (x ∷ xs) zero d distinct h = refl
+fresh_at (x ∷ xs) (suc j) d distinct h =
+    let k : List (Option KeyValue) = get_or xs j d in
+    let apart : key_eq x k ≡ false = apart_from_distinct key_eq (x ∷ xs) 0 (suc j) d distinct (omega arith) h in
+    ap (λ b. b || list_any (key_eq k) (take j xs)) (key_equiv.symm k x ∙ apart) ∙ fresh_at xs j d (IsDistinct-tail key_eq x xs distinct) (omega (arith, h))
+
+pub key_here : (own : List (List KeyPart)) (i : ℕ) → i < length own → get_or (map key_of own) i (key_of (get_or own i [])) ≡ key_of (get_or own i [])
+key_here own i h = get_or-map key_of own i [] (key_of (get_or own i [])) h
+
+pub key_within : (own : List (List KeyPart)) (i : ℕ) → i < length own → i < length (map key_of own)
+key_within own i h = omega (arith, h, length-map own key_of)
+
+module _ (own : List (List (Option KeyValue))) (i : ℕ) (key : List (Option KeyValue)) (within : i < length own) (here : get_or own i key ≡ key) where
+  among_here : list_any (key_eq key) own ≡ true
+  among_here = list_any_at (key_eq key) own i key within (ap (key_eq key) here ∙ key_equiv.refl key)
+
+  fresh : IsDistinct key_eq own → list_any (key_eq key) (take i own) ≡ false
+  fresh distinct = subst (λ k. list_any (key_eq k) (take i own) ≡ false) here (fresh_at own i key distinct within)
+
+  -- a key among the first i + 1 is among the first i, or is the one at i
+  split : (q : List (Option KeyValue)) → list_any (key_eq q) (take (i + 1) own) ≡ true → (list_any (key_eq q) (take i own) ≡ true) ⊎ (q ≡ key)
+  split q e = by (list_any (key_eq q) (take i own)) refl
+    where
+      by : (b : Bool) → list_any (key_eq q) (take i own) ≡ b → (list_any (key_eq q) (take i own) ≡ true) ⊎ (q ≡ key)
+      by true p = inl p
+      by false p = inr ((key_decides q (get_or own i key)).0 (sym (ap (λ b. b || key_eq q (get_or own i key)) p) ∙ sym (list_any_more (key_eq q) own i key within) ∙ e) ∙ here)
+
+  not_among : (q : List (Option KeyValue)) → list_any (key_eq q) (take (i + 1) own) ≡ false → (list_any (key_eq q) (take i own) ≡ false) × (key_eq q key ≡ false)
+  not_among q none =
+      let both = or_false _ _ (sym (list_any_more (key_eq q) own i key within) ∙ none) in
+      (both.0, ap (key_eq q) (sym here) ∙ both.1)
+
+  module _ (gs : List Aggregate) (more : List (Option ℤ)) where
+    pub stays_now : (look : List (Option KeyValue) → Option (List (Option ℤ))) → AllStay look (take i own) gs more → MergeStays gs (unwrap_or (look key) []) more → AllStay look (take (i + 1) own) gs more
+    stays_now look so_far now = record { stay = λ q e. by q (split q e) }
+      where
+        by : (q : List (Option KeyValue)) → (list_any (key_eq q) (take i own) ≡ true) ⊎ (q ≡ key) → MergeStays gs (unwrap_or (look q) []) more
+        by q (inl earlier) = so_far.stay q earlier
+        by q (inr same) = subst (λ k. MergeStays gs (unwrap_or (look k) []) more) (sym same) now
+
+    pub leaves_now : (look : List (Option KeyValue) → Option (List (Option ℤ))) → MergeLeaves gs (unwrap_or (look key) []) more → SomeLeaves look own gs more
+    leaves_now look l = record { key = key; among = among_here; leaves = l }
+
+    stays_found : (found : Option (List (Option ℤ))) → MergeStays gs (unwrap_or found []) more → RowsStay gs found more
+    stays_found None h = tt
+    stays_found (Some row) h = h
+
+    module _ (distinct : IsDistinct key_eq own) (old : List (Option KeyValue) → Option (List (Option ℤ))) (es : List (List KeyPart × List (Option ℤ))) (so_far : MergesAll (take i own) gs more old (row_at es)) where
+      found_here : row_at es key ≡ old key
+      found_here = so_far.same key (fresh distinct)
+
+      pub stays_here : AllStay old own gs more → RowsStay gs (row_at es key) more
+      stays_here all = subst (λ found. RowsStay gs found more) (sym found_here) (stays_found (old key) (all.stay key among_here))
+
+      pub merges_more : (fs : List (List KeyPart × List (Option ℤ))) → IsMergedAt gs key more es fs → MergesAll (take (i + 1) own) gs more old (row_at fs)
+      merges_more fs at = record {
+        changed = λ q e. by q (split q e);
+        same = λ q none. let both = not_among q none in other_row gs key more es fs at q both.1 ∙ so_far.same q both.0;
+      }
+        where
+          apart : (q : List (Option KeyValue)) → list_any (key_eq q) (take i own) ≡ true → key_eq q key ≡ false
+          apart q earlier = is (key_eq q key) refl
+            where
+              is : (b : Bool) → key_eq q key ≡ b → key_eq q key ≡ false
+              is false e = e
+              is true e = absurd (true≢false (sym earlier ∙ ap (λ k. list_any (key_eq k) (take i own)) ((key_decides q key).0 e) ∙ fresh distinct))
+
+          by : (q : List (Option KeyValue)) → (list_any (key_eq q) (take i own) ≡ true) ⊎ (q ≡ key) → IsMergedInto gs more (old q) (row_at fs q)
+          by q (inl earlier) = subst (IsMergedInto gs more (old q)) (sym (other_row gs key more es fs at q (apart q earlier))) (so_far.changed q earlier)
+          by q (inr same) = subst (λ k. IsMergedInto gs more (old k) (row_at fs k)) (sym same) (subst (λ found. IsMergedInto gs more found (row_at fs key)) found_here (own_row gs key more es fs at key refl))
+
+pub blank_taken : (n : ℕ) (row : List (Option ℤ)) → IsBlank row → IsBlank (take n row)
+blank_taken zero row is = λ place. refl
+blank_taken (suc n) [] is = λ place. refl
+blank_taken (suc n) (x ∷ row) is = at (blank_taken n row (λ k. is (suc k)))
+  where
+    at : IsBlank (take n row) → (place : ℕ) → get_or (x ∷ take n row) place None ≡ None
+    at rest zero = is 0
+    at rest (suc place) = rest place
+
+-- ---- numbers of rows
+
+-- the numbers of the rows of the first i keys
+pub record NumbersBelow (rows : KeyedRows) (keys : List (List KeyPart)) (numbers : List (Option ℕ)) (i : ℕ) : Type 0 where
+  pub many : length numbers ≡ i
+  pub each : (place : ℕ) → place < i → IsNumber rows (get_or keys place []) (get_or numbers place None)
+
+pub narrow_at : (width : ℕ) (keys : List (List KeyPart)) (i : ℕ) (d : List KeyPart) → i < length keys → AreNarrow width keys → IsNarrow width (get_or keys i d)
+narrow_at width [] i d h are = absurd (omega (arith, h))
+narrow_at width (key ∷ keys) zero d h are = are.0
+narrow_at width (key ∷ keys) (suc i) d h are = narrow_at width keys i d (omega (arith, h)) are.1
+
+module _ (rows : KeyedRows) where
+  pub number_in : (key : List KeyPart) (number : Option ℕ) → IsNumber rows key number → IfSome number (λ place. place < length (entries_of rows))
+  number_in key None is = tt
+  number_in key (Some place) held = omega (arith, held.within, length-cut rows.trie.width rows.trie.len rows.trie.keys.items, row_count rows)

@@ -1,5 +1,0 @@
-use Rattle.star_group.proofs.MergedCells.{RowOfBelow}
-use Rattle.star_group.proofs.deferred.merge.row_of.Given as goal
-
-abbrev pub invariant-loop-place : goal.invariant-loop-place
-invariant-loop-place l = RowOfBelow l.aggregates l.values l.row l.place

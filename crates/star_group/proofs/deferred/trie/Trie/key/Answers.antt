@@ -1,9 +1,0 @@
-use Rattle.std.proofs.Common.{◌∙◌, [], ap, get_or}
-use Rattle.star_group.specs.Keyed.{cut}
-use Rattle.star_group.proofs.CutRows.{cut_read}
-use Rattle.star_group.proofs.deferred.trie.Trie.key.Goals as goal
-
-pub returns : goal.returns
-returns c =
-    let s = c.args.self.now in
-    c.parts_at.ensures ∙ cut_read s.width s.len _ c.args.number ∙ ap (λ ps. get_or (cut s.width s.len ps) c.args.number []) c.as_slice.ensures.value

@@ -1,0 +1,22 @@
+use Rattle.star_program.specs.Rows.{cut}
+use Rattle.std.proofs.Common.{◌≡◌, ◌<◌, ◌-◌, ◌∙◌, ap, sym, subst, arith}
+use Rattle.star_group.specs.Private.Tries.{child, key_at}
+use Rattle.star_group.proofs.Tries.{apart_when, start, further, missing}
+use Rattle.star_group.proofs.keyed.trie.Trie.find.Goals as goal
+
+pub loop-depth-init : goal.loop-depth-init
+loop-depth-init c = let s = c.args.self.now in start s.width (cut s.width s.len s.keys.items) s.links.items c.args.key.now s.trie
+
+pub returns-then-next-eq0 : goal.returns-then-next-eq0
+returns-then-next-eq0 c =
+    let s = c.args.self.now in
+    missing s.width (cut s.width s.len s.keys.items) s.links.items c.args.key.now s.trie c.loop-depth.depth c.loop-depth.node c.key_digit-digit.result c.loop-depth.invariant c.key_digit-digit.ensures.digit c.key_digit-digit.ensures.few
+    (ap (λ ls. child ls c.loop-depth.node c.key_digit-digit.result) (sym c.as_slice.ensures.value) ∙ sym c.child_at-next.ensures ∙ c.if-next-eq0.true)
+
+pub loop-depth-preserved : goal.loop-depth-preserved
+loop-depth-preserved c =
+    let s = c.args.self.now in
+    let more : 0 < c.child_at-next.result = omega (arith, c.if-next-eq0.false) in
+    further s.width (cut s.width s.len s.keys.items) s.links.items c.args.key.now s.trie c.loop-depth.depth c.loop-depth.node c.key_digit-digit.result c.loop-depth.invariant c.key_digit-digit.ensures.digit c.child_at-next.result
+    (c.child_at-next.ensures ∙ ap (λ ls. child ls c.loop-depth.node c.key_digit-digit.result) c.as_slice.ensures.value) more
+    (subst (λ ps. key_at (cut s.width s.len ps) (c.child_at-next.result - 1) ≡ c.args.key.now → ⊥) c.as_slice-in-loop-depth.ensures.value (apart_when c.has_key.result c.has_key.ensures c.if-has_key.false))

@@ -1,0 +1,28 @@
+use Rattle.std.proofs.Common.{◌≡◌, ◌∙◌, ◌+◌, ◌-◌, [], arith, get_or, length, map, subst}
+use Rattle.star_group.specs.Base.{key_of, row_at}
+use Rattle.star_group.specs.Entries.{entries_of}
+use Rattle.star_group.specs.Private.Numbers.{HasSpace}
+use Rattle.star_group.proofs.MergedRows.{key_here, key_within, merges_more, stays_here}
+use Rattle.star_group.proofs.rows.merge_all_at.Goals as goal
+
+pub merge_at-requires-clause-stays : goal.merge_at-requires-clause-stays
+merge_at-requires-clause-stays c =
+    let own = c.args.own.now in
+    let i = c.loop-index.index in
+    let h = c.loop-index-test.true in
+    stays_here (map key_of own) i (key_of (get_or own i [])) (key_within own i h) (key_here own i h) c.args.aggregates.now c.args.more.now c.requires.distinct (row_at (entries_of c.args.rows.now)) (entries_of c.loop-index.rows) c.loop-index.invariant.merges c.requires.stay
+
+pub loop-index-preserved : goal.loop-index-preserved
+loop-index-preserved c =
+    let own = c.args.own.now in
+    let i = c.loop-index.index in
+    let h = c.loop-index-test.true in
+    let left : length own - i ≡ (length own - (i + 1)) + 1 = omega (arith, h) in
+    record {
+      merges = merges_more (map key_of own) i (key_of (get_or own i [])) (key_within own i h) (key_here own i h) c.args.aggregates.now c.args.more.now c.requires.distinct (row_at (entries_of c.args.rows.now)) (entries_of c.loop-index.rows) c.loop-index.invariant.merges
+          (entries_of c.merge_at.new.rows) c.merge_at.ensures.rows;
+      held = λ other place is. c.merge_at.ensures.held other place (c.loop-index.invariant.held other place is);
+      space = λ some. c.merge_at.ensures.space (length own - (i + 1)) (subst (HasSpace c.loop-index.rows) left (c.loop-index.invariant.space some));
+      width = c.merge_at.ensures.width ∙ c.loop-index.invariant.width;
+      many = c.merge_at.ensures.many ∙ c.loop-index.invariant.many;
+    }

@@ -1,0 +1,47 @@
+-- The numbers of rows by their keys, and the room for more of them.
+use Rattle.std.specs.Prelude.{◌≡◌, ℕ, ◌+◌, ◌*◌, ◌^◌, ◌<◌, ◌≤◌, List, [], Option, Some, None, drop, length, slice_index_or, take, vec_len}
+use Rattle.std.specs.List.{AllByRecursion}
+use Rattle.std.specs.Vec.{vec_capacity}
+use Rattle.star_group.specs.declared.keyed.key.KeyPart.{KeyPart}
+use Rattle.star_group.specs.declared.keyed.KeyedRows.{KeyedRows}
+use Rattle.star_group.specs.declared.keyed.trie.Trie.{Trie}
+use Rattle.star_group.specs.Base.{key_of, row_at}
+use Rattle.star_group.specs.Entries.{entries_of}
+use Rattle.star_program.specs.Rows.{cut}
+use Rattle.star_group.specs.Keyed.{all_hidden}
+use Rattle.star_group.specs.Private.Tries.{IsHeld}
+
+abbrev pub keys_in : KeyedRows → List (List KeyPart)
+keys_in rows = cut rows.trie.width rows.trie.len rows.trie.keys.items
+
+-- past so many places a key has ALL
+abbrev pub IsNarrow : ℕ → List KeyPart → Type 0
+IsNarrow width key = drop width key ≡ drop width all_hidden
+
+abbrev pub AreNarrow : ℕ → List (List KeyPart) → Type 0
+AreNarrow width keys = AllByRecursion (IsNarrow width) keys
+
+-- the number of the row with this key, where there is one
+abbrev pub IsNumber : KeyedRows → List KeyPart → Option ℕ → Type 0
+IsNumber rows key None = row_at (entries_of rows) (key_of key) ≡ None
+IsNumber rows key (Some number) = IsHeld (keys_in rows) (take rows.trie.width key) number
+
+-- a number is that of the row with this key; none tells nothing
+abbrev pub IsKnown : KeyedRows → List KeyPart → Option ℕ → Type 0
+IsKnown rows key None = Unit {0}
+IsKnown rows key (Some number) = IsHeld (keys_in rows) (take rows.trie.width key) number
+
+pub record AreNumbers (rows : KeyedRows) (keys : List (List KeyPart)) (numbers : List (Option ℕ)) : Type 0 where
+  pub many : length numbers ≡ length keys
+  pub each : (place : ℕ) → place < length keys → IsNumber rows (slice_index_or keys place []) (slice_index_or numbers place None)
+
+-- so many more keys fit in without memory
+pub record HasTrieSpace (trie : Trie) (count : ℕ) : Type 0 where
+  pub keys : vec_len trie.keys + count * trie.width ≤ vec_capacity trie.keys
+  pub links : vec_len trie.links + count ≤ vec_capacity trie.links
+  pub nodes : vec_len trie.links + count ≤ 2 ^ 32
+
+-- and so many more rows
+pub record HasSpace (rows : KeyedRows) (count : ℕ) : Type 0 where
+  pub trie : HasTrieSpace rows.trie count
+  pub cells : vec_len rows.cells + count * rows.many ≤ vec_capacity rows.cells

@@ -1,0 +1,210 @@
+// Rows by their keys: making, reading and changing them.
+
+ghost use Rattle.std.specs.Prelude.{◌≡◌, ◌≤◌, ◌<◌, ◌+◌, ℕ, List, [], length, drop, slice_index_or, take, IfOk, IsOk, OnErr, OnOk};
+ghost use Rattle.star_group.specs.Base.{key_of, row_at};
+ghost use Rattle.star_group.specs.Entries.{entries_of};
+ghost use Rattle.star_group.specs.declared.keyed.key.KeyPart.{KeyPart};
+ghost use Rattle.star_program.specs.Rows.{cut};
+ghost use Rattle.star_group.specs.Keyed.{all_hidden};
+ghost use Rattle.star_group.specs.Private.Merged.{IsMergedAt, IsWithRow, MergeStays, RowsStay};
+ghost use Rattle.star_group.specs.Private.Numbers.{HasSpace, IsNumber, keys_in};
+ghost use Rattle.star_group.specs.Private.Tries.{IsHeld, IsMissing};
+
+use super::KeyedRows;
+use super::cells::{merge_at, write_at};
+use super::key::{OrderedKey, in_six_places};
+use super::trie::{Place, Trie};
+use star_program::row_of;
+use star_schema::Aggregate;
+use std::alloc::{AllocError, Global};
+
+impl KeyedRows {
+    // No rows of so many keys and aggregates.
+    pub(crate) fn new(alloc: Global, count: usize, many: usize) -> Result<KeyedRows, AllocError>
+        requires { count ≤ 6 }
+        ensures empty { IfOk result (λ rows. entries_of rows ≡ []) }
+        ensures keys { IfOk result (λ rows. count ≤ rows.trie.width) }
+        ensures many { IfOk result (λ rows. rows.many ≡ many) }
+    {
+        Ok(KeyedRows {
+            trie: Trie::new(alloc, count.max(1))?,
+            many,
+            cells: Vec::new(alloc),
+        })
+    }
+
+    // The same rows once more.
+    pub(crate) fn copied(&self, alloc: Global) -> Result<KeyedRows, AllocError>
+        ensures rows { IfOk result (λ rows. entries_of rows ≡ entries_of self.now) }
+        ensures many { IfOk result (λ rows. rows.many ≡ self.now.many) }
+        ensures width { IfOk result (λ rows. rows.trie.width ≡ self.now.trie.width) }
+    {
+        Ok(KeyedRows {
+            trie: self.trie.copied(alloc)?,
+            many: self.many,
+            cells: Vec::from_slice(alloc, self.cells.as_slice())?,
+        })
+    }
+
+    // How many rows there are.
+    pub(crate) fn len(&self) -> usize
+        ensures { result ≡ length (entries_of self.now) }
+    {
+        self.trie.len
+    }
+
+    // The number of this key's row, where there is one.
+    pub(crate) fn find(&self, key: &OrderedKey) -> Option<usize>
+        requires { drop self.now.trie.width key.now ≡ drop self.now.trie.width all_hidden }
+        ensures { IsNumber self.now key.now result }
+    {
+        match self.trie.find(&key[..self.trie.width]) {
+            Place::Held(number) => Some(number),
+            Place::Missing { .. } => None,
+        }
+    }
+
+    // Room for so many more rows.
+    pub(crate) fn reserve(&mut self, additional: usize) -> Result<(), AllocError>
+        ensures ok { OnOk result (HasSpace self.new additional) }
+        ensures keys { keys_in self.new ≡ keys_in self.old }
+        ensures rows { entries_of self.new ≡ entries_of self.old }
+        ensures width { self.new.trie.width ≡ self.old.trie.width }
+        ensures many { self.new.many ≡ self.old.many }
+    {
+        let cells = additional.checked_mul(self.many).ok_or(AllocError)?;
+        self.trie.reserve(additional)?;
+        self.cells.reserve(cells)
+    }
+
+    // The key of the row of a number.
+    pub(crate) fn key(&self, number: usize) -> OrderedKey
+        requires { number < length (entries_of self.now) }
+        ensures key { result ≡ (slice_index_or (entries_of self.now) number ([], [])).0 }
+        ensures narrow { drop self.now.trie.width result ≡ drop self.now.trie.width all_hidden }
+    {
+        in_six_places(self.trie.key(number))
+    }
+
+    // The aggregates of the row of a number.
+    pub(crate) fn row(&self, number: usize) -> &[Option<i64>]
+        requires { number < length (entries_of self.now) }
+        ensures row { result.now ≡ (slice_index_or (entries_of self.now) number ([], [])).1 }
+        ensures wide { length result.now ≡ self.now.many }
+    {
+        row_of(self.cells.as_slice(), self.many, self.trie.len, number)
+    }
+
+    // One more row, for a key that no row has.
+    fn push(
+        &mut self,
+        node: usize,
+        digit: usize,
+        key: &OrderedKey,
+        row: &[Option<i64>],
+    ) -> Result<(), AllocError>
+        requires narrow { drop self.old.trie.width key.now ≡ drop self.old.trie.width all_hidden }
+        requires wide { length row.now ≡ self.old.many }
+        requires missing { IsMissing self.old.trie.width
+            (cut self.old.trie.width self.old.trie.len self.old.trie.keys.items)
+            self.old.trie.links.items (take self.old.trie.width key.now) node digit }
+        ensures ok { OnOk result (IsWithRow (key_of key.now) row.now
+            (entries_of self.old) (entries_of self.new)) }
+        ensures refused { OnErr result (entries_of self.new ≡ entries_of self.old) }
+        ensures held { (other : List KeyPart) (number : ℕ) → IsHeld (keys_in self.old) other number
+            → IsHeld (keys_in self.new) other number }
+        ensures space { (count : ℕ) → HasSpace self.old (count + 1)
+            → IsOk result × HasSpace self.new count }
+        ensures width { self.new.trie.width ≡ self.old.trie.width }
+        ensures many { self.new.many ≡ self.old.many }
+    {
+        let width = self.trie.width;
+        let cells = self.cells.len();
+        self.cells.extend_from_slice(row)?;
+        if self.trie.push(node, digit, &key[..width]).is_err() {
+            self.cells.truncate(cells);
+            return Err(AllocError);
+        }
+        Ok(())
+    }
+
+    // A row merged into that of a number.
+    pub(crate) fn merge_row(
+        &mut self,
+        number: usize,
+        aggregates: &[Aggregate],
+        more: &[Option<i64>],
+    )
+        requires within { number < length (entries_of self.old) }
+        requires many { length aggregates.now ≡ self.old.many }
+        requires wide { self.old.many ≤ length more.now }
+        requires stays { MergeStays aggregates.now
+            (slice_index_or (entries_of self.old) number ([], [])).1 more.now }
+        ensures rows { (key : List KeyPart) → length key ≡ 6
+            → drop self.old.trie.width key ≡ drop self.old.trie.width all_hidden
+            → IsHeld (keys_in self.old) (take self.old.trie.width key) number
+            → IsMergedAt aggregates.now (key_of key) more.now
+            (entries_of self.old) (entries_of self.new) }
+        ensures trie { self.new.trie ≡ self.old.trie }
+        ensures space { (count : ℕ) → HasSpace self.old count → HasSpace self.new count }
+        ensures many { self.new.many ≡ self.old.many }
+    {
+        let count = self.trie.len;
+        merge_at(self.cells.as_mut_slice(), count, number, aggregates, more);
+    }
+
+    // One more row for this key, merged into the row that is there.
+    pub(crate) fn merge(
+        &mut self,
+        key: &OrderedKey,
+        aggregates: &[Aggregate],
+        more: &[Option<i64>],
+    ) -> Result<(), AllocError>
+        requires narrow { drop self.old.trie.width key.now ≡ drop self.old.trie.width all_hidden }
+        requires many { length aggregates.now ≡ self.old.many }
+        requires wide { self.old.many ≤ length more.now }
+        requires stays { RowsStay aggregates.now
+            (row_at (entries_of self.old) (key_of key.now)) more.now }
+        ensures ok { OnOk result (IsMergedAt aggregates.now (key_of key.now) more.now
+            (entries_of self.old) (entries_of self.new)) }
+        ensures refused { OnErr result (entries_of self.new ≡ entries_of self.old) }
+        ensures held { (other : List KeyPart) (number : ℕ) → IsHeld (keys_in self.old) other number
+            → IsHeld (keys_in self.new) other number }
+        ensures space { (count : ℕ) → HasSpace self.old (count + 1)
+            → IsOk result × HasSpace self.new count }
+        ensures width { self.new.trie.width ≡ self.old.trie.width }
+        ensures many { self.new.many ≡ self.old.many }
+    {
+        let width = self.trie.width;
+        match self.trie.find(&key[..width]) {
+            Place::Held(number) => {
+                self.merge_row(number, aggregates, more);
+                Ok(())
+            }
+            Place::Missing { node, digit } => {
+                let many = self.many;
+                self.push(node, digit, key, &more[..many])
+            }
+        }
+    }
+
+    // The row of this key, in place of one that is there.
+    pub(crate) fn insert(&mut self, key: &OrderedKey, row: &[Option<i64>]) -> Result<(), AllocError>
+        requires narrow { drop self.old.trie.width key.now ≡ drop self.old.trie.width all_hidden }
+        requires wide { length row.now ≡ self.old.many }
+        ensures ok { OnOk result (IsWithRow (key_of key.now) row.now
+            (entries_of self.old) (entries_of self.new)) }
+        ensures width { self.new.trie.width ≡ self.old.trie.width }
+        ensures many { self.new.many ≡ self.old.many }
+    {
+        let width = self.trie.width;
+        match self.trie.find(&key[..width]) {
+            Place::Held(number) => {
+                let count = self.trie.len;
+                write_at(self.cells.as_mut_slice(), count, number, row);
+                Ok(())
+            }
+            Place::Missing { node, digit } => self.push(node, digit, key, row),
+        }
+    }
+}

@@ -1,0 +1,158 @@
+// Rows found by the digits of their keys.
+
+ghost use Rattle.std.specs.Prelude.{◌≡◌, ◌≤◌, ◌<◌, ◌+◌, ◌*◌, [], length, slice_index_or, IfOk, MatchBool};
+ghost use Rattle.star_program.specs.Rows.{cut};
+ghost use Rattle.star_group.specs.Private.Tries as spec;
+ghost use Rattle.star_group.specs.Private.Tries.{IsFound, IsTrie, child, digit_at, key_at, part_digit};
+
+mod growth;
+
+use super::key::KeyPart;
+use star_program::row_of;
+use std::alloc::{AllocError, Global};
+
+// What tells a value's bits apart from those of another kind.
+fn kind_of(part: KeyPart) -> usize
+    ensures { result ≡ spec.kind_of part }
+{
+    match part {
+        KeyPart::All => 0,
+        KeyPart::Number(_) => 1,
+        KeyPart::Code(_) => 2,
+    }
+}
+
+fn bits_of(part: KeyPart) -> u64
+    ensures { result ≡ spec.bits_of part }
+{
+    match part {
+        KeyPart::All => 0,
+        KeyPart::Number(number) => number.cast_unsigned(),
+        KeyPart::Code(code) => u64::from(code),
+    }
+}
+
+// Two bits of a value, from the lowest, and then its kind.
+fn part_digit_at(part: KeyPart, round: usize) -> usize
+    ensures digit { result ≡ part_digit part round }
+    ensures few { result < 4 }
+{
+    if round < 32 {
+        ((bits_of(part) >> (2 * round)) % 4) as usize
+    } else {
+        kind_of(part)
+    }
+}
+
+// The digit of a key at a depth: its places take turns.
+fn key_digit(key: &[KeyPart], width: usize, depth: usize) -> usize
+    requires some { 0 < width }
+    requires wide { length key.now ≡ width }
+    ensures digit { result ≡ digit_at width key.now depth }
+    ensures few { result < 4 }
+{
+    part_digit_at(key[depth % width], depth / width)
+}
+
+// Where a key's digits lead.
+#[derive(Clone, Copy)]
+pub(crate) enum Place {
+    Held(usize),
+    Missing { node: usize, digit: usize },
+}
+
+/// The keys of rows, each of `width` parts, and for each row and for the node above all of them
+/// the row below by a digit: a row is below one whose key it shares some digits with. A look-up
+/// passes at most as many rows as a key has digits, 33 a part, whatever keys there are; this is
+/// read from the code, and no clause says it.
+#[derive(Drop)]
+pub(crate) struct Trie {
+    pub(crate) width: usize,
+    pub(crate) len: usize,
+    pub(crate) keys: Vec<KeyPart>,
+    links: Vec<[u32; 4]>,
+    ghost some: { 0 < width },
+    ghost few: { width ≤ 6 },
+    ghost long: { length keys.items ≡ len * width },
+    ghost trie: { IsTrie width (cut width len keys.items) links.items },
+}
+
+// The node below a node by a digit.
+fn child_at(links: &[[u32; 4]], node: usize, digit: usize) -> usize
+    requires node { node < length links.now }
+    requires digit { digit < 4 }
+    ensures { result ≡ child links.now node digit }
+{
+    links[node][digit] as usize
+}
+
+// Whether the row of a number has this key.
+fn has_key(keys: &[KeyPart], width: usize, count: usize, number: usize, key: &[KeyPart]) -> bool
+    requires { length keys.now ≡ count * width }
+    ensures { MatchBool result (key_at (cut width count keys.now) number ≡ key.now)
+        (key_at (cut width count keys.now) number ≡ key.now → ⊥) }
+{
+    *row_of(keys, width, count, number) == *key
+}
+
+impl Trie {
+    // No keys of so many parts.
+    pub(crate) fn new(alloc: Global, width: usize) -> Result<Trie, AllocError>
+        requires some { 0 < width }
+        requires few { width ≤ 6 }
+        ensures width { IfOk result (λ trie. trie.width ≡ width) }
+        ensures len { IfOk result (λ trie. trie.len ≡ 0) }
+    {
+        let mut links = Vec::new(alloc);
+        links.push([0; 4])?;
+        Ok(Trie {
+            width,
+            len: 0,
+            keys: Vec::new(alloc),
+            links,
+        })
+    }
+
+    // The same keys once more.
+    pub(crate) fn copied(&self, alloc: Global) -> Result<Trie, AllocError>
+        ensures width { IfOk result (λ trie. trie.width ≡ self.now.width) }
+        ensures len { IfOk result (λ trie. trie.len ≡ self.now.len) }
+        ensures keys { IfOk result (λ trie. trie.keys.items ≡ self.now.keys.items) }
+    {
+        Ok(Trie {
+            width: self.width,
+            len: self.len,
+            keys: Vec::from_slice(alloc, self.keys.as_slice())?,
+            links: Vec::from_slice(alloc, self.links.as_slice())?,
+        })
+    }
+
+    // The key of the row of a number.
+    pub(crate) fn key(&self, number: usize) -> &[KeyPart]
+        ensures { result.now
+            ≡ slice_index_or (cut self.now.width self.now.len self.now.keys.items) number [] }
+    {
+        row_of(self.keys.as_slice(), self.width, self.len, number)
+    }
+
+    // Where this key's row is, or would be.
+    pub(crate) fn find(&self, key: &[KeyPart]) -> Place
+        requires { length key.now ≡ self.now.width }
+        ensures { IsFound self.now.width (cut self.now.width self.now.len self.now.keys.items)
+            self.now.links.items key.now result }
+    {
+        let mut node = 0;
+        for depth in 0..self.links.len() {
+            let digit = key_digit(key, self.width, depth);
+            let next = child_at(self.links.as_slice(), node, digit);
+            if next == 0 {
+                return Place::Missing { node, digit };
+            }
+            if has_key(self.keys.as_slice(), self.width, self.len, next - 1, key) {
+                return Place::Held(next - 1);
+            }
+            node = next;
+        }
+        unreachable!()
+    }
+}
