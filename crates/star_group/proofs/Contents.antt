@@ -2,7 +2,7 @@
 use Rattle.std.proofs.Common.{◌≡◌, ℕ, zero, suc, ◌+◌, ◌<◌, ◌≤◌, Bool, true, false, ◌||◌, ℤ, List, [], ◌∷◌, Option, Some, None, Result, Ok, Err, OnOk, IfErr, IfOk, length, get_or, ap, sym, ◌∙◌, subst, refl, cond, arith}
 use Rattle.std.specs.List.{AllByRecursion}
 use Rattle.star_schema.specs.declared.group.Aggregate.{Aggregate}
-use Rattle.star_schema.specs.declared.group.Aggregate.TheVariants.{Sum, Count, Min, Max}
+use Rattle.star_schema.specs.declared.group.Aggregate.TheVariants.{Count}
 use Rattle.star_schema.specs.Groups.{aggregate, members, numbers_for}
 use Rattle.star_program.specs.declared.key.KeyValue.{KeyValue}
 use Rattle.star_program.specs.Keys.{key_value_cmp}
@@ -20,7 +20,7 @@ use Rattle.star_group.proofs.OnePut.{PutStays, PutLeaves}
 use Rattle.star_group.proofs.OwnKeyLemmas.{all_padded}
 use Rattle.star_group.proofs.MergedPuts.{holds_more, leaves_more, stays_more}
 use Rattle.star_group.proofs.PutSteps.{or_right}
-use Rattle.star_group.proofs.GroupKeys.{IsOwn, key_equiv, in_places, own_mask, own_belongs, members_at, changes_belongs, own_at}
+use Rattle.star_group.proofs.GroupKeys.{IsOwn, in_places, own_mask, own_belongs, members_at, changes_belongs, own_at}
 use Rattle.star_group.proofs.OwnGroups.{any_false, all_more, groups_own, own_any}
 use Rattle.star_group.proofs.Totals.{some_aggregate}
 

@@ -1,9 +1,9 @@
 -- Flat lists cut into rows.
-use Rattle.std.proofs.Common.{◌≡◌, ℕ, zero, suc, ◌+◌, ◌*◌, ◌<◌, ◌≤◌, Bool, true, false, List, [], ◌∷◌, ◌++◌, cond, length, get_or, nat_lt, set, take, drop, ap, sym, ◌∙◌, refl, arith, rules}
+use Rattle.std.proofs.Common.{◌≡◌, ℕ, zero, suc, ◌+◌, ◌*◌, ◌<◌, ◌≤◌, List, [], ◌∷◌, ◌++◌, length, get_or, set, take, drop, ap, sym, ◌∙◌, arith}
 use borrow.Rule.Slice.PartMut.{put_mid}
-use Rattle.std.proofs.lemmas.List.{append_assoc, drop-append-le, drop-drop, get_or_past, length-append, length-drop, length-take-le, take-append-drop, take-append-le, take_all}
+use Rattle.std.proofs.lemmas.List.{append_assoc, drop-append-le, drop-drop, length-append, length-drop, length-take-le, take-append-drop, take-append-le, take_all}
 use Rattle.std.proofs.lemmas.Slice.{drop-put_mid, take-put_mid}
-use Rattle.std.proofs.Math.Nat.{add_comm, mul-le-mul_right, suc-mul, zero-mul}
+use Rattle.std.proofs.Math.Nat.{mul-le-mul_right, suc-mul, zero-mul}
 use Rattle.std.proofs.Math.Seq.{drop-append_seam, take-append_seam}
 use Rattle.star_program.specs.Rows.{cut}
 use Rattle.star_program.proofs.Rows.{cut_at}

@@ -1,24 +1,20 @@
 -- One more row merged into those of some keys.
-use Rattle.std.proofs.Common.{◌≡◌, ◌⊎◌, inl, inr, ℕ, zero, suc, ◌+◌, ◌*◌, ◌<◌, ◌≤◌, Bool, true, false, ◌||◌, ℤ, List, [], ◌∷◌, ◌++◌, Option, Some, None, IfSome, MatchBool, length, length-append, get_or, take, map, ap, sym, ◌∙◌, subst, refl, true≢false, arith, below_more}
+use Rattle.std.proofs.Common.{◌≡◌, ◌⊎◌, inl, inr, ℕ, zero, suc, ◌+◌, ◌<◌, Bool, true, false, ◌||◌, ℤ, List, [], ◌∷◌, Option, Some, None, IfSome, length, get_or, take, map, ap, sym, ◌∙◌, subst, refl, true≢false, arith}
 use Rattle.std.specs.List.{list_any, IsDistinct}
 use Rattle.std.specs.Option.{unwrap_or}
-use Rattle.std.proofs.Math.Nat.{mul-le-mul_right}
-use Rattle.std.proofs.lemmas.List.{get_or-map, get_or_append_left, get_or_default, get_or_push, length-map}
+use Rattle.std.proofs.lemmas.List.{get_or-map, length-map}
 use Rattle.std.proofs.lemmas.List.Folds.{list_any_at, list_any_more}
 use Rattle.std.proofs.lemmas.Map.Keys.{apart_from_distinct, IsDistinct-tail}
 use Rattle.star_schema.specs.declared.group.Aggregate.{Aggregate}
-use Rattle.star_schema.specs.declared.group.Aggregate.TheVariants.{Count}
 use Rattle.star_program.specs.declared.key.KeyValue.{KeyValue}
-use Rattle.star_program.specs.Puts.{leaves}
 use Rattle.star_group.specs.declared.keyed.key.KeyPart.{KeyPart}
 use Rattle.star_group.specs.declared.keyed.KeyedRows.{KeyedRows}
 use Rattle.star_group.specs.Base.{key_of, row_at}
 use Rattle.star_group.specs.Entries.{entries_of}
 use Rattle.star_group.specs.OwnKeys.{key_eq}
-use Rattle.star_group.specs.Private.Merged.{IsMergedAt, IsMergedInto, MergeLeaves, MergeStays, RowsStay, merged}
-use Rattle.star_group.specs.Private.Numbers.{AreNarrow, AreNumbers, HasSpace, HasTrieSpace, IsKnown, IsNarrow, IsNumber, keys_in}
+use Rattle.star_group.specs.Private.Merged.{IsMergedAt, IsMergedInto, MergeLeaves, MergeStays, RowsStay}
+use Rattle.star_group.specs.Private.Numbers.{AreNarrow, IsNarrow, IsNumber}
 use Rattle.star_group.specs.Private.Rows.{AllStay, IsBlank, MergesAll, SomeLeaves}
-use Rattle.star_group.specs.Private.Tries.{IsHeld}
 use Rattle.star_group.proofs.Bases.{other_row, own_row}
 use Rattle.star_program.proofs.Rows.{length-cut}
 use Rattle.star_group.proofs.GroupKeys.{key_decides, key_equiv}

@@ -1,7 +1,8 @@
 -- Rows found by the digits of their keys: looking one up, and one row more.
-use Rattle.std.proofs.Common.{◌≡◌, ◌≢◌, ℕ, zero, suc, ◌+◌, ◌-◌, ◌<◌, ◌≤◌, List, [], ◌∷◌, ◌++◌, Bool, true, false, MatchBool, true≢false, length, get_or, set, ap, sym, ◌∙◌, subst, refl, arith, below_more, get_or-set_same, get_or-set_other, ◌⊎◌, inl, inr}
+use Rattle.std.proofs.Common.{◌≡◌, ◌≢◌, ℕ, zero, suc, ◌+◌, ◌-◌, ◌*◌, ◌/◌, ◌%◌, ◌<◌, ◌≤◌, List, [], ◌∷◌, ◌++◌, Bool, true, false, MatchBool, true≢false, length, get_or, set, ap, sym, ◌∙◌, subst, refl, arith, below_more, get_or-set_same, get_or-set_other, ◌⊎◌, inl, inr}
 use Rattle.std.proofs.lemmas.Bool.{cases_eq, cases_lt}
 use Rattle.std.proofs.lemmas.List.{get_or_append_left, get_or_past, get_or_default, get_or_push, length-append, length-set}
+use Rattle.std.proofs.lemmas.Nat.{div-mul-add, mod-mul-add}
 use Rattle.std.proofs.Math.Logic.{∥∥₁_elim, ∥∥₁_map}
 use Rattle.star_group.specs.declared.keyed.key.KeyPart.{KeyPart}
 use Rattle.star_group.specs.declared.keyed.key.KeyPart.TheVariants.{All, Number, Code}
@@ -11,7 +12,7 @@ use Rattle.std.specs.Cmp.{signed_Decides, unsigned_Decides}
 use Rattle.std.specs.Cmp.Lexicographic.{pointwise}
 use Rattle.std.proofs.lemmas.Slice.Eq.{slice_eq-Decides}
 use Rattle.star_program.specs.Rows.{cut}
-use Rattle.star_group.specs.Private.Tries.{IsTrie, IsMissing, Leads, child, digit_at, key_at, node_at}
+use Rattle.star_group.specs.Private.Tries.{IsTrie, IsMissing, Leads, child, digit_at, key_at, node_at, part_digit}
 
 abbrev part_eq : KeyPart → KeyPart → Bool
 part_eq = eq-value.it
@@ -37,6 +38,13 @@ keys_told b ps rs e = by b e
     by : (b : Bool) → b ≡ pointwise part_eq ps rs → MatchBool b (ps ≡ rs) (ps ≡ rs → ⊥)
     by true e = decides.0 (sym e)
     by false e = λ same. true≢false (sym (decides.1 same) ∙ sym e)
+
+-- the digit at a depth is that of the round and the place whose turn it is
+pub digit_turn : (width : ℕ) (key : List KeyPart) (depth round place : ℕ) → depth ≡ round * width + place → place < width → part_digit (get_or key place All) round ≡ digit_at width key depth
+digit_turn width key depth round place e h =
+    let at : depth % width ≡ place = ap (λ n. n % width) e ∙ mod-mul-add round width place h in
+    let in_round : depth / width ≡ round = ap (λ n. n / width) e ∙ div-mul-add round width place h in
+    λ i. part_digit (get_or key (sym at i) All) (sym in_round i)
 
 no_prop : IsProp ⊥
 no_prop = hlevel

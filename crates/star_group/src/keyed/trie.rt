@@ -1,9 +1,9 @@
 // Rows found by the digits of their keys.
 
-ghost use Rattle.std.specs.Prelude.{◌≡◌, ◌≤◌, ◌<◌, ◌+◌, ◌*◌, [], length, slice_index_or, IfOk, MatchBool};
+ghost use Rattle.std.specs.Prelude.{◌≡◌, ◌≤◌, ◌<◌, ◌+◌, ◌*◌, ◌^◌, [], length, slice_index_or, IfOk, MatchBool};
 ghost use Rattle.star_program.specs.Rows.{cut};
 ghost use Rattle.star_group.specs.Private.Tries as spec;
-ghost use Rattle.star_group.specs.Private.Tries.{IsFound, IsTrie, child, digit_at, key_at, part_digit};
+ghost use Rattle.star_group.specs.Private.Tries.{IsFound, IsTrie, child, key_at, part_digit};
 
 mod growth;
 
@@ -44,14 +44,27 @@ fn part_digit_at(part: KeyPart, round: usize) -> usize
     }
 }
 
-// The digit of a key at a depth: its places take turns.
-fn key_digit(key: &[KeyPart], width: usize, depth: usize) -> usize
-    requires some { 0 < width }
-    requires wide { length key.now ≡ width }
-    ensures digit { result ≡ digit_at width key.now depth }
+// The digit of a key in this round and at this place.
+fn key_digit(key: &[KeyPart], round: usize, place: usize) -> usize
+    requires within { place < length key.now }
+    ensures digit { result ≡ part_digit (slice_index_or key.now place KeyPart.All) round }
     ensures few { result < 4 }
 {
-    part_digit_at(key[depth % width], depth / width)
+    part_digit_at(key[place], round)
+}
+
+// The round and the place after these: a key's places take turns.
+fn next_turn(width: usize, round: usize, place: usize) -> (usize, usize)
+    requires within { place < width }
+    requires few { round + 1 < 2 ^ 64 }
+    ensures within { result.1 < width }
+    ensures next { result.0 * width + result.1 ≡ round * width + place + 1 }
+{
+    if place + 1 < width {
+        (round, place + 1)
+    } else {
+        (round + 1, 0)
+    }
 }
 
 // Where a key's digits lead.
@@ -142,8 +155,10 @@ impl Trie {
             self.now.links.items key.now result }
     {
         let mut node = 0;
-        for depth in 0..self.links.len() {
-            let digit = key_digit(key, self.width, depth);
+        let mut turn = (0, 0);
+        for _depth in 0..self.links.len() {
+            let (round, place) = turn;
+            let digit = key_digit(key, round, place);
             let next = child_at(self.links.as_slice(), node, digit);
             if next == 0 {
                 return Place::Missing { node, digit };
@@ -152,6 +167,7 @@ impl Trie {
                 return Place::Held(next - 1);
             }
             node = next;
+            turn = next_turn(self.width, round, place);
         }
         unreachable!()
     }

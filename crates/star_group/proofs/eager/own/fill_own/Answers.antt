@@ -1,6 +1,5 @@
-use Rattle.std.proofs.Common.{◌≡◌, ◌<◌, ◌∙◌, ◌++◌, ◌∷◌, [], List, ap, length, arith, refl, rules, subst, sym}
+use Rattle.std.proofs.Common.{◌≡◌, ◌<◌, ◌∙◌, ◌++◌, ◌∷◌, [], ap, length, arith, refl, rules, subst, sym}
 use Rattle.std.proofs.lemmas.Grind.{common_steps}
-use Rattle.star_group.specs.declared.keyed.key.KeyPart.{KeyPart}
 use Rattle.star_group.specs.Keyed.{all_hidden}
 use Rattle.star_group.specs.OwnKeys.{padded}
 use Rattle.star_group.specs.Private.Numbers.{AreNarrow}

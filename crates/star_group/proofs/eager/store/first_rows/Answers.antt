@@ -1,4 +1,4 @@
-use Rattle.std.proofs.Common.{◌≡◌, None, [], ◌∷◌, subst, take}
+use Rattle.std.proofs.Common.{None, [], ◌∷◌, subst, take}
 use Rattle.star_group.specs.Base.{key_of}
 use Rattle.star_group.specs.Entries.{entries_of}
 use Rattle.star_group.specs.Keyed.{all_hidden}
