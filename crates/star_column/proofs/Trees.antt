@@ -1,8 +1,9 @@
 -- Different texts, and the tree in which their numbers are found.
-use Rattle.std.proofs.Common.{◌≡◌, ◌⊎◌, ℕ, ◌+◌, ◌<◌, true, List, [], ◌∷◌, ◌++◌, Bor, Some, None, length, get_or, map, sym, ap, ◌∙◌, arith, inl, inr, ⊎_elim, true≢false, length-append}
+use Rattle.std.proofs.Common.{◌≡◌, ◌⊎◌, ℕ, ◌+◌, ◌<◌, true, Option, refl, List, [], ◌∷◌, ◌++◌, Bor, Some, None, length, get_or, map, sym, ap, ◌∙◌, arith, inl, inr, ⊎_elim, true≢false, length-append}
 use Rattle.std.specs.BTreeMap.{BTreeMap, Updates, get, is_at}
 use Rattle.std.specs.List.{IsDistinct, slice_get}
 use Rattle.std.specs.Map.{lookup}
+use Rattle.std.specs.Option.{unwrap_or}
 use Rattle.std.specs.Ordering.{is_eq}
 use Rattle.std.specs.Cmp.Lexicographic.{bytes_decides}
 use Rattle.std.specs.declared.cmp.Ordering.{Ordering}
@@ -115,6 +116,53 @@ module _ (texts more : List (Bor (List ℕ))) (text : Bor (List ℕ)) (number : 
           )
     ]);
   }
+
+-- ---- a text that is looked up: a new one leads to none, and another to its place
+module _ (texts : List (Bor (List ℕ))) (numbers : BTreeMap (Bor (List ℕ)) ℕ)
+    (h : AreNumbered texts numbers) (text : Bor (List ℕ)) (number next : ℕ)
+    (last : next ≡ length texts)
+    (is : number ≡ unwrap_or (get bytes_cmp numbers text) next) where
+  before : (n : ℕ) → get bytes_cmp numbers text ≡ Some n → n < next
+  before n at =
+      let within = slice_get_within (map (λ (t : Bor (List ℕ)). t.now) texts) n text.now
+      ((h.found text n).0 at) in
+      omega (arith, last, within, length-map texts (λ (t : Bor (List ℕ)). t.now))
+
+  pub new_text : number ≡ next → get bytes_cmp numbers text ≡ None
+  new_text new = go (get bytes_cmp numbers text) refl is
+    where
+      go : (o : Option ℕ) → get bytes_cmp numbers text ≡ o → number ≡ unwrap_or o next
+          → get bytes_cmp numbers text ≡ None
+      go None at e = at
+      go (Some n) at e = absurd (omega (arith, new, e, before n at))
+
+  pub known_text : (number ≡ next → ⊥) → get bytes_cmp numbers text ≡ Some number
+  known_text known = go (get bytes_cmp numbers text) refl is
+    where
+      go : (o : Option ℕ) → get bytes_cmp numbers text ≡ o → number ≡ unwrap_or o next
+          → get bytes_cmp numbers text ≡ Some number
+      go None at e = absurd (known e)
+      go (Some n) at e = at ∙ ap Some (sym e)
+
+pub numbered_again : (texts : List (Bor (List ℕ))) (old new : BTreeMap (Bor (List ℕ)) ℕ)
+    (text : Bor (List ℕ)) (number : ℕ) → AreNumbered texts old
+    → get bytes_cmp old text ≡ Some number → Updates bytes_cmp old new text (Some number)
+    → AreNumbered texts new
+numbered_again texts old new text number h known updates = record {
+  found = λ q n.
+      let is = same_found q in (
+        λ e. (h.found q n).0 (sym is ∙ e),
+        λ e. is ∙ (h.found q n).1 e,
+      );
+}
+  where
+    same_found : (q : Bor (List ℕ)) → get bytes_cmp new q ≡ get bytes_cmp old q
+    same_found q = elim (cases_Bool (is_at (bytes_cmp text) q)) [
+      | inl equal ↦
+          let is : get bytes_cmp new q ≡ Some number = rw equal at (updates.0 q) in
+          is ∙ sym known ∙ get_alike old text q (alike text.now q.now equal)
+      | inr other ↦ updates.2 q other
+    ]
 
 -- ---- they are different
 pub numbered_apart : (texts : List (Bor (List ℕ))) (numbers : BTreeMap (Bor (List ℕ)) ℕ)

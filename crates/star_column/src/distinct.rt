@@ -1,8 +1,10 @@
 // The different texts of a column, numbered in the order in which they are first met.
 
-ghost use Rattle.std.specs.Prelude.{◌≡◌, ◌⊎◌, ◌<◌, ◌^◌, ◌++◌, ◌∷◌, [], Some, IfOk, IfSome, OnOk, length, map, slice_get};
+ghost use Rattle.std.specs.Prelude.{◌≡◌, ◌⊎◌, ◌<◌, ◌^◌, ◌++◌, ◌∷◌, [], Some, IfOk, IfSome, OnErr, OnOk, length, map, slice_get};
+ghost use Rattle.std.specs.BTreeMap.{IsUnchanged, Updates, get};
 ghost use Rattle.std.specs.List.{range_with_len};
-ghost use Rattle.star_column.specs.Private.Order.{IsOrderOf};
+ghost use Rattle.std.specs.Option.{unwrap_or};
+ghost use Rattle.star_column.specs.Private.Order.{IsOrderOf, bytes_cmp};
 
 use std::alloc::{AllocError, Global};
 use std::collections::BTreeMap;
@@ -100,21 +102,22 @@ impl<'t> Distinct<'t> {
         }
     }
 
-    /// The number of a text by the tree, the next one where the text is new. It is remembered.
+    /// The number of a text by the tree, the next one where the text is new. One that was met is
+    /// remembered.
     fn look_up(&mut self, text: &'t [u8]) -> Result<u32, AllocError>
         requires { length self.old < 2 ^ 32 }
         ensures number { IfOk result (λ number. slice_get self.new number ≡ Some text.now) }
         ensures texts { OnOk result
             ((self.new ≡ self.old) ⊎ (self.new ≡ self.old ++ text.now ∷ [])) }
     {
-        if let Some(number) = self.numbers.get(&text) {
-            self.recent[slot_of(text)] = *number;
-            return Ok(*number);
-        }
-        let number = self.texts.len() as u32;
         self.texts.reserve(1)?;
-        self.numbers.insert(text, number)?;
-        self.texts.push_reserved(text);
+        let next = self.texts.len() as u32;
+        let number = number_in(&mut self.numbers, text, next)?;
+        if number == next {
+            self.texts.push_reserved(text);
+        } else {
+            self.recent[slot_of(text)] = number;
+        }
         Ok(number)
     }
 
@@ -127,6 +130,23 @@ impl<'t> Distinct<'t> {
         ordered.sort_unstable();
         Ok(ordered)
     }
+}
+
+/// The number of a text in a tree, which is the next one from now on where it had none: the tree is
+/// searched once for both.
+fn number_in<'t>(
+    numbers: &mut BTreeMap<&'t [u8], u32>,
+    text: &'t [u8],
+    next: u32,
+) -> Result<u32, AllocError>
+    ensures number { IfOk result
+        (λ number. number ≡ unwrap_or (get bytes_cmp numbers.old text.entry) next) }
+    ensures updates { IfOk result
+        (λ number. Updates bytes_cmp numbers.old numbers.new text.entry (Some number)) }
+    ensures refused { OnErr result (IsUnchanged numbers.old numbers.new) }
+{
+    let number = numbers.entry(text)?.or_insert(next);
+    Ok(*number)
 }
 
 /// These texts with their places as numbers.

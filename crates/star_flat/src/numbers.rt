@@ -1,6 +1,6 @@
 // A list of numbers, in words as wide as they need.
 
-ghost use Rattle.std.specs.Prelude.{◌≡◌, ◌<◌, ◌++◌, ◌∷◌, [], OnErr, OnOk, Some, length, slice_get, take};
+ghost use Rattle.std.specs.Prelude.{◌≡◌, ◌<◌, ◌+◌, ◌++◌, ◌∷◌, [], OnErr, OnOk, Some, length, slice_get, take};
 ghost use Rattle.star_flat.specs.Words.{numbers_in};
 
 use crate::words::SignedWords;
@@ -48,6 +48,16 @@ impl FlatNumbers {
         ensures { slice_get self.now place ≡ Some result }
     {
         self.words.at(place)
+    }
+
+    /// The numbers at a place, from 0, and at the next one.
+    #[inline(always)]
+    pub(crate) fn two_at(&self, place: usize) -> (i64, i64)
+        requires { place + 1 < length self.now }
+        ensures first { slice_get self.now place ≡ Some result.0 }
+        ensures second { slice_get self.now (place + 1) ≡ Some result.1 }
+    {
+        self.words.two_at(place)
     }
 
     /// The words that the numbers are kept in.

@@ -80,7 +80,9 @@ fn push_place(rows: &mut FlatNumbers, place: usize) -> Result<(), AllocError>
     }
 }
 
-/// Keeps a text, and puts its place at the end, or changes nothing where memory is refused.
+/// Keeps a text, and puts its place at the end, or changes nothing where memory is refused. Apart
+/// from `push`, which stays short so.
+#[cold]
 fn keep(kept: &mut FlatTexts, rows: &mut FlatNumbers, text: &[u8]) -> Result<(), AllocError>
     ensures kept { OnOk result (kept.new ≡ kept.old ++ text.now ∷ []) }
     ensures rows { OnOk result (places rows.new ≡ places rows.old ++ length kept.old ∷ []) }
@@ -134,6 +136,7 @@ impl RepeatedTexts {
     }
 
     /// Puts a text at the end, or changes nothing where memory is refused.
+    #[inline(always)]
     pub fn push(&mut self, text: &[u8]) -> Result<(), AllocError>
         ensures ok { OnOk result (self.new ≡ self.old ++ text.now ∷ []) }
         ensures err { OnErr result (self.new ≡ self.old) }

@@ -1,6 +1,6 @@
 // A list of texts, one after another in one buffer.
 
-ghost use Rattle.std.specs.Prelude.{◌≡◌, ◌<◌, ◌++◌, ◌∷◌, ◌↔◌, [], IsTrue, Some, length, slice_get, OnOk, OnErr};
+ghost use Rattle.std.specs.Prelude.{◌≡◌, ◌<◌, ◌+◌, ◌++◌, ◌∷◌, ◌↔◌, [], IsTrue, Some, length, slice_get, OnOk, OnErr};
 ghost use Rattle.star_flat.specs.Private.Cut.{texts_from, start_of, IsCut};
 ghost use Rattle.star_flat.specs.Repeated.{places};
 
@@ -54,6 +54,7 @@ impl FlatTexts {
     }
 
     /// The text at a place, from 0.
+    #[inline(always)]
     pub fn get(&self, place: usize) -> &[u8]
         requires { place < length self.now }
         ensures { slice_get self.now place ≡ Some result.now }
@@ -78,32 +79,48 @@ impl FlatTexts {
     }
 }
 
-// Where the text at a place ends.
-fn end_at(ends: &FlatNumbers, place: usize) -> usize
-    requires { place < length ends.now }
-    ensures { slice_get (places ends.now) place ≡ Some result }
+// Where the first text ends.
+fn first_end(ends: &FlatNumbers) -> usize
+    requires { 0 < length ends.now }
+    ensures { slice_get (places ends.now) 0 ≡ Some result }
 {
-    ends.get(place).unsigned_abs() as usize
+    ends.get(0).unsigned_abs() as usize
 }
 
-// Where the text at a place begins.
-fn start_at(ends: &FlatNumbers, place: usize) -> usize
+// Where the text at a place ends, and where the next one does.
+#[inline(always)]
+fn two_ends(ends: &FlatNumbers, place: usize) -> (usize, usize)
+    requires { place + 1 < length ends.now }
+    ensures first { slice_get (places ends.now) place ≡ Some result.0 }
+    ensures second { slice_get (places ends.now) (place + 1) ≡ Some result.1 }
+{
+    let (first, second) = ends.two_at(place);
+    (
+        first.unsigned_abs() as usize,
+        second.unsigned_abs() as usize,
+    )
+}
+
+// Where the text at a place begins, and where it ends.
+#[inline(always)]
+fn range_at(ends: &FlatNumbers, place: usize) -> (usize, usize)
     requires { place < length ends.now }
-    ensures { result ≡ start_of 0 (places ends.now) place }
+    ensures start { result.0 ≡ start_of 0 (places ends.now) place }
+    ensures end { slice_get (places ends.now) place ≡ Some result.1 }
 {
     if place == 0 {
-        0
+        (0, first_end(ends))
     } else {
-        end_at(ends, place - 1)
+        two_ends(ends, place - 1)
     }
 }
 
+#[inline(always)]
 fn text_at<'t>(bytes: &'t [u8], ends: &FlatNumbers, place: usize) -> &'t [u8]
     requires cut { IsCut 0 (places ends.now) (length bytes.now) }
     requires within { place < length ends.now }
     ensures { slice_get (texts_from 0 bytes.now (places ends.now)) place ≡ Some result.now }
 {
-    let start = start_at(ends, place);
-    let end = end_at(ends, place);
+    let (start, end) = range_at(ends, place);
     &bytes[start..end]
 }

@@ -1,6 +1,6 @@
 // Signed words of 8, 16, 32 and 64 bits.
 
-ghost use Rattle.std.specs.Prelude.{◌≡◌, ◌<◌, ◌++◌, ◌∷◌, [], ℤ, true, All, FitsSigned, IfOk, MatchBool, MatchOption, OnErr, OnOk, Some, length, map, refl, slice_get, take, vec_capacity, vec_len};
+ghost use Rattle.std.specs.Prelude.{◌≡◌, ◌<◌, ◌+◌, ◌++◌, ◌∷◌, [], ℤ, true, All, FitsSigned, IfOk, MatchBool, MatchOption, OnErr, OnOk, Some, length, map, refl, slice_get, take, vec_capacity, vec_len};
 ghost use Rattle.std.specs.Int.{w8, w16, w32, w64};
 ghost use Rattle.std.specs.Ordering.{int_cmp};
 ghost use Rattle.star_flat.specs.Words.{numbers_in};
@@ -132,6 +132,16 @@ fn push_to<W: SignedWord>(words: &mut Vec<W>, number: i64) -> Result<bool, Alloc
     }
 }
 
+/// The numbers at a place, from 0, and at the next one.
+#[inline(always)]
+fn two_in<W: SignedWord>(words: &[W], place: usize) -> (i64, i64)
+    requires { place + 1 < length words.now }
+    ensures first { slice_get (map W.number words.now) place ≡ Some result.0 }
+    ensures second { slice_get (map W.number words.now) (place + 1) ≡ Some result.1 }
+{
+    (words[place].value(), words[place + 1].value())
+}
+
 /// The same numbers in words that can be every number that they could.
 fn rewritten<S: SignedWord, W: SignedWord>(alloc: Global, words: &[S]) -> Result<Vec<W>, AllocError>
     requires { (number : ℤ) → S.holds number → W.holds number }
@@ -170,6 +180,21 @@ impl SignedWords {
             SignedWords::Bits16(words) => i64::from(words[place]),
             SignedWords::Bits32(words) => i64::from(words[place]),
             SignedWords::Bits64(words) => words[place],
+        }
+    }
+
+    /// The numbers at a place, from 0, and at the next one, by one look at the width of the words.
+    #[inline(always)]
+    pub(crate) fn two_at(&self, place: usize) -> (i64, i64)
+        requires { place + 1 < length (numbers_in self.now) }
+        ensures first { slice_get (numbers_in self.now) place ≡ Some result.0 }
+        ensures second { slice_get (numbers_in self.now) (place + 1) ≡ Some result.1 }
+    {
+        match self {
+            SignedWords::Bits8(words) => two_in(words.as_slice(), place),
+            SignedWords::Bits16(words) => two_in(words.as_slice(), place),
+            SignedWords::Bits32(words) => two_in(words.as_slice(), place),
+            SignedWords::Bits64(words) => two_in(words.as_slice(), place),
         }
     }
 

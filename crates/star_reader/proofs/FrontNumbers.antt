@@ -1,12 +1,13 @@
 -- The first field of a text, as a number.
-use Rattle.std.proofs.Common.{◌≡◌, ◌⊎◌, ◌<◌, ◌≤◌, ◌∙◌, ℕ, zero, suc, List, [], ◌∷◌, ◌&&◌, true, false, get_or, length, take, refl, sym, ap, inl, inr, arith}
+use Rattle.std.proofs.Common.{◌≡◌, ◌⊎◌, ◌+◌, ◌^◌, ◌<◌, ◌≤◌, ◌∙◌, ℕ, zero, suc, List, [], ◌∷◌, ◌&&◌, true, false, get_or, length, take, refl, sym, ap, inl, inr, arith}
 use Rattle.std.specs.Char.{is_ascii_digit}
 use Rattle.std.specs.List.{list_all}
 use Rattle.std.specs.Prelude.{nat_le}
 use Rattle.std.proofs.lemmas.Bool.{and_from, and_parts, cases_Bool, le-leb, leb-true, true≢false}
 use Rattle.std.proofs.lemmas.List.{length-take-le}
+use Rattle.std.specs.Str.Parse.{digits_value}
 use Rattle.star_common.specs.Numerals.{is_numeral}
-use Rattle.star_common.proofs.NumeralLemmas.{digit_bounds}
+use Rattle.star_common.proofs.NumeralLemmas.{below_power, digit_bounds}
 use Rattle.star_reader.specs.Private.Fronts.{AreDigits, IsFront, is_plain}
 use Rattle.star_reader.proofs.Fronts.{all_at, other_plain}
 
@@ -34,6 +35,33 @@ numeral_front text count value h some few =
     and_from _ _
     (and_from _ _ (le-leb 1 (length (take count text)) (omega (arith, all)))
     (le-leb (length (take count text)) 18 (omega (arith, all)))) h.digits
+
+-- a byte that is so far above 48 is a digit
+pub written_digit : (b d : ℕ) → d ≤ 9 → d + 48 ≡ b → is_ascii_digit b ≡ true
+written_digit b d few is =
+    and_from _ _ (le-leb 48 b (omega (arith, is))) (le-leb b 57 (omega (arith, few, is)))
+
+-- some digits and a bar behind them are a first field, which is a numeral
+pub bar_front : (text : List ℕ) (count value : ℕ) → 1 ≤ count → count ≤ 18 → count < length text
+    → list_all is_ascii_digit (take count text) ≡ true
+    → value ≡ digits_value 10 (take count text) → value < 10 ^ count
+    → get_or text count 0 ≡ 124
+    → IsFront text count × (is_numeral 18 (take count text) ≡ true)
+    × (value ≡ digits_value 10 (take count text)) × (value < 10 ^ 18)
+bar_front text count value some few within digits writes small bar =
+    let all : AreDigits text count value = record {
+      few = omega (arith, few);
+      within = omega (arith, within);
+      digits = digits;
+      writes = writes;
+      small = small;
+      stops = λ _. inr (within, rw bar refl);
+    } in (
+      front_of_digits text count value all (inr (within, bar)),
+      numeral_front text count value all some few,
+      writes,
+      below_power count 18 value small few,
+    )
 
 -- a first field of digits is all the digits
 same_count : (text : List ℕ) (count value n : ℕ) → AreDigits text count value → IsFront text n

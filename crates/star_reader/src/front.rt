@@ -1,6 +1,6 @@
 // The first field of what is left of a line.
 
-ghost use Rattle.std.specs.Prelude.{◌≡◌, ◌⊎◌, ◌+◌, ◌<◌, ◌≤◌, ◌^◌, ◌&&◌, ℕ, IsTrue, ◌↔◌, MatchOption, false, true, get_or, length, take};
+ghost use Rattle.std.specs.Prelude.{◌≡◌, ◌⊎◌, ◌+◌, ◌<◌, ◌≤◌, ◌^◌, ◌&&◌, ℕ, IfSome, IsTrue, ◌↔◌, MatchOption, false, true, get_or, length, take};
 ghost use Rattle.std.specs.List.{list_all};
 ghost use Rattle.std.specs.Str.Parse.{digits_value};
 ghost use Rattle.star_common.specs.Numerals.{is_numeral};
@@ -22,7 +22,6 @@ pub(crate) struct Number {
 }
 
 // The digits at the front of a text, of which at most 19 count. So many always fit.
-#[inline(always)]
 fn digits_front(text: &[u8]) -> Digits
     ensures { AreDigits text.now result.count result.value }
 {
@@ -39,7 +38,6 @@ fn digits_front(text: &[u8]) -> Digits
 }
 
 // Whether a field may end at a place: at a bar, or at the end of all.
-#[inline(always)]
 fn ends_at(text: &[u8], place: usize) -> bool
     requires { place ≤ length text.now }
     ensures { IsTrue result
@@ -49,9 +47,10 @@ fn ends_at(text: &[u8], place: usize) -> bool
     place >= text.len() || text[place] == b'|'
 }
 
-// The first field of a text without a sign, if it is 1 to 18 digits.
-#[inline(always)]
-fn magnitude_front(text: &[u8]) -> Option<Digits>
+// The first field of a text without a sign, if it is 1 to 18 digits, read with a test of the text's
+// length at each. Apart from `magnitude_front`, which stays short so.
+#[cold]
+fn long_front(text: &[u8]) -> Option<Digits>
     ensures { MatchOption result
         ((count : ℕ) → IsFront text.now count → is_numeral 18 (take count text.now) ≡ false)
         (λ run. IsFront text.now run.count × (is_numeral 18 (take run.count text.now) ≡ true)
@@ -65,6 +64,55 @@ fn magnitude_front(text: &[u8]) -> Option<Digits>
         return None;
     }
     Some(run)
+}
+
+// The digit that a byte writes, and a number past 9 where it writes none: one comparison tells
+// which.
+#[inline(always)]
+fn digit_of(byte: u8) -> u64
+    ensures { result ≤ 9 → result + 48 ≡ byte }
+{
+    u64::from(byte).wrapping_sub(48)
+}
+
+// The first field of a text without a sign, if it is 1 to 8 digits, has a bar behind it, and the
+// text has nine bytes. There may be a number where it tells none.
+#[inline(always)]
+fn short_front(text: &[u8]) -> Option<Digits>
+    ensures { IfSome result
+        (λ run. IsFront text.now run.count × (is_numeral 18 (take run.count text.now) ≡ true)
+        × (run.value ≡ digits_value 10 (take run.count text.now)) × (run.value < 10 ^ 18)) }
+{
+    if text.len() < 9 {
+        return None;
+    }
+    let mut value = 0u64;
+    for count in 0..9 {
+        let byte = text[count];
+        let digit = digit_of(byte);
+        if digit > 9 {
+            if count == 0 || byte != b'|' {
+                return None;
+            }
+            return Some(Digits { value, count });
+        }
+        value = value * 10 + digit;
+    }
+    None
+}
+
+// The first field of a text without a sign, if it is 1 to 18 digits.
+#[inline(always)]
+fn magnitude_front(text: &[u8]) -> Option<Digits>
+    ensures { MatchOption result
+        ((count : ℕ) → IsFront text.now count → is_numeral 18 (take count text.now) ≡ false)
+        (λ run. IsFront text.now run.count × (is_numeral 18 (take run.count text.now) ≡ true)
+        × (run.value ≡ digits_value 10 (take run.count text.now)) × (run.value < 10 ^ 18)) }
+{
+    match short_front(text) {
+        Some(short) => Some(short),
+        None => long_front(text),
+    }
 }
 
 /// The first field of a text, if it is a number.

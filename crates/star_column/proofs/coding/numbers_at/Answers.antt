@@ -1,4 +1,4 @@
-use Rattle.std.proofs.Common.{◌≡◌, ◌∙◌, List, ℤ, rules}
+use Rattle.std.proofs.Common.{◌≡◌, ◌∙◌, rules}
 use Rattle.star_column.proofs.Repeats.{on_read, words_read, words_within}
 use Rattle.star_column.proofs.coding.numbers_at.Goals as goal
 

@@ -19,29 +19,29 @@ ends bytes es place end cut there =
 pub slice_bounds-result-count : goal.slice_bounds-result-count
 slice_bounds-result-count c =
     let at =
-    ends c.args.bytes.now (places c.args.ends.now) c.args.place c.end_at-end.result
-    c.requires.cut c.end_at-end.ensures in
-    omega (arith, at.1, c.start_at-start.ensures)
+    ends c.args.bytes.now (places c.args.ends.now) c.args.place c.range_at-start.result.1
+    c.requires.cut c.range_at-start.ensures.end in
+    omega (arith, at.1, c.range_at-start.ensures.start)
 
 pub slice_bounds-result-start : goal.slice_bounds-result-start
 slice_bounds-result-start c =
     let at =
-    ends c.args.bytes.now (places c.args.ends.now) c.args.place c.end_at-end.result
-    c.requires.cut c.end_at-end.ensures in
-    omega (arith, at.1, c.start_at-start.ensures)
+    ends c.args.bytes.now (places c.args.ends.now) c.args.place c.range_at-start.result.1
+    c.requires.cut c.range_at-start.ensures.end in
+    omega (arith, at.1, c.range_at-start.ensures.start)
 
 pub slice_bounds-result-end : goal.slice_bounds-result-end
 slice_bounds-result-end c =
-    (ends c.args.bytes.now (places c.args.ends.now) c.args.place c.end_at-end.result
-    c.requires.cut c.end_at-end.ensures).2
+    (ends c.args.bytes.now (places c.args.ends.now) c.args.place c.range_at-start.result.1
+    c.requires.cut c.range_at-start.ensures.end).2
 
 pub returns : goal.returns
 returns c =
     let es = places c.args.ends.now in
-    let within = slice_get_within es c.args.place c.end_at-end.result c.end_at-end.ensures in
+    let within = slice_get_within es c.args.place c.range_at-start.result.1 c.range_at-start.ensures.end in
     let at =
-    ends c.args.bytes.now es c.args.place c.end_at-end.result c.requires.cut c.end_at-end.ensures in
+    ends c.args.bytes.now es c.args.place c.range_at-start.result.1 c.requires.cut c.range_at-start.ensures.end in
     text_there 0 c.args.bytes.now es c.args.place within
     ∙ ap (λ e. Some (slice_range c.args.bytes.now (start_of 0 es c.args.place) e)) at.0
-    ∙ ap (λ s. Some (slice_range c.args.bytes.now s c.end_at-end.result))
-    (sym c.start_at-start.ensures)
+    ∙ ap (λ s. Some (slice_range c.args.bytes.now s c.range_at-start.result.1))
+    (sym c.range_at-start.ensures.start)

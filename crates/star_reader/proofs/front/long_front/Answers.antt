@@ -2,8 +2,8 @@ use Rattle.std.proofs.Common.{◌≤◌, arith, refl, sym}
 use Rattle.std.proofs.lemmas.Bool.{true≢false}
 use Rattle.star_common.proofs.NumeralLemmas.{below_power}
 use Rattle.star_reader.proofs.FrontNumbers.{front_of_digits, no_numeral, numeral_front}
-use Rattle.star_reader.proofs.front.magnitude_front.Goals as goal
-use Rattle.star_reader.proofs.front.magnitude_front.Goals.{then-run-eq0-via-then-run-eq0, then-run-eq0-via-else-run-eq0+then-run-gt18}
+use Rattle.star_reader.proofs.front.long_front.Goals as goal
+use Rattle.star_reader.proofs.front.long_front.Goals.{then-run-eq0-via-then-run-eq0, then-run-eq0-via-else-run-eq0+then-run-gt18}
 
 pub returns-then-run-eq0 : goal.returns-then-run-eq0
 returns-then-run-eq0 c =
