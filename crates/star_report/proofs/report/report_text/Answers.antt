@@ -8,6 +8,6 @@ unfolding report_text
 returns c =
     let rows = c.args.outcome.now.rows in
     let past : length rows ≤ c.loop-number.number =
-        omega (arith, c.loop-number-test.false, c.len-number-end.ensures) in
+    omega (arith, c.loop-number-test.false, c.len-number-end.ensures) in
     all_parts row_text rows c.loop-number.number _ c.loop-number.text.items past
     c.loop-number.invariant
