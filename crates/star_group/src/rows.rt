@@ -66,8 +66,10 @@ fn stays_at(
     requires wide { rows.now.many ≤ length more.now }
     ensures { (key : List KeyPart) → length key ≡ 6 → IsNarrow rows.now.trie.width key
         → IsNumber rows.now key number → MatchBool result
-        (MergeStays aggregates.now (unwrap_or (row_at (entries_of rows.now) (key_of key)) []) more.now)
-        (MergeLeaves aggregates.now (unwrap_or (row_at (entries_of rows.now) (key_of key)) []) more.now) }
+        (MergeStays aggregates.now
+        (unwrap_or (row_at (entries_of rows.now) (key_of key)) []) more.now)
+        (MergeLeaves aggregates.now
+        (unwrap_or (row_at (entries_of rows.now) (key_of key)) []) more.now) }
 {
     match number {
         Some(number) => row_stays(aggregates, rows.row(number), more),
