@@ -25,3 +25,4 @@ mod Resolving
 mod Functions
 mod Defaults
 mod QueryRows
+mod FlatRows
