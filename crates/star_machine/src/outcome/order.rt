@@ -5,7 +5,7 @@ ghost use Rattle.std.specs.Cmp.Lexicographic.{slice_cmp};
 ghost use Rattle.std.specs.List.{range_with_len};
 ghost use Rattle.star_schema.specs.Order.{AreInOrder, key_cmp};
 ghost use Rattle.star_group.specs.Shown.{row_at, row_shown};
-ghost use Rattle.star_program.specs.Keys.{value_cmp};
+ghost use Rattle.star_program.specs.Keys.{key_value_cmp};
 ghost use Rattle.star_machine.specs.Private.RowOrder.{AllHaveSameNulls, AreApart, column_order, sort_order, row_order};
 
 use star_group::{GroupRows, KeyValue};
@@ -15,7 +15,7 @@ use std::cmp::Ordering;
 
 // Values of one key, by number or by code.
 fn compare_values(a: KeyValue, b: KeyValue) -> Ordering
-    ensures { result ≡ value_cmp a b }
+    ensures { result ≡ key_value_cmp a b }
 {
     match (a, b) {
         (KeyValue::Number(x), KeyValue::Number(y)) => x.cmp(&y),
@@ -27,7 +27,7 @@ fn compare_values(a: KeyValue, b: KeyValue) -> Ordering
 
 // Keys of one place: ALL comes after every value.
 fn compare_keys(a: Option<KeyValue>, b: Option<KeyValue>) -> Ordering
-    ensures { result ≡ key_cmp value_cmp a b }
+    ensures { result ≡ key_cmp key_value_cmp a b }
 {
     match (a, b) {
         (Some(x), Some(y)) => compare_values(x, y),
@@ -39,7 +39,7 @@ fn compare_keys(a: Option<KeyValue>, b: Option<KeyValue>) -> Ordering
 
 // All keys, from the left.
 fn compare_key_lists(a: &[Option<KeyValue>], b: &[Option<KeyValue>]) -> Ordering
-    ensures { result ≡ slice_cmp (key_cmp value_cmp) a.now b.now }
+    ensures { result ≡ slice_cmp (key_cmp key_value_cmp) a.now b.now }
 {
     match (a.split_first(), b.split_first()) {
         (Some((x, rest)), Some((y, others))) => match compare_keys(*x, *y) {
@@ -121,7 +121,7 @@ pub(super) fn sorted_numbers(
     requires nulls { AllHaveSameNulls rows.now }
     ensures { IfOk result
         (λ numbers. IsPermutation rows.now (map (row_at rows.now) numbers.items)
-        × AreInOrder value_cmp sorts.now
+        × AreInOrder key_value_cmp sorts.now
         (map row_shown (map (row_at rows.now) numbers.items))) }
 {
     let mut numbers = numbers_below(alloc, rows.len())?;
