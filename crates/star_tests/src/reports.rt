@@ -47,7 +47,8 @@ fn check_report(
     cells: Vec<Cell>,
     expected: &str,
 ) -> Result<(), AllocError> {
-    assert_eq!(rt; cells.len(), len * names.len());
+    let count = len.checked_mul(names.len()).ok_or(AllocError)?;
+    assert_eq!(rt; cells.len(), count);
     let outcome = Outcome {
         names: names_of(alloc, names)?,
         rows: CellRows::from_cells(names.len(), len, cells),
