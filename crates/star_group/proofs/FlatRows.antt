@@ -4,7 +4,9 @@ use Rattle.std.specs.List.{flat_map, AllByRecursion}
 use Rattle.std.proofs.lemmas.Grind.{flat_map-append}
 use Rattle.std.proofs.lemmas.List.{drop-drop, get_or_past, length-append}
 use Rattle.std.proofs.Math.Nat.{add_comm, suc-mul, zero-mul}
+use Rattle.std.specs.Prelude.{slice_index_or}
 use Rattle.star_program.specs.declared.key.KeyValue.{KeyValue}
+use Rattle.star_program.specs.Rows.{cut}
 use Rattle.star_group.specs.declared.group_row.GroupRow.{GroupRow}
 use Rattle.star_group.specs.Private.FlatRows.{AreParts, Fits, rows_of}
 use Rattle.star_group.specs.Shown.{row_at}
@@ -15,43 +17,19 @@ unfolding rows_of
 rows_length k a zero keys numbers = refl
 rows_length k a (suc n) keys numbers = ap suc (rows_length k a n (drop k keys) (drop a numbers))
 
-pub keys_at : (k a n : ℕ) (keys : List (Option KeyValue)) (numbers : List (Option ℤ)) (number : ℕ) → number < n
-    → (row_at (rows_of k a n keys numbers) number).keys ≡ take k (drop (number * k) keys)
-unfolding rows_of
-keys_at k a zero keys numbers number h = absurd (omega arith)
-keys_at k a (suc n) keys numbers zero h = ap (λ m. take k (drop m keys)) (sym (zero-mul k))
-keys_at k a (suc n) keys numbers (suc number) h =
-    keys_at k a n (drop k keys) (drop a numbers) number (omega arith) ∙ ap (take k) (drop-drop (number * k) k keys ∙ ap (λ m. drop m keys) (add_comm k (number * k) ∙ sym (suc-mul number k)))
-
-pub aggregates_at : (k a n : ℕ) (keys : List (Option KeyValue)) (numbers : List (Option ℤ)) (number : ℕ) → number < n
-    → (row_at (rows_of k a n keys numbers) number).aggregates ≡ take a (drop (number * a) numbers)
-unfolding rows_of
-aggregates_at k a zero keys numbers number h = absurd (omega arith)
-aggregates_at k a (suc n) keys numbers zero h = ap (λ m. take a (drop m numbers)) (sym (zero-mul a))
-aggregates_at k a (suc n) keys numbers (suc number) h =
-    aggregates_at k a n (drop k keys) (drop a numbers) number (omega arith) ∙ ap (take a) (drop-drop (number * a) a numbers ∙ ap (λ m. drop m numbers) (add_comm a (number * a) ∙ sym (suc-mul number a)))
-
-past_rows : (k a n : ℕ) (keys : List (Option KeyValue)) (numbers : List (Option ℤ)) (number : ℕ) → (number < n → ⊥)
-    → row_at (rows_of k a n keys numbers) number ≡ record { keys = []; aggregates = [] }
-past_rows k a n keys numbers number past =
-    let long = rows_length k a n keys numbers in
-    get_or_past (rows_of k a n keys numbers) number (record { keys = []; aggregates = [] }) (omega (arith, long, past))
-
 pub keys_read : (k a n : ℕ) (keys : List (Option KeyValue)) (numbers : List (Option ℤ)) (number : ℕ)
-    → cond (nat_lt number n) (take k (drop (number * k) keys)) [] ≡ (row_at (rows_of k a n keys numbers) number).keys
-keys_read k a n keys numbers number = by (nat_lt number n) refl
-  where
-    by : (b : Bool) → nat_lt number n ≡ b → cond b (take k (drop (number * k) keys)) [] ≡ (row_at (rows_of k a n keys numbers) number).keys
-    by true e = let within : number < n = search rules in sym (keys_at k a n keys numbers number within)
-    by false e = let past : number < n → ⊥ = search rules in ap (λ r. r.keys) (sym (past_rows k a n keys numbers number past))
+    → slice_index_or (cut k n keys) number [] ≡ (row_at (rows_of k a n keys numbers) number).keys
+unfolding cut, rows_of
+keys_read k a zero keys numbers number = refl
+keys_read k a (suc n) keys numbers zero = refl
+keys_read k a (suc n) keys numbers (suc number) = keys_read k a n (drop k keys) (drop a numbers) number
 
 pub aggregates_read : (k a n : ℕ) (keys : List (Option KeyValue)) (numbers : List (Option ℤ)) (number : ℕ)
-    → cond (nat_lt number n) (take a (drop (number * a) numbers)) [] ≡ (row_at (rows_of k a n keys numbers) number).aggregates
-aggregates_read k a n keys numbers number = by (nat_lt number n) refl
-  where
-    by : (b : Bool) → nat_lt number n ≡ b → cond b (take a (drop (number * a) numbers)) [] ≡ (row_at (rows_of k a n keys numbers) number).aggregates
-    by true e = let within : number < n = search rules in sym (aggregates_at k a n keys numbers number within)
-    by false e = let past : number < n → ⊥ = search rules in ap (λ r. r.aggregates) (sym (past_rows k a n keys numbers number past))
+    → slice_index_or (cut a n numbers) number [] ≡ (row_at (rows_of k a n keys numbers) number).aggregates
+unfolding cut, rows_of
+aggregates_read k a zero keys numbers number = refl
+aggregates_read k a (suc n) keys numbers zero = refl
+aggregates_read k a (suc n) keys numbers (suc number) = aggregates_read k a n (drop k keys) (drop a numbers) number
 
 -- ---- gathered
 

@@ -3,8 +3,8 @@
 // again, and nothing is proved from it.
 
 use crate::tree::{Aggregate, Condition, Expression, Join, Measure, PlanTree};
-use star_query::{Operand, write_operand, write_operation};
-use star_schema::{Direction, GroupColumn, Shape, SortKey, table_of};
+use star_query::{Operand, write_grouping, write_list, write_operand, write_operation};
+use star_schema::{Direction, GroupColumn, SortKey, table_of};
 use std::fmt;
 
 impl fmt::Display for Join {
@@ -121,15 +121,6 @@ impl PlanTree {
         Ok(())
     }
 
-    fn write_joins<W: fmt::Write>(&self, f: &mut fmt::Formatter<W>) -> fmt::Result {
-        let mut separator = " where ";
-        for join in &self.joins {
-            write!(f, "{separator}{join}")?;
-            separator = " and ";
-        }
-        Ok(())
-    }
-
     // Behind the joins.
     fn write_conjuncts<W: fmt::Write>(&self, f: &mut fmt::Formatter<W>) -> fmt::Result {
         let mut separator = if self.joins.is_empty() {
@@ -143,21 +134,6 @@ impl PlanTree {
             separator = " and ";
         }
         Ok(())
-    }
-
-    fn write_keys<W: fmt::Write>(&self, f: &mut fmt::Formatter<W>) -> fmt::Result {
-        let mut separator = match self.shape {
-            Shape::Plain => " group by ",
-            Shape::Cube => " group by cube(",
-        };
-        for key in &self.keys {
-            write!(f, "{separator}{key}")?;
-            separator = ", ";
-        }
-        match self.shape {
-            Shape::Plain => Ok(()),
-            Shape::Cube => f.write_char(')'),
-        }
     }
 
     // A column of the groups, by its name.
@@ -202,9 +178,9 @@ impl fmt::Display for PlanTree {
     fn fmt<W: fmt::Write>(&self, f: &mut fmt::Formatter<W>) -> fmt::Result {
         self.write_items(f)?;
         self.write_tables(f)?;
-        self.write_joins(f)?;
+        write_list(f, " where ", " and ", &self.joins)?;
         self.write_conjuncts(f)?;
-        self.write_keys(f)?;
+        write_grouping(f, self.shape, &self.keys)?;
         self.write_sorts(f)
     }
 }

@@ -1,6 +1,6 @@
 // The rows of a report, in flat storage.
 
-ghost use Rattle.std.specs.Prelude.{◌≡◌, ◌*◌, [], length, slice_index_or, take, drop, nat_lt, if◌then◌else◌};
+ghost use Rattle.std.specs.Prelude.{◌≡◌, ◌*◌, [], length, slice_index_or};
 ghost use Rattle.star_program.specs.Rows.{cut};
 
 use crate::outcome::Cell;
@@ -31,8 +31,7 @@ impl Model for CellRows {
 /// there is no such row.
 pub fn row_of<T>(items: &[T], width: usize, len: usize, number: usize) -> &[T]
     requires { length items.now ≡ len * width }
-    ensures { result.now
-        ≡ (if nat_lt number len then take width (drop (number * width) items.now) else []) }
+    ensures { result.now ≡ slice_index_or (cut width len items.now) number [] }
 {
     if number < len {
         let start = number * width;

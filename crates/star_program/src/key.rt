@@ -1,11 +1,11 @@
 // The values of keys.
 
-ghost use Rattle.std.specs.Cmp.Rules.{comparing, hashing};
+ghost use Rattle.std.specs.Cmp.Rules.{comparing};
 ghost use Rattle.std.proofs.Common.{rules};
 ghost use Rattle.star_program.specs.Keys.{value_eq};
 
 /// A key's value: a number, or the code of a text in its column's dictionary.
-#[derive(Clone, Copy, Debug, Eq, Hash)]
+#[derive(Clone, Copy, Debug, Eq)]
 pub enum KeyValue {
     Number(i64),
     Code(u32),

@@ -1,12 +1,12 @@
 // Queries as SQL, with the parentheses that their grouping needs. No contract says what is printed:
 // its definition would be this file again, and nothing is proved from it.
 
-use crate::operation::{Operand, write_operand, write_operation};
+use crate::printing::{Operand, write_grouping, write_list, write_operand, write_operation};
 use crate::token::{Fold, Relation};
 use crate::tree::{
     Aggregate, Condition, Expression, Grouping, Item, Literal, Measure, Name, SortKey, Tree,
 };
-use star_schema::{Direction, Shape};
+use star_schema::Direction;
 use std::fmt;
 
 impl fmt::Display for Fold {
@@ -152,43 +152,23 @@ impl fmt::Display for SortKey {
     }
 }
 
-// What a word introduces, with commas between.
-fn write_list<T: fmt::Display, W: fmt::Write>(
-    f: &mut fmt::Formatter<W>,
-    word: &str,
-    list: &[T],
-) -> fmt::Result {
-    let mut separator = word;
-    for element in list {
-        write!(f, "{separator}{element}")?;
-        separator = ", ";
-    }
-    Ok(())
-}
-
 /// How rows are grouped, behind a space; nothing where they aren't.
 impl fmt::Display for Grouping {
     fn fmt<W: fmt::Write>(&self, f: &mut fmt::Formatter<W>) -> fmt::Result {
-        match self.shape {
-            Shape::Plain => write_list(f, " group by ", &self.columns),
-            Shape::Cube => {
-                write_list(f, " group by cube(", &self.columns)?;
-                f.write_char(')')
-            }
-        }
+        write_grouping(f, self.shape, &self.columns)
     }
 }
 
 /// The query as SQL in lower case, without the places of its names.
 impl fmt::Display for Tree {
     fn fmt<W: fmt::Write>(&self, f: &mut fmt::Formatter<W>) -> fmt::Result {
-        write_list(f, "select ", &self.items)?;
-        write_list(f, " from ", &self.tables)?;
+        write_list(f, "select ", ", ", &self.items)?;
+        write_list(f, " from ", ", ", &self.tables)?;
         if let Some(condition) = &self.condition {
             write!(f, " where {condition}")?;
         }
         let grouping = &self.grouping;
         write!(f, "{grouping}")?;
-        write_list(f, " order by ", &self.keys)
+        write_list(f, " order by ", ", ", &self.keys)
     }
 }

@@ -12,15 +12,15 @@ mod expressions;
 mod fault;
 pub mod law;
 mod lexer;
-mod operation;
 mod parser;
+mod printing;
 mod query;
 mod token;
 mod tree;
 
 pub use counts::MAX_TEXT;
 pub use fault::QueryFault;
-pub use operation::{Operand, write_operand, write_operation};
+pub use printing::{Operand, write_grouping, write_list, write_operand, write_operation};
 pub use query::Query;
 pub use token::{Fold, Relation};
 pub use tree::{

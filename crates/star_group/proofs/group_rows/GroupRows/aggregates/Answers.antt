@@ -1,4 +1,5 @@
-use Rattle.std.proofs.Common.{◌*◌, [], cond, nat_lt, take, drop, ap, ◌∙◌}
+use Rattle.std.proofs.Common.{[], get_or, ap, ◌∙◌}
+use Rattle.star_program.specs.Rows.{cut}
 use Rattle.star_group.specs.Shown.{row_at}
 use Rattle.star_group.proofs.FlatRows.{aggregates_read}
 use Rattle.star_group.proofs.group_rows.GroupRows.aggregates.Goals as goal
@@ -8,6 +9,6 @@ returns c =
     let s = c.self.inside in
     let n = c.args.number in
     c.row_of.ensures
-    ∙ ap (λ parts. cond (nat_lt n s.len) (take s.aggregate_count (drop (n * s.aggregate_count) parts)) []) c.deref.ensures.value
+    ∙ ap (λ parts. get_or (cut s.aggregate_count s.len parts) n []) c.deref.ensures.value
     ∙ aggregates_read s.key_count s.aggregate_count s.len s.keys.items s.aggregates.items n
     ∙ ap (λ rows. (row_at rows n).aggregates) c.self.view_is

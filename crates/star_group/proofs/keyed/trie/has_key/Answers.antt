@@ -1,9 +1,8 @@
 use Rattle.std.proofs.Common.{◌≡◌, ◌∙◌, MatchBool, subst}
-use Rattle.star_program.proofs.Rows.{cut_read}
 use Rattle.star_group.proofs.Tries.{keys_told}
 use Rattle.star_group.proofs.keyed.trie.has_key.Goals as goal
 
 pub returns : goal.returns
 returns c = subst (λ ps. MatchBool c.eq.result (ps ≡ c.args.key.now) (ps ≡ c.args.key.now → ⊥))
-    (c.row_of.ensures ∙ cut_read c.args.width c.args.count c.args.keys.now c.args.number)
+    (c.row_of.ensures)
     (keys_told c.eq.result c.row_of.result.now c.args.key.now c.eq.ensures)
