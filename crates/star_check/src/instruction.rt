@@ -26,13 +26,8 @@ fn check_put<R: Kinded>(
         (faults.numbers_fault (length registers.now) (kinds_of R.kind registers.now)
         values.now)) }
 {
-    match parts.group(group) {
-        Some(declared) => {
-            check_keys(registers, declared.keys.as_slice(), keys)?;
-            check_numbers(registers, values)
-        }
-        None => unreachable!(),
-    }
+    check_keys(registers, parts.group_at(group).keys.as_slice(), keys)?;
+    check_numbers(registers, values)
 }
 
 // The operands of an instruction whose group is as it should be.

@@ -151,6 +151,14 @@ impl Parts {
         self.groups.as_slice().get(number as usize)
     }
 
+    /// The group of a number that is there. Takes no memory.
+    pub fn group_at(&self, number: u16) -> &GroupDecl
+        requires { number < length self.now.groups }
+        ensures { result.now ≡ group_at self.now number }
+    {
+        &self.groups.as_slice()[number as usize]
+    }
+
     fn are_within_limits(&self) -> bool
         ensures { IsTrue result ↔ IsWithinLimits self.now }
     {
