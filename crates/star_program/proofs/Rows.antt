@@ -1,5 +1,5 @@
 -- Rows in flat storage: how many there are, what stands at a number, and what is gathered.
-use Rattle.std.proofs.Common.{◌≡◌, ◌<◌, ◌*◌, ◌+◌, ℕ, zero, suc, List, [], ◌∷◌, ◌++◌, Bool, true, false, length, map, nat_lt, cond, get_or, take, drop, ap, sym, refl, ◌∙◌, arith, rules}
+use Rattle.std.proofs.Common.{◌≡◌, ◌<◌, ◌≤◌, ◌*◌, ◌+◌, ℕ, zero, suc, List, [], ◌∷◌, ◌++◌, length, map, get_or, take, drop, ap, sym, refl, ◌∙◌, arith}
 use Rattle.std.specs.List.{flat_map}
 use Rattle.std.proofs.lemmas.List.{drop-drop, get_or_past, length-append}
 use Rattle.std.proofs.Math.Nat.{add_comm, suc-mul, zero-mul}
@@ -19,12 +19,8 @@ module _ {A : Type 0} (w : ℕ) where
   cut_at (suc n) items (suc i) h =
       cut_at n (drop w items) i (omega (arith, h)) ∙ ap (take w) (drop-drop (i * w) w items ∙ ap (λ m. drop m items) (add_comm w (i * w) ∙ sym (suc-mul i w)))
 
-  pub cut_read : (n : ℕ) (items : List A) (i : ℕ) → cond (nat_lt i n) (take w (drop (i * w) items)) [] ≡ get_or (cut w n items) i []
-  cut_read n items i = by (nat_lt i n) refl
-    where
-      by : (b : Bool) → nat_lt i n ≡ b → cond b (take w (drop (i * w) items)) [] ≡ get_or (cut w n items) i []
-      by true e = let within : i < n = search rules in sym (cut_at n items i within)
-      by false e = let past : i < n → ⊥ = search rules in sym (get_or_past (cut w n items) i [] (omega (arith, past, length-cut n items)))
+  pub cut_past : (n : ℕ) (items : List A) (i : ℕ) → n ≤ i → get_or (cut w n items) i [] ≡ []
+  cut_past n items i past = get_or_past (cut w n items) i [] (omega (arith, past, length-cut n items))
 
 -- rows that were gathered one after another are these rows again
 module _ {A B : Type 0} (w : ℕ) (row : B → List A) (wide : (x : B) → length (row x) ≡ w) where
