@@ -14,6 +14,8 @@ from typing import Iterable, NamedTuple
 NAME = re.compile(r"\bRattle\.(star_\w+\.(?:specs|proofs)(?:\.[\w'+-]+)*)")
 SAID = re.compile(r"^\./proofs/(\w+?)\.antt:(\d+):\d+: error(.*)$", re.M)
 CRATE = "star_planted"
+# The crate that has nothing but rows.
+ROWS = "star_worked"
 
 
 class Module(NamedTuple):
@@ -75,7 +77,9 @@ class Room:
     def __init__(self, top: Path, folder: Path, built: Path):
         self.top, self.folder, self.built, self.modules = top, folder, built, modules_of(top)
         self.exported = cache(lambda name: is_exported(top, self.modules[name]))
-        self.crates = re.findall(r"(?m)^(\w+)", (top / "crates.txt").read_text(encoding="utf-8"))
+        lines = re.findall(r"(?m)^(\w+):(.*)$", (top / "crates.txt").read_text(encoding="utf-8"))
+        self.crates = [crate for crate, _ in lines]
+        self.libraries = {crate: libraries.split() for crate, libraries in lines}
         self.citing = {name: set() for name in self.modules}
         for module in self.modules.values():
             for name in module.names:
@@ -113,13 +117,24 @@ class Room:
         wanted = lambda it: [name for name in self.modules[it].names if not self.exported(name)]
         return reachable((it for name in names for it in wanted(name)), wanted)
 
+    def rows_of(self, names: Iterable[str]) -> set[str]:
+        """The files of the crate of rows that some modules lead to, themselves among them."""
+        return {it for it in reachable(names, lambda it: self.modules[it].names) if self.modules[it].crate == ROWS}
+
+    def fits(self, names: Iterable[str], home: str) -> bool:
+        """Whether copies of some modules, and of the rows that they lead to, may stand in a crate: they name none above."""
+        below = reachable([home], lambda it: self.libraries.get(it, []))
+        copied = {*names, *self.rows_of(names)}
+        return {self.modules[it].crate for it in {*copied, *(n for c in copied for n in self.modules[c].names)}} <= {ROWS, *below}
+
     def check(self, copies: list[tuple[str, set[str], str, str]], home: str = CRATE) -> dict[str, dict[str, str]] | None:
         """Checks copies, each a prefix, the modules that are copied, the one that is changed and its text.
 
         They stand in a crate of their own, or in one whose modules they are, where no other may name what they name.
         Answers the errors, by prefix and module; None where the check told of none and proved nothing.
         """
-        shared = self.hidden(name for _, names, _, _ in copies for name in names) if home == CRATE else set()
+        all_names = [name for _, names, _, _ in copies for name in names]
+        shared = self.hidden(all_names) if home == CRATE else self.rows_of(all_names)
         written, crates = {}, set()
         for prefix, names, changed, text in [("Shared", shared, "", ""), *copies]:
             file = lambda it: f"{prefix if it in names else 'Shared'}_{it.replace('.', '_')}"
@@ -170,8 +185,7 @@ class Room:
     def declare(self, crates: set[str]) -> None:
         """Lists the crate of copies with the libraries that it names, and those below them."""
         lines = (self.top / "crates.txt").read_text(encoding="utf-8")
-        below = dict(re.findall(r"(?m)^(\w+):(.*)$", lines))
-        all_ = reachable(crates, lambda it: [name for name in below.get(it, "").split() if name.startswith("star_")])
+        all_ = reachable(crates, lambda it: [name for name in self.libraries.get(it, []) if name.startswith("star_")])
         line = f"{CRATE}: {' '.join(it for it in self.crates if it in all_)}\n"
         place = self.folder / "crates.txt"
         if not place.is_file() or place.read_text(encoding="utf-8") != lines + line:

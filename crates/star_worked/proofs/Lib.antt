@@ -17,6 +17,7 @@ mod LoadTexts
 mod Numerals
 mod RawTables
 mod Texts
+mod NamedTexts
 mod Meanings
 mod FirstFaults
 mod NameFaults

@@ -9,7 +9,7 @@ use Rattle.star_query.specs.Cut.{cut_from, reserved}
 use Rattle.star_plan.specs.declared.fault.PlanFault.TheVariants.{UnknownName, NoFactTable, TableTwice, TableNotNamed, JoinMissing, JoinTwice, NotAKeyPair, WrongKind, NotGrouped, DuplicateGroup, UnknownOrderKey, DuplicateAlias, NoAggregate}
 use Rattle.star_plan.specs.Names.{column_called, has_name, table_called}
 use Rattle.star_plan.specs.Naming.{function_word, has_text}
-use Rattle.star_worked.proofs.Texts.{HasNames, faulty}
+use Rattle.star_worked.proofs.NamedTexts.{HasNames, faulty}
 
 -- ---- FROM
 
