@@ -1,7 +1,8 @@
 """The antt modules of the repository's crates, and copies of those that stand on a changed one, in a crate of their own.
 
 A wrong definition is tried in a copy of its file. What cites the file, down to some theorems, is copied too and cites
-the copy; all else is taken from the proved libraries. So one check tries many wrong definitions, and proves nothing else.
+the copy; all else is read where it stands, as sources, whose functions nobody proves. So one check tries many wrong
+definitions, and no crate has to be proved before.
 """
 
 import re
@@ -16,6 +17,8 @@ SAID = re.compile(r"^\./proofs/(\w+?)\.antt:(\d+):\d+: error(.*)$", re.M)
 CRATE = "star_planted"
 # The crate that has nothing but rows.
 ROWS = "star_worked"
+# The function of a crate with copies whose proof names them: a check of it alone reads them, and proves nothing else.
+ANCHOR = "planted"
 
 
 class Module(NamedTuple):
@@ -72,45 +75,27 @@ def is_exported(top: Path, module: Module) -> bool:
 
 
 class Room:
-    """A copy of the repository with one crate more, in which copies of modules are checked."""
+    """A folder with a crate in which copies of modules are checked over the repository's sources."""
 
-    def __init__(self, top: Path, folder: Path, built: Path):
-        self.top, self.folder, self.built, self.modules = top, folder, built, modules_of(top)
+    def __init__(self, top: Path, folder: Path):
+        self.top, self.folder, self.modules = top, folder, modules_of(top)
+        self.kit = Path(subprocess.run(["rt", "doc"], capture_output=True, text=True).stdout.strip()).parent
         self.exported = cache(lambda name: is_exported(top, self.modules[name]))
         lines = re.findall(r"(?m)^(\w+):(.*)$", (top / "crates.txt").read_text(encoding="utf-8"))
-        self.crates = [crate for crate, _ in lines]
         self.libraries = {crate: libraries.split() for crate, libraries in lines}
         self.citing = {name: set() for name in self.modules}
         for module in self.modules.values():
             for name in module.names:
                 self.citing[name].add(module.name)
 
-    def open(self) -> None:
-        """Copies the crates with their built libraries from where they are built, where an earlier run didn't."""
-        for crate in self.crates:
-            stamps = [it / "crates" / crate / "out" / "rlib" / "stamp" for it in (self.built, self.folder)]
-            times = [it.stat().st_mtime_ns if it.is_file() else 0 for it in stamps]
-            if times[0] == times[1] > 0:
-                continue
-            for part in ("src", "specs", "proofs", "out/rlib"):
-                source, target = (it / "crates" / crate / part for it in (self.built, self.folder))
-                if source.is_dir():
-                    shutil.rmtree(target, ignore_errors=True)
-                    shutil.copytree(source, target, symlinks=True)
-        for name in ("HANDLES", "crates.txt"):
-            shutil.copy2(self.top / name, self.folder / name)
-        (self.folder / "crates" / CRATE / "src").mkdir(parents=True, exist_ok=True)
-        text = "//! Copies of definitions, each wrong in one place.\n#![tactic(auto)]\n"
-        (self.folder / "crates" / CRATE / "src" / "lib.rt").write_text(text, encoding="utf-8")
-
     def above(self, name: str) -> set[str]:
         """The modules that stand on one, itself among them."""
         return reachable([name], lambda it: self.citing[it])
 
     def between(self, name: str, theorems: Iterable[str]) -> set[str]:
-        """The modules that stand on one and lead to some theorems."""
+        """The modules that stand on one and lead to some theorems, and itself."""
         below = reachable(theorems, lambda it: self.modules[it].names)
-        return self.above(name) & below
+        return {name} | (self.above(name) & below)
 
     def hidden(self, names: Iterable[str]) -> set[str]:
         """The modules that some name and no other crate may name, and those that these do: they are copied with them."""
@@ -123,15 +108,23 @@ class Room:
 
     def fits(self, names: Iterable[str], home: str) -> bool:
         """Whether copies of some modules, and of the rows that they lead to, may stand in a crate: they name none above."""
-        below = reachable([home], lambda it: self.libraries.get(it, []))
         copied = {*names, *self.rows_of(names)}
-        return {self.modules[it].crate for it in {*copied, *(n for c in copied for n in self.modules[c].names)}} <= {ROWS, *below}
+        crates = {self.modules[it].crate for it in {*copied, *(name for it in copied for name in self.modules[it].names)}}
+        return crates <= {ROWS, home, *self.below([home])}
+
+    def below(self, crates: Iterable[str]) -> list[str]:
+        """The repository's crates below some, each behind those that it stands on."""
+        found = []
+        for crate in crates:
+            for name in (it for it in self.libraries.get(crate, []) if it in self.libraries):
+                found += [it for it in [*self.below([name]), name] if it not in found]
+        return found
 
     def check(self, copies: list[tuple[str, set[str], str, str]], home: str = CRATE) -> dict[str, dict[str, str]] | None:
         """Checks copies, each a prefix, the modules that are copied, the one that is changed and its text.
 
         They stand in a crate of their own, or in one whose modules they are, where no other may name what they name.
-        Answers the errors, by prefix and module; None where the check told of none and proved nothing.
+        Answers the errors, by prefix and module; None where the check told of none and came to no end.
         """
         all_names = [name for _, names, _, _ in copies for name in names]
         shared = self.hidden(all_names) if home == CRATE else self.rows_of(all_names)
@@ -141,38 +134,56 @@ class Room:
             cited = lambda it: f"Rattle.{home}.proofs.{file(it)}" if it in names | shared else None
             for name in names:
                 module = self.modules[name]
-                crates |= {module.crate, *re.findall(r"\bRattle\.(star_\w+)\.", module.text)}
+                crates |= {module.crate, *re.findall(r"\bRattle\.(star_\w+)\.", module.text)} - {ROWS}
                 written[file(name)] = (prefix, name, self.cited(text if name == changed else module.text, cited))
-        self.write({file: text for file, (_, _, text) in written.items()}, home, crates)
+        self.write({file: text for file, (_, _, text) in written.items()}, home)
+        used = [*self.below(crates), *crates] if home == CRATE else self.libraries[home]
         run = subprocess.run(
-            ["rt", "check", "--jobs", "1"], cwd=self.folder / "crates" / home, text=True, stdin=subprocess.DEVNULL,
+            ["rattle", "check", *self.words(home, used)], cwd=self.folder / home, text=True, stdin=subprocess.DEVNULL,
             stdout=subprocess.PIPE, stderr=subprocess.STDOUT,
         )
         (self.folder / "last.log").write_text(run.stdout, encoding="utf-8")
-        if home != CRATE:
-            self.write({}, home, set())
         errors = {}
         for file, line, told in SAID.findall(run.stdout):
             if file in written:
                 prefix, name, _ = written[file]
                 errors.setdefault(prefix, {}).setdefault(name, f"{line}{told}"[:120])
-        return errors if errors or "logic=proved" in run.stdout else None
+        return errors if errors or "\nonly=1 proved=1" in run.stdout else None
 
-    def write(self, texts: dict[str, str], home: str, crates: set[str]) -> None:
-        """Writes copies into the proofs of a crate, in the place of those of the check before."""
-        proofs = self.folder / "crates" / home / "proofs"
-        proofs.mkdir(parents=True, exist_ok=True)
-        for old in [*proofs.glob("P*_star_*.antt"), *proofs.glob("Shared_star_*.antt")]:
-            old.unlink()
+    def words(self, home: str, used: Iterable[str]) -> list[str]:
+        """What the prover is called with: the crates below are read from their sources, those of the kit as they are built."""
+        self.libraries[CRATE] = [it for it in self.libraries if it in used]
+        below = self.below([home])
+        of_kit = lambda crate: ["std", *(it for it in self.libraries[crate] if it not in self.libraries)]
+        words = ["--crate-name", home, "src/lib.rt", "-L", f"dependency={self.kit}/rlibs"]
+        for name in sorted({"core", *(it for crate in [home, *below] for it in of_kit(crate))}):
+            words += ["--extern", f"{name}={self.kit}/rlibs/{name}.rlib"]
+        for crate in below:
+            uses = dict.fromkeys(["core", *of_kit(crate), *self.libraries[crate]])
+            words += ["--lib", f"{crate}:{','.join(uses)}={self.top}/crates/{crate}/src/lib.rt"]
+        words += ["--antt-project", f"{self.kit}/rattle/logic/antt-project.json", "--logic-built", f"{self.kit}/logic_built"]
+        words += ["--incremental", str(self.folder / "incremental" / home), "--links", f"{home}=", "--jobs", "1"]
+        return [*words, "--only", f"{home}::{ANCHOR}"]
+
+    def write(self, texts: dict[str, str], home: str) -> None:
+        """Writes copies into the proofs of a crate: one of nothing else, or a copy of one of the repository."""
+        folder = self.folder / home
+        for part in ("src", "specs", "proofs"):
+            shutil.rmtree(folder / part, ignore_errors=True)
+            if home != CRATE and (self.top / "crates" / home / part).is_dir():
+                shutil.copytree(self.top / "crates" / home / part, folder / part)
+        (folder / "src").mkdir(parents=True, exist_ok=True)
+        (folder / "proofs" / ANCHOR).mkdir(parents=True)
+        with (folder / "src" / "lib.rt").open("a", encoding="utf-8") as out:
+            out.write("//! Copies of definitions.\n#![tactic(auto)]\n" if home == CRATE else "\n")
+            out.write(f"/// Reads the copies.\npub fn {ANCHOR}() {{}}\n")
         for file, text in texts.items():
-            (proofs / f"{file}.antt").write_text(text, encoding="utf-8")
-        kept = self.built / "crates" / home
-        lines = "" if home == CRATE else (kept / "proofs" / "Lib.antt").read_text(encoding="utf-8")
-        (proofs / "Lib.antt").write_text(lines + "".join(f"mod {it}\n" for it in sorted(texts)), encoding="utf-8")
-        if home == CRATE:
-            self.declare(crates)
-        elif not (self.folder / "crates" / home / "out" / "incremental").is_dir():
-            shutil.copytree(kept / "out" / "incremental", self.folder / "crates" / home / "out" / "incremental", symlinks=True)
+            (folder / "proofs" / f"{file}.antt").write_text(text, encoding="utf-8")
+        with (folder / "proofs" / "Lib.antt").open("a", encoding="utf-8") as out:
+            out.write("".join(f"mod {it}\n" for it in sorted(texts)))
+        names = (f"use Rattle.{home}.proofs.{it} as copy{at}\n" for at, it in enumerate(sorted(texts)))
+        (folder / "proofs" / ANCHOR / "Answers.antt").write_text("".join(names), encoding="utf-8")
+        (self.folder / "incremental" / home).mkdir(parents=True, exist_ok=True)
 
     def cited(self, text: str, cited) -> str:
         """A module's text, in which copies are named in the place of what they are copies of."""
@@ -181,12 +192,3 @@ class Room:
             copy = cited(module) if module else None
             return copy + found[1][len(module) :] if copy else found[0]
         return NAME.sub(name, text)
-
-    def declare(self, crates: set[str]) -> None:
-        """Lists the crate of copies with the libraries that it names, and those below them."""
-        lines = (self.top / "crates.txt").read_text(encoding="utf-8")
-        all_ = reachable(crates, lambda it: [name for name in self.libraries.get(it, []) if name.startswith("star_")])
-        line = f"{CRATE}: {' '.join(it for it in self.crates if it in all_)}\n"
-        place = self.folder / "crates.txt"
-        if not place.is_file() or place.read_text(encoding="utf-8") != lines + line:
-            place.write_text(lines + line, encoding="utf-8")

@@ -15,6 +15,22 @@ class Checker:
         self.top, self.folder = top, folder
         names = (top / "crates.txt").read_text(encoding="utf-8")
         self.crates = re.findall(r"(?m)^(\w+)", names)
+        for crate in self.crates:
+            self.copy(crate)
+        for name in ("HANDLES", "crates.txt"):
+            shutil.copy2(top / name, folder / name)
+
+    def copy(self, crate: str) -> None:
+        """Copies a crate with its built library, where an earlier run didn't."""
+        stamps = [it / "crates" / crate / "out" / "rlib" / "stamp" for it in (self.top, self.folder)]
+        times = [it.stat().st_mtime_ns if it.is_file() else 0 for it in stamps]
+        if times[0] == times[1] > 0:
+            return
+        for part in ("src", "specs", "proofs", "out/rlib"):
+            source, target = (it / "crates" / crate / part for it in (self.top, self.folder))
+            if source.is_dir():
+                shutil.rmtree(target, ignore_errors=True)
+                shutil.copytree(source, target, symlinks=True)
 
     def take(self, crate: str) -> None:
         """Copies what earlier checks of a crate kept, where the copy has none."""
