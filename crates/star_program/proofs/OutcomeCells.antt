@@ -6,7 +6,6 @@ use Rattle.std.specs.Option.{option_map, option_or}
 use Rattle.std.proofs.lemmas.Bool.{ltb-true, and_parts, eqb-true}
 use Rattle.std.proofs.lemmas.List.Elements.{All-map, All-same, All-weaker, All-contains, All-contains_itself, All-from_recursion}
 use Rattle.star_common.proofs.Firsts.{or_none}
-use Rattle.star_schema.specs.declared.table.TableId.{TableId}
 use Rattle.star_schema.specs.declared.group.Aggregate.{Aggregate}
 use Rattle.star_schema.specs.declared.group.Aggregate.TheVariants.{Sum, Count, Min, Max}
 use Rattle.star_schema.specs.declared.group.GroupColumn.{GroupColumn}
@@ -42,7 +41,7 @@ use Rattle.star_program.specs.Run.{End, Ended, Trapped, Limited, follow, after, 
 use Rattle.star_program.specs.Shown.{has_column, named_columns, first_unshown, reports, shown_fault}
 use Rattle.star_program.specs.declared.value.Value.{Value}
 use Rattle.star_program.specs.declared.value.Value.TheVariants.{Number, Text, Place, Row, Flag}
-use Rattle.star_program.specs.Values.{kind_of_value, Registers, no_registers, with_entry, number_in, flag_in, key_in}
+use Rattle.star_program.specs.Values.{kind_of_value, Registers, no_registers, with_entry, flag_in, key_in}
 use Rattle.star_program.specs.World.{World}
 
 -- ---- keys as they are declared

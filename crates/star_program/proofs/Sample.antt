@@ -22,6 +22,20 @@ use Rattle.star_program.specs.World.{World}
 
 -- ---- catalogues
 
+-- a world in which each text is empty, and no key is found
+abbrev numbers_alone : (TableId → ℕ) → (ColumnId → ℕ → ℤ) → (ColumnId → Range) → World
+numbers_alone size number bounds = record {
+  size = size;
+  number = number;
+  code = λ c row. 0;
+  entries = λ c. 1;
+  low = λ c text. 0;
+  high = λ c text. 0;
+  text = λ c n. [];
+  find = λ t z. None;
+  bounds = bounds;
+}
+
 abbrev pub sizes : TableId → ℕ
 sizes Date = 3
 sizes Customer = 3
@@ -47,17 +61,7 @@ sample_bounds _ = only (pos 0)
 
 -- five lines, as far as these programs read them
 abbrev pub sample : World
-sample = record {
-  size = sizes;
-  number = sample_number;
-  code = λ c row. 0;
-  entries = λ c. 1;
-  low = λ c text. 0;
-  high = λ c text. 0;
-  text = λ c n. [];
-  find = λ t z. None;
-  bounds = sample_bounds;
-}
+sample = numbers_alone sizes sample_number sample_bounds
 
 abbrev line_sizes : TableId → ℕ
 line_sizes Lineorder = 10
@@ -75,17 +79,7 @@ line_bounds _ = only (pos 0)
 
 -- ten lines of one great price
 abbrev pub great_prices : World
-great_prices = record {
-  size = line_sizes;
-  number = line_number;
-  code = λ c row. 0;
-  entries = λ c. 1;
-  low = λ c text. 0;
-  high = λ c text. 0;
-  text = λ c n. [];
-  find = λ t z. None;
-  bounds = line_bounds;
-}
+great_prices = numbers_alone line_sizes line_number line_bounds
 
 -- ---- programs
 

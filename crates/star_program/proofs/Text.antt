@@ -11,7 +11,8 @@ pub mod ListLemmas
 pub mod ByName
 pub mod OneProgram
 pub mod FaultLemmas
-pub mod DraftLemmas
+pub mod AddedStatements
+pub mod PassedLines
 pub mod NoFault
 pub mod SpelledWords
 pub mod Spelled

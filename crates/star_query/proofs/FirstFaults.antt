@@ -22,7 +22,8 @@ use Rattle.star_query.specs.Private.Machine.{State, begin, Step, to, step, at_en
 use Rattle.star_query.specs.Private.TokenFaults.{refusal_of}
 use Rattle.star_query.proofs.Counting.{by_bool, not_below, number-plus, not_over, fits_after, short_name, not_long}
 use Rattle.star_query.proofs.Accepting.{Accepts, query_goes}
-use Rattle.star_query.proofs.Passed.{step_moves, end_passed}
+use Rattle.star_query.proofs.Passed.{step_moves}
+use Rattle.star_query.proofs.Finishes.{end_passed}
 use Rattle.star_query.proofs.Verdicts.{Goes, begins, goes_one_more, goes_passed, none_counted, only, verdict_of}
 
 -- ---- the way through marks that begin a query

@@ -1,6 +1,7 @@
 pub mod Lexing
 pub mod Accepting
 pub mod Passed
+pub mod Finishes
 pub mod Counting
 pub mod Verdicts
 pub mod WorkedRows

@@ -17,7 +17,8 @@ use Rattle.star_query.specs.Derives.{count_of, IsShort, IsLong, IsWithin, symbol
 use Rattle.star_query.specs.Private.Machine.{State, begin, Step, to, step, at_end, Verdict, Whole, Bad, number_of, plus, is_over, is_long, checked, after, ends, run, nothing_counted}
 use Rattle.star_query.proofs.Counting.{not_below, number-plus, not_over, over_some, fits_after, short_name, long_name, not_long}
 use Rattle.star_query.proofs.Accepting.{Accepts, query_goes}
-use Rattle.star_query.proofs.Passed.{passed, step_moves, state_finishes, end_passed}
+use Rattle.star_query.proofs.Passed.{passed, step_moves}
+use Rattle.star_query.proofs.Finishes.{state_finishes, end_passed}
 
 -- from one state to another through these marks
 abbrev pub Goes : State → List Mark → State → Type 0

@@ -16,7 +16,7 @@ use Rattle.star_program.specs.declared.spelling.fault.TextFault.{TextFault}
 use Rattle.star_program.specs.declared.spelling.place.Place.{Place}
 use Rattle.star_program.specs.declared.spelling.statement.Statement.{Statement}
 use Rattle.star_program.specs.declared.spelling.statement.Statement.TheVariants as says
-use Rattle.star_program.proofs.Text.DraftLemmas.{blank_passed, end_opened, end_spelled, end_within, line_passed, nothing_at_start, nothing_told, opens_report}
+use Rattle.star_program.proofs.Text.PassedLines.{blank_passed, end_opened, end_spelled, end_within, line_passed, nothing_at_start, nothing_told, opens_report}
 use Rattle.star_program.proofs.Text.FaultLemmas.{ended, refused, text_fault_is}
 use Rattle.star_program.proofs.Text.NoFault.{no_fault}
 

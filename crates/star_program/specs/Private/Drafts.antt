@@ -96,16 +96,22 @@ IsInOrder stage.Body d = (d.shows ≡ []) × (d.sorts ≡ [])
 IsInOrder stage.Shows d = (d.scans ≡ []) × (d.sorts ≡ [])
 IsInOrder stage.Sorts d = d.scans ≡ []
 
+-- so many groups, each of them small
+pub record AreGroups (count : ℕ) (groups : List GroupDecl) : Type 0 where
+  pub many : length groups ≡ count
+  pub each : All IsSmall groups
+
+-- a body in which so many scans are open, of so many instructions
+pub record IsBody (instructions depth : ℕ) (scans : List OpenScan) (body : Code) : Type 0 where
+  pub open_scans : length scans ≡ depth
+  pub many : code_size (closed scans body) ≡ instructions
+  pub nested : scan_depth (closed scans body) ≤ 3
+
 -- how many of each kind the draft has, and that they are small
-pub record Counts (groups instructions depth shows sorts : ℕ) (d : Draft) : Type 0 where
-  pub registers : d.registers ≤ 4096
-  pub groups_are : length d.groups ≡ groups
-  pub each_group : All IsSmall d.groups
-  pub scans_are : length d.scans ≡ depth
-  pub instructions_are : code_size (closed d.scans d.body) ≡ instructions
-  pub nested : scan_depth (closed d.scans d.body) ≤ 3
-  pub shows_are : length d.shows ≡ shows
-  pub sorts_are : length d.sorts ≡ sorts
+abbrev pub Counts : ℕ → ℕ → ℕ → ℕ → ℕ → Draft → Type 0
+Counts groups instructions depth shows sorts d =
+    (d.registers ≤ 4096) × AreGroups groups d.groups × IsBody instructions depth d.scans d.body
+    × (length d.shows ≡ shows) × (length d.sorts ≡ sorts)
 
 pub record IsAt (p : Place) (d : Draft) : Type 0 where
   pub within : IsWithin p

@@ -3,7 +3,7 @@ use Rattle.std.proofs.lemmas.Result.{err_from_is_err_and}
 use Rattle.star_program.specs.Private.Drafts.{lines_say, told}
 use Rattle.star_program.specs.Text.Lines.{lines_of}
 use Rattle.star_program.specs.Text.Places.{fault_from}
-use Rattle.star_program.proofs.Text.DraftLemmas.{end_spelled, end_within, nothing_at_start, nothing_told}
+use Rattle.star_program.proofs.Text.PassedLines.{end_spelled, end_within, nothing_at_start, nothing_told}
 use Rattle.star_program.proofs.Text.FaultLemmas.{ended, text_fault_is}
 use Rattle.star_program.proofs.spelling.parsing.read_parts.Goals as goal
 

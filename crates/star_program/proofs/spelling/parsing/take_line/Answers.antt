@@ -1,5 +1,5 @@
 use Rattle.std.proofs.Common.{◌∙◌, sym}
-use Rattle.star_program.proofs.Text.DraftLemmas.{blank_passed}
+use Rattle.star_program.proofs.Text.PassedLines.{blank_passed}
 use Rattle.star_program.proofs.spelling.parsing.take_line.Goals as goal
 
 pub returns-then-is_blank : goal.returns-then-is_blank

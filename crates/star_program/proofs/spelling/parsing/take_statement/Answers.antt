@@ -1,4 +1,4 @@
-use Rattle.star_program.proofs.Text.DraftLemmas.{end_opened, line_passed, line_refused}
+use Rattle.star_program.proofs.Text.PassedLines.{end_opened, line_passed, line_refused}
 use Rattle.star_program.proofs.spelling.parsing.take_statement.Goals as goal
 
 pub add-requires : goal.add-requires
