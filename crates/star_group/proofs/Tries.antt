@@ -1,8 +1,7 @@
 -- Rows found by the digits of their keys: looking one up, and one row more.
-use Rattle.std.proofs.Common.{◌≡◌, ◌≢◌, ℕ, zero, suc, ◌+◌, ◌-◌, ◌*◌, ◌/◌, ◌%◌, ◌<◌, ◌≤◌, List, [], ◌∷◌, ◌++◌, Bool, true, false, MatchBool, true≢false, length, get_or, set, ap, sym, ◌∙◌, subst, refl, arith, below_more, get_or-set_same, get_or-set_other, ◌⊎◌, inl, inr}
+use Rattle.std.proofs.Common.{◌≡◌, ◌≢◌, ℕ, zero, suc, ◌+◌, ◌-◌, ◌*◌, ◌/◌, ◌%◌, ◌^◌, ◌<◌, ◌≤◌, List, [], ◌∷◌, ◌++◌, Bool, true, false, MatchBool, true≢false, length, drop, cond, nat_lt, get_or, set, ap, sym, ◌∙◌, subst, refl, arith, rules, below_more, get_or-set_same, get_or-set_other, ◌⊎◌, inl, inr}
 use Rattle.std.proofs.lemmas.Bool.{cases_eq, cases_lt}
-use Rattle.std.proofs.lemmas.List.{get_or_append_left, get_or_past, get_or_default, get_or_push, length-append, length-set}
-use Rattle.std.proofs.lemmas.Nat.{div-mul-add, mod-mul-add}
+use Rattle.std.proofs.lemmas.List.{at_drop_more, get_or_append_left, get_or_past, get_or_default, get_or_push, length-append, length-set}
 use Rattle.std.proofs.Math.Logic.{∥∥₁_elim, ∥∥₁_map}
 use Rattle.star_group.specs.declared.keyed.key.KeyPart.{KeyPart}
 use Rattle.star_group.specs.declared.keyed.key.KeyPart.TheVariants.{All, Number, Code}
@@ -12,7 +11,7 @@ use Rattle.std.specs.Cmp.{signed_Decides, unsigned_Decides}
 use Rattle.std.specs.Cmp.Lexicographic.{pointwise}
 use Rattle.std.proofs.lemmas.Slice.Eq.{slice_eq-Decides}
 use Rattle.star_program.specs.Rows.{cut}
-use Rattle.star_group.specs.Private.Tries.{IsTrie, IsMissing, Leads, child, digit_at, key_at, node_at, part_digit}
+use Rattle.star_group.specs.Private.Tries.{IsTrie, IsMissing, Leads, child, digit_at, key_at, node_at, part_digit, turn_at, word_from, word_with}
 
 abbrev part_eq : KeyPart → KeyPart → Bool
 part_eq = eq-value.it
@@ -39,12 +38,35 @@ keys_told b ps rs e = by b e
     by true e = decides.0 (sym e)
     by false e = λ same. true≢false (sym (decides.1 same) ∙ sym e)
 
--- the digit at a depth is that of the round and the place whose turn it is
-pub digit_turn : (width : ℕ) (key : List KeyPart) (depth round place : ℕ) → depth ≡ round * width + place → place < width → part_digit (get_or key place All) round ≡ digit_at width key depth
-digit_turn width key depth round place e h =
-    let at : depth % width ≡ place = ap (λ n. n % width) e ∙ mod-mul-add round width place h in
-    let in_round : depth / width ≡ round = ap (λ n. n / width) e ∙ div-mul-add round width place h in
-    λ i. part_digit (get_or key (sym at i) All) (sym in_round i)
+-- ---- the digits of a key
+
+-- one part more of the word
+pub word_on : (word : ℕ) (key : List KeyPart) (place : ℕ) → place < length key → word_from word (drop place key) ≡ word_from (word_with word (get_or key place All)) (drop (place + 1) key)
+unfolding word_from
+word_on word key place h = at_drop_more (word_from word) key place All h
+
+pub word_done : (word : ℕ) (key : List KeyPart) (n : ℕ) → length key ≤ n → word_from word (drop n key) ≡ word
+unfolding word_from
+word_done word [] zero h = refl
+word_done word [] (suc n) h = refl
+word_done word (part ∷ key) zero h = absurd (omega (arith, h))
+word_done word (part ∷ key) (suc n) h = word_done word key n (omega (arith, h))
+
+pub digit_of_word : (width : ℕ) (key : List KeyPart) (depth turn : ℕ) → depth < 32 → turn ≡ turn_at depth → word_from 0 key / 2 ^ (2 * turn) % 4 ≡ digit_at width key depth
+unfolding digit_at
+digit_of_word width key depth turn low is = by (nat_lt depth 32) refl
+  where
+    by : (b : Bool) → nat_lt depth 32 ≡ b → word_from 0 key / 2 ^ (2 * turn) % 4 ≡ cond b (word_from 0 key / 2 ^ (2 * turn_at depth) % 4) (part_digit (get_or key ((depth - 32) % width) All) ((depth - 32) / width))
+    by true e = ap (λ t. word_from 0 key / 2 ^ (2 * t) % 4) is
+    by false e = let high : depth < 32 → ⊥ = search rules in absurd (high low)
+
+pub digit_of_part : (width : ℕ) (key : List KeyPart) (depth : ℕ) → (depth < 32 → ⊥) → part_digit (get_or key ((depth - 32) % width) All) ((depth - 32) / width) ≡ digit_at width key depth
+unfolding digit_at
+digit_of_part width key depth high = by (nat_lt depth 32) refl
+  where
+    by : (b : Bool) → nat_lt depth 32 ≡ b → part_digit (get_or key ((depth - 32) % width) All) ((depth - 32) / width) ≡ cond b (word_from 0 key / 2 ^ (2 * turn_at depth) % 4) (part_digit (get_or key ((depth - 32) % width) All) ((depth - 32) / width))
+    by true e = let low : depth < 32 = search rules in absurd (high low)
+    by false e = refl
 
 no_prop : IsProp ⊥
 no_prop = hlevel

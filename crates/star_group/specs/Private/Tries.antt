@@ -1,5 +1,5 @@
 -- Rows found by the digits of their keys: each row is below one whose key it shares some digits with.
-use Rattle.std.specs.Prelude.{◌≡◌, ℕ, zero, suc, ◌+◌, ◌*◌, ◌/◌, ◌%◌, ◌^◌, ◌<◌, nat_lt, if◌then◌else◌, List, [], length, slice_index_or}
+use Rattle.std.specs.Prelude.{◌≡◌, ℕ, zero, suc, ◌+◌, ◌-◌, ◌*◌, ◌/◌, ◌%◌, ◌^◌, ◌<◌, nat_lt, if◌then◌else◌, List, [], ◌∷◌, length, slice_index_or}
 use Rattle.std.specs.Int.{cast_unsigned, w64}
 use Rattle.star_group.specs.declared.keyed.key.KeyPart.{KeyPart}
 use Rattle.star_group.specs.declared.keyed.trie.Place.{Place}
@@ -21,9 +21,24 @@ kind_of (Code n) = 2
 abbrev pub part_digit : KeyPart → ℕ → ℕ
 part_digit part round = if nat_lt round 32 then bits_of part / 2 ^ (2 * round) % 4 else kind_of part
 
--- the digits of the key's places in turn
-abbrev pub digit_at : ℕ → List KeyPart → ℕ → ℕ
-digit_at width key depth = part_digit (slice_index_or key (depth % width) All) (depth / width)
+-- a word and a part after it
+abbrev pub word_with : ℕ → KeyPart → ℕ
+word_with word part = (word * 31 % 2 ^ 64 + bits_of part) % 2 ^ 64
+
+-- the parts in one word, after those of a word
+unfoldable pub word_from : ℕ → List KeyPart → ℕ
+word_from word [] = word
+word_from word (part ∷ key) = word_from (word_with word part) key
+
+-- which two bits of the word are the digit at a depth below 32
+abbrev pub turn_at : ℕ → ℕ
+turn_at depth = if nat_lt depth 5 then depth else if nat_lt depth 16 then 20 - depth else depth
+
+-- the digits of the key's word, and then those of its places in turn
+unfoldable pub digit_at : ℕ → List KeyPart → ℕ → ℕ
+digit_at width key depth =
+    if nat_lt depth 32 then word_from 0 key / 2 ^ (2 * turn_at depth) % 4
+    else part_digit (slice_index_or key ((depth - 32) % width) All) ((depth - 32) / width)
 
 abbrev pub key_at : List (List KeyPart) → ℕ → List KeyPart
 key_at ks n = slice_index_or ks n []

@@ -1,9 +1,9 @@
 // Rows found by the digits of their keys.
 
-ghost use Rattle.std.specs.Prelude.{◌≡◌, ◌≤◌, ◌<◌, ◌+◌, ◌*◌, ◌^◌, [], length, slice_index_or, IfOk, MatchBool};
+ghost use Rattle.std.specs.Prelude.{◌≡◌, ◌≤◌, ◌<◌, ◌*◌, [], length, slice_index_or, IfOk, MatchBool};
 ghost use Rattle.star_program.specs.Rows.{cut};
 ghost use Rattle.star_group.specs.Private.Tries as spec;
-ghost use Rattle.star_group.specs.Private.Tries.{IsFound, IsTrie, child, key_at, part_digit};
+ghost use Rattle.star_group.specs.Private.Tries.{IsFound, IsTrie, child, key_at, part_digit, word_from};
 
 mod growth;
 
@@ -53,17 +53,53 @@ fn key_digit(key: &[KeyPart], round: usize, place: usize) -> usize
     part_digit_at(key[place], round)
 }
 
-// The round and the place after these: a key's places take turns.
-fn next_turn(width: usize, round: usize, place: usize) -> (usize, usize)
-    requires within { place < width }
-    requires few { round + 1 < 2 ^ 64 }
-    ensures within { result.1 < width }
-    ensures next { result.0 * width + result.1 ≡ round * width + place + 1 }
+// A word with the part at a place after it.
+fn word_with(word: u64, key: &[KeyPart], place: usize) -> u64
+    requires { place < length key.now }
+    ensures { result ≡ spec.word_with word (slice_index_or key.now place KeyPart.All) }
 {
-    if place + 1 < width {
-        (round, place + 1)
+    word.wrapping_mul(31).wrapping_add(bits_of(key[place]))
+}
+
+// All parts in one word: keys whose parts are small have words of their own.
+fn word_of(key: &[KeyPart]) -> u64
+    ensures { result ≡ word_from 0 key.now }
+{
+    let mut word = 0;
+    for place in 0..key.len() {
+        word = word_with(word, key, place);
+    }
+    word
+}
+
+// Which two bits of a word are the digit at a depth: the lowest tell the keys of few rows apart;
+// then the higher ones come first, so that what keys pass that come in order lies close by.
+fn turn_at(depth: usize) -> usize
+    ensures turn { result ≡ spec.turn_at depth }
+    ensures few { depth < 32 → result < 32 }
+{
+    if depth < 5 {
+        depth
+    } else if depth < 16 {
+        20 - depth
     } else {
-        (round + 1, 0)
+        depth
+    }
+}
+
+// The digit of a key at a depth: first those of its word, then those of its parts in turn, which
+// tell all keys apart.
+fn digit_at(word: u64, key: &[KeyPart], depth: usize) -> usize
+    requires word { word ≡ word_from 0 key.now }
+    requires some { 0 < length key.now }
+    ensures digit { result ≡ spec.digit_at (length key.now) key.now depth }
+    ensures few { result < 4 }
+{
+    if depth < 32 {
+        ((word >> (2 * turn_at(depth))) % 4) as usize
+    } else {
+        let turn = depth - 32;
+        key_digit(key, turn / key.len(), turn % key.len())
     }
 }
 
@@ -76,8 +112,8 @@ pub(crate) enum Place {
 
 /// The keys of rows, each of `width` parts, and for each row and for the node above all of them
 /// the row below by a digit: a row is below one whose key it shares some digits with. A look-up
-/// passes at most as many rows as a key has digits, 33 a part, whatever keys there are; this is
-/// read from the code, and no clause says it.
+/// passes at most as many rows as a key has digits, 32 and 33 a part, whatever keys there are; this
+/// is read from the code, and no clause says it.
 #[derive(Drop)]
 pub(crate) struct Trie {
     pub(crate) width: usize,
@@ -154,11 +190,10 @@ impl Trie {
         ensures { IsFound self.now.width (cut self.now.width self.now.len self.now.keys.items)
             self.now.links.items key.now result }
     {
+        let word = word_of(key);
         let mut node = 0;
-        let mut turn = (0, 0);
-        for _depth in 0..self.links.len() {
-            let (round, place) = turn;
-            let digit = key_digit(key, round, place);
+        for depth in 0..self.links.len() {
+            let digit = digit_at(word, key, depth);
             let next = child_at(self.links.as_slice(), node, digit);
             if next == 0 {
                 return Place::Missing { node, digit };
@@ -167,7 +202,6 @@ impl Trie {
                 return Place::Held(next - 1);
             }
             node = next;
-            turn = next_turn(self.width, round, place);
         }
         unreachable!()
     }
