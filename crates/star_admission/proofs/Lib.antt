@@ -30,6 +30,7 @@ mod TurnsMet
 pub mod Nested
 mod Quoted
 mod Sizes
+mod NarrowRanges
 mod ToldBounds
 mod ToldColumns
 pub mod BeforePuts

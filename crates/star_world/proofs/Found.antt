@@ -1,11 +1,12 @@
 -- The first place of a key is each place that it has, where no two are one.
-use Rattle.std.proofs.Common.{◌≡◌, ◌≢◌, ◌<◌, ◌+◌, ◌↔◌, ℕ, zero, suc, ℤ, Bool, true, false, true≢false, cond, List, [], ◌∷◌, Some, None, Option, length, arith, ap, sym, subst, ◌∙◌, refl, slice_get}
-use Rattle.std.specs.Prelude.{◌&&◌, IfSome}
+use Rattle.std.proofs.Common.{◌≡◌, ◌≢◌, ◌<◌, ◌+◌, ◌↔◌, ℕ, zero, suc, ℤ, Bool, true, false, true≢false, cond, List, [], ◌∷◌, Some, None, Option, length, arith, ap, sym, subst, ◌∙◌, refl, slice_get, ⊎_elim}
+use Rattle.std.specs.Prelude.{◌&&◌, AllPairs, IfSome}
 use Rattle.std.specs.List.{position_from}
 use Rattle.std.specs.Ordering.{int_eq}
+use Rattle.std.proofs.lemmas.Bool.{cases_lt}
 use Rattle.std.proofs.lemmas.Bool.Decides.{Decides-int_eq}
 use Rattle.std.proofs.lemmas.Cmp.{int_eq_equiv}
-use Rattle.std.proofs.lemmas.Option.{same_Some, slice_get_within}
+use Rattle.std.proofs.lemmas.Option.{get_or_from_slice_get, same_Some, slice_get_within}
 use Rattle.star_world.specs.WorldOf.{is_key}
 
 itself : (n : ℤ) → is_key n (n ∷ []) ≡ true
@@ -47,6 +48,18 @@ found_from n (key ∷ keys) i = go (is_key n key) refl (position_from (is_key n)
     go : (b : Bool) → is_key n key ≡ b → (o : Option ℕ) → IsFound n keys (i + 1) o → IsFound n (key ∷ keys) i (cond (is_key n key) (Some i) o)
     go true e o found = subst (λ b. IsFound n (key ∷ keys) i (cond b (Some i) o)) (sym e) (0, omega arith, ap Some (only_key n key e))
     go false e o found = subst (λ b. IsFound n (key ∷ keys) i (cond b (Some i) o)) (sym e) (later n key keys i o e found)
+
+-- no key stands in two rows where no two are the same
+pub one_place : (keys : List (List ℤ)) (i j : ℕ) (k : List ℤ) → AllPairs (λ a b. a ≢ b) keys
+    → slice_get keys i ≡ Some k → slice_get keys j ≡ Some k → i ≡ j
+one_place keys i j k apart at_i at_j =
+    let first = get_or_from_slice_get keys i k k at_i in
+    let second = get_or_from_slice_get keys j k k at_j in
+    ⊎_elim {C = i ≡ j}
+    (λ before. absurd (apart i j k before (slice_get_within keys j k at_j) (first ∙ sym second)))
+    (λ from. ⊎_elim {C = i ≡ j}
+    (λ after. absurd (apart j i k after (slice_get_within keys i k at_i) (second ∙ sym first)))
+    (λ upto. omega (arith, from, upto)) (cases_lt j i)) (cases_lt i j)
 
 -- an answer that is each place of a key is the first place
 pub is_position : (n : ℤ) (keys : List (List ℤ)) (o : Option ℕ) → ((row : ℕ) → (o ≡ Some row) ↔ (slice_get keys row ≡ Some (n ∷ []))) → o ≡ position_from (is_key n) 0 keys

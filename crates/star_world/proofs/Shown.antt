@@ -1,8 +1,7 @@
 -- The world of sound rows is what programs see of them.
-use Rattle.std.proofs.Common.{◌≡◌, ◌≢◌, ◌↔◌, ℕ, ℤ, pos, List, [], ◌∷◌, Some, None, Option, map, refl, sym, ap, ◌∙◌, arith, ⊎_elim}
+use Rattle.std.proofs.Common.{◌≡◌, ◌≢◌, ◌↔◌, ℕ, ℤ, pos, List, [], ◌∷◌, Some, None, Option, map, refl, sym, ap, ◌∙◌, arith}
 use Rattle.std.specs.Prelude.{AllPairs, Contains, nat_lt, slice_get, slice_index_or}
 use Rattle.std.specs.Option.{option_map}
-use Rattle.std.proofs.lemmas.Bool.{cases_lt}
 use Rattle.std.proofs.lemmas.Option.{get_or_from_slice_get, slice_get-map, slice_get_within}
 use Rattle.star_schema.specs.Bounds.{numbers_at, numbers_of}
 use Rattle.star_schema.specs.Database.{Database, rows_in}
@@ -16,7 +15,7 @@ use Rattle.star_schema.proofs.Dictionaries.{IsDictionary-dictionary_of}
 use Rattle.star_schema.proofs.TextPlaces.{has_code, nat_lt-low_in, nat_lt-high_in}
 use Rattle.star_world.specs.Shown.{HasNumber, HasText, IsCodeOf, IsWorldOf}
 use Rattle.star_world.specs.WorldOf.{world_of, column_dictionary, column_numbers, column_texts}
-use Rattle.star_world.proofs.Found.{IsFound, found_from}
+use Rattle.star_world.proofs.Found.{IsFound, found_from, one_place}
 use Rattle.star_world.proofs.Loaded.{loaded}
 
 -- ---- codes
@@ -63,16 +62,6 @@ key_there database key row n one =
       λ e. one_of (slice_get zs row) n (sym same ∙ e),
       λ e. same ∙ ap (option_map (λ z. z ∷ [])) e,
     )
-
-one_place : (keys : List (List ℤ)) (i j : ℕ) (k : List ℤ) → AllPairs (λ a b. a ≢ b) keys → slice_get keys i ≡ Some k → slice_get keys j ≡ Some k → i ≡ j
-one_place keys i j k apart at_i at_j =
-    let first = get_or_from_slice_get keys i k k at_i in
-    let second = get_or_from_slice_get keys j k k at_j in
-    ⊎_elim {C = i ≡ j}
-    (λ before. absurd (apart i j k before (slice_get_within keys j k at_j) (first ∙ sym second)))
-    (λ from. ⊎_elim {C = i ≡ j}
-    (λ after. absurd (apart j i k after (slice_get_within keys i k at_i) (second ∙ sym first)))
-    (λ upto. omega (arith, from, upto)) (cases_lt j i)) (cases_lt i j)
 
 -- the answer is each row that has the key, where no two have it
 is_found : (n : ℤ) (keys : List (List ℤ)) (row : ℕ) (o : Option ℕ) → AllPairs (λ a b. a ≢ b) keys → IsFound n keys 0 o
