@@ -19,14 +19,14 @@ rows_length k a (suc n) keys numbers = ap suc (rows_length k a n (drop k keys) (
 
 pub keys_read : (k a n : ℕ) (keys : List (Option KeyValue)) (numbers : List (Option ℤ)) (number : ℕ)
     → slice_index_or (cut k n keys) number [] ≡ (row_at (rows_of k a n keys numbers) number).keys
-unfolding cut, rows_of
+unfolding cut rows_of
 keys_read k a zero keys numbers number = refl
 keys_read k a (suc n) keys numbers zero = refl
 keys_read k a (suc n) keys numbers (suc number) = keys_read k a n (drop k keys) (drop a numbers) number
 
 pub aggregates_read : (k a n : ℕ) (keys : List (Option KeyValue)) (numbers : List (Option ℤ)) (number : ℕ)
     → slice_index_or (cut a n numbers) number [] ≡ (row_at (rows_of k a n keys numbers) number).aggregates
-unfolding cut, rows_of
+unfolding cut rows_of
 aggregates_read k a zero keys numbers number = refl
 aggregates_read k a (suc n) keys numbers zero = refl
 aggregates_read k a (suc n) keys numbers (suc number) = aggregates_read k a n (drop k keys) (drop a numbers) number
