@@ -1,5 +1,5 @@
 -- The keys of a table as numbers and as pairs of numbers.
-use Rattle.std.proofs.Common.{◌≡◌, ◌≢◌, ◌&&◌, ◌∷◌, ◌∙◌, ℕ, ℤ, suc, List, [], All, AllPairs, Bool, true, false, None, length, map, refl, ap}
+use Rattle.std.proofs.Common.{◌≡◌, ◌≢◌, ◌&&◌, ◌∷◌, ◌∙◌, ℤ, List, [], All, AllPairs, Bool, true, false, None, length, map, refl, ap}
 use Rattle.std.specs.Cmp.Rules.{signed_items}
 use Rattle.std.specs.List.{zip}
 use Rattle.std.specs.Option.{option_map}
@@ -12,7 +12,6 @@ use Rattle.star_schema.specs.Bounds.{numbers_at}
 use Rattle.star_schema.specs.Loadable.{HasDistinctKeys, key_numbers, keys_of}
 use Rattle.star_schema.specs.Schema.{key_of, place_of}
 use Rattle.star_schema.specs.Tables.{Value}
-use Rattle.star_schema.specs.Texts.{texts_at}
 use Rattle.star_catalogue.specs.declared.fault.LoadFault.TheVariants.{DuplicateKey}
 use Rattle.star_catalogue.specs.Load.{first_repeat, keys_fault, same_key}
 use Rattle.star_catalogue.specs.Private.Keys.{same_pair}
@@ -25,18 +24,6 @@ one n = n ∷ []
 
 abbrev pub two : ℤ × ℤ → List ℤ
 two p = p.0 ∷ p.1 ∷ []
-
-pub length-numbers_at : (place : ℕ) (rows : List (List Value)) → length (numbers_at place rows)
-    ≡ length rows
-unfolding numbers_at
-length-numbers_at place [] = refl
-length-numbers_at place (row ∷ rows) = ap suc (length-numbers_at place rows)
-
-pub length-texts_at : (place : ℕ) (rows : List (List Value)) → length (texts_at place rows)
-    ≡ length rows
-unfolding texts_at
-length-texts_at place [] = refl
-length-texts_at place (row ∷ rows) = ap suc (length-texts_at place rows)
 
 pub keys_of_one : (t : TableId) (c : ColumnId) (rows : List (List Value)) → key_of t ≡ One c
     → keys_of t rows ≡ map one (numbers_at (place_of c) rows)

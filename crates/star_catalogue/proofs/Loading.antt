@@ -31,39 +31,6 @@ rows_in-database_of texts Supplier = refl
 rows_in-database_of texts Part = refl
 rows_in-database_of texts Lineorder = refl
 
--- the first fault, where the tables before have none
-pub at_date : (most : ℕ) (texts : TableId → List ℕ) (f : LoadFault)
-    → table_fault Date most (texts Date) ≡ Some f → tables_fault most texts ≡ Some f
-unfolding tables_fault first_answer
-at_date most texts f e = rw e refl
-
-pub at_customer : (most : ℕ) (texts : TableId → List ℕ) (f : LoadFault)
-    → table_fault Date most (texts Date) ≡ None
-    → table_fault Customer most (texts Customer) ≡ Some f → tables_fault most texts ≡ Some f
-unfolding tables_fault first_answer
-at_customer most texts f date e = rw (date, e) refl
-
-pub at_supplier : (most : ℕ) (texts : TableId → List ℕ) (f : LoadFault)
-    → table_fault Date most (texts Date) ≡ None → table_fault Customer most (texts Customer) ≡ None
-    → table_fault Supplier most (texts Supplier) ≡ Some f → tables_fault most texts ≡ Some f
-unfolding tables_fault first_answer
-at_supplier most texts f date customer e = rw (date, customer, e) refl
-
-pub at_part : (most : ℕ) (texts : TableId → List ℕ) (f : LoadFault)
-    → table_fault Date most (texts Date) ≡ None → table_fault Customer most (texts Customer) ≡ None
-    → table_fault Supplier most (texts Supplier) ≡ None
-    → table_fault Part most (texts Part) ≡ Some f → tables_fault most texts ≡ Some f
-unfolding tables_fault first_answer
-at_part most texts f date customer supplier e = rw (date, customer, supplier, e) refl
-
-pub at_lineorder : (most : ℕ) (texts : TableId → List ℕ) (f : LoadFault)
-    → table_fault Date most (texts Date) ≡ None → table_fault Customer most (texts Customer) ≡ None
-    → table_fault Supplier most (texts Supplier) ≡ None → table_fault Part most (texts Part) ≡ None
-    → table_fault Lineorder most (texts Lineorder) ≡ Some f → tables_fault most texts ≡ Some f
-unfolding tables_fault first_answer
-at_lineorder most texts f date customer supplier part e =
-    rw (date, customer, supplier, part, e) refl
-
 -- tables whose keys differ have no fault
 pub tables_none : (most : ℕ) (texts : TableId → List ℕ) → AreTables most texts
     → ((t : TableId) → HasDistinctKeys t (rows_of t (texts t))) → tables_fault most texts ≡ None

@@ -159,8 +159,8 @@ impl KeyIndex {
         let table = raw.table();
         match key_of(table) {
             Key::One(column) => {
-                let numbers = raw.numbers(place_of(column));
-                KeyIndex::of_numbers(alloc, table, numbers)
+                let keys = wide(alloc, raw.numbers(place_of(column)))?;
+                KeyIndex::of_keys(alloc, table, keys.as_slice())
             }
             Key::Two(first, second) => {
                 let firsts = raw.numbers(place_of(first));
@@ -172,18 +172,6 @@ impl KeyIndex {
     }
 
     /// The index of keys of one number, or the first record whose key an earlier one has.
-    fn of_numbers(alloc: Global, table: TableId, keys: &FlatNumbers) -> Result<KeyIndex, LoadFault>
-        requires { length keys.now < 2 ^ 32 }
-        ensures { MatchResult result
-            (λ index. ArePlaces int_eq (row_in index) keys.now × IsDistinct int_eq keys.now)
-            (λ fault. UnlessMemory LoadFault.OutOfMemory fault
-            (option_map (LoadFault.DuplicateKey table) (first_repeat int_eq keys.now)
-            ≡ Some fault)) }
-    {
-        let wide = wide(alloc, keys)?;
-        KeyIndex::of_keys(alloc, table, wide.as_slice())
-    }
-
     fn of_keys(alloc: Global, table: TableId, keys: &[i64]) -> Result<KeyIndex, LoadFault>
         requires { length keys.now < 2 ^ 32 }
         ensures { MatchResult result

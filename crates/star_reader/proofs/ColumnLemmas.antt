@@ -1,15 +1,21 @@
 -- The column at a place of a table.
-use Rattle.std.proofs.Common.{◌≡◌, ◌<◌, ℕ, List, Some, length, map, get_or, refl, sym, ap, ◌∙◌, arith}
+use Rattle.std.proofs.Common.{◌≡◌, ◌<◌, ℕ, ℤ, List, Option, None, Some, length, map, get_or, refl, sym, ap, ◌∙◌, arith}
 use Rattle.std.specs.List.{slice_get}
-use Rattle.std.specs.Option.{option_map}
-use Rattle.std.proofs.lemmas.List.{length-map}
+use Rattle.std.specs.Option.{option_and_then, option_map}
+use Rattle.std.proofs.lemmas.List.{length-map, map-id}
 use Rattle.std.proofs.lemmas.List.Elements.{All-get_or}
 use Rattle.std.proofs.lemmas.Option.{slice_get-map, slice_get_read, slice_get_within}
+use Rattle.std.proofs.lemmas.Simd.{map-map}
 use Rattle.star_schema.specs.declared.table.TableId.{TableId}
 use Rattle.star_schema.specs.declared.column.Kind.{Kind}
+use Rattle.star_schema.specs.Bounds.{number_in, numbers_at}
 use Rattle.star_schema.specs.Schema.{kinds_of}
+use Rattle.star_schema.specs.Tables.{Number, Text, Value, value_at}
+use Rattle.star_schema.specs.Texts.{text_in, texts_at}
 use Rattle.star_reader.specs.declared.column.RawColumn.{RawColumn}
-use Rattle.star_reader.specs.Columns.{AreColumnsOf, kind_of, values}
+use Rattle.star_reader.specs.declared.column.RawColumn.TheVariants.{Numbers, Texts}
+use Rattle.star_reader.specs.Columns.{AreColumnsOf, first_rows, kind_of, values}
+use Rattle.star_reader.proofs.RowLemmas.{read_there}
 
 -- a column at its place
 pub record IsColumnAt (rows : ℕ) (columns : List RawColumn) (place : ℕ) (k : Kind)
@@ -42,3 +48,37 @@ column_at table rows columns place k column h at is =
           h.full;
       there = slice_get-map values columns place ∙ ap (option_map values) there;
     }
+
+joined : {A B : Type 0} (f : A → Option B) (o : Option A) (p : Option B)
+    → option_map f o ≡ option_map Some p → option_and_then f o ≡ p
+joined f None None e = refl
+joined f None (Some b) e = cc
+joined f (Some a) None e = cc
+joined f (Some a) (Some b) e = cc
+
+-- what the rows have at the place of a column
+module _ {rows : ℕ} {columns : List RawColumn} {place : ℕ} {k : Kind} where
+  pub numbers_are : {numbers : List ℤ} → IsColumnAt rows columns place k (Numbers numbers)
+      → numbers_at place (first_rows rows (map values columns)) ≡ numbers
+  unfolding numbers_at
+  numbers_are {numbers} is =
+      read_there number_in rows (map values columns) place (map Number numbers) is.full is.there
+      ∙ map-map (λ (value : Value). number_in (Some value)) Number numbers ∙ map-id numbers
+
+  pub texts_are : {texts : List (List ℕ)} → IsColumnAt rows columns place k (Texts texts)
+      → texts_at place (first_rows rows (map values columns)) ≡ texts
+  unfolding texts_at
+  texts_are {texts} is =
+      read_there text_in rows (map values columns) place (map Text texts) is.full is.there
+      ∙ map-map (λ (value : Value). text_in (Some value)) Text texts ∙ map-id texts
+
+  pub value_there : {column : RawColumn} → IsColumnAt rows columns place k column → (row : ℕ)
+      → value_at (first_rows rows (map values columns)) row place ≡ slice_get (values column) row
+  value_there {column} is row =
+      let found = first_rows rows (map values columns) in
+      let at = λ (row_values : List Value). slice_get row_values place in
+      joined at (slice_get found row) (slice_get (values column) row)
+      (sym (slice_get-map at found row)
+      ∙ ap (λ (read : List (Option Value)). slice_get read row)
+      (read_there (λ o. o) rows (map values columns) place (values column) is.full is.there)
+      ∙ slice_get-map (λ (value : Value). Some value) (values column) row)

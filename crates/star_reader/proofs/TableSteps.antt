@@ -53,28 +53,28 @@ start table most all columns reader empty left =
     record { lines = all; left = left; no_fault = refl; of_table = empty; so_far = refl }
 
 -- the next record's fault is the first
-pub faulty : (table : TableId) (most : ℕ) (all : List (List ℕ)) (count : ℕ)
-    (columns : List RawColumn) (old new : Reader (Bor (List ℕ))) (parts : List (List ℕ))
-    (f : ReadFault)
+pub faulty : {table : TableId} {most : ℕ} {all : List (List ℕ)} {count : ℕ}
+    {columns : List RawColumn} {old new : Reader (Bor (List ℕ))} {parts : List (List ℕ)}
+    {f : ReadFault}
     → (h : HasRead table most all count columns old) → (next : TakesFirst h.lines parts new)
     → count < most
     → record_fault (map kind_of columns) (count + 1) (fields_of next.line) ≡ Some f
     → records_fault table most 1 all ≡ Some f
 unfolding first_answer
-faulty table most all count columns old new parts f h next within e =
+faulty {table} {most} {all} {count} {columns} {old} {new} {parts} {f} h next within e =
     let room = le-ltb most (count + 1) (omega arith) in
     let here : record_fault (kinds_of table) (count + 1) (fields_of next.line) ≡ Some f =
     rw h.of_table.kinds at e in
     h.no_fault ∙ rw (next.was, room, here) refl
 
 -- the next record has no fault
-pub more : (table : TableId) (most : ℕ) (all : List (List ℕ)) (count : ℕ)
-    (columns later : List RawColumn) (old new : Reader (Bor (List ℕ))) (parts : List (List ℕ))
+pub more : {table : TableId} {most : ℕ} {all : List (List ℕ)} {count : ℕ}
+    {columns later : List RawColumn} {old new : Reader (Bor (List ℕ))} {parts : List (List ℕ)}
     → (h : HasRead table most all count columns old) → (next : TakesFirst h.lines parts new)
     → count < most → AddsRecord (count + 1) (fields_of next.line) columns later
     → HasRead table most all (count + 1) later new
 unfolding first_answer
-more table most all count columns later old new parts h next within adds =
+more {table} {most} {all} {count} {columns} {later} {old} {new} {parts} h next within adds =
     let room = le-ltb most (count + 1) (omega arith) in
     let here : record_fault (kinds_of table) (count + 1) (fields_of next.line) ≡ None =
     rw h.of_table.kinds at adds.no_fault in
@@ -108,12 +108,12 @@ more table most all count columns later old new parts h next within adds =
     }
 
 -- there is no other record
-pub whole : (table : TableId) (most : ℕ) (all : List (List ℕ)) (count : ℕ)
-    (columns : List RawColumn) (reader : Reader (Bor (List ℕ)))
+pub whole : {table : TableId} {most : ℕ} {all : List (List ℕ)} {count : ℕ}
+    {columns : List RawColumn} {reader : Reader (Bor (List ℕ))}
     → (h : HasRead table most all count columns reader) → h.lines ≡ []
     → HasRows table most all count columns
 unfolding first_answer
-whole table most all count columns reader h none =
+whole {table} {most} {all} {count} {columns} {reader} h none =
     record {
       no_fault = h.no_fault ∙ rw none refl;
       of_table = h.of_table;
@@ -121,12 +121,12 @@ whole table most all count columns reader h none =
     }
 
 -- one record is too many
-pub too_many : (table : TableId) (most : ℕ) (all : List (List ℕ)) (count : ℕ)
-    (columns : List RawColumn) (old new : Reader (Bor (List ℕ))) (parts : List (List ℕ))
+pub too_many : {table : TableId} {most : ℕ} {all : List (List ℕ)} {count : ℕ}
+    {columns : List RawColumn} {old new : Reader (Bor (List ℕ))} {parts : List (List ℕ)}
     → (h : HasRead table most all count columns old) → TakesFirst h.lines parts new → most ≤ count
     → records_fault table most 1 all ≡ Some fault.TooManyRows
 unfolding first_answer
-too_many table most all count columns old new parts h next full =
+too_many {table} {most} {all} {count} {columns} {old} {new} {parts} h next full =
     let over = lt-ltb most (count + 1) (omega arith) in
     h.no_fault ∙ rw (next.was, over) refl
 

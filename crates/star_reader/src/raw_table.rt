@@ -1,6 +1,7 @@
 // A table as it was read.
 
 ghost use Rattle.std.specs.Prelude.{◌≡◌, ◌<◌, ◌≤◌, ℕ, List, [], None, Some, IfOk, IfErr, MatchResult, length, map, slice_get};
+ghost use Rattle.std.specs.Option.{option_map};
 ghost use Rattle.star_common.specs.Memory.{UnlessMemory};
 ghost use Rattle.star_schema.specs.Bounds.{numbers_at};
 ghost use Rattle.csv.specs.Reading.{strip_bom};
@@ -8,6 +9,7 @@ ghost use Rattle.star_schema.specs.Records.{records_of};
 ghost use Rattle.star_schema.specs.Schema.{kinds_of};
 ghost use Rattle.star_schema.specs.declared.table.TableId.{TableId};
 ghost use Rattle.star_schema.specs.Tables.{IsTable, Number, Text, rows_of, value_at};
+ghost use Rattle.star_schema.specs.Texts.{texts_at};
 ghost use Rattle.star_reader.specs.Columns.{AreColumnsOf, first_rows, values};
 ghost use Rattle.star_reader.specs.Faults.{records_fault, text_fault};
 ghost use Rattle.star_reader.specs.Private.Lines.{HasLeft};
@@ -18,7 +20,7 @@ use crate::fault::ReadFault;
 use crate::line::add_record;
 use crate::lines::{read_next, records_reader};
 use csv::{ByteRecord, Reader};
-use star_flat::FlatNumbers;
+use star_flat::{FlatNumbers, RepeatedTexts};
 use star_schema::{Kind, Limits, TableId, column_at, kind_of, width};
 use std::alloc::{AllocError, Global};
 use std::marker::Model;
@@ -67,16 +69,15 @@ impl RawTable {
         requires place { slice_get (kinds_of self.now.table) place ≡ Some Kind.Number }
         ensures { value_at self.now.rows row place ≡ Some (Number result) }
     {
-        match &self.columns[place] {
-            RawColumn::Numbers(numbers) => numbers.get(row as usize),
-            RawColumn::Texts(_) => unreachable!(),
-        }
+        self.numbers(place).get(row as usize)
     }
 
     /// The numbers of a column of numbers, in the order of the rows.
     pub fn numbers(&self, place: usize) -> &FlatNumbers
         requires { slice_get (kinds_of self.now.table) place ≡ Some Kind.Number }
         ensures numbers { result.now ≡ numbers_at place self.now.rows }
+        ensures values { (row : ℕ)
+            → value_at self.now.rows row place ≡ option_map Number (slice_get result.now row) }
     {
         match &self.columns[place] {
             RawColumn::Numbers(numbers) => numbers,
@@ -90,8 +91,17 @@ impl RawTable {
         requires place { slice_get (kinds_of self.now.table) place ≡ Some Kind.Text }
         ensures { value_at self.now.rows row place ≡ Some (Text result.now) }
     {
+        self.texts(place).get(row as usize)
+    }
+
+    fn texts(&self, place: usize) -> &RepeatedTexts
+        requires { slice_get (kinds_of self.now.table) place ≡ Some Kind.Text }
+        ensures texts { result.now ≡ texts_at place self.now.rows }
+        ensures values { (row : ℕ)
+            → value_at self.now.rows row place ≡ option_map Text (slice_get result.now row) }
+    {
         match &self.columns[place] {
-            RawColumn::Texts(texts) => texts.get(row as usize),
+            RawColumn::Texts(texts) => texts,
             RawColumn::Numbers(_) => unreachable!(),
         }
     }

@@ -2,10 +2,12 @@ use Rattle.std.proofs.Common.{◌≡◌, ◌+◌, [], get_or, FitsSigned, Some, 
 use Rattle.star_schema.specs.declared.table.TableId.TheVariants.{Lineorder}
 use Rattle.star_schema.specs.Bounds.{numbers_of}
 use Rattle.star_schema.specs.Database.{rows_in}
+use Rattle.star_schema.specs.Loadable.{number_at}
 use Rattle.star_schema.specs.Schema.{place_of, table_of}
-use Rattle.star_catalogue.proofs.KeyLists.{length-numbers_at}
+use Rattle.star_schema.proofs.RowPlaces.{length-numbers_at}
 use Rattle.star_catalogue.proofs.Refers.{cell_absent, cell_known, number_of_row}
 use Rattle.star_catalogue.proofs.references.check_cell.Goals as goal
+use Rattle.star_catalogue.proofs.references.check_cell.Goals.{After-at-number}
 
 pub at-number-requires : goal.at-number-requires
 at-number-requires c =
@@ -15,29 +17,31 @@ at-number-requires c =
       c.requires.table,
     ) c.requires.row
 
-pub returns-in-None : goal.returns-in-None
-returns-in-None c =
+number_is : (c : After-at-number)
+    → number_at c.args.column (get_or (rows_in c.args.tables.now Lineorder) c.args.row [])
+    ≡ c.at-number.result
+number_is c =
     let rows = rows_in c.args.tables.now Lineorder in
     let there : slice_get (numbers_of c.args.column rows) c.args.row ≡ Some c.at-number.result =
     rw (c.numbers.ensures, c.requires.table) at c.at-number.ensures in
+    number_of_row c.args.column rows c.args.row c.at-number.result c.requires.row there
+
+pub returns-in-None : goal.returns-in-None
+returns-in-None c =
     let fits : FitsSigned w64 c.at-number.result = search rules in
-    let number =
-    number_of_row c.args.column rows c.args.row c.at-number.result c.requires.row there in
     cell_absent c.args.tables.now (c.args.row + 1)
-    (get_or rows c.args.row []) c.args.column c.in-Some.table c.at-number.result
-    (sym c.in-Some.ensures) number
+    (get_or (rows_in c.args.tables.now Lineorder) c.args.row []) c.args.column c.in-Some.table
+    c.at-number.result (sym c.in-Some.ensures)
+    (number_is (goal.at.returns-in-None c).After-at-number)
     (λ place at. let bad = (rw (c.table.ensures.table, c.table.ensures.rows, to_z-of_z fits) at
     (c.in-None.ensures place).1) at in cc bad)
 
 pub returns-in-Some-find : goal.returns-in-Some-find
 returns-in-Some-find c =
-    let rows = rows_in c.args.tables.now Lineorder in
-    let there : slice_get (numbers_of c.args.column rows) c.args.row ≡ Some c.at-number.result =
-    rw (c.numbers.ensures, c.requires.table) at c.at-number.ensures in
     let fits : FitsSigned w64 c.at-number.result = search rules in
-    let number =
-    number_of_row c.args.column rows c.args.row c.at-number.result c.requires.row there in
-    let found = (c.in-Some-find.ensures c.in-Some-find.field-0).0 refl in
     cell_known c.args.tables.now (c.args.row + 1)
-    (get_or rows c.args.row []) c.args.column c.in-Some.table c.at-number.result
-    c.in-Some-find.field-0 (sym c.in-Some.ensures) number (rw (c.table.ensures.table, c.table.ensures.rows, to_z-of_z fits) at found)
+    (get_or (rows_in c.args.tables.now Lineorder) c.args.row []) c.args.column c.in-Some.table
+    c.at-number.result c.in-Some-find.field-0 (sym c.in-Some.ensures)
+    (number_is (goal.at.returns-in-Some-find c).After-at-number)
+    (rw (c.table.ensures.table, c.table.ensures.rows, to_z-of_z fits) at
+    ((c.in-Some-find.ensures c.in-Some-find.field-0).0 refl))

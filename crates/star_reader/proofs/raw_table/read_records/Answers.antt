@@ -1,7 +1,7 @@
 use Rattle.std.proofs.Common.{◌≡◌, inl, inr, arith}
 use Rattle.std.proofs.lemmas.Result.{err_from_is_err_and}
 use Rattle.csv.specs.Records.{fields_of as fields_read}
-use Rattle.star_reader.specs.Private.Lines.{ReadsFirst, TakesFirst}
+use Rattle.star_reader.specs.Private.Lines.{TakesFirst}
 use Rattle.star_reader.proofs.TableSteps as steps
 use Rattle.star_reader.proofs.raw_table.read_records.Goals as goal
 
@@ -12,11 +12,7 @@ loop-rows-init c = λ table lines left empty. steps.start table c.args.most line
 pub returns-then-not-branch : goal.returns-then-not-branch
 returns-then-not-branch c = λ table lines left empty.
     let h = c.loop-rows.invariant table lines left empty in
-    let read : ReadsFirst c.in_ok-read_next.field-0 h.lines
-    (fields_read c.read_next.new.row) c.read_next.new.reader =
-    c.in_ok-read_next.ensures.reads h.lines h.left in
-    steps.whole table c.args.most lines c.loop-rows.rows c.loop-rows.columns c.loop-rows.reader h
-    (rw c.if-not-branch.true at read)
+    steps.whole h (rw c.if-not-branch.true at (c.in_ok-read_next.ensures.reads h.lines h.left))
 
 pub add_record-requires : goal.add_record-requires
 add_record-requires c = omega (arith, c.requires, c.loop-rows.auto.columns)
@@ -24,54 +20,33 @@ add_record-requires c = omega (arith, c.requires, c.loop-rows.auto.columns)
 pub returns-in_err-add_record : goal.returns-in_err-add_record
 returns-in_err-add_record c = λ table lines left empty.
     let h = c.loop-rows.invariant table lines left empty in
-    let read : ReadsFirst c.in_ok-read_next.field-0 h.lines
-    (fields_read c.read_next.new.row) c.read_next.new.reader =
-    c.in_ok-read_next.ensures.reads h.lines h.left in
     let next : TakesFirst h.lines (fields_read c.read_next.new.row) c.read_next.new.reader =
-    rw c.if-not-branch.false at read in
+    rw c.if-not-branch.false at (c.in_ok-read_next.ensures.reads h.lines h.left) in
     let p = err_from_is_err_and c.from_residual-in_err-add_record.result
     c.from_residual-in_err-add_record.ensures.1 in
     rw (p.1, p.2) (elim (c.in_err-add_record.ensures next.line next.parts_are) [
       | inl memory ↦ inl memory
-      | inr here ↦
-          inr (steps.faulty table c.args.most lines c.loop-rows.rows c.loop-rows.columns
-          c.loop-rows.reader c.read_next.new.reader
-          (fields_read c.read_next.new.row) _ h next c.loop-rows-test.true here)
+      | inr here ↦ inr (steps.faulty h next c.loop-rows-test.true here)
     ])
 
 pub loop-rows-preserved : goal.loop-rows-preserved
 loop-rows-preserved c = λ table lines left empty.
     let h = c.loop-rows.invariant table lines left empty in
-    let read : ReadsFirst c.in_ok-read_next.field-0 h.lines
-    (fields_read c.read_next.new.row) c.read_next.new.reader =
-    c.in_ok-read_next.ensures.reads h.lines h.left in
     let next : TakesFirst h.lines (fields_read c.read_next.new.row) c.read_next.new.reader =
-    rw c.if-not-branch.false at read in
-    steps.more table c.args.most lines c.loop-rows.rows c.loop-rows.columns
-    c.add_record.new.columns c.loop-rows.reader c.read_next.new.reader
-    (fields_read c.read_next.new.row) h next c.loop-rows-test.true
-    (c.in_ok-add_record.ensures next.line next.parts_are)
+    rw c.if-not-branch.false at (c.in_ok-read_next.ensures.reads h.lines h.left) in
+    steps.more h next c.loop-rows-test.true (c.in_ok-add_record.ensures next.line next.parts_are)
 
 pub returns-then-branch : goal.returns-then-branch
 returns-then-branch c = λ table lines left empty.
     let h = c.loop-rows.invariant table lines left empty in
-    let read : ReadsFirst c.in_ok-read_next-2.field-0 h.lines
-    (fields_read c.read_next-2.new.row) c.read_next-2.new.reader =
-    c.in_ok-read_next-2.ensures.reads h.lines h.left in
     let next : TakesFirst h.lines (fields_read c.read_next-2.new.row) c.read_next-2.new.reader =
-    rw c.if-branch.true at read in
-    inr (steps.too_many table c.args.most lines c.loop-rows.rows c.loop-rows.columns
-    c.loop-rows.reader c.read_next-2.new.reader
-    (fields_read c.read_next-2.new.row) h next c.loop-rows-test.false)
+    rw c.if-branch.true at (c.in_ok-read_next-2.ensures.reads h.lines h.left) in
+    inr (steps.too_many h next c.loop-rows-test.false)
 
 pub returns : goal.returns
 returns c = λ table lines left empty.
     let h = c.loop-rows.invariant table lines left empty in
-    let read : ReadsFirst c.in_ok-read_next-2.field-0 h.lines
-    (fields_read c.read_next-2.new.row) c.read_next-2.new.reader =
-    c.in_ok-read_next-2.ensures.reads h.lines h.left in
-    let w = steps.whole table c.args.most lines c.loop-rows.rows c.loop-rows.columns
-    c.loop-rows.reader h (rw c.if-branch.false at read) in
+    let w = steps.whole h (rw c.if-branch.false at (c.in_ok-read_next-2.ensures.reads h.lines h.left)) in
     let all : c.loop-rows.rows ≡ c.args.most =
     omega (arith, c.loop-rows.auto.rows-end, c.loop-rows-test.false) in
     rw all at w

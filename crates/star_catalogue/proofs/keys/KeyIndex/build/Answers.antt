@@ -5,43 +5,48 @@ use Rattle.star_schema.specs.Bounds.{numbers_at}
 use Rattle.star_schema.specs.Loadable.{keys_of}
 use Rattle.star_schema.specs.Schema.{key_of, place_of}
 use Rattle.star_schema.proofs.KeyColumns.{key_column, key_pair, number_at_place}
+use Rattle.star_schema.proofs.RowPlaces.{length-numbers_at}
 use Rattle.star_catalogue.proofs.Apart.{numbers_apart}
-use Rattle.star_catalogue.proofs.KeyLists.{apart_of_one, apart_of_two, fault_of_one, fault_of_two, keys_of_one, length-numbers_at, length_of_two}
+use Rattle.star_catalogue.proofs.KeyLists.{apart_of_one, apart_of_two, fault_of_one, fault_of_two, keys_of_one, length_of_two}
 use Rattle.star_catalogue.specs.Private.Keys.{row_in}
 use Rattle.star_catalogue.proofs.Found.{kept_one, none_among_two}
 use Rattle.star_catalogue.proofs.keys.KeyIndex.build.Goals as goal
+use Rattle.star_catalogue.proofs.keys.KeyIndex.build.Goals.{After-as_slice}
 
-pub numbers-numbers-requires : goal.numbers-numbers-requires
-numbers-numbers-requires c =
+pub numbers-requires : goal.numbers-requires
+numbers-requires c =
     let table = c.args.raw.now.table in
     let key : key_of table ≡ One c.in-One.column =
     ap key_of (sym c.table-table.ensures) ∙ sym c.in-One.ensures in
     rw c.place_of.ensures.place
     (number_at_place table c.in-One.column (key_column table c.in-One.column key))
 
-pub of_numbers-requires : goal.of_numbers-requires
-of_numbers-requires c =
-    rw (c.numbers-numbers.ensures.numbers, length-numbers_at c.place_of.result c.args.raw.now.rows)
-    c.requires
+keys_are : (c : After-as_slice)
+    → c.as_slice.result.now ≡ numbers_at (place_of c.in-One.column) c.args.raw.now.rows
+keys_are c =
+    c.as_slice.ensures.value ∙ c.in_ok-keys-in-One.ensures ∙ c.numbers.ensures.numbers
+    ∙ ap (λ place. numbers_at place c.args.raw.now.rows) c.place_of.ensures.place
 
-pub returns-in-One : goal.returns-in-One
-returns-in-One c =
+pub of_keys-requires : goal.of_keys-requires
+of_keys-requires c =
+    rw (keys_are c, length-numbers_at (place_of c.in-One.column) c.args.raw.now.rows) c.requires
+
+pub returns-in_ok-keys-in-One : goal.returns-in_ok-keys-in-One
+returns-in_ok-keys-in-One c =
     let table = c.args.raw.now.table in
     let rows = c.args.raw.now.rows in
     let key : key_of table ≡ One c.in-One.column =
     ap key_of (sym c.table-table.ensures) ∙ sym c.in-One.ensures in
-    let numbers : c.numbers-numbers.result.now ≡ numbers_at (place_of c.in-One.column) rows =
-    c.numbers-numbers.ensures.numbers
-    ∙ ap (λ place. numbers_at place rows) c.place_of.ensures.place in
-    MatchResult-weaker c.of_numbers.result c.of_numbers.ensures (λ index built. (
-      kept_one (row_in index) (numbers_at (place_of c.in-One.column) rows) _ (rw numbers at built.0)
+    let numbers = numbers_at (place_of c.in-One.column) rows in
+    let are = keys_are (goal.at.returns-in_ok-keys-in-One c).After-as_slice in
+    MatchResult-weaker c.of_keys.result c.of_keys.ensures (λ index built. (
+      kept_one (row_in index) numbers _ (rw are at built.0)
           (keys_of_one table c.in-One.column rows key),
-      apart_of_one table c.in-One.column rows key
-          (numbers_apart (numbers_at (place_of c.in-One.column) rows) (rw numbers at built.1)),
+      apart_of_one table c.in-One.column rows key (numbers_apart numbers (rw are at built.1)),
     )) (λ fault refused. elim refused [
       | inl memory ↦ inl memory
       | inr first ↦ inr (fault_of_one table c.in-One.column rows key
-          ∙ rw (c.table-table.ensures, numbers) at first)
+          ∙ rw (c.table-table.ensures, are) at first)
     ])
 
 pub numbers-firsts-requires : goal.numbers-firsts-requires
@@ -81,8 +86,8 @@ returns-in_err-check_pairs-in-Two c =
     let rows = c.args.raw.now.rows in
     let key : key_of table ≡ Two c.in-Two.first c.in-Two.second =
     ap key_of (sym c.table-table.ensures) ∙ sym c.in-Two.ensures in
-    let p = err_from_is_err_and c.from_residual.result
-    c.from_residual.ensures.1 in
+    let p = err_from_is_err_and c.from_residual-in_err-check_pairs-in-Two.result
+    c.from_residual-in_err-check_pairs-in-Two.ensures.1 in
     rw (p.1, p.2) (elim c.in_err-check_pairs-in-Two.ensures [
       | inl memory ↦ inl memory
       | inr first ↦ inr (fault_of_two table c.in-Two.first c.in-Two.second rows key

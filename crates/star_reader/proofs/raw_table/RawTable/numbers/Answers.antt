@@ -1,27 +1,23 @@
-use Rattle.std.proofs.Common.{◌≡◌, Some, length, map, slice_get, sym, ◌∙◌}
-use Rattle.std.proofs.lemmas.List.{length-map}
+use Rattle.std.proofs.Common.{sym, ◌∙◌}
+use Rattle.std.proofs.lemmas.Option.{slice_get-map}
 use Rattle.star_schema.specs.declared.column.Kind.TheVariants as kind
-use Rattle.star_schema.specs.Schema.{kinds_of}
 use Rattle.star_schema.specs.Tables.{Number}
-use Rattle.star_reader.specs.Columns.{values}
-use Rattle.star_reader.proofs.ColumnLemmas.{column_at}
-use Rattle.star_reader.proofs.RowLemmas.{numbers_are}
+use Rattle.star_reader.specs.declared.column.RawColumn.TheVariants.{Numbers}
+use Rattle.star_reader.proofs.ColumnLemmas.{IsColumnAt, column_at, numbers_are, value_there}
 use Rattle.star_reader.proofs.raw_table.RawTable.numbers.Goals as goal
 
-pub returns : goal.returns
-returns c =
+column : (c : goal.In-Numbers) → IsColumnAt c.self.inside.rows c.self.inside.columns.items
+    c.args.place kind.Number (Numbers c.in-Numbers.numbers)
+column c =
     let raw = c.self.inside in
-    let at : slice_get (kinds_of raw.table) c.args.place ≡ Some kind.Number =
-    rw (← c.self.view_is) at c.requires in
-    let column =
-    column_at raw.table raw.rows raw.columns.items c.args.place kind.Number c.index.result.now
-    c.self.invariant at c.index.ensures in
-    let full = rw c.in-Numbers.is at column.full in
-    let there = rw c.in-Numbers.is at column.there in
-    let all : length c.in-Numbers.numbers ≡ raw.rows =
-    sym (length-map c.in-Numbers.numbers Number) ∙ full in
+    rw c.in-Numbers.is at
+    (column_at raw.table raw.rows raw.columns.items c.args.place kind.Number c.index.result.now
+    c.self.invariant (rw (← c.self.view_is) at c.requires) c.index.ensures)
+
+pub returns-clause-numbers : goal.returns-clause-numbers
+returns-clause-numbers c = rw (← c.self.view_is) (sym (numbers_are (column c)))
+
+pub returns-clause-values : goal.returns-clause-values
+returns-clause-values c = λ row.
     rw (← c.self.view_is)
-    record {
-      numbers = sym (numbers_are raw.rows
-          (map values raw.columns.items) c.args.place c.in-Numbers.numbers all there);
-    }
+    (value_there (column c) row ∙ slice_get-map Number c.in-Numbers.numbers row)
