@@ -4,6 +4,7 @@ pub mod Edges
 pub mod Enumerated
 pub mod Extremes
 pub mod Fronts
+pub mod Kept
 pub mod Numbers
 pub mod Ordered
 pub mod Repeats
