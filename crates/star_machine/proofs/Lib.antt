@@ -10,6 +10,7 @@ pub mod Started
 pub mod NamedColumns
 pub mod RowOrders
 pub mod SortedRows
+pub mod LedRows
 pub mod GroupRows
 pub mod DecodedRows
 pub mod Shows

@@ -77,7 +77,7 @@ strictly sorts (row ∷ rows) up apart = sorted_from_all_adjacent (shown_total s
         true≢false (sym ((key_decides (get_or (map keys_of_row (row ∷ rows)) k row.keys) (get_or (map keys_of_row (row ∷ rows)) (k + 1) row.keys)).1 (first ∙ same ∙ sym second)) ∙ told)
 
 -- a list that ascends by what is made of its elements: what is made of them ascends
-sorted_under : {X Y : Type 0} (f : X → Y) (lt : Y → Y → Bool) (xs : List X) → IsSortedBy (λ a b. lt (f a) (f b)) xs → IsSortedBy lt (map f xs)
+pub sorted_under : {X Y : Type 0} (f : X → Y) (lt : Y → Y → Bool) (xs : List X) → IsSortedBy (λ a b. lt (f a) (f b)) xs → IsSortedBy lt (map f xs)
 sorted_under f lt [] up = λ k d from next. absurd (omega (arith, next))
 sorted_under f lt (x ∷ xs) up = λ k d from next.
     let within : k + 1 < length (x ∷ xs) = omega (arith, next, length-map (x ∷ xs) f) in

@@ -5,4 +5,5 @@ pub mod Runs
 pub mod Acts
 pub mod Walks
 pub mod RowOrder
+pub mod Leads
 pub mod Decoded

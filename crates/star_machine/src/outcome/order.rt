@@ -2,12 +2,13 @@
 
 ghost use Rattle.std.specs.Prelude.{◌≡◌, IfOk, IsPermutation, None, map, slice_index_or};
 ghost use Rattle.std.specs.Cmp.Lexicographic.{slice_cmp};
-ghost use Rattle.std.specs.List.{range_with_len};
 ghost use Rattle.star_schema.specs.Order.{AreInOrder, key_cmp};
 ghost use Rattle.star_group.specs.Shown.{row_at, row_shown};
 ghost use Rattle.star_program.specs.Keys.{key_value_cmp};
+ghost use Rattle.star_machine.specs.Private.Leads.{led_cmp};
 ghost use Rattle.star_machine.specs.Private.RowOrder.{AllHaveSameNulls, AreApart, column_order, sort_order, row_order};
 
+use super::leads::{Led, all_led, compare_leading, numbers_of};
 use star_group::{GroupRows, KeyValue};
 use star_schema::{Direction, GroupColumn, SortKey};
 use std::alloc::{AllocError, Global};
@@ -100,15 +101,14 @@ fn compare_rows(sorts: &[SortKey], rows: &GroupRows, a: usize, b: usize) -> Orde
     }
 }
 
-// So many numbers, from 0 on.
-fn numbers_below(alloc: Global, count: usize) -> Result<Vec<usize>, AllocError>
-    ensures { IfOk result (λ numbers. numbers.items ≡ range_with_len 0 count) }
+// By what leads them, so that a row is read only where that does not decide.
+fn compare_led(sorts: &[SortKey], rows: &GroupRows, a: Led, b: Led) -> Ordering
+    ensures { result ≡ led_cmp sorts.now rows.now a b }
 {
-    let mut numbers = Vec::with_capacity(alloc, count)?;
-    for number in 0..count {
-        numbers.push(number)?;
+    match compare_leading(sorts, a.lead, b.lead) {
+        Ordering::Equal => compare_rows(sorts, rows, a.number, b.number),
+        decided => decided,
     }
-    Ok(numbers)
 }
 
 // The numbers of the rows of a group, in which no two have the same keys, in the order of the rows.
@@ -124,7 +124,7 @@ pub(super) fn sorted_numbers(
         × AreInOrder key_value_cmp sorts.now
         (map row_shown (map (row_at rows.now) numbers.items))) }
 {
-    let mut numbers = numbers_below(alloc, rows.len())?;
-    numbers.sort_unstable_by(|a, b| compare_rows(sorts, rows, *a, *b));
-    Ok(numbers)
+    let mut all = all_led(alloc, sorts, rows)?;
+    all.sort_unstable_by(|a, b| compare_led(sorts, rows, *a, *b));
+    numbers_of(alloc, all.as_slice())
 }

@@ -1,0 +1,147 @@
+-- Rows sorted by what leads them: by their numbers they ascend by the order of rows.
+use Rattle.std.proofs.Common.{◌≡◌, ◌+◌, ◌<◌, ◌<ℤ◌, ℕ, ℤ, pos, Bool, List, [], ◌∷◌, Option, Some, None, length, get_or, map, arith, ap, sym, subst, refl, ◌∙◌}
+use Rattle.std.specs.Prelude.{IsPermutation}
+use Rattle.std.specs.Cmp.{IsTotalOrder, int_cmp_is, ranks}
+use Rattle.std.specs.List.{Contains, range_with_len}
+use Rattle.std.specs.List.Sorted.{IsSortedBy}
+use Rattle.std.specs.Cmp.Lexicographic.{slice_cmp}
+use Rattle.std.specs.Option.{option_cmp}
+use Rattle.std.specs.Ordering.{MatchOrdering, int_cmp, is_lt, nat_cmp, ordering_then}
+use Rattle.std.specs.declared.cmp.Ordering.{Ordering}
+use Rattle.std.specs.declared.cmp.Ordering.TheVariants.{Less, Equal, Greater}
+use Rattle.std.specs.Int.Signed.{lt_z_yes}
+use Rattle.std.proofs.Math.Dec.{ltb}
+use Rattle.std.proofs.lemmas.Bool.{lt-ltb}
+use Rattle.std.proofs.lemmas.Float.{T_from_true}
+use Rattle.std.proofs.lemmas.Cmp.{back_total, int_cmp_total, nat_cmp_total, on_total, then_total}
+use Rattle.std.proofs.lemmas.List.{length-map}
+use Rattle.std.proofs.lemmas.List.Elements.{Contains-get_or}
+use Rattle.std.proofs.lemmas.List.Sorted.{Contains-permutation, IsPermutation-map, IsPermutation-sym}
+use Rattle.star_schema.specs.declared.group.GroupColumn.{GroupColumn}
+use Rattle.star_schema.specs.declared.group.GroupColumn.TheVariants as column
+use Rattle.star_schema.specs.declared.group.Direction.{Direction}
+use Rattle.star_schema.specs.declared.group.Direction.TheVariants.{Ascending, Descending}
+use Rattle.star_schema.specs.declared.group.SortKey.{SortKey}
+use Rattle.star_schema.specs.Groups.{GroupRow as Row}
+use Rattle.star_schema.specs.Order.{AreInOrder, key_cmp}
+use Rattle.star_common.proofs.Members.{from_contains_map}
+use Rattle.star_program.specs.declared.key.KeyValue.{KeyValue}
+use Rattle.star_program.specs.declared.key.KeyValue.TheVariants as key
+use Rattle.star_program.specs.Keys.{key_value_cmp}
+use Rattle.star_group.specs.declared.group_row.GroupRow.{GroupRow}
+use Rattle.star_group.specs.Shown.{row_at, row_shown}
+use Rattle.star_machine.specs.declared.outcome.leads.Lead.{Lead}
+use Rattle.star_machine.specs.declared.outcome.leads.Led.{Led}
+use Rattle.star_machine.specs.Private.RowOrder.{AllHaveSameNulls, AreApart, column_order, directed_order, row_order, sort_order}
+use Rattle.star_machine.specs.Private.Leads.{column_lead, directed_cmp, first_lead, key_lead, lead_cmp, lead_of, leading_cmp, led_at, led_cmp, rank, total_lead, value}
+use Rattle.star_machine.proofs.SortedRows.{number_cmp, number_total, rows_moved, sorted_by_number, sorted_under}
+
+-- ---- the order of leads is an order, and that of rows is finer
+
+lead_total : IsTotalOrder lead_cmp
+lead_total = then_total (on_total rank nat_cmp_total) (on_total value int_cmp_total)
+
+directed_total : (d : Direction) → IsTotalOrder (directed_cmp d)
+directed_total Ascending = lead_total
+directed_total Descending = back_total lead_total
+
+leading_total : (sorts : List SortKey) → IsTotalOrder (leading_cmp sorts)
+leading_total [] = lead_total
+leading_total (sort ∷ sorts) = directed_total sort.direction
+
+-- naturals as integers
+same_cmp : (m n : ℕ) → int_cmp (pos m) (pos n) ≡ nat_cmp m n
+same_cmp m n = sym (int_cmp_is (pos m) (pos n) (nat_cmp m n) (by (nat_cmp m n) (ranks m n)))
+  where
+    by : (o : Ordering) → MatchOrdering o (m < n) (m ≡ n) (n < m) → MatchOrdering o (pos m <ℤ pos n) (pos m ≡ pos n) (pos n <ℤ pos m)
+    by Less h = lt_z_yes (T_from_true (ltb m n) (lt-ltb m n h))
+    by Equal h = ap pos h
+    by Greater h = lt_z_yes (T_from_true (ltb n m) (lt-ltb n m h))
+
+keys_led : (a b : Option KeyValue) → lead_cmp (key_lead a) (key_lead b) ≡ key_cmp key_value_cmp a b
+keys_led (Some (key.Number x)) (Some (key.Number y)) = refl
+keys_led (Some (key.Number x)) (Some (key.Code n)) = refl
+keys_led (Some (key.Code m)) (Some (key.Number y)) = refl
+keys_led (Some (key.Code m)) (Some (key.Code n)) = same_cmp m n
+keys_led (Some (key.Number x)) None = refl
+keys_led (Some (key.Code m)) None = refl
+keys_led None (Some (key.Number y)) = refl
+keys_led None (Some (key.Code n)) = refl
+keys_led None None = refl
+
+column_led : (c : GroupColumn) (a b : Row KeyValue) → lead_cmp (column_lead c a) (column_lead c b) ≡ column_order c a b
+column_led (column.Key place) a b = keys_led (get_or a.keys place None) (get_or b.keys place None)
+column_led (column.Aggregate place) a b = by (get_or a.totals place None) (get_or b.totals place None)
+  where
+    by : (x y : Option ℤ) → lead_cmp (total_lead x) (total_lead y) ≡ option_cmp int_cmp x y
+    by (Some x) (Some y) = refl
+    by (Some x) None = refl
+    by None (Some y) = refl
+    by None None = refl
+
+directed_led : (c : GroupColumn) (d : Direction) (a b : Row KeyValue) → directed_cmp d (column_lead c a) (column_lead c b) ≡ directed_order c d a b
+directed_led c Ascending a b = column_led c a b
+directed_led c Descending a b = column_led c b a
+
+twice : (o p : Ordering) → ordering_then o (ordering_then o p) ≡ ordering_then o p
+twice Less p = refl
+twice Equal p = refl
+twice Greater p = refl
+
+finer : (sorts : List SortKey) (a b : Row KeyValue) → ordering_then (leading_cmp sorts (lead_of sorts a) (lead_of sorts b)) (row_order sorts a b) ≡ row_order sorts a b
+finer [] a b = by a.keys b.keys
+  where
+    by : (ks ls : List (Option KeyValue)) → ordering_then (lead_cmp (first_lead ks) (first_lead ls)) (slice_cmp (key_cmp key_value_cmp) ks ls) ≡ slice_cmp (key_cmp key_value_cmp) ks ls
+    by [] [] = refl
+    by [] (Some (key.Number y) ∷ ls) = refl
+    by [] (Some (key.Code n) ∷ ls) = refl
+    by [] (None ∷ ls) = refl
+    by (Some (key.Number x) ∷ ks) [] = refl
+    by (Some (key.Code m) ∷ ks) [] = refl
+    by (None ∷ ks) [] = refl
+    by (k ∷ ks) (l ∷ ls) =
+        ap (λ o. ordering_then o (ordering_then (key_cmp key_value_cmp k l) (slice_cmp (key_cmp key_value_cmp) ks ls))) (keys_led k l)
+        ∙ twice (key_cmp key_value_cmp k l) (slice_cmp (key_cmp key_value_cmp) ks ls)
+finer (sort ∷ sorts) a b =
+    ap (λ o. ordering_then o (ordering_then (sort_order sort a b) (row_order sorts a b))) (directed_led sort.column sort.direction a b)
+    ∙ twice (sort_order sort a b) (row_order sorts a b)
+
+-- ---- the rows of a group
+
+pub led_total : (sorts : List SortKey) (rows : List GroupRow) → IsTotalOrder (led_cmp sorts rows)
+led_total sorts rows = then_total (on_total (λ (led : Led). led.lead) (leading_total sorts)) (on_total (λ (led : Led). led.number) (number_total sorts rows))
+
+abbrev number_of : Led → ℕ
+number_of led = led.number
+
+map_number : (sorts : List SortKey) (rows : List GroupRow) (ns : List ℕ) → map number_of (map (led_at sorts rows) ns) ≡ ns
+map_number sorts rows [] = refl
+map_number sorts rows (n ∷ ns) = ap (λ ms. n ∷ ms) (map_number sorts rows ns)
+
+module _ (sorts : List SortKey) (rows : List GroupRow) (ns : List ℕ) (all : List Led) (moved : IsPermutation (map (led_at sorts rows) ns) all) where
+  numbers_moved : IsPermutation ns (map number_of all)
+  numbers_moved = subst (λ ms. IsPermutation ms (map number_of all)) (map_number sorts rows ns) (IsPermutation-map number_of (map (led_at sorts rows) ns) all moved)
+
+  -- each is beside what leads it
+  its_own : (led : Led) → Contains all led → led_at sorts rows led.number ≡ led
+  its_own led c =
+      let from = from_contains_map (led_at sorts rows) ns led (Contains-permutation all (map (led_at sorts rows) ns) led (IsPermutation-sym (map (led_at sorts rows) ns) all moved) c) in
+      ap (led_at sorts rows) (sym (ap number_of from.2)) ∙ from.2
+
+  by_number : (a b : Led) → Contains all a → Contains all b → led_cmp sorts rows a b ≡ number_cmp sorts rows a.number b.number
+  by_number a b in_a in_b =
+      (λ i. led_cmp sorts rows (sym (its_own a in_a) i) (sym (its_own b in_b) i)) ∙ finer sorts _ _
+
+  numbers_ascend : IsSortedBy (λ a b. is_lt (led_cmp sorts rows a b)) all → IsSortedBy (λ i j. is_lt (number_cmp sorts rows i j)) (map number_of all)
+  numbers_ascend up = sorted_under number_of (λ i j. is_lt (number_cmp sorts rows i j)) all (λ k d from next.
+      ap is_lt (sym (by_number (get_or all (k + 1) d) (get_or all k d) (Contains-get_or all (k + 1) d next) (Contains-get_or all k d (omega (arith, next))))) ∙ up k d from next)
+
+-- the numbers of rows that were sorted by what leads them
+pub in_order : (sorts : List SortKey) (rows : List GroupRow) (all : List Led) (numbers : List ℕ) → AreApart rows → AllHaveSameNulls rows → IsPermutation (map (led_at sorts rows) (range_with_len 0 (length rows))) all
+    → IsSortedBy (λ a b. is_lt (led_cmp sorts rows a b)) all → numbers ≡ map number_of all
+    → IsPermutation rows (map (row_at rows) numbers) × AreInOrder key_value_cmp sorts (map row_shown (map (row_at rows) numbers))
+in_order sorts rows all numbers apart nulls moved up is =
+    let all_numbers = range_with_len 0 (length rows) in
+    let by_number : IsPermutation all_numbers numbers = subst (λ ns. IsPermutation all_numbers ns) (sym is) (numbers_moved sorts rows all_numbers all moved) in
+    let ascend = subst (λ ns. IsSortedBy (λ i j. is_lt (number_cmp sorts rows i j)) ns) (sym is) (numbers_ascend sorts rows all_numbers all moved up) in
+    (rows_moved rows numbers by_number, sorted_by_number sorts rows numbers apart nulls by_number ascend)
