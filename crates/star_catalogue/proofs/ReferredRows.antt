@@ -16,7 +16,7 @@ use Rattle.star_schema.specs.Loadable.{keys_of}
 use Rattle.star_schema.specs.Schema.{column_of, place_of, references, table_of}
 use Rattle.star_catalogue.specs.declared.referred.Referred.{Referred}
 use Rattle.star_catalogue.specs.Private.Referred.{AreFound, AreReferred, rows_kept}
-use Rattle.star_schema.proofs.RowPlaces.{length-numbers_at}
+use Rattle.star_reader.proofs.RowPlaces.{length-numbers_at}
 use Rattle.star_catalogue.proofs.Copies.{copied_more}
 
 -- the rows of the first numbers, and of one more

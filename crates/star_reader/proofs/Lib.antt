@@ -13,3 +13,4 @@ pub mod FrontNumbers
 pub mod FrontTexts
 pub mod LineSteps
 pub mod Parts
+pub mod RowPlaces

@@ -10,6 +10,5 @@ pub mod Dictionaries
 pub mod Edges
 pub mod Extremes
 pub mod Fronts
-pub mod RowPlaces
 pub mod Same
 pub mod TextPlaces

@@ -4,7 +4,7 @@ use Rattle.star_schema.specs.Bounds.{numbers_of}
 use Rattle.star_schema.specs.Database.{rows_in}
 use Rattle.star_schema.specs.Loadable.{number_at}
 use Rattle.star_schema.specs.Schema.{place_of, table_of}
-use Rattle.star_schema.proofs.RowPlaces.{length-numbers_at}
+use Rattle.star_reader.proofs.RowPlaces.{length-numbers_at}
 use Rattle.star_catalogue.proofs.Refers.{cell_absent, cell_known, number_of_row}
 use Rattle.star_catalogue.proofs.references.check_cell.Goals as goal
 use Rattle.star_catalogue.proofs.references.check_cell.Goals.{After-at-number}

@@ -1,6 +1,6 @@
 use Rattle.star_schema.specs.Database.{rows_in}
 use Rattle.star_schema.specs.Schema.{place_of, table_of}
-use Rattle.star_schema.proofs.RowPlaces.{length-texts_at}
+use Rattle.star_reader.proofs.RowPlaces.{length-texts_at}
 use Rattle.star_catalogue.proofs.catalogue.Catalogue.code.Goals as goal
 
 pub code_at-requires : goal.code_at-requires

@@ -1,6 +1,6 @@
 use Rattle.star_schema.specs.Database.{rows_in}
 use Rattle.star_schema.specs.Schema.{place_of, table_of}
-use Rattle.star_schema.proofs.RowPlaces.{length-numbers_at}
+use Rattle.star_reader.proofs.RowPlaces.{length-numbers_at}
 use Rattle.star_catalogue.proofs.catalogue.Catalogue.number.Goals as goal
 
 pub at-requires : goal.at-requires

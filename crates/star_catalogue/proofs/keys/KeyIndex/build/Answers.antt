@@ -5,7 +5,7 @@ use Rattle.star_schema.specs.Bounds.{numbers_at}
 use Rattle.star_schema.specs.Loadable.{keys_of}
 use Rattle.star_schema.specs.Schema.{key_of, place_of}
 use Rattle.star_schema.proofs.KeyColumns.{key_column, key_pair, number_at_place}
-use Rattle.star_schema.proofs.RowPlaces.{length-numbers_at}
+use Rattle.star_reader.proofs.RowPlaces.{length-numbers_at}
 use Rattle.star_catalogue.proofs.Apart.{numbers_apart}
 use Rattle.star_catalogue.proofs.KeyLists.{apart_of_one, apart_of_two, fault_of_one, fault_of_two, keys_of_one, length_of_two}
 use Rattle.star_catalogue.specs.Private.Keys.{row_in}

@@ -1,7 +1,7 @@
 use Rattle.std.proofs.Common.{rules, FitsSigned, w64, ap, ◌∙◌, to_z-of_z}
 use Rattle.std.specs.Option.{option_map}
 use Rattle.star_schema.specs.Tables.{Number}
-use Rattle.star_schema.proofs.RowPlaces.{length-numbers_at}
+use Rattle.star_reader.proofs.RowPlaces.{length-numbers_at}
 use Rattle.star_reader.proofs.raw_table.RawTable.number.Goals as goal
 
 pub get-requires : goal.get-requires

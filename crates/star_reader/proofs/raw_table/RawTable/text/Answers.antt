@@ -1,7 +1,7 @@
 use Rattle.std.proofs.Common.{ap, ◌∙◌}
 use Rattle.std.specs.Option.{option_map}
 use Rattle.star_schema.specs.Tables.{Text}
-use Rattle.star_schema.proofs.RowPlaces.{length-texts_at}
+use Rattle.star_reader.proofs.RowPlaces.{length-texts_at}
 use Rattle.star_reader.proofs.raw_table.RawTable.text.Goals as goal
 
 pub get-requires : goal.get-requires
