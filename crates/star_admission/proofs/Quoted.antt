@@ -9,7 +9,7 @@ use Rattle.star_program.specs.Code.{Code, Stop, Then, Each, code_size, scan_dept
 use Rattle.star_program.specs.Limits.{IsWithinLimits}
 use Rattle.star_program.specs.Shown.{shown_fault}
 use Rattle.star_program.specs.World.{World}
-use Rattle.star_admission.specs.Admissible.{Refusal, TooCostly, Refused, BadShow, cost_refusal, first_refusal}
+use Rattle.star_admission.specs.Admissible.{TooCostly, Refused, BadShow, cost_refusal, first_refusal}
 use Rattle.star_admission.specs.Quote.{turns_met, quote}
 use Rattle.star_admission.specs.declared.reason.Reason.{Reason}
 use Rattle.star_admission.specs.Standing.{instructions_of, reason_of}

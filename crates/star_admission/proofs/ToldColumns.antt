@@ -1,5 +1,5 @@
 -- The bounds of each column that a refusal tells fit 64 bits.
-use Rattle.std.proofs.Common.{◌≡◌, ℕ, zero, suc, ◌+◌, ◌^◌, Bool, true, false, List, [], ◌∷◌, ◌++◌, Option, Some, None, refl, sym, ap, subst, ◌∙◌, lit<}
+use Rattle.std.proofs.Common.{◌≡◌, ℕ, zero, suc, ◌+◌, Bool, true, false, List, [], ◌∷◌, ◌++◌, Option, Some, None, refl, sym, ap, subst, ◌∙◌}
 use Rattle.std.specs.Prelude.{◌||◌, ℤ, All, IfSome, cond, filter, map, nat_eq, not, slice_index_or, if◌then◌else◌}
 use Rattle.std.specs.List.{AllByRecursion}
 use Rattle.std.specs.Option.{option_map, option_or}
@@ -10,7 +10,7 @@ use Rattle.star_schema.specs.declared.column.TheConstants.{COLUMNS}
 use Rattle.star_schema.specs.declared.group.Aggregate.{Aggregate}
 use Rattle.star_schema.specs.declared.group.Aggregate.TheVariants.{Sum, Count, Min, Max}
 use Rattle.star_schema.proofs.Same.{column_same}
-use Rattle.star_interval.specs.Range.{Range, FitsI64, fits_i64}
+use Rattle.star_interval.specs.Range.{FitsI64, fits_i64}
 use Rattle.star_program.specs.declared.fault.Fault.{Fault}
 use Rattle.star_program.specs.declared.op.Op.{Op}
 use Rattle.star_program.specs.declared.op.Op.TheVariants.{Assign, Keep, Put}
