@@ -29,3 +29,4 @@ mod QueryRows
 mod FlatRows
 mod Verified
 mod SoundValues
+mod StoredRows
