@@ -1,5 +1,5 @@
 -- Rows sorted by what leads them: by their numbers they ascend by the order of rows.
-use Rattle.std.proofs.Common.{◌≡◌, ◌+◌, ◌<◌, ◌<ℤ◌, ℕ, ℤ, pos, Bool, List, [], ◌∷◌, Option, Some, None, length, get_or, map, arith, ap, sym, subst, refl, ◌∙◌}
+use Rattle.std.proofs.Common.{◌≡◌, ◌+◌, ◌<◌, ◌<ℤ◌, ℕ, ℤ, pos, List, [], ◌∷◌, Option, Some, None, length, get_or, map, arith, ap, sym, subst, refl, ◌∙◌}
 use Rattle.std.specs.Prelude.{IsPermutation}
 use Rattle.std.specs.Cmp.{IsTotalOrder, int_cmp_is, ranks}
 use Rattle.std.specs.List.{Contains, range_with_len}
@@ -14,7 +14,6 @@ use Rattle.std.proofs.Math.Dec.{ltb}
 use Rattle.std.proofs.lemmas.Bool.{lt-ltb}
 use Rattle.std.proofs.lemmas.Float.{T_from_true}
 use Rattle.std.proofs.lemmas.Cmp.{back_total, int_cmp_total, nat_cmp_total, on_total, then_total}
-use Rattle.std.proofs.lemmas.List.{length-map}
 use Rattle.std.proofs.lemmas.List.Elements.{Contains-get_or}
 use Rattle.std.proofs.lemmas.List.Sorted.{Contains-permutation, IsPermutation-map, IsPermutation-sym}
 use Rattle.star_schema.specs.declared.group.GroupColumn.{GroupColumn}
@@ -30,7 +29,6 @@ use Rattle.star_program.specs.declared.key.KeyValue.TheVariants as key
 use Rattle.star_program.specs.Keys.{key_value_cmp}
 use Rattle.star_group.specs.declared.group_row.GroupRow.{GroupRow}
 use Rattle.star_group.specs.Shown.{row_at, row_shown}
-use Rattle.star_machine.specs.declared.outcome.leads.Lead.{Lead}
 use Rattle.star_machine.specs.declared.outcome.leads.Led.{Led}
 use Rattle.star_machine.specs.Private.RowOrder.{AllHaveSameNulls, AreApart, column_order, directed_order, row_order, sort_order}
 use Rattle.star_machine.specs.Private.Leads.{column_lead, directed_cmp, first_lead, key_lead, lead_cmp, lead_of, leading_cmp, led_at, led_cmp, rank, total_lead, value}

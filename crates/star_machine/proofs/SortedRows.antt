@@ -1,5 +1,5 @@
 -- Rows that were sorted.
-use Rattle.std.proofs.Common.{◌≡◌, ◌+◌, ◌<◌, ℕ, Bool, false, true≢false, List, [], ◌∷◌, ◌++◌, length, get_or, map, arith, ap, sym, subst, refl, ◌∙◌}
+use Rattle.std.proofs.Common.{◌≡◌, ◌+◌, ◌<◌, ℕ, Bool, false, true≢false, List, [], ◌∷◌, length, get_or, map, arith, ap, sym, subst, refl, ◌∙◌}
 use denote.Param.Members.{Mut}
 use denote.Ref.{Bor}
 use Rattle.std.specs.Prelude.{IsPermutation}
@@ -13,7 +13,7 @@ use Rattle.std.specs.declared.cmp.Ordering.TheVariants.{Less, Equal, Greater}
 use Rattle.std.proofs.lemmas.Cmp.{on_total}
 use Rattle.std.proofs.lemmas.Fn.{always_returns_same}
 use Rattle.std.proofs.lemmas.List.{ext_get_or, get_or-map, length-map}
-use Rattle.std.proofs.lemmas.List.FromFn.{get_or-map-range_with_len, length-map-range_with_len, map-range_with_len_more}
+use Rattle.std.proofs.lemmas.List.FromFn.{get_or-map-range_with_len, length-map-range_with_len}
 use Rattle.std.proofs.lemmas.List.Sorted.{Contains-permutation, IsPermutation-map, IsPermutation-sym, ranks_by}
 use Rattle.std.proofs.lemmas.Map.Keys.{IsDistinct-IsPermutation, apart_from_distinct, sorted_from_all_adjacent}
 use Rattle.star_schema.specs.declared.group.SortKey.{SortKey}
@@ -94,14 +94,6 @@ sorted_rows sorts old new apart nulls moved up =
     (strictly sorts new up (IsDistinct-IsPermutation key_eq key_equiv.symm (map keys_of_row old) (map keys_of_row new) (IsPermutation-map keys_of_row old new moved) apart))
 
 -- ---- by number
-
-map_same : (ns : List ℕ) → map (λ n. n) ns ≡ ns
-map_same [] = refl
-map_same (n ∷ ns) = ap (λ ms. n ∷ ms) (map_same ns)
-
-pub range_more : (n : ℕ) → range_with_len 0 (n + 1) ≡ range_with_len 0 n ++ n ∷ []
-range_more n =
-    sym (map_same (range_with_len 0 (n + 1))) ∙ map-range_with_len_more (λ k. k) 0 n n (omega arith) ∙ ap (λ ns. ns ++ n ∷ []) (map_same (range_with_len 0 n))
 
 numbered : (rows : List GroupRow) → map (row_at rows) (range_with_len 0 (length rows)) ≡ rows
 numbered rows =
