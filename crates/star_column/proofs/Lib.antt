@@ -4,7 +4,6 @@ pub mod Edges
 pub mod Enumerated
 pub mod Extremes
 pub mod Fronts
-pub mod Kept
 pub mod Numbers
 pub mod Ordered
 pub mod Repeats

@@ -38,50 +38,29 @@ module _ (ts ds : List (List ℕ)) (ps ns : List ℕ) (repeated : AreRepeated ts
         (contains_mapped (λ p. get_or ts p []) ps there.0 (repeated.met there.0 there.1));
   }
 
-  places_read : All (λ p. p < length ns) ps
+  pub places_read : All (λ p. p < length ns) ps
   places_read = All-weaker (λ p. p < length ts) (λ p. p < length ns)
       (λ p h. omega (arith, h, count)) ps repeated.within
 
-  -- what the numbers of the kept texts lead to, read once for each row
-  module _ (values each : List ℕ) (is : each ≡ map (λ n. get_or values n 0) ns) where
-    at_kept : (p : ℕ) → p < length ns → get_or each p 0 ≡ get_or values (get_or ns p 0) 0
-    at_kept p h =
-        ap (λ xs. get_or xs p 0) is ∙ get_or-map (λ n. get_or values n 0) ns p 0 0 h
-
-    pub each_read : All (λ p. p < length each) ps
-    each_read = All-weaker (λ p. p < length ns) (λ p. p < length each)
-        (λ p h. omega (arith, h, ap length is, length-map ns (λ n. get_or values n 0)))
-        ps places_read
-
-    pub each_below : (most : ℕ) → All (λ n. get_or values n 0 < most) ns
-        → All (λ p. get_or each p 0 < most) ps
-    each_below most below = All-weaker (λ p. p < length ns) (λ p. get_or each p 0 < most)
-        (λ p h. rw (at_kept p h) (All-get_or (λ n. get_or values n 0 < most) ns p 0 h below))
-        ps places_read
-
-    pub each_coded : map (λ p. get_or each p 0) ps
-        ≡ map (λ n. get_or values n 0) (map (λ p. get_or ns p 0) ps)
-    each_coded =
-        map_agree (λ p. get_or each p 0) (λ p. get_or values (get_or ns p 0) 0) ps
-        (All-weaker (λ p. p < length ns)
-        (λ p. get_or each p 0 ≡ get_or values (get_or ns p 0) 0) at_kept ps places_read)
-        ∙ sym (map-map (λ n. get_or values n 0) (λ p. get_or ns p 0) ps)
-
 -- places that are kept as signed words
-module _ (words rows : List ℤ) (read : words ≡ rows) where
-  pub words_all : (P : ℕ → Type 0) → All P (places rows) → All (λ z. P (unsigned_abs z)) words
-  words_all P within = subst (All (λ z. P (unsigned_abs z))) (sym read) (from_places rows within)
+module _ (words rows : List ℤ) (ns : List ℕ) (read : words ≡ rows) where
+  pub words_within : All (λ p. p < length ns) (places rows)
+      → All (λ z. unsigned_abs z < length ns) words
+  words_within within =
+      subst (All (λ z. unsigned_abs z < length ns)) (sym read) (from_places rows within)
     where
-      from_places : (zs : List ℤ) → All P (map unsigned_abs zs) → All (λ z. P (unsigned_abs z)) zs
-      from_places [] all = All-nil (λ y. P (unsigned_abs y))
+      from_places : (zs : List ℤ) → All (λ p. p < length ns) (map unsigned_abs zs)
+          → All (λ z. unsigned_abs z < length ns) zs
+      from_places [] all = All-nil (λ y. unsigned_abs y < length ns)
       from_places (z ∷ zs) all =
-          All-cons (λ y. P (unsigned_abs y)) z zs
-          (All-head P (unsigned_abs z) (map unsigned_abs zs) all)
-          (from_places zs (All-tail P (unsigned_abs z) (map unsigned_abs zs) all))
+          All-cons (λ y. unsigned_abs y < length ns) z zs
+          (All-head (λ p. p < length ns) (unsigned_abs z) (map unsigned_abs zs) all)
+          (from_places zs
+          (All-tail (λ p. p < length ns) (unsigned_abs z) (map unsigned_abs zs) all))
 
-  pub words_read : (ns : List ℕ) → map (λ z. get_or ns (unsigned_abs z) 0) words
+  pub words_read : map (λ z. get_or ns (unsigned_abs z) 0) words
       ≡ map (λ p. get_or ns p 0) (places rows)
-  words_read ns =
+  words_read =
       ap (map (λ z. get_or ns (unsigned_abs z) 0)) read
       ∙ sym (map-map (λ p. get_or ns p 0) unsigned_abs rows)
 

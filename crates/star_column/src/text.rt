@@ -4,7 +4,7 @@ ghost use Rattle.std.specs.Prelude.{◌≡◌, ◌<◌, ◌^◌, IfOk, length, m
 ghost use Rattle.star_schema.specs.Dictionary.{dictionary_of, codes_of, low_in, high_in, HasCode};
 ghost use Rattle.star_column.specs.Width.{bits_of};
 
-use crate::coding::{codes_of, number_each, places_of};
+use crate::coding::{number_each, places_of};
 use crate::column::ColumnData;
 use crate::dictionary::Dictionary;
 use crate::view::ColumnView;
@@ -69,13 +69,11 @@ impl TextColumn {
         requires { length texts.now < 2 ^ 32 }
         ensures { IfOk result (λ column. column ≡ texts.now) }
     {
-        let (kept, rows) = texts.parts();
-        let (distinct, numbers) = number_each(alloc, kept)?;
+        let (distinct, numbers) = number_each(alloc, texts)?;
         let ordered = distinct.into_ordered(alloc)?;
         let dictionary = Dictionary::build(alloc, ordered.as_slice())?;
         let places = places_of(alloc, ordered.as_slice())?;
-        let each = codes_of(alloc, numbers.as_slice(), places.as_slice())?;
-        let codes = Words::of_places(alloc, rows, each.as_slice(), places.len())?;
+        let codes = Words::of_places(alloc, numbers.as_slice(), places.as_slice())?;
         Ok(TextColumn { codes, dictionary })
     }
 

@@ -2,13 +2,12 @@
 
 ghost use Rattle.std.specs.Prelude.{◌≡◌, ◌-◌, ◌<◌, ◌^◌, ℕ, ◌-ℤ◌, ◌≤ℤ◌, All, IfOk, Some, length, map, slice_get, slice_index};
 ghost use Rattle.std.specs.Int.RustNames.{unsigned_abs};
-ghost use Rattle.star_flat.specs.Repeated.{places};
 ghost use Rattle.star_interval.specs.Range.{Holds};
 ghost use Rattle.star_interval.specs.Interval.{range_of};
 ghost use Rattle.star_column.specs.Width.{least_width};
 ghost use Rattle.star_column.specs.Private.Words.{above, numbers_in, width_of};
 
-use star_flat::{FlatNumbers, SignedWord, SignedWords};
+use star_flat::SignedWord;
 use star_interval::Interval;
 use std::alloc::{AllocError, Global};
 
@@ -138,28 +137,27 @@ impl Words {
         }
     }
 
-    /// What stands at each of these places, in the least width in which so many entries have a
-    /// number each.
+    /// What stands at each of these places, in the least width in which every place fits.
     pub(crate) fn of_places(
         alloc: Global,
-        rows: &FlatNumbers,
+        places: &[u32],
         values: &[u32],
-        entries: usize,
     ) -> Result<Words, AllocError>
-        requires places { All (λ place. place < length values.now) (places rows.now) }
-        requires values { All (λ place. slice_index values.now place < entries) (places rows.now) }
-        requires few { entries < 2 ^ 32 }
-        ensures numbers { IfOk result (λ words. numbers_in words
-            ≡ map (λ place. slice_index values.now place) (places rows.now)) }
-        ensures width { IfOk result (λ words. width_of words ≡ least_width (entries - 1)) }
+        requires places { All (λ place. place < length values.now) places.now }
+        requires values { All (λ place. slice_index values.now place < length values.now) places.now }
+        requires few { length values.now < 2 ^ 32 }
+        ensures numbers { IfOk result
+            (λ words. numbers_in words ≡ map (λ place. slice_index values.now place) places.now) }
+        ensures width { IfOk result
+            (λ words. width_of words ≡ least_width (length values.now - 1)) }
     {
-        let span = entries.saturating_sub(1);
+        let span = values.len().saturating_sub(1);
         if span <= usize::from(u8::MAX) {
-            Ok(Words::Bits8(values_at(alloc, rows, values)?))
+            Ok(Words::Bits8(values_at(alloc, places, values)?))
         } else if span <= usize::from(u16::MAX) {
-            Ok(Words::Bits16(values_at(alloc, rows, values)?))
+            Ok(Words::Bits16(values_at(alloc, places, values)?))
         } else {
-            Ok(Words::Bits32(values_at(alloc, rows, values)?))
+            Ok(Words::Bits32(values_at(alloc, places, values)?))
         }
     }
 }
@@ -183,40 +181,16 @@ fn differences<S: SignedWord, W: Word>(
 }
 
 /// What stands at each of these places.
-fn values_at<W: Word>(
-    alloc: Global,
-    rows: &FlatNumbers,
-    values: &[u32],
-) -> Result<Vec<W>, AllocError>
-    requires places { All (λ place. place < length values.now) (places rows.now) }
-    requires fit { All (λ place. slice_index values.now place < W.limit) (places rows.now) }
-    ensures { IfOk result (λ words. map W.number words.items
-        ≡ map (λ place. slice_index values.now place) (places rows.now)) }
-{
-    match rows.words() {
-        SignedWords::Bits8(words) => read_at(alloc, words.as_slice(), values),
-        SignedWords::Bits16(words) => read_at(alloc, words.as_slice(), values),
-        SignedWords::Bits32(words) => read_at(alloc, words.as_slice(), values),
-        SignedWords::Bits64(words) => read_at(alloc, words.as_slice(), values),
-    }
-}
-
-/// What stands at each of these places, which are kept as signed words.
-fn read_at<S: SignedWord, W: Word>(
-    alloc: Global,
-    places: &[S],
-    values: &[u32],
-) -> Result<Vec<W>, AllocError>
-    requires places { All (λ place. unsigned_abs (S.number place) < length values.now) places.now }
-    requires fit { All (λ place. slice_index values.now (unsigned_abs (S.number place)) < W.limit)
-        places.now }
-    ensures { IfOk result (λ words. map W.number words.items
-        ≡ map (λ place. slice_index values.now (unsigned_abs (S.number place))) places.now) }
+fn values_at<W: Word>(alloc: Global, places: &[u32], values: &[u32]) -> Result<Vec<W>, AllocError>
+    requires places { All (λ place. place < length values.now) places.now }
+    requires fit { All (λ place. slice_index values.now place < W.limit) places.now }
+    ensures { IfOk result
+        (λ words. map W.number words.items
+        ≡ map (λ place. slice_index values.now place) places.now) }
 {
     let mut words = Vec::with_capacity(alloc, places.len())?;
     for place in places {
-        let value = values[place.value().unsigned_abs() as usize];
-        words.push_reserved(W::of(u64::from(value)));
+        words.push_reserved(W::of(u64::from(values[*place as usize])));
     }
     Ok(words)
 }

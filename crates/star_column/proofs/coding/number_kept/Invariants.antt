@@ -1,6 +1,6 @@
 use Rattle.std.proofs.Common.{◌≡◌, ◌≤◌, length, take, vec_len, vec_capacity}
 use Rattle.star_column.specs.Private.Codes.{AreNumbers}
-use Rattle.star_column.proofs.coding.number_each.Given as goal
+use Rattle.star_column.proofs.coding.number_kept.Given as goal
 
 abbrev pub invariant-loop-row : goal.invariant-loop-row
 invariant-loop-row l = record {
