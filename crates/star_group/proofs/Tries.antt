@@ -11,7 +11,8 @@ use Rattle.std.specs.Cmp.{signed_Decides, unsigned_Decides}
 use Rattle.std.specs.Cmp.Lexicographic.{pointwise}
 use Rattle.std.proofs.lemmas.Slice.Eq.{slice_eq-Decides}
 use Rattle.star_program.specs.Rows.{cut}
-use Rattle.star_group.specs.Private.Tries.{IsTrie, IsMissing, Leads, child, digit_at, key_at, node_at, part_digit, turn_at, word_from, word_with}
+use Rattle.star_program.proofs.Rows.{length-cut}
+use Rattle.star_group.specs.Private.Tries.{IsHeld, IsTrie, IsMissing, Leads, child, digit_at, key_at, node_at, part_digit, turn_at, word_from, word_with}
 
 abbrev part_eq : KeyPart → KeyPart → Bool
 part_eq = eq-value.it
@@ -37,6 +38,11 @@ keys_told b ps rs e = by b e
     by : (b : Bool) → b ≡ pointwise part_eq ps rs → MatchBool b (ps ≡ rs) (ps ≡ rs → ⊥)
     by true e = decides.0 (sym e)
     by false e = λ same. true≢false (sym (decides.1 same) ∙ sym e)
+
+-- the row of a number that is there and has the key
+pub held_when : (width count : ℕ) (parts key : List KeyPart) (number : ℕ) (b : Bool) → number < count → MatchBool b (key_at (cut width count parts) number ≡ key) (key_at (cut width count parts) number ≡ key → ⊥) → b ≡ true → IsHeld (cut width count parts) key number
+held_when width count parts key number true low told e = record { within = omega (arith, low, length-cut width count parts); is = told }
+held_when width count parts key number false low told e = absurd (true≢false (sym e))
 
 -- ---- the digits of a key
 

@@ -6,16 +6,19 @@ ghost use Rattle.star_group.specs.Entries.{entries_of};
 
 mod base;
 mod coarser;
+mod newest;
 mod store;
 
 use crate::cell::Row;
 use crate::keyed::KeyedRows;
+use newest::Newest;
 use star_schema::{Aggregate, Shape};
 use std::alloc::Global;
 
 /// The rows of all keys and the row of all puts, each up to date after every put. The rows of a
 /// cube in which keys are ALL are made in the end, each from those in which one key fewer is. The
-/// keys stand in a trie of their digits, so that no keys are slow to find.
+/// keys stand in a trie of their digits, so that no keys are slow to find; rows that were made
+/// lately are mostly found with one look.
 #[derive(Drop)]
 pub struct DeferredStore {
     alloc: Global,
@@ -23,6 +26,7 @@ pub struct DeferredStore {
     count: usize,
     aggregates: Vec<Aggregate>,
     rows: KeyedRows,
+    newest: Newest,
     total: Row,
     ghost few_keys: { count ≤ 6 },
     ghost few: { vec_len aggregates ≤ 8 },

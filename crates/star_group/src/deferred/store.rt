@@ -6,6 +6,7 @@ ghost use Rattle.star_group.specs.Deferred.{group_of, Has};
 use super::DeferredStore;
 use super::base::add_put;
 use super::coarser::all_rows;
+use super::newest::Newest;
 use crate::cell::{BLANK, shown};
 use crate::given::rows_given;
 use crate::keyed::KeyedRows;
@@ -35,6 +36,7 @@ impl GroupStore for DeferredStore {
             count,
             aggregates,
             rows,
+            newest: Newest::new(alloc)?,
             total: BLANK,
         })
     }
@@ -42,6 +44,7 @@ impl GroupStore for DeferredStore {
     fn put(&mut self, keys: &[KeyValue], values: &[i64]) -> Result<(), AllocError> {
         add_put(
             &mut self.rows,
+            &mut self.newest,
             &mut self.total,
             self.aggregates.as_slice(),
             keys,

@@ -1,6 +1,6 @@
 // Rows by their keys: making, reading and changing them.
 
-ghost use Rattle.std.specs.Prelude.{◌≡◌, ◌≤◌, ◌<◌, ◌+◌, ℕ, List, [], length, drop, slice_index_or, take, IfOk, IsOk, OnErr, OnOk};
+ghost use Rattle.std.specs.Prelude.{◌≡◌, ◌≤◌, ◌<◌, ◌+◌, ℕ, List, [], length, drop, slice_index_or, take, true, IfOk, IsOk, OnErr, OnOk};
 ghost use Rattle.star_group.specs.Base.{key_of, row_at};
 ghost use Rattle.star_group.specs.Entries.{entries_of};
 ghost use Rattle.star_group.specs.declared.keyed.key.KeyPart.{KeyPart};
@@ -13,7 +13,7 @@ ghost use Rattle.star_group.specs.Private.Tries.{IsHeld, IsMissing};
 use super::KeyedRows;
 use super::cells::{merge_at, write_at};
 use super::key::{OrderedKey, in_six_places};
-use super::trie::{Place, Trie};
+use super::trie::{Place, Trie, word_of};
 use star_program::row_of;
 use star_schema::Aggregate;
 use std::alloc::{AllocError, Global};
@@ -62,6 +62,19 @@ impl KeyedRows {
             Place::Held(number) => Some(number),
             Place::Missing { .. } => None,
         }
+    }
+
+    // Whether the row of a number is that of this key.
+    pub(crate) fn has(&self, number: usize, key: &OrderedKey) -> bool
+        ensures { result ≡ true
+            → IsHeld (keys_in self.now) (take self.now.trie.width key.now) number }
+    {
+        self.trie.has(number, &key[..self.trie.width])
+    }
+
+    // All parts of a key in one word.
+    pub(crate) fn word(&self, key: &OrderedKey) -> u64 {
+        word_of(&key[..self.trie.width])
     }
 
     // Room for so many more rows.

@@ -1,9 +1,9 @@
 // Rows found by the digits of their keys.
 
-ghost use Rattle.std.specs.Prelude.{◌≡◌, ◌≤◌, ◌<◌, ◌*◌, [], length, slice_index_or, IfOk, MatchBool};
+ghost use Rattle.std.specs.Prelude.{◌≡◌, ◌≤◌, ◌<◌, ◌*◌, [], length, slice_index_or, true, IfOk, MatchBool};
 ghost use Rattle.star_program.specs.Rows.{cut};
 ghost use Rattle.star_group.specs.Private.Tries as spec;
-ghost use Rattle.star_group.specs.Private.Tries.{IsFound, IsTrie, child, key_at, part_digit, word_from};
+ghost use Rattle.star_group.specs.Private.Tries.{IsFound, IsHeld, IsTrie, child, key_at, part_digit, word_from};
 
 mod growth;
 
@@ -62,7 +62,7 @@ fn word_with(word: u64, key: &[KeyPart], place: usize) -> u64
 }
 
 // All parts in one word: keys whose parts are small have words of their own.
-fn word_of(key: &[KeyPart]) -> u64
+pub(super) fn word_of(key: &[KeyPart]) -> u64
     ensures { result ≡ word_from 0 key.now }
 {
     let mut word = 0;
@@ -182,6 +182,18 @@ impl Trie {
             ≡ slice_index_or (cut self.now.width self.now.len self.now.keys.items) number [] }
     {
         row_of(self.keys.as_slice(), self.width, self.len, number)
+    }
+
+    // Whether the row of a number is there and has this key.
+    pub(crate) fn has(&self, number: usize, key: &[KeyPart]) -> bool
+        ensures { result ≡ true
+            → IsHeld (cut self.now.width self.now.len self.now.keys.items) key.now number }
+    {
+        if number < self.len {
+            has_key(self.keys.as_slice(), self.width, self.len, number, key)
+        } else {
+            false
+        }
     }
 
     // Where this key's row is, or would be.

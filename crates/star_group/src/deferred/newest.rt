@@ -1,0 +1,48 @@
+// Where rows stand that were made lately.
+
+ghost use Rattle.star_group.specs.Private.Numbers.{IsKnown};
+
+use crate::keyed::KeyedRows;
+use crate::keyed::key::OrderedKey;
+use std::alloc::{AllocError, Global};
+
+// So many numbers are kept: the keys of a cube by a year and two nations have slots of their own.
+const SLOTS: u64 = 8192;
+
+/// Numbers of rows, each in a slot that the row's key tells. A slot has the number of the newest
+/// row whose key tells it, or of any other row; so the row is asked for its key before the number
+/// is believed, and what is not known here is looked up in the trie.
+#[derive(Drop)]
+pub(super) struct Newest {
+    numbers: Vec<usize>,
+}
+
+fn slot_of(rows: &KeyedRows, key: &OrderedKey) -> usize {
+    (rows.word(key) % SLOTS) as usize
+}
+
+impl Newest {
+    // No number is of any use yet.
+    pub(super) fn new(alloc: Global) -> Result<Newest, AllocError> {
+        Ok(Newest {
+            numbers: vec![in alloc; 0; SLOTS as usize]?,
+        })
+    }
+
+    // The number of this key's row, where it is known.
+    pub(super) fn number(&self, rows: &KeyedRows, key: &OrderedKey) -> Option<usize>
+        ensures { IsKnown rows.now key.now result }
+    {
+        match self.numbers.get(slot_of(rows, key)) {
+            Some(number) if rows.has(*number, key) => Some(*number),
+            _ => None,
+        }
+    }
+
+    // The number of the row of a key from now on.
+    pub(super) fn set(&mut self, rows: &KeyedRows, key: &OrderedKey, number: usize) {
+        if let Some(slot) = self.numbers.get_mut(slot_of(rows, key)) {
+            *slot = number;
+        }
+    }
+}
