@@ -10,6 +10,7 @@ pub mod TurnRows
 pub mod SeenRows
 pub mod Comparisons
 pub mod Pieces
+pub mod TurnPieces
 pub mod Turns
 pub mod Rows
 pub mod Elements

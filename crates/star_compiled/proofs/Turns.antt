@@ -27,7 +27,8 @@ use Rattle.star_program.specs.Run.{End, Ended, Trapped, Limited, follow, after, 
 use Rattle.star_compiled.specs.Compiled.{Env, Rest, Rests, before, column_code, conjuncts_code, env_first, expression_code, keys_code, values_code, put_code, turn_code, body_code}
 use Rattle.star_compiled.specs.Answers.{coded, update_of_row}
 use Rattle.star_compiled.proofs.TurnRows.{Shows, IsTurn, numbers}
-use Rattle.star_compiled.proofs.Pieces.{no_fault, Knows, Reached, Runs, At, chained, reached, here, column_runs, condition_runs, expression_runs}
+use Rattle.star_compiled.proofs.Pieces.{no_fault, Knows, Reached, Runs, At, chained, reached}
+use Rattle.star_compiled.proofs.TurnPieces.{here, column_runs, condition_runs, expression_runs}
 
 -- the updates of each group, with that of the row where it is selected
 abbrev pub put_if : World → Plan → Joined → Bool → (ℕ → List Update) → ℕ → List Update
