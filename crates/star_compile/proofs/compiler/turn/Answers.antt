@@ -36,8 +36,8 @@ values-requires c =
     c.in_ok-keys.keys.items keys c.requires.room in
     record { room = search rules }
 
-pub returns-clause-code : goal.returns-clause-code
-returns-clause-code c =
+pub returns : goal.returns
+returns c =
     let p = shown c.args.tree.now in
     let first : IsFirst c.new-emitter.result = search rules in
     let conjuncts : Wrote c.new-emitter.result c.conjuncts.new.self
@@ -46,20 +46,11 @@ returns-clause-code c =
     c.in_ok-keys.keys.items = search rules in
     let values : Writes c.keys.new.self c.values.new.self (values_code p.joins p.measures)
     c.in_ok-values.values.items = search rules in
-    turn_written p c.new-emitter.result c.conjuncts.new.self first conjuncts c.keys.new.self
-    c.in_ok-keys.keys.items keys c.values.new.self c.put.new.self c.in_ok-values.values.items values
-    (search rules) (search rules)
-
-pub returns-clause-registers : goal.returns-clause-registers
-returns-clause-registers c =
-    let p = shown c.args.tree.now in
-    let first : IsFirst c.new-emitter.result = search rules in
-    let conjuncts : Wrote c.new-emitter.result c.conjuncts.new.self
-    (conjuncts_code p.joins p.conjuncts) = search rules in
-    let keys : Writes c.conjuncts.new.self c.keys.new.self (keys_code p.joins p.keys)
-    c.in_ok-keys.keys.items = search rules in
-    let values : Writes c.keys.new.self c.values.new.self (values_code p.joins p.measures)
-    c.in_ok-values.values.items = search rules in
-    turn_counted p c.new-emitter.result c.conjuncts.new.self first conjuncts c.keys.new.self
-    c.in_ok-keys.keys.items keys c.values.new.self c.put.new.self c.in_ok-values.values.items values
-    (search rules) (search rules)
+    record {
+      code = turn_written p c.new-emitter.result c.conjuncts.new.self first conjuncts
+          c.keys.new.self c.in_ok-keys.keys.items keys c.values.new.self c.put.new.self
+          c.in_ok-values.values.items values (search rules) (search rules);
+      registers = turn_counted p c.new-emitter.result c.conjuncts.new.self first conjuncts
+          c.keys.new.self c.in_ok-keys.keys.items keys c.values.new.self c.put.new.self
+          c.in_ok-values.values.items values (search rules) (search rules);
+    }
