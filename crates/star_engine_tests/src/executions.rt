@@ -3,8 +3,8 @@
 
 use star_engine::{EngineFault, Texts, answer_program, quote_text, sample};
 use star_fixtures::programs::{
-    ABOVE_AVERAGE, ABSENT_KEY, DISCOUNTED_REVENUE, MISPLACED, NESTED, NO_TEXTS, READ_INSIDE, UNSET,
-    counting,
+    ABOVE_AVERAGE, ABSENT_KEY, DISCOUNTED_REVENUE, MISPLACED, NESTED, NO_TEXTS, READ_INSIDE,
+    REVENUES, UNSET, counting,
 };
 use star_schema::{Limits, MOST_ROWS, MOST_VISITS, Out};
 use std::alloc::{AllocError, Global};
@@ -142,15 +142,6 @@ const WORKED: &[Case] = &[
         "quote 5\nvisits 5 lookups 10 updates 5\n",
     ),
 ];
-
-// A cube of years and regions, the greatest revenue first.
-const REVENUES: &str = concat!(
-    "star program 1\nregisters 8\ngroup 0 cube number s_region : sum count\nscan lineorder r0\n",
-    "r1 = load lo_orderdate r0\nr2 = find date r1\nr3 = load d_year r2\n",
-    "r4 = load lo_suppkey r0\nr5 = find supplier r4\nr6 = load s_region r5\n",
-    "r7 = load lo_revenue r0\nput 0 r3 r6 : r7\nend\n",
-    "report 0\nshow y key 0\nshow r key 1\nshow s aggregate 0\nshow n aggregate 1\nsort aggregate 0 descending\n",
-);
 
 const OF_EMPTY_TABLES: &[Case] = &[
     (

@@ -122,14 +122,23 @@ pub(crate) fn executed(
     })
 }
 
-pub(crate) fn explained(alloc: Global, query: &[u8], room: usize) -> Result<Printed, AllocError> {
-    let mut report = Short::with_room(alloc, room, AT_ONCE)?;
-    let answer = explain_query(alloc, query, &mut Out::new(&mut report));
+// What a call printed that writes no notes.
+fn unnoted(
+    alloc: Global,
+    report: Short,
+    fault: Option<EngineFault>,
+) -> Result<Printed, AllocError> {
     Ok(Printed {
         report: report.taken,
         notes: Vec::new(alloc),
-        fault: fault_line(alloc, answer.err())?,
+        fault: fault_line(alloc, fault)?,
     })
+}
+
+pub(crate) fn explained(alloc: Global, query: &[u8], room: usize) -> Result<Printed, AllocError> {
+    let mut report = Short::with_room(alloc, room, AT_ONCE)?;
+    let answer = explain_query(alloc, query, &mut Out::new(&mut report));
+    unnoted(alloc, report, answer.err())
 }
 
 pub(crate) fn quoted(
@@ -140,11 +149,7 @@ pub(crate) fn quoted(
 ) -> Result<Printed, AllocError> {
     let mut report = Short::with_room(alloc, room, AT_ONCE)?;
     let answer = quote_text(alloc, texts, file, limits_of(0), &mut Out::new(&mut report));
-    Ok(Printed {
-        report: report.taken,
-        notes: Vec::new(alloc),
-        fault: fault_line(alloc, answer.err())?,
-    })
+    unnoted(alloc, report, answer.err())
 }
 
 // What the benchmark prints, and whether it answers that no query was refused.
@@ -157,10 +162,5 @@ pub(crate) fn benched(
     let mut report = Short::with_room(alloc, room, AT_ONCE)?;
     let answer = bench(alloc, texts, limits, &mut Out::new(&mut report));
     let fits = matches!(&answer, Ok(true));
-    let printed = Printed {
-        report: report.taken,
-        notes: Vec::new(alloc),
-        fault: fault_line(alloc, answer.err())?,
-    };
-    Ok((printed, fits))
+    Ok((unnoted(alloc, report, answer.err())?, fits))
 }

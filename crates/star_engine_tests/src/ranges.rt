@@ -4,6 +4,7 @@
 use crate::executions::{Case, all_agree};
 use crate::tables::dear_lines;
 use star_engine::{Texts, sample};
+use star_fixtures::programs::BELOW_NINE;
 use star_schema::MOST_VISITS;
 use std::alloc::Global;
 use std::test::Fail;
@@ -14,15 +15,6 @@ const FIRST_PRICES: &str = concat!(
     "r1 = load lo_linenumber r0\nr2 = const 1\nr3 = eq r1 r2\nkeep r3\n",
     "r4 = load lo_extendedprice r0\nput 0 : r4\nend\n",
     "report 0\nshow s aggregate 0\n",
-);
-
-// Twice by how much a sum of prices is below 9,000,000,000,000,000,000.
-const BELOW_NINE: &str = concat!(
-    "star program 1\nregisters 10\ngroup 0 plain : sum\ngroup 1 plain : max\n",
-    "scan lineorder r0\nr1 = load lo_linenumber r0\nr2 = const 1\nr3 = eq r1 r2\nkeep r3\n",
-    "r4 = load lo_extendedprice r0\nput 0 : r4\nend\n",
-    "r5 = read 0 0 0\nr6 = const 9000000000000000000\nr7 = sub r5 r6\nr8 = const 2\nr9 = mul r7 r8\nput 1 : r9\n",
-    "report 1\nshow m aggregate 0\n",
 );
 
 // The sum of the squares of prices.

@@ -57,6 +57,26 @@ pub const DISCOUNTED_REVENUE: &str = concat!(
     "show revenue aggregate 0\n",
 );
 
+/// A cube of years and regions, the greatest revenue first.
+pub const REVENUES: &str = concat!(
+    "star program 1\nregisters 8\ngroup 0 cube number s_region : sum count\nscan lineorder r0\n",
+    "r1 = load lo_orderdate r0\nr2 = find date r1\nr3 = load d_year r2\n",
+    "r4 = load lo_suppkey r0\nr5 = find supplier r4\nr6 = load s_region r5\n",
+    "r7 = load lo_revenue r0\nput 0 r3 r6 : r7\nend\n",
+    "report 0\nshow y key 0\nshow r key 1\nshow s aggregate 0\nshow n aggregate 1\n",
+    "sort aggregate 0 descending\n",
+);
+
+/// Twice by how much a sum of prices is below 9,000,000,000,000,000,000.
+pub const BELOW_NINE: &str = concat!(
+    "star program 1\nregisters 10\ngroup 0 plain : sum\ngroup 1 plain : max\n",
+    "scan lineorder r0\nr1 = load lo_linenumber r0\nr2 = const 1\nr3 = eq r1 r2\nkeep r3\n",
+    "r4 = load lo_extendedprice r0\nput 0 : r4\nend\n",
+    "r5 = read 0 0 0\nr6 = const 9000000000000000000\nr7 = sub r5 r6\n",
+    "r8 = const 2\nr9 = mul r7 r8\nput 1 : r9\n",
+    "report 1\nshow m aggregate 0\n",
+);
+
 /// Suppliers for each date.
 pub const NESTED: &str = "scan date r0\nscan supplier r1\nput 0 :\nend\nend\n";
 

@@ -2,8 +2,8 @@
 
 use star_catalogue::{Catalogue, Texts, sample};
 use star_fixtures::programs::{
-    ABOVE_AVERAGE, ABSENT_KEY, DISCOUNTED_REVENUE, MISPLACED, NESTED, NO_TEXTS, READ_INSIDE, UNSET,
-    counting, read,
+    ABOVE_AVERAGE, ABSENT_KEY, BELOW_NINE, DISCOUNTED_REVENUE, MISPLACED, NESTED, NO_TEXTS,
+    READ_INSIDE, REVENUES, UNSET, counting, read,
 };
 use star_fixtures::samples::loaded;
 use star_machine::{Cell, Outcome, TrialFault, trial};
@@ -90,15 +90,6 @@ fn all_counting_agree(alloc: Global, catalogue: &Catalogue, cases: &[Case]) -> R
     }
     Ok(())
 }
-
-// A cube of years and regions, the greatest revenue first.
-const REVENUES: &str = concat!(
-    "star program 1\nregisters 8\ngroup 0 cube number s_region : sum count\nscan lineorder r0\n",
-    "r1 = load lo_orderdate r0\nr2 = find date r1\nr3 = load d_year r2\n",
-    "r4 = load lo_suppkey r0\nr5 = find supplier r4\nr6 = load s_region r5\n",
-    "r7 = load lo_revenue r0\nput 0 r3 r6 : r7\nend\n",
-    "report 0\nshow y key 0\nshow r key 1\nshow s aggregate 0\nshow n aggregate 1\nsort aggregate 0 descending\n",
-);
 
 // One put into a cube of two numbers.
 const ONE_PUT: &str = concat!(
@@ -294,15 +285,6 @@ const TWO_KEYS: &str = concat!(
     "star program 1\nregisters 3\ngroup 0 plain number : sum\n",
     "r0 = const 1\nr1 = const 2\nr2 = const 9000000000000000000\nput 0 r0 : r2\nput 0 r1 : r2\n",
     "report 0\nshow s aggregate 0\n",
-);
-
-// Twice by how much a sum of prices is below 9,000,000,000,000,000,000.
-const BELOW_NINE: &str = concat!(
-    "star program 1\nregisters 10\ngroup 0 plain : sum\ngroup 1 plain : max\n",
-    "scan lineorder r0\nr1 = load lo_linenumber r0\nr2 = const 1\nr3 = eq r1 r2\nkeep r3\n",
-    "r4 = load lo_extendedprice r0\nput 0 : r4\nend\n",
-    "r5 = read 0 0 0\nr6 = const 9000000000000000000\nr7 = sub r5 r6\nr8 = const 2\nr9 = mul r7 r8\nput 1 : r9\n",
-    "report 1\nshow m aggregate 0\n",
 );
 
 // Ten lines of one order, all dear.
