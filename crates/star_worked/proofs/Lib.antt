@@ -27,3 +27,5 @@ mod Functions
 mod Defaults
 mod QueryRows
 mod FlatRows
+mod CompiledPrograms
+mod CompiledLooks
