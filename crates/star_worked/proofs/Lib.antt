@@ -29,3 +29,5 @@ mod QueryRows
 mod FlatRows
 mod CompiledPrograms
 mod CompiledLooks
+mod EngineAnswers
+mod EngineNotes
