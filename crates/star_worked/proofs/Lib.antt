@@ -31,3 +31,5 @@ mod CompiledPrograms
 mod CompiledLooks
 mod EngineAnswers
 mod EngineNotes
+mod EngineQueries
+mod EngineRuns
