@@ -33,3 +33,5 @@ mod EngineAnswers
 mod EngineNotes
 mod EngineQueries
 mod EngineRuns
+mod EngineTexts
+mod Benchmark
