@@ -30,3 +30,11 @@ mod FlatRows
 mod Verified
 mod SoundValues
 mod StoredRows
+mod CompiledPrograms
+mod CompiledLooks
+mod EngineAnswers
+mod EngineNotes
+mod EngineQueries
+mod EngineRuns
+mod EngineTexts
+mod Benchmark

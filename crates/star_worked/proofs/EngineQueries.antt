@@ -1,0 +1,111 @@
+-- What is told of a query over tables, at the limit on visits and one past it, and what refuses it in which order.
+use Rattle.std.proofs.Common.{◌≡◌, ℕ, List, Some, arith, refl, ◌+◌}
+use Rattle.std.specs.Prelude.{codes}
+use Rattle.std.specs.Fmt.{digits}
+use Rattle.star_schema.specs.declared.table.TableId.{TableId}
+use Rattle.star_schema.specs.Database.{rows_in}
+use Rattle.star_schema.specs.Loadable.{IsLoadable, database_of}
+use Rattle.star_query.specs.declared.fault.QueryFault.{QueryFault}
+use Rattle.star_plan.specs.declared.fault.PlanFault.{PlanFault}
+use Rattle.star_plan.specs.Meaning.{Plan}
+use Rattle.star_program.specs.Effects.{Store}
+use Rattle.star_program.specs.Run.{Ended, run_of}
+use Rattle.star_catalogue.specs.declared.fault.LoadFault.{LoadFault}
+use Rattle.star_admission.specs.Admissible.{TooCostly, first_refusal}
+use Rattle.star_world.specs.WorldOf.{world_of}
+use Rattle.star_verify.specs.declared.refusal.Refusal.{Refusal}
+use Rattle.star_verify.specs.Shown.{refusal_shown}
+use Rattle.star_answers.specs.Fitting.{FitsTables}
+use Rattle.star_answers.specs.Reports.{IsReport}
+use Rattle.star_compiled.specs.Compiled.{compiled}
+use Rattle.star_compiled.specs.Judged.{IsOverflow}
+use Rattle.star_engine.specs.declared.fault.EngineFault.TheVariants as engine
+use Rattle.star_engine.specs.Loads.{IsLoadFault}
+use Rattle.star_engine.specs.Notes.{counts_line, quote_line}
+use Rattle.star_engine.specs.Queries.{FitsTexts, IsNoQuery, IsPlanFault, IsPlanOf, IsQuery, IsQueryFault, IsQueryTold, IsUnanswered, IsUnasked, IsUnfit, fact_rows}
+use Rattle.star_engine.specs.QueryRuns.{HasReported, PrintsTheReport}
+
+-- ---- the notes
+
+quoted : quote_line 5 ≡ codes "quote 5\n"
+unfolding quote_line digits
+quoted = refl
+
+counted : counts_line 5 3 2 ≡ codes "visits 5 lookups 3 updates 2\n"
+unfolding counts_line digits
+counted = refl
+
+-- ---- why a text is no query, and which fault is told first
+
+a_fault_of_names : (query : List ℕ) (fault : PlanFault) → IsPlanFault query fault → IsNoQuery query (engine.Plan fault)
+a_fault_of_names query fault first = first
+
+a_fault_of_the_text : (query : List ℕ) (fault : QueryFault) → IsQueryFault query fault → IsNoQuery query (engine.Query fault)
+a_fault_of_the_text query fault first = first
+
+no_fault_of_tables : (query : List ℕ) (fault : LoadFault) → IsNoQuery query (engine.Load fault) → ⊥
+no_fault_of_tables query fault none = none
+
+module _ (rows : ℕ) (texts : TableId → List ℕ) (query : List ℕ) where
+  a_query_over_no_tables : (fault : LoadFault) → IsQuery query → IsLoadFault rows texts fault → IsUnasked rows texts query (engine.Load fault)
+  a_query_over_no_tables fault is first = (is, first)
+
+  the_query_is_read_first : (fault : LoadFault) → (IsQuery query → ⊥) → IsUnasked rows texts query (engine.Load fault) → ⊥
+  the_query_is_read_first fault none unasked = none unasked.0
+
+  no_load_fault_of_loadable_tables : (fault : LoadFault) → IsLoadable rows texts → IsUnasked rows texts query (engine.Load fault) → ⊥
+  no_load_fault_of_loadable_tables fault loadable unasked = unasked.1.not_loadable loadable
+
+  no_query_over_any_tables : (fault : QueryFault) → IsQueryFault query fault → IsUnasked rows texts query (engine.Query fault)
+  no_query_over_any_tables fault first = first
+
+-- ---- why a query that doesn't fit is refused
+
+module _ (most : ℕ) (texts : TableId → List ℕ) (query : List ℕ) (refusal : Refusal) where
+  -- as many rows as may be visited are not too many
+  as_many_rows_as_may_be : (p : Plan) → IsPlanOf query p → (FitsTables most (rows_in (database_of texts)) p → ⊥) → fact_rows texts ≡ most
+      → IsOverflow (refusal_shown refusal) → refusal_shown refusal ≡ first_refusal (world_of (database_of texts)) most (compiled p)
+      → IsUnfit most texts query refusal
+  as_many_rows_as_may_be p meant unfit many wide first = record {
+    p = p;
+    meant = meant;
+    unfit = unfit;
+    costly = λ more. absurd (omega arith);
+    wide = λ less. wide;
+    first = first;
+  }
+
+  then_a_range_is_too_wide : fact_rows texts ≡ most → IsUnfit most texts query refusal → IsOverflow (refusal_shown refusal)
+  then_a_range_is_too_wide many unfit = unfit.wide (omega arith)
+
+  one_row_more_is_too_many : fact_rows texts ≡ most + 1 → IsUnfit most texts query refusal → refusal_shown refusal ≡ Some (TooCostly (fact_rows texts))
+  one_row_more_is_too_many many unfit = unfit.costly (omega arith)
+
+module _ (rows visits : ℕ) (texts : TableId → List ℕ) (query : List ℕ) where
+  a_query_that_does_not_fit : (refusal : Refusal) → IsLoadable rows texts → IsUnfit visits texts query refusal → IsUnanswered rows visits texts query (engine.Refused refusal)
+  a_query_that_does_not_fit refusal loadable unfit = (loadable, unfit)
+
+  no_refusal_over_tables_that_cannot_be_loaded : (refusal : Refusal) → (IsLoadable rows texts → ⊥) → IsUnanswered rows visits texts query (engine.Refused refusal) → ⊥
+  no_refusal_over_tables_that_cannot_be_loaded refusal none unanswered = none unanswered.0
+
+  no_refusal_of_a_query_that_fits : (refusal : Refusal) → (IsUnfit visits texts query refusal → ⊥) → IsUnanswered rows visits texts query (engine.Refused refusal) → ⊥
+  no_refusal_of_a_query_that_fits refusal none unanswered = none unanswered.1
+
+  -- each row of lineorder may be visited, and the counts are told in their order
+  every_row_visited : IsLoadable rows texts → (fitting : FitsTexts visits texts query) (report : List ℕ) → IsReport texts query report
+      → (s : Store) → run_of (world_of (database_of texts)) (compiled fitting.p) ≡ Ended s → s.visits ≡ fact_rows texts
+      → IsQueryTold rows visits texts query (record { quoted = quote_line (fact_rows texts); report = report; done = counts_line s.visits s.lookups s.updates })
+  every_row_visited loadable fitting report reported s ended all = record {
+    loadable = loadable;
+    fitting = fitting;
+    quoted = refl;
+    reported = reported;
+    s = s;
+    ended = ended;
+    within = omega arith;
+    done = refl;
+  }
+
+every_row_visited_of_a_report : (texts : TableId → List ℕ) (query : List ℕ) (p : Plan) (s : Store) → s.visits ≡ fact_rows texts
+    → PrintsTheReport texts query p s → HasReported texts query p s
+every_row_visited_of_a_report texts query p s all printed = record { visits = omega arith; printed = printed }
