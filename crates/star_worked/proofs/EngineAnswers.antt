@@ -27,7 +27,7 @@ module _ {S : Type 0} (sink : Change S) (text : List ℕ) where
 
 -- ---- what a call answers
 
-module _ {S A : Type 0} (sink : Change S) (IsText : List ℕ → Type 0) (IsDue : EngineFault → Type 0) where
+module _ {S : Type 0} (A : Type 0) (sink : Change S) (IsText : List ℕ → Type 0) (IsDue : EngineFault → Type 0) where
   a_due_text_gained_whole : (a : A) (text : List ℕ) → IsText text → HasGained sink text → IsAnswered sink IsText IsDue (Ok a)
   a_due_text_gained_whole a text due gained = (text, due, gained)
 
