@@ -125,6 +125,11 @@ def imported(text: str, told: str) -> str:
     return text
 
 
+def laid(before: str, body: str) -> str:
+    """A new right side, indented where the old one began a line."""
+    return f"    {body}" if before.endswith("\n") and not body.startswith(" ") else body
+
+
 def edits(text: str) -> Iterator[Edit]:
     """The wrong definitions of a file's text, each text once."""
     found, seen = clauses(text), set()
@@ -135,7 +140,7 @@ def edits(text: str) -> Iterator[Edit]:
         if after:
             ways.append(("the next clause's answer", text[after.start : after.end]))
         for told, new in ways:
-            whole = text[: clause.start] + new + text[clause.end :]
+            whole = text[: clause.start] + laid(text[: clause.start], new) + text[clause.end :]
             if new != body and whole not in seen:
                 seen.add(whole)
                 line = text.count("\n", 0, clause.start) + 1
