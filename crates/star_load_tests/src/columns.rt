@@ -1,6 +1,7 @@
 // The dictionary of the brands of three parts, columns of 0, 1 and 100,000 rows, and each public
 // call.
 
+use crate::asserts::check_same;
 use star_column::{ColumnData, NumberColumn, PackedColumn, TextColumn};
 use star_flat::{FlatNumbers, RepeatedTexts};
 use star_schema::law;
@@ -10,25 +11,25 @@ use std::test::Fail;
 
 // The rows of a column have these values, and it has these bounds.
 fn check_column<C: ColumnData>(rt: &impl Abort, column: &C, values: &[i64], low: i64, high: i64) {
-    assert_eq!(rt; column.len() as usize, values.len());
+    check_same(rt, column.len() as usize, values.len(), &"the rows");
     let mut row = 0;
     for value in values {
         if row < column.len() {
-            assert_eq!(rt; column.at(row), *value, "at row {row}");
+            check_same(rt, column.at(row), *value, &row);
             row += 1;
         }
     }
     let bounds = column.bounds();
-    assert_eq!(rt; (bounds.low, bounds.high), (low, high));
+    check_same(rt, (bounds.low, bounds.high), (low, high), &"the bounds");
 }
 
 // The texts of a column's dictionary are these.
 fn check_dictionary(rt: &impl Abort, column: &TextColumn, texts: &[&[u8]]) {
-    assert_eq!(rt; column.entries() as usize, texts.len());
+    check_same(rt, column.entries() as usize, texts.len(), &"the texts");
     let mut code = 0;
     for text in texts {
         if code < column.entries() {
-            assert_eq!(rt; column.text_of(code), *text, "of code {code}");
+            check_same(rt, column.text_of(code), *text, &code);
             code += 1;
         }
     }
@@ -36,11 +37,8 @@ fn check_dictionary(rt: &impl Abort, column: &TextColumn, texts: &[&[u8]]) {
 
 // So many texts of a column's dictionary are less than a text, and so many are less or equal.
 fn check_edges(rt: &impl Abort, column: &TextColumn, text: &[u8], low: u32, high: u32) {
-    assert_eq!(rt;
-        (column.low(text), column.high(text)),
-        (low, high),
-        "{text:?}"
-    );
+    let edges = (column.low(text), column.high(text));
+    check_same(rt, edges, (low, high), &text);
 }
 
 #[test]
@@ -135,11 +133,8 @@ fn check_width(
     let column = NumberColumn::build(numbers.to_vec(alloc)?)?;
     let packed = PackedColumn::build(alloc, &column)?;
     let at_once = packed_at_once(rt, alloc, numbers)?;
-    assert_eq!(rt;
-        (packed.bits(), at_once.bits()),
-        (bits, bits),
-        "of {numbers:?}"
-    );
+    let got = (packed.bits(), at_once.bits());
+    check_same(rt, got, (bits, bits), &numbers);
     Ok(())
 }
 
@@ -214,8 +209,9 @@ fn check_scattered(
         .map(|number| i64::from(*number))
         .collect(alloc)?;
     check_column(rt, column, codes.as_slice(), 0, 999);
-    assert_eq!(rt; column.entries(), 1_000);
-    assert_eq!(rt; text_of(column, 258), Some([1, 2].as_slice()));
+    check_same(rt, column.entries(), 1_000, &"the texts");
+    let text = Some([1, 2].as_slice());
+    check_same(rt, text_of(column, 258), text, &258);
     Ok(())
 }
 
@@ -251,7 +247,7 @@ fn check_codes(rt: &impl Abort, column: &TextColumn, codes: &[i64]) {
     let mut row = 0;
     for code in codes {
         if row < column.len() {
-            assert_eq!(rt; i64::from(column.code_at(row)), *code, "at row {row}");
+            check_same(rt, i64::from(column.code_at(row)), *code, &row);
             row += 1;
         }
     }
@@ -313,9 +309,9 @@ fn different(alloc: Global, rows: u32) -> Result<RepeatedTexts, AllocError> {
 fn different_texts_have_different_codes(rt: HostRuntime) -> Result<(), Fail> {
     let alloc = rt.alloc();
     let column = column_of(&rt, alloc, different(alloc, 100_000)?)?;
-    assert_eq!(rt; column.entries(), 100_000);
+    check_same(&rt, column.entries(), 100_000, &"the texts");
     for row in 0..column.len() {
-        assert_eq!(rt; column.at(row), 99_999 - i64::from(row));
+        check_same(&rt, column.at(row), 99_999 - i64::from(row), &row);
     }
     Ok(())
 }
