@@ -2,11 +2,11 @@
 use Rattle.std.proofs.Common.{◌≡◌, ◌<◌, ℕ, [], ◌∷◌, ap, arith, length, refl, sym, ◌∙◌}
 use Rattle.std.specs.Prelude.{pos}
 use Rattle.star_schema.specs.declared.column.ColumnId.{ColumnId}
-use Rattle.star_schema.specs.declared.column.ColumnId.TheVariants.{CNation, LoTax}
+use Rattle.star_schema.specs.declared.column.ColumnId.TheVariants.{LoTax}
 use Rattle.star_schema.specs.declared.column.Kind.TheVariants as kind
 use Rattle.star_schema.specs.declared.table.TableId.{TableId}
 use Rattle.star_schema.specs.Database.{Database, rows_in}
-use Rattle.star_schema.specs.Schema.{kind_of}
+use Rattle.star_schema.specs.Schema.{column_of}
 use Rattle.star_program.specs.declared.fault.TrapKind.TheVariants.{AbsentKey}
 use Rattle.star_program.specs.declared.group.GroupKey.TheVariants as declared
 use Rattle.star_program.specs.declared.key.KeyValue.TheVariants as key
@@ -33,6 +33,7 @@ code_past_the_last : (database : Database) (c : ColumnId) → IsSoundValue datab
 code_past_the_last database c is = not_below _ is.1
 
 code_of_numbers : (database : Database) (n : ℕ) → IsSoundValue database (Text LoTax n) → ⊥
+unfolding column_of
 code_of_numbers database n is = let no : kind.Number ≡ kind.Text = is.0 in absurd (cc no)
 
 -- ---- keys
@@ -41,6 +42,7 @@ key_past_the_last : (database : Database) (c : ColumnId) → IsSoundKey database
 key_past_the_last database c is = not_below _ is.1
 
 key_of_numbers : (database : Database) (n : ℕ) → IsSoundKey database (declared.Text LoTax) (key.Code n) → ⊥
+unfolding column_of
 key_of_numbers database n is = let no : kind.Number ≡ kind.Text = is.0 in absurd (cc no)
 
 one_key : (database : Database) → AreSoundKeys database (declared.Number ∷ []) (key.Number (pos 7) ∷ [])
