@@ -1,8 +1,8 @@
 """The antt modules of the repository's crates, and copies of those that stand on a changed one, in a crate of their own.
 
 A wrong definition is tried in a copy of its file. What cites the file, down to some theorems, is copied too and cites
-the copy; all else is read where it stands, as sources, whose functions nobody proves. So one check tries many wrong
-definitions, and no crate has to be proved before.
+the copy; all else is read where it stands, as sources, whose functions nobody proves, or from a clone whose crates are
+built. So one check tries many wrong definitions, and no crate has to be proved before.
 """
 
 import re
@@ -77,8 +77,8 @@ def is_exported(top: Path, module: Module) -> bool:
 class Room:
     """A folder with a crate in which copies of modules are checked over the repository's sources."""
 
-    def __init__(self, top: Path, folder: Path):
-        self.top, self.folder, self.modules = top, folder, modules_of(top)
+    def __init__(self, top: Path, folder: Path, built: Path | None = None):
+        self.top, self.folder, self.built, self.modules = top, folder, built, modules_of(top)
         self.kit = Path(subprocess.run(["rt", "doc"], capture_output=True, text=True).stdout.strip()).parent
         self.exported = cache(lambda name: is_exported(top, self.modules[name]))
         lines = re.findall(r"(?m)^(\w+):(.*)$", (top / "crates.txt").read_text(encoding="utf-8"))
@@ -153,7 +153,7 @@ class Room:
         return errors if errors or "\nonly=1 proved=1" in run.stdout else None
 
     def words(self, home: str, used: Iterable[str]) -> list[str]:
-        """What the prover is called with: the crates below are read from their sources, those of the kit as they are built."""
+        """What the prover is called with: the crates below are read from their sources, or as they are built."""
         self.libraries[CRATE] = [it for it in self.libraries if it in used]
         below = self.below([home])
         of_kit = lambda crate: ["std", *(it for it in self.libraries[crate] if it not in self.libraries)]
@@ -162,7 +162,12 @@ class Room:
             words += ["--extern", f"{name}={self.kit}/rlibs/{name}.rlib"]
         for crate in below:
             uses = dict.fromkeys(["core", *of_kit(crate), *self.libraries[crate]])
-            words += ["--lib", f"{crate}:{','.join(uses)}={self.top}/crates/{crate}/src/lib.rt"]
+            rlib = f"{self.built}/crates/{crate}/out/rlib/{crate}.rlib"
+            if not self.built:
+                words += ["--lib", f"{crate}:{','.join(uses)}={self.top}/crates/{crate}/src/lib.rt"]
+            elif crate in self.libraries[home]:
+                words += ["--extern", f"{crate}={rlib}"]
+            words += ["-L", f"dependency={Path(rlib).parent}"] if self.built else []
         words += ["--antt-project", f"{self.kit}/rattle/logic/antt-project.json", "--logic-built", f"{self.kit}/logic_built"]
         words += ["--incremental", str(self.folder / "incremental" / home), "--links", f"{home}=", "--jobs", "1"]
         return [*words, "--only", f"{home}::{ANCHOR}"]
