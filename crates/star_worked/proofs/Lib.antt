@@ -38,3 +38,6 @@ mod EngineQueries
 mod EngineRuns
 mod EngineTexts
 mod Benchmark
+mod Commands
+mod CommandFaults
+mod CommandFailures
