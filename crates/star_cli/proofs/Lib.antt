@@ -3,4 +3,5 @@ pub mod Limits
 mod NameLemmas
 mod Telling
 mod WorkedFaults
+mod WorkedFailures
 pub mod Giving

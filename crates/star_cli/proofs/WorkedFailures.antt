@@ -1,0 +1,20 @@
+-- What keeps a command from its answer: the line of each failure, and its status. No other crate may name them.
+use Rattle.std.proofs.Common.{◌≡◌, ℕ, List, [], ◌∷◌, Some, refl, ap}
+use Rattle.std.specs.Borrow.{Bor}
+use Rattle.std.specs.Prelude.{◌++◌, codes, map}
+use Rattle.star_cli.specs.declared.failure.Failure.TheVariants.{NotText, EmptyFolder, NoCommand, File, OutOfMemory}
+use Rattle.star_cli.specs.Failures.{failure_text, status_of}
+use Rattle.star_cli.specs.Names.{shown_name}
+
+lines : map failure_text (NotText ∷ EmptyFolder ∷ NoCommand ∷ OutOfMemory ∷ [])
+    ≡ Some (codes "error: a word is not UTF-8\n") ∷ Some (codes "error: the folder's name is empty\n")
+    ∷ Some (codes "error: the words are no command\n") ∷ Some (codes "memory\n") ∷ []
+unfolding failure_text
+lines = refl
+
+line_of_a_file : (name : Bor (List ℕ)) → shown_name name.now ≡ codes "part.tbl" → failure_text (File name) ≡ Some (codes "file part.tbl\n")
+unfolding failure_text
+line_of_a_file name shown = ap (λ word. Some (codes "file " ++ (word ++ codes "\n"))) shown
+
+statuses : (name : Bor (List ℕ)) → map status_of (NotText ∷ EmptyFolder ∷ NoCommand ∷ File name ∷ OutOfMemory ∷ []) ≡ 2 ∷ 2 ∷ 2 ∷ 6 ∷ 7 ∷ []
+statuses name = refl
