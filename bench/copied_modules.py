@@ -109,10 +109,10 @@ class Room:
         return {it for it in reachable(names, lambda it: self.modules[it].names) if self.modules[it].crate == ROWS}
 
     def fits(self, names: Iterable[str], home: str) -> bool:
-        """Whether copies of some modules, and of the rows that they lead to, may stand in a crate: they name none above."""
+        """Whether copies of some modules, and of the rows that they lead to, may stand in a crate: it uses all that they name."""
         copied = {*names, *self.rows_of(names)}
         crates = {self.modules[it].crate for it in {*copied, *(name for it in copied for name in self.modules[it].names)}}
-        return crates <= {ROWS, home, *self.below([home])}
+        return crates <= {ROWS, home, *self.libraries[home]}
 
     def below(self, crates: Iterable[str]) -> list[str]:
         """The repository's crates below some, each behind those that it stands on."""
