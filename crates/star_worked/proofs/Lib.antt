@@ -30,6 +30,8 @@ mod FlatRows
 mod Verified
 mod SoundValues
 mod StoredRows
+mod QueryWords
+mod KeyPairs
 mod CompiledPrograms
 mod CompiledLooks
 mod EngineAnswers
