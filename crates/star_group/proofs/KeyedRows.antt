@@ -218,9 +218,6 @@ module _ (rows : KeyedRows) where
   pub entry_at : (number : ℕ) → number < length (entries_of rows) → get_or (entries_of rows) number ([], []) ≡ (filled (get_or ks number []), get_or cs number [])
   entry_at number h = keyed_at ks cs number same (omega (arith, h, row_count, key_count))
 
-  pub key_wide : (number : ℕ) → number < length (entries_of rows) → length (get_or ks number []) ≡ rows.trie.width
-  key_wide number h = wide number (omega (arith, h, row_count, key_count))
-
   pub cells_wide : (number : ℕ) → number < length (entries_of rows) → length (get_or cs number []) ≡ rows.many
   cells_wide number h = cut_wide rows.many rows.trie.len rows.cells.items number rows.long (omega (arith, h, row_count))
 

@@ -25,6 +25,7 @@ pub mod Tries
 pub mod Passes
 pub mod Rolling
 pub mod KeyedRows
+pub mod ListedRows
 pub mod MergedRows
 pub mod AllRows
 pub mod Worked

@@ -2,7 +2,7 @@
 
 ghost use Rattle.std.specs.Prelude.{◌≡◌, ◌≤◌, ◌<◌, length, Some, None, if◌then◌else◌, IfOk, IfSome, slice_index_or};
 ghost use Rattle.star_group.specs.Base.{key_of};
-ghost use Rattle.star_group.specs.Entries.{entries_of};
+ghost use Rattle.star_group.specs.Entries.{listed_entries};
 ghost use Rattle.star_group.specs.Private.Coarser.{shown_entries};
 ghost use Rattle.star_group.specs.Private.FlatRows.{Fits};
 ghost use Rattle.star_group.specs.Private.Given as spec;
@@ -11,7 +11,7 @@ ghost use Rattle.star_group.specs.Private.Given.{ShownBelow};
 use crate::cell::{BLANK, Row, shown};
 use crate::group_row::{ALL, Key};
 use crate::group_rows::Gathered;
-use crate::keyed::KeyedRows;
+use crate::keyed::ListedRows;
 use crate::keyed::key::{OrderedKey, shown_key};
 use crate::{GroupRow, GroupRows, RowAggregates, RowKeys};
 use star_schema::{Aggregate, Shape};
@@ -90,7 +90,7 @@ fn given(
 // The group's rows, in the order in which their keys came.
 pub(crate) fn rows_given(
     alloc: Global,
-    rows: &KeyedRows,
+    rows: &ListedRows,
     shape: Shape,
     count: usize,
     aggregates: &[Aggregate],
@@ -99,7 +99,7 @@ pub(crate) fn rows_given(
     requires few { length aggregates.now ≤ 8 }
     requires many { length aggregates.now ≡ rows.now.many }
     ensures { IfOk result (λ given. given
-        ≡ spec.rows_given shape count aggregates.now (shown_entries (entries_of rows.now))) }
+        ≡ spec.rows_given shape count aggregates.now (shown_entries (listed_entries rows.now))) }
 {
     let mut all = Gathered::with_capacity(alloc, rows.len(), count, aggregates.len())?;
     for number in 0..rows.len() {

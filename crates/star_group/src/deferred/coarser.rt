@@ -29,7 +29,7 @@ fn add_hidden(
     ensures width { rows.new.trie.width ≡ rows.old.trie.width }
     ensures many { rows.new.many ≡ rows.old.many }
 {
-    let finer = rows.copied(alloc)?;
+    let finer = rows.listed(alloc)?;
     for index in 0..finer.len() {
         let key = hidden(&finer.key(index), place);
         rows.merge(&key, aggregates, finer.row(index))?;

@@ -62,6 +62,7 @@ impl GroupStore for DeferredStore {
         let rows = all_rows(
             self.alloc, base, self.total, self.shape, self.count, aggregates,
         )?;
+        let rows = rows.into_listed();
         rows_given(self.alloc, &rows, self.shape, self.count, aggregates)
     }
 }

@@ -93,9 +93,10 @@ impl GroupStore for EagerStore {
     }
 
     fn into_rows(self) -> Result<GroupRows, AllocError> {
+        let rows = self.rows.into_listed();
         rows_given(
             self.alloc,
-            &self.rows,
+            &rows,
             self.shape,
             self.count,
             self.aggregates.as_slice(),

@@ -12,7 +12,7 @@ ghost use Rattle.star_group.specs.Private.Tries.{IsHeld, IsMissing};
 
 use super::KeyedRows;
 use super::cells::{merge_at, write_at};
-use super::key::{OrderedKey, in_six_places};
+use super::key::OrderedKey;
 use super::trie::{Place, Trie, word_of};
 use star_program::row_of;
 use star_schema::Aggregate;
@@ -30,19 +30,6 @@ impl KeyedRows {
             trie: Trie::new(alloc, count.max(1))?,
             many,
             cells: Vec::new(alloc),
-        })
-    }
-
-    // The same rows once more.
-    pub(crate) fn copied(&self, alloc: Global) -> Result<KeyedRows, AllocError>
-        ensures rows { IfOk result (λ rows. entries_of rows ≡ entries_of self.now) }
-        ensures many { IfOk result (λ rows. rows.many ≡ self.now.many) }
-        ensures width { IfOk result (λ rows. rows.trie.width ≡ self.now.trie.width) }
-    {
-        Ok(KeyedRows {
-            trie: self.trie.copied(alloc)?,
-            many: self.many,
-            cells: Vec::from_slice(alloc, self.cells.as_slice())?,
         })
     }
 
@@ -88,15 +75,6 @@ impl KeyedRows {
         let cells = additional.checked_mul(self.many).ok_or(AllocError)?;
         self.trie.reserve(additional)?;
         self.cells.reserve(cells)
-    }
-
-    // The key of the row of a number.
-    pub(crate) fn key(&self, number: usize) -> OrderedKey
-        requires { number < length (entries_of self.now) }
-        ensures key { result ≡ (slice_index_or (entries_of self.now) number ([], [])).0 }
-        ensures narrow { drop self.now.trie.width result ≡ drop self.now.trie.width all_hidden }
-    {
-        in_six_places(self.trie.key(number))
     }
 
     // The aggregates of the row of a number.

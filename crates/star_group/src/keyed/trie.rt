@@ -162,26 +162,11 @@ impl Trie {
         })
     }
 
-    // The same keys once more.
-    pub(crate) fn copied(&self, alloc: Global) -> Result<Trie, AllocError>
-        ensures width { IfOk result (λ trie. trie.width ≡ self.now.width) }
-        ensures len { IfOk result (λ trie. trie.len ≡ self.now.len) }
-        ensures keys { IfOk result (λ trie. trie.keys.items ≡ self.now.keys.items) }
+    // The keys alone, one after another.
+    pub(crate) fn into_keys(self) -> Vec<KeyPart>
+        ensures { result ≡ self.keys }
     {
-        Ok(Trie {
-            width: self.width,
-            len: self.len,
-            keys: Vec::from_slice(alloc, self.keys.as_slice())?,
-            links: Vec::from_slice(alloc, self.links.as_slice())?,
-        })
-    }
-
-    // The key of the row of a number.
-    pub(crate) fn key(&self, number: usize) -> &[KeyPart]
-        ensures { result.now
-            ≡ slice_index_or (cut self.now.width self.now.len self.now.keys.items) number [] }
-    {
-        row_of(self.keys.as_slice(), self.width, self.len, number)
+        self.keys
     }
 
     // Whether the row of a number is there and has this key.

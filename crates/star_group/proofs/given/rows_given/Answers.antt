@@ -2,7 +2,7 @@ use Rattle.std.proofs.Common.{◌≡◌, ◌<◌, ◌+◌, ◌∙◌, List, Opti
 use Rattle.star_program.specs.declared.key.KeyValue.{KeyValue}
 use Rattle.star_group.specs.declared.group_rows.Gathered.{Gathered}
 use Rattle.star_group.specs.Base.{key_of}
-use Rattle.star_group.specs.Entries.{entries_of}
+use Rattle.star_group.specs.Entries.{listed_entries}
 use Rattle.star_group.specs.Private.Coarser.{shown_entries}
 use Rattle.star_group.specs.Private.FlatRows.{AreParts}
 use Rattle.star_group.specs.Private.Given.{is_given, row_given, rows_given as given_of}
@@ -20,7 +20,7 @@ loop-number-init c =
 pub loop-number-preserved : goal.loop-number-preserved
 loop-number-preserved c =
     let gs = c.args.aggregates.now in
-    let all = entries_of c.args.rows.now in
+    let all = listed_entries c.args.rows.now in
     let es = shown_entries all in
     let number = c.loop-number.number in
     let there : number < length all = omega (arith, c.len-number-end.ensures, c.loop-number-test.true) in

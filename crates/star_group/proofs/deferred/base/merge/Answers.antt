@@ -1,4 +1,4 @@
-use Rattle.std.proofs.Common.{◌≡◌, length, rules, subst, sym}
+use Rattle.std.proofs.Common.{◌≡◌, length, rules, subst}
 use Rattle.star_group.specs.Private.Numbers.{IsKnown}
 use Rattle.star_group.proofs.KeyedRows.{held_stays, number_among}
 use Rattle.star_group.proofs.deferred.base.merge.Goals as goal

@@ -24,7 +24,7 @@ returns c =
     let same = c.as_slice-aggregates.ensures.value in
     let all = entries_of c.in_ok-rows.rows in
     if_ok _ _ c.rows_given.result
-    (λ rows is puts has. subst (λ xs. AreRows (group_of s) puts xs) (sym (is ∙ (λ i. rows_given s.shape s.count (same i) (shown_entries all))))
+    (λ rows is puts has. subst (λ xs. AreRows (group_of s) puts xs) (sym (is ∙ (λ i. rows_given s.shape s.count (same i) (shown_entries (c.into_listed-rows.ensures.rows i)))))
     (are_rows (group_of s) puts all s.few_keys (rows_once c.in_ok-rows.rows)
     (subst (λ hs. Holds (group_with s.shape s.count hs) (row_at all) puts) same
     (c.in_ok-rows.ensures.rows puts (subst (λ hs. IsBase (group_with s.shape s.count hs) (entries_of s.rows) s.total puts) (sym same) has)))))

@@ -14,6 +14,6 @@ returns c =
     let s = c.args.self in
     let all = entries_of s.rows in
     if_ok _ _ c.rows_given.result
-    (λ rows is puts holds. subst (λ xs. AreRows (group_of s) puts xs) (sym (is ∙ (λ i. rows_given s.shape s.count (c.as_slice.ensures.value i) (shown_entries all))))
+    (λ rows is puts holds. subst (λ xs. AreRows (group_of s) puts xs) (sym (is ∙ (λ i. rows_given s.shape s.count (c.as_slice.ensures.value i) (shown_entries (c.into_listed-rows.ensures.rows i)))))
     (are_rows (group_of s) puts all s.few_keys (rows_once s.rows) holds))
     c.rows_given.ensures

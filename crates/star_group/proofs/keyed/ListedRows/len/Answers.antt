@@ -1,0 +1,6 @@
+use Rattle.std.proofs.Common.{sym}
+use Rattle.star_group.proofs.ListedRows.{row_count}
+use Rattle.star_group.proofs.keyed.ListedRows.len.Goals as goal
+
+pub returns : goal.returns
+returns c = sym (row_count c.args.self.now)
