@@ -31,7 +31,7 @@ use Rattle.star_group.specs.declared.group_row.GroupRow.{GroupRow}
 use Rattle.star_group.specs.Shown.{row_at, row_shown}
 use Rattle.star_machine.specs.declared.outcome.leads.Led.{Led}
 use Rattle.star_machine.specs.Private.RowOrder.{AllHaveSameNulls, AreApart, column_order, directed_order, row_order, sort_order}
-use Rattle.star_machine.specs.Private.Leads.{column_lead, directed_cmp, first_lead, key_lead, lead_cmp, lead_of, leading_cmp, led_at, led_cmp, rank, total_lead, value}
+use Rattle.star_machine.specs.Private.Leads.{column_lead, directed_cmp, first_lead, key_lead, lead_cmp, lead_of, leading_cmp, led_at, led_cmp, next_of, rank, second_lead, sorts_after, total_lead, value}
 use Rattle.star_machine.proofs.SortedRows.{number_cmp, number_total, rows_moved, sorted_by_number, sorted_under}
 
 -- ---- the order of leads is an order, and that of rows is finer
@@ -86,28 +86,57 @@ twice Less p = refl
 twice Equal p = refl
 twice Greater p = refl
 
-finer : (sorts : List SortKey) (a b : Row KeyValue) → ordering_then (leading_cmp sorts (lead_of sorts a) (lead_of sorts b)) (row_order sorts a b) ≡ row_order sorts a b
-finer [] a b = by a.keys b.keys
-  where
-    by : (ks ls : List (Option KeyValue)) → ordering_then (lead_cmp (first_lead ks) (first_lead ls)) (slice_cmp (key_cmp key_value_cmp) ks ls) ≡ slice_cmp (key_cmp key_value_cmp) ks ls
-    by [] [] = refl
-    by [] (Some (key.Number y) ∷ ls) = refl
-    by [] (Some (key.Code n) ∷ ls) = refl
-    by [] (None ∷ ls) = refl
-    by (Some (key.Number x) ∷ ks) [] = refl
-    by (Some (key.Code m) ∷ ks) [] = refl
-    by (None ∷ ks) [] = refl
-    by (k ∷ ks) (l ∷ ls) =
-        ap (λ o. ordering_then o (ordering_then (key_cmp key_value_cmp k l) (slice_cmp (key_cmp key_value_cmp) ks ls))) (keys_led k l)
-        ∙ twice (key_cmp key_value_cmp k l) (slice_cmp (key_cmp key_value_cmp) ks ls)
-finer (sort ∷ sorts) a b =
+-- an order that a second one refines, behind a first
+twice_behind : (o n p : Ordering) → ordering_then n p ≡ p → ordering_then (ordering_then o n) (ordering_then o p) ≡ ordering_then o p
+twice_behind Less n p e = refl
+twice_behind Equal n p e = e
+twice_behind Greater n p e = refl
+
+finer_keys : (ks ls : List (Option KeyValue)) → ordering_then (lead_cmp (first_lead ks) (first_lead ls)) (slice_cmp (key_cmp key_value_cmp) ks ls) ≡ slice_cmp (key_cmp key_value_cmp) ks ls
+finer_keys [] [] = refl
+finer_keys [] (Some (key.Number y) ∷ ls) = refl
+finer_keys [] (Some (key.Code n) ∷ ls) = refl
+finer_keys [] (None ∷ ls) = refl
+finer_keys (Some (key.Number x) ∷ ks) [] = refl
+finer_keys (Some (key.Code m) ∷ ks) [] = refl
+finer_keys (None ∷ ks) [] = refl
+finer_keys (k ∷ ks) (l ∷ ls) =
+    ap (λ o. ordering_then o (ordering_then (key_cmp key_value_cmp k l) (slice_cmp (key_cmp key_value_cmp) ks ls))) (keys_led k l)
+    ∙ twice (key_cmp key_value_cmp k l) (slice_cmp (key_cmp key_value_cmp) ks ls)
+
+finer_second : (ks ls : List (Option KeyValue)) → ordering_then (ordering_then (lead_cmp (first_lead ks) (first_lead ls)) (lead_cmp (second_lead ks) (second_lead ls))) (slice_cmp (key_cmp key_value_cmp) ks ls) ≡ slice_cmp (key_cmp key_value_cmp) ks ls
+finer_second [] [] = refl
+finer_second [] (Some (key.Number y) ∷ ls) = refl
+finer_second [] (Some (key.Code n) ∷ ls) = refl
+finer_second [] (None ∷ ls) = refl
+finer_second (Some (key.Number x) ∷ ks) [] = refl
+finer_second (Some (key.Code m) ∷ ks) [] = refl
+finer_second (None ∷ ks) [] = refl
+finer_second (k ∷ ks) (l ∷ ls) =
+    ap (λ o. ordering_then (ordering_then o (lead_cmp (first_lead ks) (first_lead ls))) (ordering_then (key_cmp key_value_cmp k l) (slice_cmp (key_cmp key_value_cmp) ks ls))) (keys_led k l)
+    ∙ twice_behind (key_cmp key_value_cmp k l) (lead_cmp (first_lead ks) (first_lead ls)) (slice_cmp (key_cmp key_value_cmp) ks ls) (finer_keys ks ls)
+
+finer_first : (sorts : List SortKey) (a b : Row KeyValue) → ordering_then (leading_cmp sorts (lead_of sorts a) (lead_of sorts b)) (row_order sorts a b) ≡ row_order sorts a b
+finer_first [] a b = finer_keys a.keys b.keys
+finer_first (sort ∷ sorts) a b =
     ap (λ o. ordering_then o (ordering_then (sort_order sort a b) (row_order sorts a b))) (directed_led sort.column sort.direction a b)
     ∙ twice (sort_order sort a b) (row_order sorts a b)
+
+abbrev leads_order : List SortKey → Row KeyValue → Row KeyValue → Ordering
+leads_order sorts a b = ordering_then (leading_cmp sorts (lead_of sorts a) (lead_of sorts b)) (leading_cmp (sorts_after sorts) (next_of sorts a) (next_of sorts b))
+
+finer : (sorts : List SortKey) (a b : Row KeyValue) → ordering_then (leads_order sorts a b) (row_order sorts a b) ≡ row_order sorts a b
+finer [] a b = finer_second a.keys b.keys
+finer (sort ∷ sorts) a b =
+    ap (λ o. ordering_then (ordering_then o (leading_cmp sorts (lead_of sorts a) (lead_of sorts b))) (ordering_then (sort_order sort a b) (row_order sorts a b))) (directed_led sort.column sort.direction a b)
+    ∙ twice_behind (sort_order sort a b) (leading_cmp sorts (lead_of sorts a) (lead_of sorts b)) (row_order sorts a b) (finer_first sorts a b)
 
 -- ---- the rows of a group
 
 pub led_total : (sorts : List SortKey) (rows : List GroupRow) → IsTotalOrder (led_cmp sorts rows)
-led_total sorts rows = then_total (on_total (λ (led : Led). led.lead) (leading_total sorts)) (on_total (λ (led : Led). led.number) (number_total sorts rows))
+led_total sorts rows = then_total
+    (then_total (on_total (λ (led : Led). led.lead) (leading_total sorts)) (on_total (λ (led : Led). led.next) (leading_total (sorts_after sorts))))
+    (on_total (λ (led : Led). led.number) (number_total sorts rows))
 
 abbrev number_of : Led → ℕ
 number_of led = led.number

@@ -1,11 +1,11 @@
-// Rows by their numbers, each beside what it has in the column by which it is compared first, so
-// that most comparisons of a sort read no row.
+// Rows by their numbers, each beside what it has in the two columns by which it is compared first,
+// so that most comparisons of a sort read no row.
 
 ghost use Rattle.std.specs.Prelude.{◌≡◌, IfOk, length, map};
 ghost use Rattle.std.specs.List.{range_with_len};
 ghost use Rattle.star_group.specs.Shown.{row_at, row_shown};
 ghost use Rattle.star_machine.specs.Private.Leads as spec;
-ghost use Rattle.star_machine.specs.Private.Leads.{lead_cmp, leading_cmp, led_at};
+ghost use Rattle.star_machine.specs.Private.Leads.{lead_cmp, leading_cmp, leads_cmp, led_at};
 
 use super::order::part_at;
 use star_group::{GroupRows, KeyValue};
@@ -22,10 +22,11 @@ pub(super) enum Lead {
     All,
 }
 
-// The number of a row, and what leads it.
+// The number of a row, and what leads it: in the column that is compared first, and in the next.
 #[derive(Clone, Copy)]
 pub(super) struct Led {
-    pub(super) lead: Lead,
+    lead: Lead,
+    next: Lead,
     pub(super) number: usize,
 }
 
@@ -57,7 +58,7 @@ fn compare_leads(a: Lead, b: Lead) -> Ordering
 }
 
 // In the direction of the first sort key.
-pub(super) fn compare_leading(sorts: &[SortKey], a: Lead, b: Lead) -> Ordering
+fn compare_leading(sorts: &[SortKey], a: Lead, b: Lead) -> Ordering
     ensures { result ≡ leading_cmp sorts.now a b }
 {
     match sorts {
@@ -67,6 +68,23 @@ pub(super) fn compare_leading(sorts: &[SortKey], a: Lead, b: Lead) -> Ordering
             Direction::Descending => compare_leads(b, a),
         },
     }
+}
+
+// All but the first.
+fn sorts_after(sorts: &[SortKey]) -> &[SortKey]
+    ensures { result.now ≡ spec.sorts_after sorts.now }
+{
+    match sorts {
+        [] => sorts,
+        [_sort, rest @ ..] => rest,
+    }
+}
+
+// By what leads them alone.
+pub(super) fn compare_leads_of(sorts: &[SortKey], a: Led, b: Led) -> Ordering
+    ensures { result ≡ leads_cmp sorts.now a b }
+{
+    compare_leading(sorts, a.lead, b.lead).then(compare_leading(sorts_after(sorts), a.next, b.next))
 }
 
 fn key_lead(key: Option<KeyValue>) -> Lead
@@ -106,14 +124,43 @@ fn column_lead(column: GroupColumn, rows: &GroupRows, number: usize) -> Lead
     }
 }
 
+fn second_lead(keys: &[Option<KeyValue>]) -> Lead
+    ensures { result ≡ spec.second_lead keys.now }
+{
+    match keys {
+        [] => Lead::Null,
+        [_key, rest @ ..] => first_lead(rest),
+    }
+}
+
+// In the column of the first sort key, or else in that of the first key.
+fn lead_of(sorts: &[SortKey], rows: &GroupRows, number: usize) -> Lead
+    ensures { result ≡ spec.lead_of sorts.now (row_shown (row_at rows.now number)) }
+{
+    match sorts {
+        [] => first_lead(rows.keys(number)),
+        [sort, ..] => column_lead(sort.column, rows, number),
+    }
+}
+
+// In the column that is compared next.
+fn next_of(sorts: &[SortKey], rows: &GroupRows, number: usize) -> Lead
+    ensures { result ≡ spec.next_of sorts.now (row_shown (row_at rows.now number)) }
+{
+    match sorts {
+        [] => second_lead(rows.keys(number)),
+        [_sort, rest @ ..] => lead_of(rest, rows, number),
+    }
+}
+
 fn led_row(sorts: &[SortKey], rows: &GroupRows, number: usize) -> Led
     ensures { result ≡ led_at sorts.now rows.now number }
 {
-    let lead = match sorts {
-        [] => first_lead(rows.keys(number)),
-        [sort, ..] => column_lead(sort.column, rows, number),
-    };
-    Led { lead, number }
+    Led {
+        lead: lead_of(sorts, rows, number),
+        next: next_of(sorts, rows, number),
+        number,
+    }
 }
 
 // All rows, from the first one on.

@@ -8,7 +8,7 @@ ghost use Rattle.star_program.specs.Keys.{key_value_cmp};
 ghost use Rattle.star_machine.specs.Private.Leads.{led_cmp};
 ghost use Rattle.star_machine.specs.Private.RowOrder.{AllHaveSameNulls, AreApart, column_order, sort_order, row_order};
 
-use super::leads::{Led, all_led, compare_leading, numbers_of};
+use super::leads::{Led, all_led, compare_leads_of, numbers_of};
 use star_group::{GroupRows, KeyValue};
 use star_schema::{Direction, GroupColumn, SortKey};
 use std::alloc::{AllocError, Global};
@@ -105,7 +105,7 @@ fn compare_rows(sorts: &[SortKey], rows: &GroupRows, a: usize, b: usize) -> Orde
 fn compare_led(sorts: &[SortKey], rows: &GroupRows, a: Led, b: Led) -> Ordering
     ensures { result ≡ led_cmp sorts.now rows.now a b }
 {
-    match compare_leading(sorts, a.lead, b.lead) {
+    match compare_leads_of(sorts, a, b) {
         Ordering::Equal => compare_rows(sorts, rows, a.number, b.number),
         decided => decided,
     }
