@@ -2,7 +2,7 @@
 use Rattle.std.proofs.Common.{◌≡◌, ◌<◌, ◌∙◌, ℕ, ℤ, List, [], Option, arith, get_or, length, sym}
 use Rattle.star_group.specs.declared.keyed.key.KeyPart.{KeyPart}
 use Rattle.star_group.specs.declared.keyed.ListedRows.{ListedRows}
-use Rattle.star_group.specs.Entries.{listed_entries}
+use Rattle.star_group.specs.Private.Listed.{listed_entries}
 use Rattle.star_group.specs.Keyed.{filled}
 use Rattle.star_program.specs.Rows.{cut}
 use Rattle.star_program.proofs.Rows.{length-cut}

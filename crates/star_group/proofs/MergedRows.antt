@@ -1,5 +1,5 @@
 -- One more row merged into those of some keys.
-use Rattle.std.proofs.Common.{◌≡◌, ◌⊎◌, inl, inr, ℕ, zero, suc, ◌+◌, ◌<◌, Bool, true, false, ◌||◌, ℤ, List, [], ◌∷◌, Option, Some, None, IfSome, length, get_or, take, map, ap, sym, ◌∙◌, subst, refl, true≢false, arith}
+use Rattle.std.proofs.Common.{◌≡◌, ◌⊎◌, inl, inr, ℕ, zero, suc, ◌+◌, ◌<◌, Bool, true, false, ◌||◌, ℤ, List, [], ◌∷◌, Option, Some, None, length, get_or, take, map, ap, sym, ◌∙◌, subst, refl, true≢false, arith}
 use Rattle.std.specs.List.{list_any, IsDistinct}
 use Rattle.std.specs.Option.{unwrap_or}
 use Rattle.std.proofs.lemmas.List.{get_or-map, length-map}
@@ -9,11 +9,13 @@ use Rattle.star_schema.specs.declared.group.Aggregate.{Aggregate}
 use Rattle.star_program.specs.declared.key.KeyValue.{KeyValue}
 use Rattle.star_group.specs.declared.keyed.key.KeyPart.{KeyPart}
 use Rattle.star_group.specs.declared.keyed.KeyedRows.{KeyedRows}
+use Rattle.star_group.specs.declared.keyed.trie.Place.{Place}
+use Rattle.star_group.specs.declared.keyed.trie.Place.TheVariants.{Held, Missing}
 use Rattle.star_group.specs.Base.{key_of, row_at}
-use Rattle.star_group.specs.Entries.{entries_of}
 use Rattle.star_group.specs.OwnKeys.{key_eq}
 use Rattle.star_group.specs.Private.Merged.{IsMergedAt, IsMergedInto, MergeLeaves, MergeStays, RowsStay}
-use Rattle.star_group.specs.Private.Numbers.{AreNarrow, IsNarrow, IsNumber}
+use Rattle.star_group.specs.Private.Numbers.{AreNarrow, IsGrown, IsNarrow, IsPlace, IsPlaceAmong, IsWithin, keys_in}
+use Rattle.star_group.specs.Private.Tries.{IsHeld, IsMissing}
 use Rattle.star_group.specs.Private.Rows.{AllStay, IsBlank, MergesAll, SomeLeaves}
 use Rattle.star_group.proofs.Bases.{other_row, own_row}
 use Rattle.star_program.proofs.Rows.{length-cut}
@@ -109,12 +111,12 @@ blank_taken (suc n) (x ∷ row) is = at (blank_taken n row (λ k. is (suc k)))
     at rest zero = is 0
     at rest (suc place) = rest place
 
--- ---- numbers of rows
+-- ---- places of rows
 
--- the numbers of the rows of the first i keys
-pub record NumbersBelow (rows : KeyedRows) (keys : List (List KeyPart)) (numbers : List (Option ℕ)) (i : ℕ) : Type 0 where
-  pub many : length numbers ≡ i
-  pub each : (place : ℕ) → place < i → IsNumber rows (get_or keys place []) (get_or numbers place None)
+-- the places of the rows of the first i keys
+pub record PlacesBelow (rows : KeyedRows) (keys : List (List KeyPart)) (places : List Place) (i : ℕ) : Type 0 where
+  pub many : length places ≡ i
+  pub each : (index : ℕ) → index < i → IsPlace rows (get_or keys index []) (get_or places index (Held 0))
 
 pub narrow_at : (width : ℕ) (keys : List (List KeyPart)) (i : ℕ) (d : List KeyPart) → i < length keys → AreNarrow width keys → IsNarrow width (get_or keys i d)
 narrow_at width [] i d h are = absurd (omega (arith, h))
@@ -122,6 +124,29 @@ narrow_at width (key ∷ keys) zero d h are = are.0
 narrow_at width (key ∷ keys) (suc i) d h are = narrow_at width keys i d (omega (arith, h)) are.1
 
 module _ (rows : KeyedRows) where
-  pub number_in : (key : List KeyPart) (number : Option ℕ) → IsNumber rows key number → IfSome number (λ place. place < length (entries_of rows))
-  number_in key None is = tt
-  number_in key (Some place) held = omega (arith, held.within, length-cut rows.trie.width rows.trie.len rows.trie.keys.items, row_count rows)
+  pub place_in : (key : List KeyPart) (place : Place) → IsPlace rows key place → IsWithin rows place
+  place_in key (Missing node digit) is = tt
+  place_in key (Held number) held = omega (arith, held.within, length-cut rows.trie.width rows.trie.len rows.trie.keys.items, row_count rows)
+
+-- ---- rows that have grown
+
+pub grown_same : (rows : KeyedRows) → IsGrown rows rows
+grown_same rows = record { more = omega arith; keys = λ same. refl; links = λ same. refl }
+
+pub grown_more : (a b c : KeyedRows) → IsGrown a b → IsGrown b c → IsGrown a c
+grown_more a b c ab bc = record {
+  more = omega (arith, ab.more, bc.more);
+  keys = λ same. bc.keys (omega (arith, same, ab.more, bc.more)) ∙ ab.keys (omega (arith, same, ab.more, bc.more));
+  links = λ same. bc.links (omega (arith, same, ab.more, bc.more)) ∙ ab.links (omega (arith, same, ab.more, bc.more));
+}
+
+-- a place is the same among rows that have grown, as long as there are no more
+pub place_among : (old new : KeyedRows) (count : ℕ) (key : List KeyPart) (place : Place) → IsGrown old new → old.trie.len ≡ count → new.trie.width ≡ old.trie.width
+    → ((other : List KeyPart) (number : ℕ) → IsHeld (keys_in old) other number → IsHeld (keys_in new) other number)
+    → IsPlace old key place → IsPlaceAmong new count key place
+place_among old new count key (Held number) grown all wide held is = subst (λ w. IsHeld (keys_in new) (take w key) number) (sym wide) (held (take old.trie.width key) number is)
+place_among old new count key (Missing node digit) grown all wide held is = λ same.
+    let all_same = same ∙ sym all in
+    subst (λ w. IsMissing w (keys_in new) new.trie.links.items (take w key) node digit) (sym wide)
+    (subst (λ ks. IsMissing old.trie.width ks new.trie.links.items (take old.trie.width key) node digit) (sym (grown.keys all_same))
+    (subst (λ ls. IsMissing old.trie.width (keys_in old) ls (take old.trie.width key) node digit) (sym (grown.links all_same)) is))

@@ -7,3 +7,4 @@ pub mod Tries
 pub mod Numbers
 pub mod BasePut
 pub mod Coarser
+pub mod Listed

@@ -7,6 +7,7 @@ mod store;
 
 use crate::keyed::KeyedRows;
 use crate::keyed::key::OrderedKey;
+use crate::keyed::trie::Place;
 use star_schema::{Aggregate, Shape};
 use std::alloc::Global;
 
@@ -20,7 +21,7 @@ pub struct EagerStore {
     aggregates: Vec<Aggregate>,
     rows: KeyedRows,
     own: Vec<OrderedKey>,
-    numbers: Vec<Option<usize>>,
+    places: Vec<Place>,
     ghost few_keys: { count ≤ 6 },
     ghost few: { vec_len aggregates ≤ 8 },
     ghost wide: { count ≤ rows.trie.width },

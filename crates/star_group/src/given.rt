@@ -2,7 +2,7 @@
 
 ghost use Rattle.std.specs.Prelude.{◌≡◌, ◌≤◌, ◌<◌, length, Some, None, if◌then◌else◌, IfOk, IfSome, slice_index_or};
 ghost use Rattle.star_group.specs.Base.{key_of};
-ghost use Rattle.star_group.specs.Entries.{listed_entries};
+ghost use Rattle.star_group.specs.Private.Listed.{listed_entries};
 ghost use Rattle.star_group.specs.Private.Coarser.{shown_entries};
 ghost use Rattle.star_group.specs.Private.FlatRows.{Fits};
 ghost use Rattle.star_group.specs.Private.Given as spec;

@@ -7,7 +7,7 @@ pub(crate) mod key;
 mod listed;
 pub(crate) mod merge;
 mod rows;
-mod trie;
+pub(crate) mod trie;
 
 use key::KeyPart;
 use trie::Trie;

@@ -2,15 +2,15 @@
 
 ghost use Rattle.std.specs.Prelude.{◌≡◌, ◌≤◌, ◌<◌, ◌+◌, ℕ, true, List, [], length, map, IfErr, IfSome, MatchBool, OnErr, OnOk};
 ghost use Rattle.std.specs.List.{list_any, IsDistinct};
-ghost use Rattle.std.specs.Option.{is_none, unwrap_or};
+ghost use Rattle.std.specs.Option.{unwrap_or};
 ghost use Rattle.star_common.specs.Memory.{TellsMemory, UnlessMemory};
 ghost use Rattle.star_group.specs.Base.{key_of, row_at};
 ghost use Rattle.star_group.specs.Entries.{entries_of};
 ghost use Rattle.star_group.specs.OwnKeys.{key_eq};
 ghost use Rattle.star_group.specs.Private.Merged.{IsMergedAt, MergeLeaves, MergeStays, RowsStay};
-ghost use Rattle.star_group.specs.Private.Numbers.{AreNarrow, AreNumbers, HasSpace, IsKnown, IsNarrow, IsNumber, keys_in};
+ghost use Rattle.star_group.specs.Private.Numbers.{AreNarrow, ArePlaces, HasSpace, IsGrown, IsNarrow, IsPlace, IsPlaceAmong, IsWithin, keys_in};
 ghost use Rattle.star_group.specs.Private.Rows.{AllStay, MergesAll, PutsRows, SomeLeaves};
-ghost use Rattle.star_group.specs.Private.Tries.{IsHeld};
+ghost use Rattle.star_group.specs.Private.Tries.{IsHeld, is_missing};
 ghost use Rattle.star_group.specs.declared.keyed.key.KeyPart.{KeyPart};
 ghost use Rattle.star_group.specs.declared.rows.PutFault.TheVariants.{OutOfMemory};
 
@@ -18,6 +18,7 @@ use crate::cell::BLANK;
 use crate::keyed::KeyedRows;
 use crate::keyed::key::OrderedKey;
 use crate::keyed::merge::row_stays;
+use crate::keyed::trie::Place;
 use star_schema::Aggregate;
 use std::alloc::AllocError;
 
@@ -36,57 +37,51 @@ impl From<AllocError> for PutFault {
     }
 }
 
-// The numbers of the rows of these keys, as far as they are there.
-fn find_rows(
+// Where the rows of these keys are, or would be.
+fn find_places(
     rows: &KeyedRows,
     own: &[OrderedKey],
-    numbers: &mut Vec<Option<usize>>,
+    places: &mut Vec<Place>,
 ) -> Result<(), AllocError>
-    requires narrow { AreNarrow rows.now.trie.width own.now }
-    ensures { OnOk result (AreNumbers rows.now own.now numbers.new.items) }
+    ensures { OnOk result (ArePlaces rows.now own.now places.new.items) }
 {
-    numbers.clear();
+    places.clear();
     for key in own {
-        numbers.push(rows.find(key))?;
+        places.push(rows.place(key))?;
     }
     Ok(())
 }
 
-// Whether the row of this number, or one that is missing, stays within 64 bits with one more
-// merged in.
-fn stays_at(
-    rows: &KeyedRows,
-    number: Option<usize>,
-    aggregates: &[Aggregate],
-    more: &[Option<i64>],
-) -> bool
-    requires within { IfSome number (λ place. place < length (entries_of rows.now)) }
+// Whether the row at this place, or one that is missing, stays within 64 bits with one more merged
+// in.
+fn stays_at(rows: &KeyedRows, place: Place, aggregates: &[Aggregate], more: &[Option<i64>]) -> bool
+    requires within { IsWithin rows.now place }
     requires few { length aggregates.now ≤ 8 }
     requires many { length aggregates.now ≡ rows.now.many }
     requires wide { rows.now.many ≤ length more.now }
     ensures { (key : List KeyPart) → length key ≡ 6 → IsNarrow rows.now.trie.width key
-        → IsNumber rows.now key number → MatchBool result
+        → IsPlace rows.now key place → MatchBool result
         (MergeStays aggregates.now
         (unwrap_or (row_at (entries_of rows.now) (key_of key)) []) more.now)
         (MergeLeaves aggregates.now
         (unwrap_or (row_at (entries_of rows.now) (key_of key)) []) more.now) }
 {
-    match number {
-        Some(number) => row_stays(aggregates, rows.row(number), more),
-        None => row_stays(aggregates, &BLANK, more),
+    match place {
+        Place::Held(number) => row_stays(aggregates, rows.row(number), more),
+        Place::Missing { .. } => row_stays(aggregates, &BLANK, more),
     }
 }
 
-// Whether no row of these keys, which have these numbers, leaves 64 bits with one more merged in.
+// Whether no row of these keys, which have these places, leaves 64 bits with one more merged in.
 fn all_stay_at(
     rows: &KeyedRows,
     own: &[OrderedKey],
-    numbers: &[Option<usize>],
+    places: &[Place],
     aggregates: &[Aggregate],
     more: &[Option<i64>],
 ) -> bool
     requires narrow { AreNarrow rows.now.trie.width own.now }
-    requires numbers { AreNumbers rows.now own.now numbers.now }
+    requires places { ArePlaces rows.now own.now places.now }
     requires few { length aggregates.now ≤ 8 }
     requires many { length aggregates.now ≡ rows.now.many }
     requires wide { rows.now.many ≤ length more.now }
@@ -95,92 +90,98 @@ fn all_stay_at(
         (SomeLeaves (row_at (entries_of rows.now)) (map key_of own.now) aggregates.now more.now) }
 {
     for index in 0..own.len() {
-        if !stays_at(rows, numbers[index], aggregates, more) {
+        if !stays_at(rows, places[index], aggregates, more) {
             return false;
         }
     }
     true
 }
 
-// A row merged into that of this key, which has this number, or else is found or made.
+// A row merged into that of this key, which has this place as long as there are so many rows.
 fn merge_at(
     rows: &mut KeyedRows,
+    count: usize,
     key: &OrderedKey,
-    number: Option<usize>,
+    place: Place,
     aggregates: &[Aggregate],
     more: &[Option<i64>],
 )
     requires narrow { IsNarrow rows.old.trie.width key.now }
-    requires number { IsKnown rows.old key.now number }
+    requires place { IsPlaceAmong rows.old count key.now place }
     requires many { length aggregates.now ≡ rows.old.many }
     requires wide { rows.old.many ≤ length more.now }
     requires stays { RowsStay aggregates.now
         (row_at (entries_of rows.old) (key_of key.now)) more.now }
-    requires space { is_none number ≡ true → HasSpace rows.old 1 }
+    requires space { is_missing place ≡ true → HasSpace rows.old 1 }
     ensures rows { IsMergedAt aggregates.now (key_of key.now) more.now
         (entries_of rows.old) (entries_of rows.new) }
-    ensures held { (other : List KeyPart) (place : ℕ) → IsHeld (keys_in rows.old) other place
-        → IsHeld (keys_in rows.new) other place }
+    ensures held { (other : List KeyPart) (number : ℕ) → IsHeld (keys_in rows.old) other number
+        → IsHeld (keys_in rows.new) other number }
     ensures space { (count : ℕ) → HasSpace rows.old (count + 1) → HasSpace rows.new count }
+    ensures grown { IsGrown rows.old rows.new }
     ensures width { rows.new.trie.width ≡ rows.old.trie.width }
     ensures many { rows.new.many ≡ rows.old.many }
 {
-    match number {
-        Some(number) => rows.merge_row(number, aggregates, more),
-        None => match rows.merge(key, aggregates, more) {
-            Ok(()) => {}
-            Err(AllocError) => unreachable!(),
-        },
+    match place {
+        Place::Held(number) => rows.merge_row(number, aggregates, more),
+        Place::Missing { node, digit } => {
+            match rows.merge_missing(count, node, digit, key, aggregates, more) {
+                Ok(()) => {}
+                Err(AllocError) => unreachable!(),
+            }
+        }
     }
 }
 
-// A row merged into each of these keys, which have these numbers.
+// A row merged into each of these keys, which have these places.
 fn merge_all_at(
     rows: &mut KeyedRows,
     own: &[OrderedKey],
-    numbers: &[Option<usize>],
+    places: &[Place],
     aggregates: &[Aggregate],
     more: &[Option<i64>],
 )
     requires narrow { AreNarrow rows.old.trie.width own.now }
-    requires numbers { AreNumbers rows.old own.now numbers.now }
+    requires places { ArePlaces rows.old own.now places.now }
     requires distinct { IsDistinct key_eq (map key_of own.now) }
     requires many { length aggregates.now ≡ rows.old.many }
     requires wide { rows.old.many ≤ length more.now }
     requires stay { AllStay (row_at (entries_of rows.old)) (map key_of own.now)
         aggregates.now more.now }
-    requires space { list_any is_none numbers.now ≡ true → HasSpace rows.old (length own.now) }
+    requires space { list_any is_missing places.now ≡ true → HasSpace rows.old (length own.now) }
     ensures rows { MergesAll (map key_of own.now) aggregates.now more.now
         (row_at (entries_of rows.old)) (row_at (entries_of rows.new)) }
     ensures width { rows.new.trie.width ≡ rows.old.trie.width }
     ensures many { rows.new.many ≡ rows.old.many }
 {
+    let count = rows.len();
     for index in 0..own.len() {
-        merge_at(rows, &own[index], numbers[index], aggregates, more);
+        merge_at(rows, count, &own[index], places[index], aggregates, more);
     }
 }
 
-// Whether some row has no number.
-fn some_missing(numbers: &[Option<usize>]) -> bool
-    ensures { result ≡ list_any is_none numbers.now }
+// Whether some row is missing.
+fn some_missing(places: &[Place]) -> bool
+    ensures { result ≡ list_any is_missing places.now }
 {
-    numbers.iter().any(|number| number.is_none())
+    places.iter().any(|place| place.is_missing())
 }
 
 // Room for the rows that are missing, so that a put into rows that are there takes no memory.
 fn reserve_missing(
     rows: &mut KeyedRows,
     own: &[OrderedKey],
-    numbers: &[Option<usize>],
+    places: &[Place],
 ) -> Result<(), AllocError>
     ensures ok { OnOk result
-        (list_any is_none numbers.now ≡ true → HasSpace rows.new (length own.now)) }
+        (list_any is_missing places.now ≡ true → HasSpace rows.new (length own.now)) }
     ensures keys { keys_in rows.new ≡ keys_in rows.old }
+    ensures links { rows.new.trie.links.items ≡ rows.old.trie.links.items }
     ensures rows { entries_of rows.new ≡ entries_of rows.old }
     ensures width { rows.new.trie.width ≡ rows.old.trie.width }
     ensures many { rows.new.many ≡ rows.old.many }
 {
-    if some_missing(numbers) {
+    if some_missing(places) {
         rows.reserve(own.len())?;
     }
     Ok(())
@@ -191,7 +192,7 @@ fn reserve_missing(
 pub(crate) fn put_rows(
     rows: &mut KeyedRows,
     own: &[OrderedKey],
-    numbers: &mut Vec<Option<usize>>,
+    places: &mut Vec<Place>,
     aggregates: &[Aggregate],
     more: &[Option<i64>],
 ) -> Result<(), PutFault>
@@ -209,11 +210,11 @@ pub(crate) fn put_rows(
     ensures width { rows.new.trie.width ≡ rows.old.trie.width }
     ensures many { rows.new.many ≡ rows.old.many }
 {
-    find_rows(rows, own, numbers)?;
-    if !all_stay_at(rows, own, numbers.as_slice(), aggregates, more) {
+    find_places(rows, own, places)?;
+    if !all_stay_at(rows, own, places.as_slice(), aggregates, more) {
         return Err(PutFault::Overflow);
     }
-    reserve_missing(rows, own, numbers.as_slice())?;
-    merge_all_at(rows, own, numbers.as_slice(), aggregates, more);
+    reserve_missing(rows, own, places.as_slice())?;
+    merge_all_at(rows, own, places.as_slice(), aggregates, more);
     Ok(())
 }

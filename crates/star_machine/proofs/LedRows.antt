@@ -1,7 +1,7 @@
 -- Rows sorted by what leads them: by their numbers they ascend by the order of rows.
-use Rattle.std.proofs.Common.{◌≡◌, ◌+◌, ◌<◌, ◌<ℤ◌, ℕ, ℤ, pos, List, [], ◌∷◌, Option, Some, None, length, get_or, map, arith, ap, sym, subst, refl, ◌∙◌}
+use Rattle.std.proofs.Common.{◌≡◌, ◌+◌, ◌<◌, ◌<ℤ◌, ◌-ℤ◌, ℕ, ℤ, pos, negsuc, List, [], ◌∷◌, Option, Some, None, length, get_or, map, arith, ap, sym, subst, refl, ◌∙◌}
 use Rattle.std.specs.Prelude.{IsPermutation}
-use Rattle.std.specs.Cmp.{IsTotalOrder, int_cmp_is, ranks}
+use Rattle.std.specs.Cmp.{IsTotalOrder, int_cmp_is, int_ranks, ranks}
 use Rattle.std.specs.List.{Contains, range_with_len}
 use Rattle.std.specs.List.Sorted.{IsSortedBy}
 use Rattle.std.specs.Cmp.Lexicographic.{slice_cmp}
@@ -13,7 +13,8 @@ use Rattle.std.specs.Int.Signed.{lt_z_yes}
 use Rattle.std.proofs.Math.Dec.{ltb}
 use Rattle.std.proofs.lemmas.Bool.{lt-ltb}
 use Rattle.std.proofs.lemmas.Float.{T_from_true}
-use Rattle.std.proofs.lemmas.Cmp.{back_total, int_cmp_total, nat_cmp_total, on_total, then_total}
+use Rattle.std.proofs.lemmas.Int.{ints}
+use Rattle.std.proofs.lemmas.Cmp.{int_cmp_total, on_total, then_total}
 use Rattle.std.proofs.lemmas.List.Elements.{Contains-get_or}
 use Rattle.std.proofs.lemmas.List.Sorted.{Contains-permutation, IsPermutation-map, IsPermutation-sym}
 use Rattle.star_schema.specs.declared.group.GroupColumn.{GroupColumn}
@@ -29,23 +30,45 @@ use Rattle.star_program.specs.declared.key.KeyValue.TheVariants as key
 use Rattle.star_program.specs.Keys.{key_value_cmp}
 use Rattle.star_group.specs.declared.group_row.GroupRow.{GroupRow}
 use Rattle.star_group.specs.Shown.{row_at, row_shown}
+use Rattle.star_machine.specs.declared.outcome.leads.Lead.{Lead}
 use Rattle.star_machine.specs.declared.outcome.leads.Led.{Led}
 use Rattle.star_machine.specs.Private.RowOrder.{AllHaveSameNulls, AreApart, column_order, directed_order, row_order, sort_order}
-use Rattle.star_machine.specs.Private.Leads.{column_lead, directed_cmp, first_lead, key_lead, lead_cmp, lead_of, leading_cmp, led_at, led_cmp, next_of, rank, second_lead, sorts_after, total_lead, value}
+use Rattle.star_machine.specs.Private.Leads.{column_lead, directed, first_lead, in_direction, key_lead, lead_cmp, lead_of, led_at, led_cmp, next_of, second_lead, sorts_after, total_lead, turned}
 use Rattle.star_machine.proofs.SortedRows.{number_cmp, number_total, rows_moved, sorted_by_number, sorted_under}
 
 -- ---- the order of leads is an order, and that of rows is finer
 
 lead_total : IsTotalOrder lead_cmp
-lead_total = then_total (on_total rank nat_cmp_total) (on_total value int_cmp_total)
+lead_total = then_total (on_total (λ (lead : Lead). lead.rank) int_cmp_total) (on_total (λ (lead : Lead). lead.value) int_cmp_total)
 
-directed_total : (d : Direction) → IsTotalOrder (directed_cmp d)
-directed_total Ascending = lead_total
-directed_total Descending = back_total lead_total
+-- what is taken off the same number, the other way round
+taken_off : (m x y : ℤ) → int_cmp (m -ℤ x) (m -ℤ y) ≡ int_cmp y x
+taken_off m x y = sym (int_cmp_is (m -ℤ x) (m -ℤ y) (int_cmp y x) (by (int_cmp y x) (int_ranks y x)))
+  where
+    by : (o : Ordering) → MatchOrdering o (y <ℤ x) (y ≡ x) (x <ℤ y) → MatchOrdering o ((m -ℤ x) <ℤ (m -ℤ y)) ((m -ℤ x) ≡ (m -ℤ y)) ((m -ℤ y) <ℤ (m -ℤ x))
+    by Less h = let less : y <ℤ x = h in omega (arith, ints, less)
+    by Equal h = ap (λ z. m -ℤ z) (sym h)
+    by Greater h = let less : x <ℤ y = h in omega (arith, ints, less)
 
-leading_total : (sorts : List SortKey) → IsTotalOrder (leading_cmp sorts)
-leading_total [] = lead_total
-leading_total (sort ∷ sorts) = directed_total sort.direction
+turned_cmp : (a b : Lead) → lead_cmp (turned a) (turned b) ≡ lead_cmp b a
+turned_cmp a b = λ i. ordering_then (taken_off (negsuc 0) a.rank b.rank i) (taken_off (negsuc 0) a.value b.value i)
+
+-- in the direction of a sort key, or in that of the first of some
+abbrev directed_cmp : Direction → Lead → Lead → Ordering
+directed_cmp Ascending a b = lead_cmp a b
+directed_cmp Descending a b = lead_cmp b a
+
+abbrev leading_cmp : List SortKey → Lead → Lead → Ordering
+leading_cmp [] a b = lead_cmp a b
+leading_cmp (sort ∷ sorts) a b = directed_cmp sort.direction a b
+
+in_direction_cmp : (sorts : List SortKey) (a b : Lead) → lead_cmp (in_direction sorts a) (in_direction sorts b) ≡ leading_cmp sorts a b
+in_direction_cmp [] a b = refl
+in_direction_cmp (sort ∷ sorts) a b = by sort.direction
+  where
+    by : (d : Direction) → lead_cmp (directed d a) (directed d b) ≡ directed_cmp d a b
+    by Ascending = refl
+    by Descending = turned_cmp a b
 
 -- naturals as integers
 same_cmp : (m n : ℕ) → int_cmp (pos m) (pos n) ≡ nat_cmp m n
@@ -131,11 +154,18 @@ finer (sort ∷ sorts) a b =
     ap (λ o. ordering_then (ordering_then o (leading_cmp sorts (lead_of sorts a) (lead_of sorts b))) (ordering_then (sort_order sort a b) (row_order sorts a b))) (directed_led sort.column sort.direction a b)
     ∙ twice_behind (sort_order sort a b) (leading_cmp sorts (lead_of sorts a) (lead_of sorts b)) (row_order sorts a b) (finer_first sorts a b)
 
+led_finer : (sorts : List SortKey) (rows : List GroupRow) (i j : ℕ) → led_cmp sorts rows (led_at sorts rows i) (led_at sorts rows j) ≡ number_cmp sorts rows i j
+led_finer sorts rows i j =
+    let a = row_shown (row_at rows i) in
+    let b = row_shown (row_at rows j) in
+    (λ k. ordering_then (ordering_then (in_direction_cmp sorts (lead_of sorts a) (lead_of sorts b) k) (in_direction_cmp (sorts_after sorts) (next_of sorts a) (next_of sorts b) k)) (row_order sorts a b))
+    ∙ finer sorts a b
+
 -- ---- the rows of a group
 
 pub led_total : (sorts : List SortKey) (rows : List GroupRow) → IsTotalOrder (led_cmp sorts rows)
 led_total sorts rows = then_total
-    (then_total (on_total (λ (led : Led). led.lead) (leading_total sorts)) (on_total (λ (led : Led). led.next) (leading_total (sorts_after sorts))))
+    (then_total (on_total (λ (led : Led). led.lead) lead_total) (on_total (λ (led : Led). led.next) lead_total))
     (on_total (λ (led : Led). led.number) (number_total sorts rows))
 
 abbrev number_of : Led → ℕ
@@ -157,7 +187,7 @@ module _ (sorts : List SortKey) (rows : List GroupRow) (ns : List ℕ) (all : Li
 
   by_number : (a b : Led) → Contains all a → Contains all b → led_cmp sorts rows a b ≡ number_cmp sorts rows a.number b.number
   by_number a b in_a in_b =
-      (λ i. led_cmp sorts rows (sym (its_own a in_a) i) (sym (its_own b in_b) i)) ∙ finer sorts _ _
+      (λ i. led_cmp sorts rows (sym (its_own a in_a) i) (sym (its_own b in_b) i)) ∙ led_finer sorts rows a.number b.number
 
   numbers_ascend : IsSortedBy (λ a b. is_lt (led_cmp sorts rows a b)) all → IsSortedBy (λ i j. is_lt (number_cmp sorts rows i j)) (map number_of all)
   numbers_ascend up = sorted_under number_of (λ i j. is_lt (number_cmp sorts rows i j)) all (λ k d from next.

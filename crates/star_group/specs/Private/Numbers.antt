@@ -9,7 +9,9 @@ use Rattle.star_group.specs.Base.{key_of, row_at}
 use Rattle.star_group.specs.Entries.{entries_of}
 use Rattle.star_program.specs.Rows.{cut}
 use Rattle.star_group.specs.Keyed.{all_hidden}
-use Rattle.star_group.specs.Private.Tries.{IsHeld}
+use Rattle.star_group.specs.Private.Tries.{IsFound, IsHeld}
+use Rattle.star_group.specs.declared.keyed.trie.Place.{Place}
+use Rattle.star_group.specs.declared.keyed.trie.Place.TheVariants.{Held, Missing}
 
 abbrev pub keys_in : KeyedRows → List (List KeyPart)
 keys_in rows = cut rows.trie.width rows.trie.len rows.trie.keys.items
@@ -31,9 +33,29 @@ abbrev pub IsKnown : KeyedRows → List KeyPart → Option ℕ → Type 0
 IsKnown rows key None = Unit {0}
 IsKnown rows key (Some number) = IsHeld (keys_in rows) (take rows.trie.width key) number
 
-pub record AreNumbers (rows : KeyedRows) (keys : List (List KeyPart)) (numbers : List (Option ℕ)) : Type 0 where
-  pub many : length numbers ≡ length keys
-  pub each : (place : ℕ) → place < length keys → IsNumber rows (slice_index_or keys place []) (slice_index_or numbers place None)
+-- where the row with this key is, or would be
+abbrev pub IsPlace : KeyedRows → List KeyPart → Place → Type 0
+IsPlace rows key place = IsFound rows.trie.width (keys_in rows) rows.trie.links.items (take rows.trie.width key) place
+
+-- where it is, or would be as long as there are no more rows than these
+abbrev pub IsPlaceAmong : KeyedRows → ℕ → List KeyPart → Place → Type 0
+IsPlaceAmong rows count key (Held number) = IsHeld (keys_in rows) (take rows.trie.width key) number
+IsPlaceAmong rows count key (Missing node digit) = rows.trie.len ≡ count → IsPlace rows key (Missing node digit)
+
+-- its row, where it is there, is one of these
+abbrev pub IsWithin : KeyedRows → Place → Type 0
+IsWithin rows (Held number) = number < length (entries_of rows)
+IsWithin rows (Missing node digit) = Unit {0}
+
+pub record ArePlaces (rows : KeyedRows) (keys : List (List KeyPart)) (places : List Place) : Type 0 where
+  pub many : length places ≡ length keys
+  pub each : (index : ℕ) → index < length keys → IsPlace rows (slice_index_or keys index []) (slice_index_or places index (Held 0))
+
+-- the same rows, with no key's place changed as long as there are no more
+pub record IsGrown (old new : KeyedRows) : Type 0 where
+  pub more : old.trie.len ≤ new.trie.len
+  pub keys : new.trie.len ≡ old.trie.len → keys_in new ≡ keys_in old
+  pub links : new.trie.len ≡ old.trie.len → new.trie.links.items ≡ old.trie.links.items
 
 -- so many more keys fit in without memory
 pub record HasTrieSpace (trie : Trie) (count : ℕ) : Type 0 where

@@ -1,5 +1,5 @@
 -- Rows found by the digits of their keys: each row is below one whose key it shares some digits with.
-use Rattle.std.specs.Prelude.{◌≡◌, ℕ, zero, suc, ◌+◌, ◌-◌, ◌*◌, ◌/◌, ◌%◌, ◌^◌, ◌<◌, nat_lt, if◌then◌else◌, List, [], ◌∷◌, length, slice_index_or}
+use Rattle.std.specs.Prelude.{◌≡◌, Bool, true, false, ℕ, zero, suc, ◌+◌, ◌-◌, ◌*◌, ◌/◌, ◌%◌, ◌^◌, ◌<◌, nat_lt, if◌then◌else◌, List, [], ◌∷◌, length, slice_index_or}
 use Rattle.std.specs.Int.{cast_unsigned, w64}
 use Rattle.star_group.specs.declared.keyed.key.KeyPart.{KeyPart}
 use Rattle.star_group.specs.declared.keyed.trie.Place.{Place}
@@ -82,3 +82,7 @@ pub record IsMissing (width : ℕ) (ks : List (List KeyPart)) (links : List (Lis
 abbrev pub IsFound : ℕ → List (List KeyPart) → List (List ℕ) → List KeyPart → Place → Type 0
 IsFound width ks links key (Held n) = IsHeld ks key n
 IsFound width ks links key (Missing node digit) = IsMissing width ks links key node digit
+
+abbrev pub is_missing : Place → Bool
+is_missing (Held n) = false
+is_missing (Missing node digit) = true

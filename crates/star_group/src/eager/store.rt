@@ -73,7 +73,7 @@ impl GroupStore for EagerStore {
             aggregates,
             rows,
             own: Vec::with_capacity(alloc, MOST_OWN)?,
-            numbers: Vec::with_capacity(alloc, MOST_OWN)?,
+            places: Vec::with_capacity(alloc, MOST_OWN)?,
         })
     }
 
@@ -112,7 +112,7 @@ impl TryPut for EagerStore {
         put_rows(
             &mut self.rows,
             self.own.as_slice(),
-            &mut self.numbers,
+            &mut self.places,
             aggregates,
             &row,
         )

@@ -1,7 +1,8 @@
 // Rows with their keys, one after another, with nothing to find them by.
 
 ghost use Rattle.std.specs.Prelude.{◌≡◌, ◌<◌, [], drop, length, slice_index_or, IfOk};
-ghost use Rattle.star_group.specs.Entries.{entries_of, listed_entries};
+ghost use Rattle.star_group.specs.Entries.{entries_of};
+ghost use Rattle.star_group.specs.Private.Listed.{listed_entries};
 ghost use Rattle.star_group.specs.Keyed.{all_hidden};
 
 use super::key::{OrderedKey, in_six_places};

@@ -7,7 +7,8 @@ ghost use Rattle.star_group.specs.declared.keyed.key.KeyPart.{KeyPart};
 ghost use Rattle.star_program.specs.Rows.{cut};
 ghost use Rattle.star_group.specs.Keyed.{all_hidden};
 ghost use Rattle.star_group.specs.Private.Merged.{IsMergedAt, IsWithRow, MergeStays, RowsStay};
-ghost use Rattle.star_group.specs.Private.Numbers.{HasSpace, IsNumber, keys_in};
+ghost use Rattle.star_group.specs.Private.Numbers.{HasSpace, IsGrown, IsNumber, IsPlace, IsPlaceAmong, keys_in};
+ghost use Rattle.star_group.specs.declared.keyed.trie.Place.TheVariants.{Missing};
 ghost use Rattle.star_group.specs.Private.Tries.{IsHeld, IsMissing};
 
 use super::KeyedRows;
@@ -45,10 +46,17 @@ impl KeyedRows {
         requires { drop self.now.trie.width key.now ≡ drop self.now.trie.width all_hidden }
         ensures { IsNumber self.now key.now result }
     {
-        match self.trie.find(&key[..self.trie.width]) {
+        match self.place(key) {
             Place::Held(number) => Some(number),
             Place::Missing { .. } => None,
         }
+    }
+
+    // Where this key's row is, or would be.
+    pub(crate) fn place(&self, key: &OrderedKey) -> Place
+        ensures { IsPlace self.now key.now result }
+    {
+        self.trie.find(&key[..self.trie.width])
     }
 
     // Whether the row of a number is that of this key.
@@ -68,6 +76,7 @@ impl KeyedRows {
     pub(crate) fn reserve(&mut self, additional: usize) -> Result<(), AllocError>
         ensures ok { OnOk result (HasSpace self.new additional) }
         ensures keys { keys_in self.new ≡ keys_in self.old }
+        ensures links { self.new.trie.links.items ≡ self.old.trie.links.items }
         ensures rows { entries_of self.new ≡ entries_of self.old }
         ensures width { self.new.trie.width ≡ self.old.trie.width }
         ensures many { self.new.many ≡ self.old.many }
@@ -106,6 +115,7 @@ impl KeyedRows {
             → IsHeld (keys_in self.new) other number }
         ensures space { (count : ℕ) → HasSpace self.old (count + 1)
             → IsOk result × HasSpace self.new count }
+        ensures grown { OnOk result (IsGrown self.old self.new) }
         ensures width { self.new.trie.width ≡ self.old.trie.width }
         ensures many { self.new.many ≡ self.old.many }
     {
@@ -163,6 +173,7 @@ impl KeyedRows {
             → IsHeld (keys_in self.new) other number }
         ensures space { (count : ℕ) → HasSpace self.old (count + 1)
             → IsOk result × HasSpace self.new count }
+        ensures grown { OnOk result (IsGrown self.old self.new) }
         ensures width { self.new.trie.width ≡ self.old.trie.width }
         ensures many { self.new.many ≡ self.old.many }
     {
@@ -176,6 +187,42 @@ impl KeyedRows {
                 let many = self.many;
                 self.push(node, digit, key, &more[..many])
             }
+        }
+    }
+
+    // One more row for this key, which is missing at this place as long as there are so many rows;
+    // where there are more, it is looked up once more.
+    pub(crate) fn merge_missing(
+        &mut self,
+        count: usize,
+        node: usize,
+        digit: usize,
+        key: &OrderedKey,
+        aggregates: &[Aggregate],
+        more: &[Option<i64>],
+    ) -> Result<(), AllocError>
+        requires narrow { drop self.old.trie.width key.now ≡ drop self.old.trie.width all_hidden }
+        requires missing { IsPlaceAmong self.old count key.now
+            (Missing node digit) }
+        requires many { length aggregates.now ≡ self.old.many }
+        requires wide { self.old.many ≤ length more.now }
+        requires stays { RowsStay aggregates.now
+            (row_at (entries_of self.old) (key_of key.now)) more.now }
+        ensures ok { OnOk result (IsMergedAt aggregates.now (key_of key.now) more.now
+            (entries_of self.old) (entries_of self.new)) }
+        ensures held { (other : List KeyPart) (number : ℕ) → IsHeld (keys_in self.old) other number
+            → IsHeld (keys_in self.new) other number }
+        ensures space { (count : ℕ) → HasSpace self.old (count + 1)
+            → IsOk result × HasSpace self.new count }
+        ensures grown { OnOk result (IsGrown self.old self.new) }
+        ensures width { self.new.trie.width ≡ self.old.trie.width }
+        ensures many { self.new.many ≡ self.old.many }
+    {
+        if self.trie.len == count {
+            let many = self.many;
+            self.push(node, digit, key, &more[..many])
+        } else {
+            self.merge(key, aggregates, more)
         }
     }
 

@@ -110,6 +110,17 @@ pub(crate) enum Place {
     Missing { node: usize, digit: usize },
 }
 
+impl Place {
+    pub(crate) fn is_missing(self) -> bool
+        ensures { result ≡ spec.is_missing self }
+    {
+        match self {
+            Place::Held(_) => false,
+            Place::Missing { .. } => true,
+        }
+    }
+}
+
 /// The keys of rows, each of `width` parts, and for each row and for the node above all of them
 /// the row below by a digit: a row is below one whose key it shares some digits with. A look-up
 /// passes at most as many rows as a key has digits, 32 and 33 a part, whatever keys there are; this

@@ -1,6 +1,6 @@
 -- What a row has in the two columns by which it is compared first, and the order of rows beside it.
-use Rattle.std.specs.Prelude.{ℕ, ℤ, pos, List, [], ◌∷◌, Option, Some, None, slice_index_or}
-use Rattle.std.specs.Ordering.{int_cmp, nat_cmp, ordering_then}
+use Rattle.std.specs.Prelude.{ℕ, ℤ, pos, negsuc, ◌-ℤ◌, List, [], ◌∷◌, Option, Some, None, slice_index_or}
+use Rattle.std.specs.Ordering.{int_cmp, ordering_then}
 use Rattle.std.specs.declared.cmp.Ordering.{Ordering}
 use Rattle.star_schema.specs.declared.group.GroupColumn.{GroupColumn}
 use Rattle.star_schema.specs.declared.group.GroupColumn.TheVariants as column
@@ -14,39 +14,38 @@ use Rattle.star_group.specs.declared.group_row.GroupRow.{GroupRow}
 use Rattle.star_group.specs.Shown.{row_at, row_shown}
 use Rattle.star_machine.specs.Private.RowOrder.{row_order}
 use Rattle.star_machine.specs.declared.outcome.leads.Lead.{Lead}
-use Rattle.star_machine.specs.declared.outcome.leads.Lead.TheVariants.{Null, Number, Code, All}
 use Rattle.star_machine.specs.declared.outcome.leads.Led.{Led}
 
-abbrev pub rank : Lead → ℕ
-rank Null = 0
-rank (Number x) = 1
-rank (Code n) = 2
-rank All = 3
+abbrev pub null_lead : Lead
+null_lead = record { rank = pos 0; value = pos 0 }
 
-abbrev pub value : Lead → ℤ
-value Null = pos 0
-value (Number x) = x
-value (Code n) = pos n
-value All = pos 0
+abbrev pub number_lead : ℤ → Lead
+number_lead x = record { rank = pos 1; value = x }
+
+abbrev pub code_lead : ℕ → Lead
+code_lead n = record { rank = pos 2; value = pos n }
+
+abbrev pub all_lead : Lead
+all_lead = record { rank = pos 3; value = pos 0 }
 
 abbrev pub lead_cmp : Lead → Lead → Ordering
-lead_cmp a b = ordering_then (nat_cmp (rank a) (rank b)) (int_cmp (value a) (value b))
+lead_cmp a b = ordering_then (int_cmp a.rank b.rank) (int_cmp a.value b.value)
 
 abbrev pub key_lead : Option KeyValue → Lead
-key_lead None = All
-key_lead (Some (key.Number x)) = Number x
-key_lead (Some (key.Code n)) = Code n
+key_lead None = all_lead
+key_lead (Some (key.Number x)) = number_lead x
+key_lead (Some (key.Code n)) = code_lead n
 
 abbrev pub total_lead : Option ℤ → Lead
-total_lead None = Null
-total_lead (Some x) = Number x
+total_lead None = null_lead
+total_lead (Some x) = number_lead x
 
 abbrev pub first_lead : List (Option KeyValue) → Lead
-first_lead [] = Null
+first_lead [] = null_lead
 first_lead (k ∷ ks) = key_lead k
 
 abbrev pub second_lead : List (Option KeyValue) → Lead
-second_lead [] = Null
+second_lead [] = null_lead
 second_lead (k ∷ ks) = first_lead ks
 
 abbrev pub column_lead : GroupColumn → Row KeyValue → Lead
@@ -63,29 +62,34 @@ abbrev pub next_of : List SortKey → Row KeyValue → Lead
 next_of [] row = second_lead row.keys
 next_of (sort ∷ sorts) row = lead_of sorts row
 
-abbrev pub directed_cmp : Direction → Lead → Lead → Ordering
-directed_cmp Ascending a b = lead_cmp a b
-directed_cmp Descending a b = lead_cmp b a
+-- what was greater is less
+abbrev pub turned : Lead → Lead
+turned lead = record { rank = negsuc 0 -ℤ lead.rank; value = negsuc 0 -ℤ lead.value }
 
-abbrev pub leading_cmp : List SortKey → Lead → Lead → Ordering
-leading_cmp [] a b = lead_cmp a b
-leading_cmp (sort ∷ sorts) a b = directed_cmp sort.direction a b
+abbrev pub directed : Direction → Lead → Lead
+directed Ascending lead = lead
+directed Descending lead = turned lead
+
+-- in the direction of the first sort key
+abbrev pub in_direction : List SortKey → Lead → Lead
+in_direction [] lead = lead
+in_direction (sort ∷ sorts) lead = directed sort.direction lead
 
 abbrev pub sorts_after : List SortKey → List SortKey
 sorts_after [] = []
 sorts_after (sort ∷ sorts) = sorts
 
-abbrev pub leads_cmp : List SortKey → Led → Led → Ordering
-leads_cmp sorts a b = ordering_then (leading_cmp sorts a.lead b.lead) (leading_cmp (sorts_after sorts) a.next b.next)
+abbrev pub leads_cmp : Led → Led → Ordering
+leads_cmp a b = ordering_then (lead_cmp a.lead b.lead) (lead_cmp a.next b.next)
 
 -- rows by their numbers, each beside what leads it
 abbrev pub led_cmp : List SortKey → List GroupRow → Led → Led → Ordering
-led_cmp sorts rows a b = ordering_then (leads_cmp sorts a b)
+led_cmp sorts rows a b = ordering_then (leads_cmp a b)
     (row_order sorts (row_shown (row_at rows a.number)) (row_shown (row_at rows b.number)))
 
 abbrev pub led_at : List SortKey → List GroupRow → ℕ → Led
 led_at sorts rows number = record {
-  lead = lead_of sorts (row_shown (row_at rows number));
-  next = next_of sorts (row_shown (row_at rows number));
+  lead = in_direction sorts (lead_of sorts (row_shown (row_at rows number)));
+  next = in_direction (sorts_after sorts) (next_of sorts (row_shown (row_at rows number)));
   number = number;
 }

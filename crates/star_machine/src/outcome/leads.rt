@@ -5,7 +5,7 @@ ghost use Rattle.std.specs.Prelude.{◌≡◌, IfOk, length, map};
 ghost use Rattle.std.specs.List.{range_with_len};
 ghost use Rattle.star_group.specs.Shown.{row_at, row_shown};
 ghost use Rattle.star_machine.specs.Private.Leads as spec;
-ghost use Rattle.star_machine.specs.Private.Leads.{lead_cmp, leading_cmp, leads_cmp, led_at};
+ghost use Rattle.star_machine.specs.Private.Leads.{lead_cmp, leads_cmp, led_at};
 
 use super::order::part_at;
 use star_group::{GroupRows, KeyValue};
@@ -13,16 +13,20 @@ use star_schema::{Direction, GroupColumn, SortKey};
 use std::alloc::{AllocError, Global};
 use std::cmp::Ordering;
 
-// A key or an aggregate: NULL comes first, and ALL last.
+// What a key or an aggregate is compared by: NULL comes first, then numbers, codes, and ALL last;
+// or the other way round.
 #[derive(Clone, Copy)]
-pub(super) enum Lead {
-    Null,
-    Number(i64),
-    Code(u32),
-    All,
+pub(super) struct Lead {
+    rank: i8,
+    value: i64,
 }
 
-// The number of a row, and what leads it: in the column that is compared first, and in the next.
+const NULL: Lead = Lead { rank: 0, value: 0 };
+
+const ALL: Lead = Lead { rank: 3, value: 0 };
+
+// The number of a row, and what leads it: in the column that is compared first, and in the next. The
+// row whose leads are less comes first.
 #[derive(Clone, Copy)]
 pub(super) struct Led {
     lead: Lead,
@@ -30,42 +34,49 @@ pub(super) struct Led {
     pub(super) number: usize,
 }
 
-fn rank(lead: Lead) -> u8
-    ensures { result ≡ spec.rank lead }
+fn number_lead(number: i64) -> Lead
+    ensures { result ≡ spec.number_lead number }
 {
-    match lead {
-        Lead::Null => 0,
-        Lead::Number(_) => 1,
-        Lead::Code(_) => 2,
-        Lead::All => 3,
+    Lead {
+        rank: 1,
+        value: number,
     }
 }
 
-fn value(lead: Lead) -> i64
-    ensures { result ≡ spec.value lead }
+fn code_lead(code: u32) -> Lead
+    ensures { result ≡ spec.code_lead code }
 {
-    match lead {
-        Lead::Number(number) => number,
-        Lead::Code(code) => i64::from(code),
-        Lead::Null | Lead::All => 0,
+    Lead {
+        rank: 2,
+        value: i64::from(code),
     }
 }
 
 fn compare_leads(a: Lead, b: Lead) -> Ordering
     ensures { result ≡ lead_cmp a b }
 {
-    rank(a).cmp(&rank(b)).then(value(a).cmp(&value(b)))
+    a.rank.cmp(&b.rank).then(a.value.cmp(&b.value))
+}
+
+// So that what was greater is less.
+fn turned(lead: Lead) -> Lead
+    ensures { result ≡ spec.turned lead }
+{
+    Lead {
+        rank: -1 - lead.rank,
+        value: -1 - lead.value,
+    }
 }
 
 // In the direction of the first sort key.
-fn compare_leading(sorts: &[SortKey], a: Lead, b: Lead) -> Ordering
-    ensures { result ≡ leading_cmp sorts.now a b }
+fn in_direction(sorts: &[SortKey], lead: Lead) -> Lead
+    ensures { result ≡ spec.in_direction sorts.now lead }
 {
     match sorts {
-        [] => compare_leads(a, b),
+        [] => lead,
         [sort, ..] => match sort.direction {
-            Direction::Ascending => compare_leads(a, b),
-            Direction::Descending => compare_leads(b, a),
+            Direction::Ascending => lead,
+            Direction::Descending => turned(lead),
         },
     }
 }
@@ -81,19 +92,19 @@ fn sorts_after(sorts: &[SortKey]) -> &[SortKey]
 }
 
 // By what leads them alone.
-pub(super) fn compare_leads_of(sorts: &[SortKey], a: Led, b: Led) -> Ordering
-    ensures { result ≡ leads_cmp sorts.now a b }
+pub(super) fn compare_leads_of(a: Led, b: Led) -> Ordering
+    ensures { result ≡ leads_cmp a b }
 {
-    compare_leading(sorts, a.lead, b.lead).then(compare_leading(sorts_after(sorts), a.next, b.next))
+    compare_leads(a.lead, b.lead).then(compare_leads(a.next, b.next))
 }
 
 fn key_lead(key: Option<KeyValue>) -> Lead
     ensures { result ≡ spec.key_lead key }
 {
     match key {
-        None => Lead::All,
-        Some(KeyValue::Number(number)) => Lead::Number(number),
-        Some(KeyValue::Code(code)) => Lead::Code(code),
+        None => ALL,
+        Some(KeyValue::Number(number)) => number_lead(number),
+        Some(KeyValue::Code(code)) => code_lead(code),
     }
 }
 
@@ -101,8 +112,8 @@ fn total_lead(total: Option<i64>) -> Lead
     ensures { result ≡ spec.total_lead total }
 {
     match total {
-        None => Lead::Null,
-        Some(number) => Lead::Number(number),
+        None => NULL,
+        Some(number) => number_lead(number),
     }
 }
 
@@ -110,7 +121,7 @@ fn first_lead(keys: &[Option<KeyValue>]) -> Lead
     ensures { result ≡ spec.first_lead keys.now }
 {
     match keys {
-        [] => Lead::Null,
+        [] => NULL,
         [key, ..] => key_lead(*key),
     }
 }
@@ -128,7 +139,7 @@ fn second_lead(keys: &[Option<KeyValue>]) -> Lead
     ensures { result ≡ spec.second_lead keys.now }
 {
     match keys {
-        [] => Lead::Null,
+        [] => NULL,
         [_key, rest @ ..] => first_lead(rest),
     }
 }
@@ -157,8 +168,8 @@ fn led_row(sorts: &[SortKey], rows: &GroupRows, number: usize) -> Led
     ensures { result ≡ led_at sorts.now rows.now number }
 {
     Led {
-        lead: lead_of(sorts, rows, number),
-        next: next_of(sorts, rows, number),
+        lead: in_direction(sorts, lead_of(sorts, rows, number)),
+        next: in_direction(sorts_after(sorts), next_of(sorts, rows, number)),
         number,
     }
 }

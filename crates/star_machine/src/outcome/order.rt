@@ -105,7 +105,7 @@ fn compare_rows(sorts: &[SortKey], rows: &GroupRows, a: usize, b: usize) -> Orde
 fn compare_led(sorts: &[SortKey], rows: &GroupRows, a: Led, b: Led) -> Ordering
     ensures { result ≡ led_cmp sorts.now rows.now a b }
 {
-    match compare_leads_of(sorts, a, b) {
+    match compare_leads_of(a, b) {
         Ordering::Equal => compare_rows(sorts, rows, a.number, b.number),
         decided => decided,
     }

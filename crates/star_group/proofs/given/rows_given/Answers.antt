@@ -2,7 +2,7 @@ use Rattle.std.proofs.Common.{◌≡◌, ◌<◌, ◌+◌, ◌∙◌, List, Opti
 use Rattle.star_program.specs.declared.key.KeyValue.{KeyValue}
 use Rattle.star_group.specs.declared.group_rows.Gathered.{Gathered}
 use Rattle.star_group.specs.Base.{key_of}
-use Rattle.star_group.specs.Entries.{listed_entries}
+use Rattle.star_group.specs.Private.Listed.{listed_entries}
 use Rattle.star_group.specs.Private.Coarser.{shown_entries}
 use Rattle.star_group.specs.Private.FlatRows.{AreParts}
 use Rattle.star_group.specs.Private.Given.{is_given, row_given, rows_given as given_of}

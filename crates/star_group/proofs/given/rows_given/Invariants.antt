@@ -1,5 +1,5 @@
 use Rattle.std.proofs.Common.{length, take}
-use Rattle.star_group.specs.Entries.{listed_entries}
+use Rattle.star_group.specs.Private.Listed.{listed_entries}
 use Rattle.star_group.specs.Private.Coarser.{shown_entries}
 use Rattle.star_group.specs.Private.FlatRows.{AreParts}
 use Rattle.star_group.specs.Private.Given.{rows_given}

@@ -1,9 +1,18 @@
-use Rattle.std.proofs.Common.{◌≡◌, ◌∙◌, ◌+◌, ◌-◌, [], arith, get_or, length, map, subst}
+use Rattle.std.proofs.Common.{◌≡◌, ◌∙◌, ◌+◌, ◌-◌, [], arith, get_or, length, map, subst, sym}
 use Rattle.star_group.specs.Base.{key_of, row_at}
 use Rattle.star_group.specs.Entries.{entries_of}
 use Rattle.star_group.specs.Private.Numbers.{HasSpace}
-use Rattle.star_group.proofs.MergedRows.{key_here, key_within, merges_more, stays_here}
+use Rattle.star_group.proofs.MergedRows.{grown_more, key_here, key_within, merges_more, place_among, stays_here}
+use Rattle.star_group.proofs.KeyedRows.{row_count}
+use Rattle.star_group.specs.declared.keyed.trie.Place.TheVariants.{Held}
 use Rattle.star_group.proofs.rows.merge_all_at.Goals as goal
+
+pub merge_at-requires-clause-place : goal.merge_at-requires-clause-place
+merge_at-requires-clause-place c =
+    let s = c.args.rows.now in
+    let i = c.loop-index.index in
+    let all : s.trie.len ≡ c.len-count.result = sym (row_count s) ∙ sym c.len-count.ensures in
+    place_among s c.loop-index.rows c.len-count.result (get_or c.args.own.now i []) (get_or c.args.places.now i (Held 0)) c.loop-index.invariant.grown all c.loop-index.invariant.width c.loop-index.invariant.held (c.requires.places.each i c.loop-index-test.true)
 
 pub merge_at-requires-clause-stays : goal.merge_at-requires-clause-stays
 merge_at-requires-clause-stays c =
@@ -23,6 +32,7 @@ loop-index-preserved c =
           (entries_of c.merge_at.new.rows) c.merge_at.ensures.rows;
       held = λ other place is. c.merge_at.ensures.held other place (c.loop-index.invariant.held other place is);
       space = λ some. c.merge_at.ensures.space (length own - (i + 1)) (subst (HasSpace c.loop-index.rows) left (c.loop-index.invariant.space some));
+      grown = grown_more c.args.rows.now c.loop-index.rows c.merge_at.new.rows c.loop-index.invariant.grown c.merge_at.ensures.grown;
       width = c.merge_at.ensures.width ∙ c.loop-index.invariant.width;
       many = c.merge_at.ensures.many ∙ c.loop-index.invariant.many;
     }

@@ -14,6 +14,7 @@ impl Trie {
     pub(crate) fn reserve(&mut self, additional: usize) -> Result<(), AllocError>
         ensures ok { OnOk result (HasTrieSpace self.new additional) }
         ensures keys { self.new.keys.items ≡ self.old.keys.items }
+        ensures links { self.new.links.items ≡ self.old.links.items }
         ensures len { self.new.len ≡ self.old.len }
         ensures width { self.new.width ≡ self.old.width }
     {

@@ -3,7 +3,8 @@ use Rattle.std.proofs.lemmas.List.{drop-set-lt}
 use Rattle.std.proofs.lemmas.Option.{slice_get-get_or}
 use Rattle.star_group.specs.Base.{key_of, row_at}
 use Rattle.star_group.specs.declared.keyed.key.KeyPart.TheVariants.{All}
-use Rattle.star_group.specs.Entries.{entries_of, listed_entries}
+use Rattle.star_group.specs.Entries.{entries_of}
+use Rattle.star_group.specs.Private.Listed.{listed_entries}
 use Rattle.star_group.specs.Keyed.{all_hidden}
 use Rattle.star_group.specs.Private.Coarser.{IsRolledUpWithRoom}
 use Rattle.star_group.specs.Private.Merged.{IsMergedAt, RowsStay}

@@ -1,5 +1,6 @@
 use Rattle.std.proofs.Common.{◌≡◌}
-use Rattle.star_group.specs.Entries.{entries_of, listed_entries}
+use Rattle.star_group.specs.Entries.{entries_of}
+use Rattle.star_group.specs.Private.Listed.{listed_entries}
 use Rattle.star_group.proofs.Rolling.{IsMergedSoFar}
 use Rattle.star_group.proofs.deferred.coarser.add_hidden.Given as goal
 

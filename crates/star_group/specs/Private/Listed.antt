@@ -1,0 +1,10 @@
+-- Rows by their keys that nothing finds any more.
+use Rattle.std.specs.Prelude.{ℤ, List, Option}
+use Rattle.star_group.specs.declared.keyed.key.KeyPart.{KeyPart}
+use Rattle.star_group.specs.declared.keyed.ListedRows.{ListedRows}
+use Rattle.star_program.specs.Rows.{cut}
+use Rattle.star_group.specs.Keyed.{keyed}
+
+-- the rows with their keys
+abbrev pub listed_entries : ListedRows → List (List KeyPart × List (Option ℤ))
+listed_entries rows = keyed (cut rows.width rows.len rows.keys.items) (cut rows.many rows.len rows.cells.items)
