@@ -6,6 +6,7 @@ ghost use Rattle.std.specs.List.{range_with_len};
 ghost use Rattle.std.specs.Option.{unwrap_or};
 ghost use Rattle.star_column.specs.Private.Order.{IsOrderOf, bytes_cmp};
 
+use star_flat::{SLOTS, slot_of};
 use std::alloc::{AllocError, Global};
 use std::collections::BTreeMap;
 use std::convert::AsSlice;
@@ -23,21 +24,6 @@ impl AsSlice<u8> for Numbered<'_> {
 
     fn as_slice(&self) -> &[u8] {
         self.text
-    }
-}
-
-/// How many texts that were met lately are remembered.
-const SLOTS: usize = 256;
-
-/// The slot in which the number of a text is remembered.
-fn slot_of(text: &[u8]) -> usize
-    ensures { result < 256 }
-{
-    match (text.first(), text.last()) {
-        (Some(first), Some(last)) => {
-            (text.len() % SLOTS + 7 * usize::from(*first) + 31 * usize::from(*last)) % SLOTS
-        }
-        _ => 0,
     }
 }
 

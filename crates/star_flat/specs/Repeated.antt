@@ -1,5 +1,5 @@
 -- Texts that are told by their places among other texts.
-use Rattle.std.specs.Prelude.{◌≡◌, ◌<◌, ◌≤◌, ℕ, ℤ, List, [], All, Contains, length, map, slice_index_or}
+use Rattle.std.specs.Prelude.{◌<◌, ◌≤◌, ℕ, ℤ, List, [], All, Contains, length, map, slice_index_or}
 use Rattle.std.specs.Int.RustNames.{unsigned_abs}
 
 -- places that are kept as signed numbers

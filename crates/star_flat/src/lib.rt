@@ -5,10 +5,12 @@
 
 mod numbers;
 mod repeated;
+mod slot;
 mod texts;
 mod words;
 
 pub use numbers::FlatNumbers;
 pub use repeated::RepeatedTexts;
+pub use slot::{SLOTS, slot_of};
 pub use texts::FlatTexts;
 pub use words::{SignedWord, SignedWords};

@@ -4,25 +4,10 @@ ghost use Rattle.std.specs.Prelude.{◌≡◌, ◌<◌, ◌++◌, ◌∷◌, [],
 ghost use Rattle.star_flat.specs.Repeated.{AreRepeated, places, texts_at};
 
 use crate::numbers::FlatNumbers;
+use crate::slot::{SLOTS, slot_of};
 use crate::texts::FlatTexts;
 use std::alloc::{AllocError, Global};
 use std::marker::Model;
-
-/// How many texts that were put lately are remembered.
-const SLOTS: usize = 256;
-
-/// The slot in which the place of a text is remembered.
-#[inline(always)]
-fn slot_of(text: &[u8]) -> usize
-    ensures { result < 256 }
-{
-    match (text.first(), text.last()) {
-        (Some(first), Some(last)) => {
-            (text.len() % SLOTS + 7 * usize::from(*first) + 31 * usize::from(*last)) % SLOTS
-        }
-        _ => 0,
-    }
-}
 
 /// A list of texts, which a contract sees as the list of their bytes. A text that equals one that
 /// was put lately is not kept again: for each text there is the place of an equal one among those

@@ -8,6 +8,7 @@ ghost use Rattle.star_group.specs.Shown.{AreRows};
 use crate::rows::PutFault;
 use crate::{GroupRows, KeyValue};
 use star_program::GroupDecl;
+use star_schema::Aggregate;
 use std::alloc::{AllocError, Global};
 
 /// The rows of a group, made by puts.
@@ -72,4 +73,19 @@ pub trait TryPut: GroupStore {
         ensures refused { OnErr result ((puts : List Put) → Self.has self.old puts
             → Self.has self.new puts) }
         ensures group { Self.group self.new ≡ Self.group self.old };
+}
+
+/// The aggregates of a declared group, to be kept by a store of it.
+pub(crate) fn aggregates_of(
+    alloc: Global,
+    declared: &GroupDecl,
+) -> Result<Vec<Aggregate>, AllocError>
+    ensures all { IfOk result (λ aggregates. aggregates.items ≡ declared.now.aggregates) }
+{
+    declared
+        .aggregates
+        .as_slice()
+        .iter()
+        .copied()
+        .collect(alloc)
 }

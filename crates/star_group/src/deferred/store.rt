@@ -10,10 +10,9 @@ use super::newest::Newest;
 use crate::cell::{BLANK, shown};
 use crate::given::rows_given;
 use crate::keyed::KeyedRows;
-use crate::store::GroupStore;
+use crate::store::{GroupStore, aggregates_of};
 use crate::{GroupRows, KeyValue};
 use star_program::GroupDecl;
-use star_schema::Aggregate;
 use std::alloc::{AllocError, Global};
 
 impl GroupStore for DeferredStore {
@@ -22,12 +21,7 @@ impl GroupStore for DeferredStore {
     ghost has = { Has };
 
     fn new(alloc: Global, declared: &GroupDecl) -> Result<DeferredStore, AllocError> {
-        let aggregates: Vec<Aggregate> = declared
-            .aggregates
-            .as_slice()
-            .iter()
-            .copied()
-            .collect(alloc)?;
+        let aggregates = aggregates_of(alloc, declared)?;
         let count = declared.keys.as_slice().len();
         let rows = KeyedRows::new(alloc, count, aggregates.len())?;
         Ok(DeferredStore {

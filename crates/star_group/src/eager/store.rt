@@ -16,10 +16,9 @@ use crate::keyed::KeyedRows;
 use crate::keyed::key::ALL_HIDDEN;
 use crate::keyed::merge::row_of_put;
 use crate::rows::{PutFault, put_rows};
-use crate::store::{GroupStore, TryPut};
+use crate::store::{GroupStore, TryPut, aggregates_of};
 use crate::{GroupRows, KeyValue};
 use star_program::GroupDecl;
-use star_schema::Aggregate;
 use std::alloc::{AllocError, Global};
 
 // So many rows a put changes at most: those of a cube of six keys. Their room is reserved, so that
@@ -58,12 +57,7 @@ impl GroupStore for EagerStore {
     ghost has = { Has };
 
     fn new(alloc: Global, declared: &GroupDecl) -> Result<EagerStore, AllocError> {
-        let aggregates: Vec<Aggregate> = declared
-            .aggregates
-            .as_slice()
-            .iter()
-            .copied()
-            .collect(alloc)?;
+        let aggregates = aggregates_of(alloc, declared)?;
         let count = declared.keys.as_slice().len();
         let rows = first_rows(alloc, count, aggregates.len())?;
         Ok(EagerStore {
