@@ -33,7 +33,7 @@ use Rattle.star_group.specs.Shown.{row_at, row_shown}
 use Rattle.star_machine.specs.declared.outcome.leads.Lead.{Lead}
 use Rattle.star_machine.specs.declared.outcome.leads.Led.{Led}
 use Rattle.star_machine.specs.Private.RowOrder.{AllHaveSameNulls, AreApart, column_order, directed_order, row_order, sort_order}
-use Rattle.star_machine.specs.Private.Leads.{column_lead, directed, first_lead, in_direction, key_lead, lead_cmp, lead_of, led_at, led_cmp, next_of, second_lead, sorts_after, total_lead, turned}
+use Rattle.star_machine.specs.Private.Leads.{column_lead, directed, first_lead, in_direction, key_lead, lead_cmp, lead_in, lead_of, led_at, led_cmp, next_in, next_of, second_lead, sorts_after, total_lead, turned}
 use Rattle.star_machine.proofs.SortedRows.{number_cmp, number_total, rows_moved, sorted_by_number, sorted_under}
 
 -- ---- the order of leads is an order, and that of rows is finer
@@ -165,7 +165,7 @@ led_finer sorts rows i j =
 
 pub led_total : (sorts : List SortKey) (rows : List GroupRow) → IsTotalOrder (led_cmp sorts rows)
 led_total sorts rows = then_total
-    (then_total (on_total (λ (led : Led). led.lead) lead_total) (on_total (λ (led : Led). led.next) lead_total))
+    (then_total (on_total lead_in lead_total) (on_total next_in lead_total))
     (on_total (λ (led : Led). led.number) (number_total sorts rows))
 
 abbrev number_of : Led → ℕ

@@ -79,8 +79,26 @@ abbrev pub sorts_after : List SortKey → List SortKey
 sorts_after [] = []
 sorts_after (sort ∷ sorts) = sorts
 
+-- in the column that is compared first
+abbrev pub lead_in : Led → Lead
+lead_in led = record { rank = led.rank; value = led.value }
+
+-- in the next
+abbrev pub next_in : Led → Lead
+next_in led = record { rank = led.next_rank; value = led.next_value }
+
 abbrev pub leads_cmp : Led → Led → Ordering
-leads_cmp a b = ordering_then (lead_cmp a.lead b.lead) (lead_cmp a.next b.next)
+leads_cmp a b = ordering_then (lead_cmp (lead_in a) (lead_in b)) (lead_cmp (next_in a) (next_in b))
+
+-- a row of this number, beside what leads it
+abbrev pub led_by : Lead → Lead → ℕ → Led
+led_by lead next number = record {
+  value = lead.value;
+  next_value = next.value;
+  rank = lead.rank;
+  next_rank = next.rank;
+  number = number;
+}
 
 -- rows by their numbers, each beside what leads it
 abbrev pub led_cmp : List SortKey → List GroupRow → Led → Led → Ordering
@@ -88,8 +106,5 @@ led_cmp sorts rows a b = ordering_then (leads_cmp a b)
     (row_order sorts (row_shown (row_at rows a.number)) (row_shown (row_at rows b.number)))
 
 abbrev pub led_at : List SortKey → List GroupRow → ℕ → Led
-led_at sorts rows number = record {
-  lead = in_direction sorts (lead_of sorts (row_shown (row_at rows number)));
-  next = in_direction (sorts_after sorts) (next_of sorts (row_shown (row_at rows number)));
-  number = number;
-}
+led_at sorts rows number = led_by (in_direction sorts (lead_of sorts (row_shown (row_at rows number))))
+    (in_direction (sorts_after sorts) (next_of sorts (row_shown (row_at rows number)))) number

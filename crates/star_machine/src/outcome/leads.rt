@@ -26,12 +26,43 @@ const NULL: Lead = Lead { rank: 0, value: 0 };
 const ALL: Lead = Lead { rank: 3, value: 0 };
 
 // The number of a row, and what leads it: in the column that is compared first, and in the next. The
-// row whose leads are less comes first.
+// row whose leads are less comes first. Both leads lie flat, as a sort moves these about.
 #[derive(Clone, Copy)]
 pub(super) struct Led {
-    lead: Lead,
-    next: Lead,
-    pub(super) number: usize,
+    value: i64,
+    next_value: i64,
+    rank: i8,
+    next_rank: i8,
+    number: u32,
+}
+
+impl Led {
+    // The number of the row.
+    pub(super) fn number(&self) -> usize
+        ensures { result ≡ self.now.number }
+    {
+        self.number as usize
+    }
+
+    // In the column that is compared first.
+    fn lead(&self) -> Lead
+        ensures { result ≡ spec.lead_in self.now }
+    {
+        Lead {
+            rank: self.rank,
+            value: self.value,
+        }
+    }
+
+    // In the next.
+    fn next(&self) -> Lead
+        ensures { result ≡ spec.next_in self.now }
+    {
+        Lead {
+            rank: self.next_rank,
+            value: self.next_value,
+        }
+    }
 }
 
 fn number_lead(number: i64) -> Lead
@@ -55,7 +86,10 @@ fn code_lead(code: u32) -> Lead
 fn compare_leads(a: Lead, b: Lead) -> Ordering
     ensures { result ≡ lead_cmp a b }
 {
-    a.rank.cmp(&b.rank).then(a.value.cmp(&b.value))
+    match a.rank.cmp(&b.rank) {
+        Ordering::Equal => a.value.cmp(&b.value),
+        decided => decided,
+    }
 }
 
 // So that what was greater is less.
@@ -92,10 +126,13 @@ fn sorts_after(sorts: &[SortKey]) -> &[SortKey]
 }
 
 // By what leads them alone.
-pub(super) fn compare_leads_of(a: Led, b: Led) -> Ordering
-    ensures { result ≡ leads_cmp a b }
+pub(super) fn compare_leads_of(a: &Led, b: &Led) -> Ordering
+    ensures { result ≡ leads_cmp a.now b.now }
 {
-    compare_leads(a.lead, b.lead).then(compare_leads(a.next, b.next))
+    match compare_leads(a.lead(), b.lead()) {
+        Ordering::Equal => compare_leads(a.next(), b.next()),
+        decided => decided,
+    }
 }
 
 fn key_lead(key: Option<KeyValue>) -> Lead
@@ -164,12 +201,17 @@ fn next_of(sorts: &[SortKey], rows: &GroupRows, number: usize) -> Lead
     }
 }
 
-fn led_row(sorts: &[SortKey], rows: &GroupRows, number: usize) -> Led
+fn led_row(sorts: &[SortKey], rows: &GroupRows, number: u32) -> Led
     ensures { result ≡ led_at sorts.now rows.now number }
 {
+    let row = number as usize;
+    let lead = in_direction(sorts, lead_of(sorts, rows, row));
+    let next = in_direction(sorts_after(sorts), next_of(sorts, rows, row));
     Led {
-        lead: in_direction(sorts, lead_of(sorts, rows, number)),
-        next: in_direction(sorts_after(sorts), next_of(sorts, rows, number)),
+        value: lead.value,
+        next_value: next.value,
+        rank: lead.rank,
+        next_rank: next.rank,
         number,
     }
 }
@@ -183,8 +225,8 @@ pub(super) fn all_led(
     ensures { IfOk result
         (λ all. all.items ≡ map (led_at sorts.now rows.now) (range_with_len 0 (length rows.now))) }
 {
-    let count = rows.len();
-    let mut all = Vec::with_capacity(alloc, count)?;
+    let count = u32::try_from(rows.len()).map_err(|_| AllocError)?;
+    let mut all = Vec::with_capacity(alloc, rows.len())?;
     for number in 0..count {
         all.push(led_row(sorts, rows, number))?;
     }
@@ -195,5 +237,5 @@ pub(super) fn all_led(
 pub(super) fn numbers_of(alloc: Global, all: &[Led]) -> Result<Vec<usize>, AllocError>
     ensures { IfOk result (λ numbers. numbers.items ≡ map (λ led. led.number) all.now) }
 {
-    all.iter().map(|led| led.number).collect(alloc)
+    all.iter().map(|led| led.number()).collect(alloc)
 }

@@ -102,11 +102,11 @@ fn compare_rows(sorts: &[SortKey], rows: &GroupRows, a: usize, b: usize) -> Orde
 }
 
 // By what leads them, so that a row is read only where that does not decide.
-fn compare_led(sorts: &[SortKey], rows: &GroupRows, a: Led, b: Led) -> Ordering
-    ensures { result ≡ led_cmp sorts.now rows.now a b }
+fn compare_led(sorts: &[SortKey], rows: &GroupRows, a: &Led, b: &Led) -> Ordering
+    ensures { result ≡ led_cmp sorts.now rows.now a.now b.now }
 {
     match compare_leads_of(a, b) {
-        Ordering::Equal => compare_rows(sorts, rows, a.number, b.number),
+        Ordering::Equal => compare_rows(sorts, rows, a.number(), b.number()),
         decided => decided,
     }
 }
@@ -125,6 +125,6 @@ pub(super) fn sorted_numbers(
         (map row_shown (map (row_at rows.now) numbers.items))) }
 {
     let mut all = all_led(alloc, sorts, rows)?;
-    all.sort_unstable_by(|a, b| compare_led(sorts, rows, *a, *b));
+    all.sort_unstable_by(|a, b| compare_led(sorts, rows, a, b));
     numbers_of(alloc, all.as_slice())
 }

@@ -1,4 +1,4 @@
-use Rattle.std.proofs.Common.{◌≡◌, ◌<◌, arith, get_or, length, inr, ℕ, true, false}
+use Rattle.std.proofs.Common.{◌≡◌, ◌<◌, arith, get_or, length, inr, ℕ, true, false, rules}
 use Rattle.star_schema.specs.Tables.{is_printable}
 use Rattle.star_reader.specs.Private.Fronts.{is_plain}
 use Rattle.star_reader.proofs.Fronts.{one_more, other_plain}
@@ -46,3 +46,6 @@ returns-then-byte-lt32 c = λ n front.
     ] in
     and_false _ _ (bad_byte c.args.text.now c.loop-count.count n within
     c.loop-count.invariant.plain c.if-byte-eq124.false bad front)
+
+pub returns : goal.returns
+returns c = search rules

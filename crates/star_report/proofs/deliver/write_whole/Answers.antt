@@ -1,4 +1,4 @@
-use Rattle.std.proofs.Common.{◌≡◌, ◌<◌, ◌∙◌, ◌-◌, false, ap, arith, drop, inl, inr, length, refl, take}
+use Rattle.std.proofs.Common.{◌≡◌, ◌<◌, ◌∙◌, ◌-◌, false, ap, arith, drop, inl, inr, length, refl, take, rules}
 use Rattle.std.proofs.lemmas.Bool.{cases_Bool}
 use Rattle.std.proofs.lemmas.List.{length-drop}
 use Rattle.star_report.proofs.Sends.{rest_of, sends_more}
@@ -34,3 +34,9 @@ pub returns-clause-empty : goal.returns-clause-empty
 returns-clause-empty g c = λ none. let e =
     ap length none in
     (refl, c.loop-sent.invariant.untouched (omega (arith, c.loop-sent.invariant.sent.within)))
+
+pub returns-in-Err-clause-prefix : goal.returns-in-Err-clause-prefix
+returns-in-Err-clause-prefix c = search rules
+
+pub returns-in-Ok-eq0-clause-ok : goal.returns-in-Ok-eq0-clause-ok
+returns-in-Ok-eq0-clause-ok c = search rules

@@ -1,3 +1,4 @@
+use Rattle.std.proofs.Common.{rules}
 use Rattle.star_schema.specs.Database.{rows_in}
 use Rattle.star_schema.specs.Schema.{place_of, table_of}
 use Rattle.star_reader.proofs.RowPlaces.{length-texts_at}
@@ -11,3 +12,6 @@ code_at-requires c =
       c.deref.ensures,
       c.self.view_is,
     ) c.requires.row
+
+pub returns-clause-stands : goal.returns-clause-stands
+returns-clause-stands c = search rules

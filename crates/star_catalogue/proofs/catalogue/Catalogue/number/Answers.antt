@@ -1,3 +1,4 @@
+use Rattle.std.proofs.Common.{rules}
 use Rattle.star_schema.specs.Database.{rows_in}
 use Rattle.star_schema.specs.Schema.{place_of, table_of}
 use Rattle.star_reader.proofs.RowPlaces.{length-numbers_at}
@@ -13,3 +14,6 @@ at-requires c =
       c.self.view_is,
     )
     c.requires.row
+
+pub returns : goal.returns
+returns c = search rules

@@ -1,4 +1,4 @@
-use Rattle.std.proofs.Common.{◌*◌, ◌/◌, ◌%◌, ◌^◌, ◌∙◌, ap, arith, length}
+use Rattle.std.proofs.Common.{◌*◌, ◌/◌, ◌%◌, ◌^◌, ◌∙◌, ap, arith, length, rules}
 use Rattle.star_group.proofs.Tries.{digit_of_part, digit_of_word}
 use Rattle.star_group.proofs.keyed.trie.digit_at.Goals as goal
 
@@ -10,3 +10,6 @@ returns-then-depth-lt32-clause-digit c =
 pub returns-else-depth-lt32-clause-digit : goal.returns-else-depth-lt32-clause-digit
 returns-else-depth-lt32-clause-digit c =
     c.key_digit.ensures.digit ∙ digit_of_part (length c.args.key.now) c.args.key.now c.args.depth (λ low. omega (arith, low, c.if-depth-lt32.false))
+
+pub overflow_sub-turn : goal.overflow_sub-turn
+overflow_sub-turn c = search rules

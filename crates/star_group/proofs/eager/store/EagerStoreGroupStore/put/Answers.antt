@@ -1,4 +1,4 @@
-use Rattle.std.proofs.Common.{⊎_elim, sym, ◌∙◌, true≢false}
+use Rattle.std.proofs.Common.{⊎_elim, sym, ◌∙◌, true≢false, rules}
 use Rattle.star_group.specs.Eager.{group_of}
 use Rattle.star_group.specs.Stores.{Put}
 use Rattle.star_group.proofs.Rooms.{room_stays}
@@ -13,3 +13,6 @@ unreachable-requires c =
     ⊎_elim {C = ⊥} (λ e. let no : ⊥ = cc (e, c.in-Err-Overflow.field-0-is) in no)
     (λ over. true≢false (sym (over room.0 room.1) ∙ room_stays d room.0 u room.2))
     c.in-Err-Overflow.ensures.overflow
+
+pub returns-in-Err-OutOfMemory-clause-ok : goal.returns-in-Err-OutOfMemory-clause-ok
+returns-in-Err-OutOfMemory-clause-ok c = search rules
