@@ -12,6 +12,7 @@ ghost use Rattle.star_program.specs.Shown.{has_column};
 ghost use Rattle.star_machine.specs.Private.Decoded.{AreDecodable, IsDecodable, row_cells};
 ghost use Rattle.star_world.specs.WorldOf.{column_dictionary, world_of};
 
+use super::ahead::Ahead;
 use super::order::part_at;
 use star_catalogue::Catalogue;
 use star_group::{GroupRows, KeyValue};
@@ -134,7 +135,9 @@ fn all_cells(
 {
     let count = numbers.len().checked_mul(shows.len()).ok_or(AllocError)?;
     let mut cells = Vec::with_capacity(alloc, count)?;
+    let mut ahead = Ahead::new(alloc, numbers)?;
     for number in numbers {
+        ahead.turn(rows)?;
         push_cells(alloc, catalogue, declared, rows, *number, shows, &mut cells)?;
     }
     Ok(cells)

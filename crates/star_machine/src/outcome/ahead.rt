@@ -1,0 +1,54 @@
+// Rows that are read before they are wanted.
+
+use super::order::part_at;
+use star_group::{GroupRows, KeyValue};
+use std::alloc::{AllocError, Global};
+
+// So many rows are read ahead.
+const AHEAD: usize = 16;
+
+// Rows in their order are far from each other in memory, which answers several reads in the time of
+// one where nothing waits between them. So the first parts of some rows are read together before
+// the cells of these are made; they are kept, since a read of what is not kept would be left out.
+#[derive(Drop)]
+pub(super) struct Ahead<'a> {
+    rest: &'a [usize],
+    left: usize,
+    keys: Vec<Option<KeyValue>>,
+    aggregates: Vec<Option<i64>>,
+}
+
+impl Ahead<'_> {
+    // Nothing is read as yet of the rows of these numbers.
+    pub(super) fn new(alloc: Global, numbers: &[usize]) -> Result<Ahead<'_>, AllocError> {
+        Ok(Ahead {
+            rest: numbers,
+            left: 0,
+            keys: Vec::with_capacity(alloc, AHEAD)?,
+            aggregates: Vec::with_capacity(alloc, AHEAD)?,
+        })
+    }
+
+    // Reads the first parts of the rows of these numbers.
+    fn read(&mut self, rows: &GroupRows, numbers: &[usize]) -> Result<(), AllocError> {
+        self.keys.clear();
+        self.aggregates.clear();
+        for number in numbers {
+            self.keys.push(part_at(rows.keys(*number), 0))?;
+            self.aggregates.push(part_at(rows.aggregates(*number), 0))?;
+        }
+        Ok(())
+    }
+
+    // The next row is wanted: where none is left of those that were read, some more are.
+    pub(super) fn turn(&mut self, rows: &GroupRows) -> Result<(), AllocError> {
+        if self.left == 0 {
+            let (next, rest) = self.rest.split_at(self.rest.len().min(AHEAD));
+            self.read(rows, next)?;
+            self.rest = rest;
+            self.left = next.len();
+        }
+        self.left = self.left.saturating_sub(1);
+        Ok(())
+    }
+}
