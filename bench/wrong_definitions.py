@@ -15,6 +15,8 @@ OPERATORS = {"<", "≤", "&&", "||", "⊎", "+ℤ", "-ℤ"}
 PRELUDE = OPERATORS | {"true", "false", "nat_lt", "nat_le"}
 # Words that say the same of two exchanged arguments.
 SYMMETRIC = {"nat_eq", "int_eq", "bool_eq", "int_min", "int_max", "nat_min", "nat_max", "min", "max"}
+# A condition's `not`, and the truth value's, which stands beside it under a name of its own.
+NEGATIONS = ("not", "negated")
 JOINTS = (" && ", " || ", " × ")
 TOKEN = re.compile(r"\"(?:[^\"\\]|\\.)*\"|[^\s(){},;]+|[(){},;]")
 CLAUSE = re.compile(r"([A-Za-z_][\w'-]*)\b[^=:]*? =(?: |\n)")
@@ -75,8 +77,8 @@ def other_words(body: str) -> Iterator[tuple[str, str]]:
         for end in ENDS.finditer(word):
             other = word[: end.start()] + "." + NEIGHBOURS[end[1]] + word[end.end() :]
             yield f"{word} is {other}", body[: token.start()] + other + body[token.end() :]
-        if word == "not":
-            yield "not left out", body[: token.start()] + body[token.end() :].lstrip()
+        if word in NEGATIONS:
+            yield f"{word} left out", body[: token.start()] + body[token.end() :].lstrip()
 
 
 def left_out(body: str) -> Iterator[tuple[str, str]]:
