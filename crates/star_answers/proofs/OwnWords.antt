@@ -25,7 +25,7 @@ use Rattle.star_plan.proofs.Whole.{parts}
 use Rattle.star_program.specs.declared.outcome.Cell.{Cell}
 use Rattle.star_program.specs.Outcome.{cell_of}
 use Rattle.star_answers.specs.Answers.{IsAnswer, IsPlanAnswer, shown_name}
-use Rattle.star_answers.specs.Rows.{entry_of, measures_of, product, selected, tables_of}
+use Rattle.star_answers.specs.Rows.{query_entry, measures_of, product, selected, tables_of}
 use Rattle.star_answers.specs.Shows.{function_of, item_columns, item_names, sorts_of}
 use Rattle.star_answers.proofs.Choices.{IsStar, all_joined, dimensions_apart, dimensions_of, filter_both, is_star, joined_product, no_fact_among, product_reordered}
 use Rattle.star_answers.proofs.GroupOrders.{groups_reordered}
@@ -71,9 +71,9 @@ module _ (ts : Tables) (t : Tree) (p : Plan) (named : IsWellNamed t) (resolved :
       ∙ ap (λ qs. filter (all_hold cs) (joined_rows ts qs)) (sym resolved.joins)
 
   -- and so are what they add to their groups
-  entries_reordered : IsPermutation (map (entry_of t) (selected ts t)) (map (plan.entry_of p) (plan.plan_rows ts p))
+  entries_reordered : IsPermutation (map (query_entry t) (selected ts t)) (map (plan.entry_of p) (plan.plan_rows ts p))
   entries_reordered =
-      let same : map (entry_of t) (selected ts t) ≡ map (plan.entry_of p) (selected ts t) =
+      let same : map (query_entry t) (selected ts t) ≡ map (plan.entry_of p) (selected ts t) =
       λ i. map (λ row. record { keys = keys_same t.grouping.columns p.keys row resolved.keys i; values = values_same t.items p.measures row resolved.measures i }) (selected ts t) in
       subst (λ es. IsPermutation es (map (plan.entry_of p) (plan.plan_rows ts p))) (sym same)
       (IsPermutation-map (plan.entry_of p) (selected ts t) (plan.plan_rows ts p) selected_reordered)
@@ -103,8 +103,8 @@ module _ (ts : Tables) (t : Tree) (p : Plan) (named : IsWellNamed t) (resolved :
         headed = a.headed ∙ heads;
         groups = a.groups;
         each_group =
-            groups_reordered value_cmp p.shape (length p.keys) (map plan.aggregate_of p.measures) (map (entry_of t) (selected ts t)) (map (plan.entry_of p) (plan.plan_rows ts p)) a.groups entries_reordered
-            (subst (λ (X : Type 0). X) (own_groups (map (entry_of t) (selected ts t)) a.groups) a.each_group);
+            groups_reordered value_cmp p.shape (length p.keys) (map plan.aggregate_of p.measures) (map (query_entry t) (selected ts t)) (map (plan.entry_of p) (plan.plan_rows ts p)) a.groups entries_reordered
+            (subst (λ (X : Type 0). X) (own_groups (map (query_entry t) (selected ts t)) a.groups) a.each_group);
         in_order = subst (λ sorts. AreInOrder value_cmp sorts a.groups) order a.in_order;
         cells = a.cells ∙ ap (λ columns. map (λ group. map (cell_of group) columns) a.groups) shown;
       }
@@ -115,9 +115,9 @@ module _ (ts : Tables) (t : Tree) (p : Plan) (named : IsWellNamed t) (resolved :
         headed = a.headed ∙ sym heads;
         groups = a.groups;
         each_group =
-            subst (λ (X : Type 0). X) (sym (own_groups (map (entry_of t) (selected ts t)) a.groups))
-            (groups_reordered value_cmp p.shape (length p.keys) (map plan.aggregate_of p.measures) (map (plan.entry_of p) (plan.plan_rows ts p)) (map (entry_of t) (selected ts t)) a.groups
-            (IsPermutation-sym (map (entry_of t) (selected ts t)) (map (plan.entry_of p) (plan.plan_rows ts p)) entries_reordered) a.each_group);
+            subst (λ (X : Type 0). X) (sym (own_groups (map (query_entry t) (selected ts t)) a.groups))
+            (groups_reordered value_cmp p.shape (length p.keys) (map plan.aggregate_of p.measures) (map (plan.entry_of p) (plan.plan_rows ts p)) (map (query_entry t) (selected ts t)) a.groups
+            (IsPermutation-sym (map (query_entry t) (selected ts t)) (map (plan.entry_of p) (plan.plan_rows ts p)) entries_reordered) a.each_group);
         in_order = subst (λ sorts. AreInOrder value_cmp sorts a.groups) (sym order) a.in_order;
         cells = a.cells ∙ ap (λ columns. map (λ group. map (cell_of group) columns) a.groups) (sym shown);
       }

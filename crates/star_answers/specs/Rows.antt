@@ -81,8 +81,8 @@ measures_of (plain n ∷ items) = measures_of items
 measures_of (aggregate a ∷ items) = a.measure ∷ measures_of items
 
 -- the values of the group columns, and a number for each aggregate
-abbrev pub entry_of : Tree → Joined → Entry Value
-entry_of q row =
+abbrev pub query_entry : Tree → Joined → Entry Value
+query_entry q row =
     record {
       keys = map (λ n. value_named n row) q.grouping.columns;
       values = map (λ m. measured m row) (measures_of q.items);
