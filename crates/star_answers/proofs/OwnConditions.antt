@@ -1,5 +1,5 @@
 -- WHERE, on a query's own tree, says of a row what the joins and the other conjuncts of the plan say.
-use Rattle.std.proofs.Common.{◌≡◌, ◌∙◌, Bool, true, false, ◌&&◌, ◌||◌, not, inl, inr, List, [], ◌∷◌, ◌++◌, Option, Some, None, option_map, refl, sym, ap}
+use Rattle.std.proofs.Common.{◌≡◌, ◌∙◌, Bool, true, false, ◌&&◌, ◌||◌, not as negated, inl, inr, List, [], ◌∷◌, ◌++◌, Option, Some, None, option_map, refl, sym, ap}
 use Rattle.std.specs.List.{AllByRecursion}
 use Rattle.std.specs.Option.{option_to_list}
 use Rattle.std.specs.Ordering.{is_eq, is_le, ordering_reverse}
@@ -16,7 +16,7 @@ use Rattle.star_report.proofs.OneOrder.{value_turned}
 use Rattle.star_plan.specs.declared.tree.Join.{Join}
 use Rattle.star_plan.specs.Joins.{Pair, is_foreign, join_by, join_of, joins_of, pairs_of, where_pairs}
 use Rattle.star_plan.specs.Meaning as plan
-use Rattle.star_plan.specs.Meaning.{Joined, all_hold, holds, tests, value_of, either, both, negation, compare, between}
+use Rattle.star_plan.specs.Meaning.{Joined, all_hold, holds, tests, value_of, or, and, not, compare, between}
 use Rattle.star_plan.specs.Names.{column_at, literal_value}
 use Rattle.star_plan.specs.Resolved.{conjuncts_of, resolved_condition, where_conjuncts}
 use Rattle.star_plan.proofs.Known.{each_left, each_right}
@@ -32,15 +32,15 @@ named n c row e = ap (λ o. value_if o row) e
 -- ---- conditions in which no two columns are compared
 
 condition_same : (q : Condition) (x : plan.Condition) (row : Joined) → resolved_condition q ≡ Some x → is_true q row ≡ holds x row
-condition_same (tree.either a b) x row e =
-    let g = both_gave either (resolved_condition a) (resolved_condition b) x e in
+condition_same (tree.or a b) x row e =
+    let g = both_gave or (resolved_condition a) (resolved_condition b) x e in
     (λ i. condition_same a g.left row g.first i || condition_same b g.right row g.second i) ∙ ap (λ y. holds y row) g.made
-condition_same (tree.both a b) x row e =
-    let g = both_gave both (resolved_condition a) (resolved_condition b) x e in
+condition_same (tree.and a b) x row e =
+    let g = both_gave and (resolved_condition a) (resolved_condition b) x e in
     (λ i. condition_same a g.left row g.first i && condition_same b g.right row g.second i) ∙ ap (λ y. holds y row) g.made
-condition_same (tree.negation a) x row e =
-    let g = mapped_gave negation (resolved_condition a) x e in
-    ap not (condition_same a g.0 row g.1) ∙ ap (λ y. holds y row) g.2
+condition_same (tree.not a) x row e =
+    let g = mapped_gave not (resolved_condition a) x e in
+    ap negated (condition_same a g.0 row g.1) ∙ ap (λ y. holds y row) g.2
 condition_same (tree.pair m n) x row e = absurd (cc)
 condition_same (tree.compare n s l) x row e =
     let g = mapped_gave (λ c. compare c s (literal_value l)) (column_at n) x e in
@@ -50,11 +50,11 @@ condition_same (tree.between n from upto) x row e =
     (λ i. is_le (value_cmp (literal_value from) (named n g.0 row g.1 i)) && is_le (value_cmp (named n g.0 row g.1 i) (literal_value upto))) ∙ ap (λ y. holds y row) g.2
 
 no_pairs : (q : Condition) (x : plan.Condition) (b : Bool) → resolved_condition q ≡ Some x → pairs_of b q ≡ []
-no_pairs (tree.either a d) x b e =
-    let g = both_gave either (resolved_condition a) (resolved_condition d) x e in λ i. no_pairs a g.left false g.first i ++ no_pairs d g.right false g.second i
-no_pairs (tree.both a d) x b e =
-    let g = both_gave both (resolved_condition a) (resolved_condition d) x e in λ i. no_pairs a g.left b g.first i ++ no_pairs d g.right b g.second i
-no_pairs (tree.negation a) x b e = let g = mapped_gave negation (resolved_condition a) x e in no_pairs a g.0 false g.1
+no_pairs (tree.or a d) x b e =
+    let g = both_gave or (resolved_condition a) (resolved_condition d) x e in λ i. no_pairs a g.left false g.first i ++ no_pairs d g.right false g.second i
+no_pairs (tree.and a d) x b e =
+    let g = both_gave and (resolved_condition a) (resolved_condition d) x e in λ i. no_pairs a g.left b g.first i ++ no_pairs d g.right b g.second i
+no_pairs (tree.not a) x b e = let g = mapped_gave not (resolved_condition a) x e in no_pairs a g.0 false g.1
 no_pairs (tree.pair m n) x b e = absurd (cc)
 no_pairs (tree.compare n s l) x b e = refl
 no_pairs (tree.between n from upto) x b e = refl
@@ -110,7 +110,7 @@ lone_same q xs row e =
 
 conjuncts_same : (q : Condition) (xs : List plan.Condition) (row : Joined) → conjuncts_of q ≡ Some xs → AreJoins (pairs_of true q)
     → is_true q row ≡ (all_joined (joins_of (pairs_of true q)) row && all_hold xs row)
-conjuncts_same (tree.both a b) xs row e all =
+conjuncts_same (tree.and a b) xs row e all =
     let g = both_gave (λ ys zs. ys ++ zs) (conjuncts_of a) (conjuncts_of b) xs e in
     let ps = pairs_of true a in
     let qs = pairs_of true b in
@@ -129,8 +129,8 @@ conjuncts_same (tree.pair m n) xs row e all =
     let joins : j ∷ [] ≡ joins_of (pairs_of true (tree.pair m n)) = λ i. option_to_list (sym all.0.1 i) ++ [] in
     join_same (column_at m) (column_at n) j row all.0.1 ∙ and_true (is_joined_by row j) ∙ and_true (is_joined_by row j && true)
     ∙ (λ i. all_joined (joins i) row && all_hold (none i) row)
-conjuncts_same (tree.either a b) xs row e all = lone_same (tree.either a b) xs row e
-conjuncts_same (tree.negation a) xs row e all = lone_same (tree.negation a) xs row e
+conjuncts_same (tree.or a b) xs row e all = lone_same (tree.or a b) xs row e
+conjuncts_same (tree.not a) xs row e all = lone_same (tree.not a) xs row e
 conjuncts_same (tree.compare n s l) xs row e all = lone_same (tree.compare n s l) xs row e
 conjuncts_same (tree.between n from upto) xs row e all = lone_same (tree.between n from upto) xs row e
 

@@ -188,11 +188,11 @@ pair_named tables m n a b = by (join_of m n) refl
     by (Some j) e = (key m n j e a b, tt)
 
 joins_named : (tables : List Name) (b : Bool) (q : Condition) → AllByRecursion (λ u. is_in_from tables u.column ≡ true) (condition_uses q) → AllByRecursion (IsNamed tables) (joins_of (pairs_of b q))
-joins_named tables b (tree.both c d) all =
+joins_named tables b (tree.and c d) all =
     every_join (IsNamed tables) (pairs_of b c) (pairs_of b d) (joins_named tables b c (each_left _ (condition_uses c) (condition_uses d) all)) (joins_named tables b d (each_right _ (condition_uses c) (condition_uses d) all))
-joins_named tables b (tree.either c d) all =
+joins_named tables b (tree.or c d) all =
     every_join (IsNamed tables) (pairs_of false c) (pairs_of false d) (joins_named tables false c (each_left _ (condition_uses c) (condition_uses d) all)) (joins_named tables false d (each_right _ (condition_uses c) (condition_uses d) all))
-joins_named tables b (tree.negation c) all = joins_named tables false c all
+joins_named tables b (tree.not c) all = joins_named tables false c all
 joins_named tables true (tree.pair m n) all = pair_named tables (column_at m) (column_at n) all.0 all.1.0
 joins_named tables false (tree.pair m n) all = tt
 joins_named tables b (tree.compare n s l) all = tt

@@ -1,6 +1,6 @@
 -- Which rows a query selects, by its own words: those of the product of FROM's tables for which
 -- WHERE is true (Star Schema Benchmark, revision 3, section 3).
-use Rattle.std.specs.Prelude.{ℤ, pos, ◌+ℤ◌, ◌-ℤ◌, ◌*ℤ◌, Bool, true, ◌&&◌, ◌||◌, not, List, [], ◌∷◌, filter, map, Option, Some, None}
+use Rattle.std.specs.Prelude.{ℤ, pos, ◌+ℤ◌, ◌-ℤ◌, ◌*ℤ◌, Bool, true, ◌&&◌, ◌||◌, not as negated, List, [], ◌∷◌, filter, map, Option, Some, None}
 use Rattle.std.specs.List.{flat_map}
 use Rattle.std.specs.Option.{option_to_list}
 use Rattle.std.specs.Ordering.{is_eq, is_le}
@@ -9,7 +9,7 @@ use Rattle.star_schema.specs.declared.column.ColumnId.{ColumnId}
 use Rattle.star_schema.specs.Groups.{Entry}
 use Rattle.star_schema.specs.Order.{value_cmp}
 use Rattle.star_schema.specs.Tables.{Value, Number}
-use Rattle.star_query.specs.Tree.{Name, Expression, column, constant, add, sub, mul, Condition, either, both, negation, pair, compare, between, Measure, count, fold, Item, plain, aggregate, Tree}
+use Rattle.star_query.specs.Tree.{Name, Expression, column, constant, add, sub, mul, Condition, or, and, not, pair, compare, between, Measure, count, fold, Item, plain, aggregate, Tree}
 use Rattle.star_plan.specs.Meaning.{Joined, Tables, number_of, tests, value_of, with_row}
 use Rattle.star_plan.specs.Names.{column_at, literal_value, table_at}
 
@@ -42,9 +42,9 @@ value_named n row = value_if (column_at n) row
 
 -- numbers compare by value, texts by their bytes; BETWEEN has both its ends
 abbrev pub is_true : Condition → Joined → Bool
-is_true (either a b) row = is_true a row || is_true b row
-is_true (both a b) row = is_true a row && is_true b row
-is_true (negation a) row = not (is_true a row)
+is_true (or a b) row = is_true a row || is_true b row
+is_true (and a b) row = is_true a row && is_true b row
+is_true (not a) row = negated (is_true a row)
 is_true (pair m n) row = is_eq (value_cmp (value_named m row) (value_named n row))
 is_true (compare n sign l) row = tests sign (value_cmp (value_named n row) (literal_value l))
 is_true (between n from upto) row =

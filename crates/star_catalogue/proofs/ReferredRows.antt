@@ -9,7 +9,6 @@ use Rattle.std.proofs.lemmas.Option.{get_or_from_slice_get, slice_get-get_or, sl
 use Rattle.star_schema.specs.declared.column.ColumnId.{ColumnId}
 use Rattle.star_schema.specs.declared.column.ColumnId.TheVariants.{LoCustkey, LoPartkey, LoSuppkey, LoOrderdate, LoCommitdate}
 use Rattle.star_schema.specs.declared.table.TableId.{TableId}
-use Rattle.star_schema.specs.declared.table.TableId.TheVariants.{Date, Customer, Supplier, Part}
 use Rattle.star_schema.specs.Bounds.{numbers_of}
 use Rattle.star_schema.specs.Database.{Database, rows_in}
 use Rattle.star_schema.specs.Loadable.{keys_of}
@@ -91,18 +90,6 @@ found_keys keys numbers rows h i d within =
       get_or_from_slice_get keys (unsigned_abs row) (get_or numbers i d ∷ [])
           (get_or numbers i d ∷ []) key,
     )
-
--- what holds of the five foreign keys holds of each column that refers to a table
-pub of_five : (P : ColumnId → TableId → Type 0) → P LoCustkey Customer → P LoPartkey Part
-    → P LoSuppkey Supplier → P LoOrderdate Date → P LoCommitdate Date
-    → (c : ColumnId) (t : TableId) → references c ≡ Some t → P c t
-unfolding column_of
-of_five P a b d e f LoCustkey t refers = let same : Customer ≡ t = cc in rw same at a
-of_five P a b d e f LoPartkey t refers = let same : Part ≡ t = cc in rw same at b
-of_five P a b d e f LoSuppkey t refers = let same : Supplier ≡ t = cc in rw same at d
-of_five P a b d e f LoOrderdate t refers = let same : Date ≡ t = cc in rw same at e
-of_five P a b d e f LoCommitdate t refers = let same : Date ≡ t = cc in rw same at f
-of_five P a b d e f _ t refers = let bad : ⊥ = cc in absurd bad
 
 -- no other column refers to one
 pub no_other : (c : ColumnId) → (c ≡ LoCustkey → ⊥) → (c ≡ LoPartkey → ⊥) → (c ≡ LoSuppkey → ⊥)

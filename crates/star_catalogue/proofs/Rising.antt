@@ -23,9 +23,6 @@ not_below_itself : (a : ℤ × ℤ) → pair_cmp a a ≡ Less → ⊥
 not_below_itself a e = let turned : Less ≡ ordering_reverse Less =
     sym e ∙ pair_total.antisymm a a ∙ ap ordering_reverse e in cc turned
 
-pub none_rise : (pairs : List (ℤ × ℤ)) → RiseBefore 1 pairs
-none_rise pairs = record { rise = λ k a b h. absurd (omega arith) }
-
 below_or_at : (k place : ℕ) → k + 1 < place + 1 → (k + 1 < place) ⊎ (k + 1 ≡ place)
 below_or_at k place h = search arith
 

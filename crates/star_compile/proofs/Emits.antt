@@ -5,7 +5,7 @@ use Rattle.star_schema.specs.declared.column.ColumnId.{ColumnId}
 use Rattle.star_schema.specs.declared.table.TableId.{TableId}
 use Rattle.star_plan.specs.declared.tree.Join.{Join}
 use Rattle.star_plan.specs.Limits.{comparisons_of, operands_of}
-use Rattle.star_plan.specs.Meaning.{Condition, either, both, negation, compare, between, Expression, column, constant, add, sub, mul, Measure, counted, summed, least, greatest}
+use Rattle.star_plan.specs.Meaning.{Condition, or, and, not, compare, between, Expression, column, constant, add, sub, mul, Measure, counted, summed, least, greatest}
 use Rattle.star_program.specs.declared.op.Op.{Op}
 use Rattle.star_program.specs.declared.op.Op.TheVariants.{Assign, Keep}
 use Rattle.star_program.specs.declared.op.Operation.{Operation}
@@ -300,8 +300,8 @@ some_operand (sub a b) = omega (arith, some_operand a)
 some_operand (mul a b) = omega (arith, some_operand a)
 
 pub some_comparison : (c : Condition) → 1 ≤ comparisons_of c
-some_comparison (either a b) = omega (arith, some_comparison a)
-some_comparison (both a b) = omega (arith, some_comparison a)
-some_comparison (negation a) = omega arith
+some_comparison (or a b) = omega (arith, some_comparison a)
+some_comparison (and a b) = omega (arith, some_comparison a)
+some_comparison (not a) = omega arith
 some_comparison (compare c s v) = omega arith
 some_comparison (between c a b) = omega arith

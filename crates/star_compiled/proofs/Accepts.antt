@@ -12,7 +12,7 @@ use Rattle.star_interval.specs.Range.{Range, only, corner_range, fits_i64}
 use Rattle.star_query.specs.declared.token.Relation.{Relation}
 use Rattle.star_query.specs.declared.token.Relation.TheVariants as sign
 use Rattle.star_plan.specs.declared.tree.Join.{Join}
-use Rattle.star_plan.specs.Meaning.{Condition, either, both, negation, compare, between, Expression, column, constant, add, sub, mul}
+use Rattle.star_plan.specs.Meaning.{Condition, or, and, not, compare, between, Expression, column, constant, add, sub, mul}
 use Rattle.star_plan.specs.Names.{same_kind}
 use Rattle.star_plan.specs.Sound.{in_scope, condition_is_sound, expression_is_sound}
 use Rattle.star_plan.specs.Spelled.{value_is_spelled, condition_is_spelled}
@@ -325,21 +325,21 @@ module _ (turn : Turn) where
 
     pub condition_judged : (c : Condition) → condition_is_sound js c ≡ true
         → (turn.Asked → condition_is_spelled c ≡ true) → JudgesFlag c
-    condition_judged (either a b) sound said p k room =
+    condition_judged (or a b) sound said p k room =
         let parts = and_parts (condition_is_sound js a) (condition_is_sound js b) sound in
         let says = λ (s : turn.Asked). and_parts (condition_is_spelled a) (condition_is_spelled b)
         (said s) in
         conditions_judged a b operator.Or disjunction
         (condition_judged a parts.0 (λ s. (says s).0))
         (condition_judged b parts.1 (λ s. (says s).1)) p k room
-    condition_judged (both a b) sound said p k room =
+    condition_judged (and a b) sound said p k room =
         let parts = and_parts (condition_is_sound js a) (condition_is_sound js b) sound in
         let says = λ (s : turn.Asked). and_parts (condition_is_spelled a) (condition_is_spelled b)
         (said s) in
         conditions_judged a b operator.And conjunction
         (condition_judged a parts.0 (λ s. (says s).0))
         (condition_judged b parts.1 (λ s. (says s).1)) p k room
-    condition_judged (negation a) sound said p k room =
+    condition_judged (not a) sound said p k room =
         let l : Rest = λ e x. write (operation.Not x) e k in
         points.judged_then turn (At KnownFlag) (At KnownFlag) l k true true p _
         (condition_judged a sound said p l room)

@@ -9,7 +9,7 @@ use Rattle.star_schema.specs.Tables.{Value, Number, Text}
 use Rattle.star_query.specs.declared.token.Relation.{Relation}
 use Rattle.star_query.specs.declared.token.Relation.TheVariants as sign
 use Rattle.star_plan.specs.declared.tree.Join.{Join}
-use Rattle.star_plan.specs.Meaning.{Condition, either, both, negation, compare, between, Expression, column, constant, add, sub, mul, Measure, counted, summed, least, greatest, Plan}
+use Rattle.star_plan.specs.Meaning.{Condition, or, and, not, compare, between, Expression, column, constant, add, sub, mul, Measure, counted, summed, least, greatest, Plan}
 use Rattle.star_program.specs.declared.op.Edge.TheVariants.{High}
 use Rattle.star_program.specs.declared.op.Op.TheVariants.{Assign, Keep, Put}
 use Rattle.star_program.specs.declared.op.Operation.{Operation}
@@ -161,13 +161,13 @@ module _ (js : List Join) (Fact : Env → Code → Type 0) (Unseen : Env → Col
   of_column c env k h = of_column_from c env k (loaded_in env.loaded c) refl h
 
   of_condition : (c : Condition) → Carries (condition_code js c)
-  of_condition (either a b) env k h =
+  of_condition (or a b) env k h =
       of_binary (condition_code js a) (condition_code js b) operator.Or (of_condition a)
       (of_condition b) env k h
-  of_condition (both a b) env k h =
+  of_condition (and a b) env k h =
       of_binary (condition_code js a) (condition_code js b) operator.And (of_condition a)
       (of_condition b) env k h
-  of_condition (negation a) env k h =
+  of_condition (not a) env k h =
       of_condition a env (λ e x. write (Not x) e k) (λ e x. of_write (Not x) refl e k h)
   of_condition (compare c s v) env k h =
       of_column c env (λ e x. test_code s c x v e k) (λ e x. of_test s c x v e k h)

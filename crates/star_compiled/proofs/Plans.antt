@@ -11,7 +11,7 @@ use Rattle.star_schema.specs.declared.group.SortKey.{SortKey}
 use Rattle.star_schema.specs.Tables.{Value, Number, Text}
 use Rattle.star_query.specs.declared.token.Relation.TheVariants.{Equal, Unequal, Less, AtMost, Greater, AtLeast}
 use Rattle.star_plan.specs.declared.tree.Join.{Join}
-use Rattle.star_plan.specs.Meaning.{Condition, Plan, compare, between, either, both, negation, column, constant, add, sub, mul, summed, least, greatest, counted}
+use Rattle.star_plan.specs.Meaning.{Condition, Plan, compare, between, or, and, not, column, constant, add, sub, mul, summed, least, greatest, counted}
 
 abbrev number : ℕ → Value
 number n = Number (pos n)
@@ -158,8 +158,8 @@ q32 = record q31 {
 abbrev pub q33 : Plan
 q33 = record q32 {
   conjuncts =
-      either (equals CCity (codes "UNITED KI1")) (equals CCity (codes "UNITED KI5"))
-      ∷ either (equals SCity (codes "UNITED KI1")) (equals SCity (codes "UNITED KI5"))
+      or (equals CCity (codes "UNITED KI1")) (equals CCity (codes "UNITED KI5"))
+      ∷ or (equals SCity (codes "UNITED KI1")) (equals SCity (codes "UNITED KI5"))
       ∷ compare DYear AtLeast (number 1992)
       ∷ compare DYear AtMost (number 1997) ∷ [];
 }
@@ -172,8 +172,8 @@ q33 = record q32 {
 abbrev pub q34 : Plan
 q34 = record q32 {
   conjuncts =
-      either (equals CCity (codes "UNITED KI1")) (equals CCity (codes "UNITED KI5"))
-      ∷ either (equals SCity (codes "UNITED KI1")) (equals SCity (codes "UNITED KI5"))
+      or (equals CCity (codes "UNITED KI1")) (equals CCity (codes "UNITED KI5"))
+      ∷ or (equals SCity (codes "UNITED KI1")) (equals SCity (codes "UNITED KI5"))
       ∷ equals DYearmonth (codes "Dec1997") ∷ [];
 }
 
@@ -188,7 +188,7 @@ q41 = record {
   conjuncts =
       equals CRegion (codes "AMERICA")
       ∷ equals SRegion (codes "AMERICA")
-      ∷ either (equals PMfgr (codes "MFGR#1")) (equals PMfgr (codes "MFGR#2")) ∷ [];
+      ∷ or (equals PMfgr (codes "MFGR#1")) (equals PMfgr (codes "MFGR#2")) ∷ [];
   shape = Plain;
   keys = DYear ∷ CNation ∷ [];
   measures = summed (sub (column LoRevenue) (column LoSupplycost)) ∷ [];
@@ -207,8 +207,8 @@ q42 = record q41 {
   conjuncts =
       equals CRegion (codes "AMERICA")
       ∷ equals SRegion (codes "AMERICA")
-      ∷ either (compare DYear Equal (number 1997)) (compare DYear Equal (number 1998))
-      ∷ either (equals PMfgr (codes "MFGR#1")) (equals PMfgr (codes "MFGR#2")) ∷ [];
+      ∷ or (compare DYear Equal (number 1997)) (compare DYear Equal (number 1998))
+      ∷ or (equals PMfgr (codes "MFGR#1")) (equals PMfgr (codes "MFGR#2")) ∷ [];
   keys = DYear ∷ SNation ∷ PCategory ∷ [];
   items = Key 0 ∷ Key 1 ∷ Key 2 ∷ Aggregate 0 ∷ [];
   sorts = ascending (Key 0) ∷ ascending (Key 1) ∷ ascending (Key 2) ∷ [];
@@ -224,7 +224,7 @@ q43 = record q42 {
   conjuncts =
       equals CRegion (codes "AMERICA")
       ∷ equals SNation (codes "UNITED STATES")
-      ∷ either (compare DYear Equal (number 1997)) (compare DYear Equal (number 1998))
+      ∷ or (compare DYear Equal (number 1997)) (compare DYear Equal (number 1998))
       ∷ equals PCategory (codes "MFGR#14") ∷ [];
   keys = DYear ∷ SCity ∷ PBrand1 ∷ [];
 }
@@ -237,8 +237,8 @@ abbrev pub profits : Plan
 profits = record {
   joins = by_customer ∷ by_date ∷ by_part ∷ [];
   conjuncts =
-      either (equals CRegion (codes "ASIA"))
-      (negation (compare PMfgr AtMost (Text (codes "MFGR#2"))))
+      or (equals CRegion (codes "ASIA"))
+      (not (compare PMfgr AtMost (Text (codes "MFGR#2"))))
       ∷ between DYear (number 1992) (number 1997) ∷ [];
   shape = Cube;
   keys = DYear ∷ CNation ∷ [];
@@ -259,9 +259,9 @@ others = record {
   joins = by_commit ∷ by_customer ∷ by_supplier ∷ [];
   conjuncts =
       compare LoCommitdate Unequal (number 19940105)
-      ∷ either
-      (both (compare LoShipmode Unequal (Text (codes "AIR"))) (compare LoTax Greater (number 1)))
-      (both (compare DYear Less (number 1995)) (compare DMonth AtLeast (Text (codes "M"))))
+      ∷ or
+      (and (compare LoShipmode Unequal (Text (codes "AIR"))) (compare LoTax Greater (number 1)))
+      (and (compare DYear Less (number 1995)) (compare DMonth AtLeast (Text (codes "M"))))
       ∷ compare LoTax AtLeast (number 2)
       ∷ compare SCity Greater (Text (codes "O'B"))
       ∷ compare SCity Less (Text (codes "U"))

@@ -15,7 +15,7 @@ use Rattle.star_query.specs.declared.token.Relation.{Relation}
 use Rattle.star_query.specs.declared.token.Relation.TheVariants as sign
 use Rattle.star_query.specs.Spelled.{is_number, is_text}
 use Rattle.star_plan.specs.declared.tree.Join.{Join}
-use Rattle.star_plan.specs.Meaning.{Condition, either, both, negation, compare, between, Expression, column, constant, add, sub, mul, Measure, counted, summed, least, greatest, Plan}
+use Rattle.star_plan.specs.Meaning.{Condition, or, and, not, compare, between, Expression, column, constant, add, sub, mul, Measure, counted, summed, least, greatest, Plan}
 use Rattle.star_plan.specs.Spelled.{value_is_spelled, condition_is_spelled, expression_is_spelled, measure_is_spelled}
 use Rattle.star_program.specs.declared.op.Operation.{Operation}
 use Rattle.star_program.specs.declared.op.Edge.TheVariants.{High}
@@ -238,15 +238,15 @@ module _ (js : List Join) where
 
   of_condition : (c : Condition) → condition_is_spelled c ≡ true
       → Says IsShort (condition_code js c)
-  of_condition (either a b) said env k g room h =
+  of_condition (or a b) said env k g room h =
       let parts = and_parts (condition_is_spelled a) (condition_is_spelled b) said in
       of_binary (condition_code js a) (condition_code js b) operator.Or (of_condition a parts.0)
       (of_condition b parts.1) env k g room h
-  of_condition (both a b) said env k g room h =
+  of_condition (and a b) said env k g room h =
       let parts = and_parts (condition_is_spelled a) (condition_is_spelled b) said in
       of_binary (condition_code js a) (condition_code js b) operator.And (of_condition a parts.0)
       (of_condition b parts.1) env k g room h
-  of_condition (negation a) said env k g room h =
+  of_condition (not a) said env k g room h =
       of_condition a said env (λ e x. write (Not x) e k) g room
       (λ e x g sx room. of_write (Not x) sx e k g room h)
   of_condition (compare c s v) said env k g room h =

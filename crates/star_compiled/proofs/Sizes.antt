@@ -11,7 +11,7 @@ use Rattle.star_schema.specs.Tables.{Value, Number, Text}
 use Rattle.star_query.specs.declared.token.Relation.{Relation}
 use Rattle.star_query.specs.declared.token.Relation.TheVariants as sign
 use Rattle.star_plan.specs.declared.tree.Join.{Join}
-use Rattle.star_plan.specs.Meaning.{Condition, either, both, negation, compare, between, Expression, column, constant, add, sub, mul, Measure, counted, summed, least, greatest, Plan}
+use Rattle.star_plan.specs.Meaning.{Condition, or, and, not, compare, between, Expression, column, constant, add, sub, mul, Measure, counted, summed, least, greatest, Plan}
 use Rattle.star_plan.specs.Limits.{comparisons_of, operands_of, measure_operands}
 use Rattle.star_program.specs.declared.op.Op.TheVariants.{Keep}
 use Rattle.star_program.specs.declared.op.Edge.TheVariants.{High}
@@ -194,15 +194,15 @@ module _ (js : List Join) where
   -- six for each comparison or negation: its column, at most four for the test, and what joins it
   -- to the others or keeps it
   of_condition : (c : Condition) → AddsLess (6 * comparisons_of c) (condition_code js c)
-  of_condition (either a b) env k m h =
+  of_condition (or a b) env k m h =
       of_binary (condition_code js a) (condition_code js b) operator.Or (6 * comparisons_of a)
       (6 * comparisons_of b) (6 * (comparisons_of a + comparisons_of b)) (omega arith) (of_condition a)
       (of_condition b) env k m h
-  of_condition (both a b) env k m h =
+  of_condition (and a b) env k m h =
       of_binary (condition_code js a) (condition_code js b) operator.And (6 * comparisons_of a)
       (6 * comparisons_of b) (6 * (comparisons_of a + comparisons_of b)) (omega arith) (of_condition a)
       (of_condition b) env k m h
-  of_condition (negation a) env k m h =
+  of_condition (not a) env k m h =
       omega (
         arith,
         of_condition a env (λ e x. write (Not x) e k) (1 + m)

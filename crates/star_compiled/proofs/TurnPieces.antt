@@ -13,7 +13,7 @@ use Rattle.star_schema.specs.Tables as held
 use Rattle.star_schema.specs.Tables.{kind_of_value}
 use Rattle.star_schema.proofs.Same.{table_same, column_same}
 use Rattle.star_plan.specs.declared.tree.Join.{Join}
-use Rattle.star_plan.specs.Meaning.{Joined, value_of, Condition, either, both, negation, compare, between, holds, Expression, column, constant, add, sub, mul, expression_number, number_of}
+use Rattle.star_plan.specs.Meaning.{Joined, value_of, Condition, or, and, not, compare, between, holds, Expression, column, constant, add, sub, mul, expression_number, number_of}
 use Rattle.star_plan.specs.Names.{same_kind}
 use Rattle.star_plan.specs.Sound.{joins_table, in_scope, condition_is_sound, expression_is_sound}
 use Rattle.star_program.specs.declared.op.Op.TheVariants.{Assign}
@@ -211,15 +211,15 @@ module _ (w : World) (f : Parts) (may : ℕ → Bool) (at : TableId → ℕ) whe
   module _ (js : List Join) (row : Joined) (turn : IsTurn w js at row) where
     pub condition_runs : (c : Condition) → condition_is_sound js c ≡ true
         → Runs w f may at (At w f may at (Flag (holds c row))) (condition_code js c)
-    condition_runs (either a b) ok =
+    condition_runs (or a b) ok =
         let oks = and_parts (condition_is_sound js a) (condition_is_sound js b) ok in
         binary_runs w f may at (condition_code js a) (condition_code js b) operator.Or
         (Flag (holds a row)) (Flag (holds b row)) (condition_runs a oks.0) (condition_runs b oks.1)
-    condition_runs (both a b) ok =
+    condition_runs (and a b) ok =
         let oks = and_parts (condition_is_sound js a) (condition_is_sound js b) ok in
         binary_runs w f may at (condition_code js a) (condition_code js b) operator.And
         (Flag (holds a row)) (Flag (holds b row)) (condition_runs a oks.0) (condition_runs b oks.1)
-    condition_runs (negation a) ok = λ k env n regs s e knows h.
+    condition_runs (not a) ok = λ k env n regs s e knows h.
         with_not w f may at (holds a row) k env regs s e
         (condition_runs a ok (λ e x. write (Not x) e k) env n regs s e knows h)
     condition_runs (compare c q v) ok = λ k env n regs s e knows h.

@@ -10,7 +10,7 @@ use Rattle.star_schema.specs.Tables.{Value, Number, Text}
 use Rattle.star_query.specs.declared.token.Relation.{Relation}
 use Rattle.star_query.specs.declared.token.Relation.TheVariants as sign
 use Rattle.star_plan.specs.declared.tree.Join.{Join}
-use Rattle.star_plan.specs.Meaning.{Condition, either, both, negation, compare, between, Expression, column, constant, add, sub, mul, Measure, counted, summed, least, greatest, aggregate_of, Plan}
+use Rattle.star_plan.specs.Meaning.{Condition, or, and, not, compare, between, Expression, column, constant, add, sub, mul, Measure, counted, summed, least, greatest, aggregate_of, Plan}
 use Rattle.star_program.specs.declared.group.GroupDecl.{GroupDecl}
 use Rattle.star_program.specs.declared.group.GroupKey.{GroupKey}
 use Rattle.star_program.specs.declared.group.GroupKey.TheVariants as key
@@ -161,11 +161,11 @@ test_code sign.AtLeast c x v env k =
     beside (start_of c v) (λ n. Binary operator.LessOrEqual n x) env k
 
 abbrev pub condition_code : List Join → Condition → Env → Rest → Code
-condition_code js (either a b) env k =
+condition_code js (or a b) env k =
     binary_code (condition_code js a) (condition_code js b) operator.Or env k
-condition_code js (both a b) env k =
+condition_code js (and a b) env k =
     binary_code (condition_code js a) (condition_code js b) operator.And env k
-condition_code js (negation a) env k = condition_code js a env (λ e x. write (Not x) e k)
+condition_code js (not a) env k = condition_code js a env (λ e x. write (Not x) e k)
 condition_code js (compare c s v) env k = column_code js c env (λ e x. test_code s c x v e k)
 condition_code js (between c from upto) env k =
     column_code js c env (λ e x. between_code c x from upto e k)

@@ -1,31 +1,12 @@
 -- The faults of the steps of an answer to a query, and when they are due.
-use Rattle.std.proofs.Common.{◌≡◌, ℕ, List, Some, inl, inr}
-use Rattle.star_common.specs.Memory.{UnlessMemory}
-use Rattle.star_query.specs.declared.fault.QueryFault.{QueryFault}
-use Rattle.star_query.specs.declared.fault.QueryFault.TheVariants as parsing
-use Rattle.star_query.specs.Derives.{IsFirstFault, Means}
+use Rattle.std.proofs.Common.{ℕ, List}
+use Rattle.star_query.specs.Derives.{Means}
 use Rattle.star_query.specs.Tree.{Tree}
-use Rattle.star_plan.specs.declared.fault.PlanFault.{PlanFault}
-use Rattle.star_plan.specs.declared.fault.PlanFault.TheVariants as planning
-use Rattle.star_plan.specs.Faults.{plan_fault}
 use Rattle.star_engine.specs.declared.fault.EngineFault.{EngineFault}
 use Rattle.star_engine.specs.declared.fault.EngineFault.TheVariants as engine
-use Rattle.star_engine.specs.Faults.{fault_of_plan, fault_of_query}
 use Rattle.star_engine.specs.Queries.{IsNoQuery}
-use Rattle.star_engine.specs.Private.QuerySteps.{IsUnparsed, IsUnplanned}
+use Rattle.star_engine.specs.Private.QuerySteps.{IsUnplanned}
 use Rattle.star_engine.specs.Private.Steps.{IsMemory, OrMemory}
-
-pub unparsed : (text : List ℕ) (fault : QueryFault) → IsFirstFault text fault
-    → OrMemory (IsUnparsed text) (fault_of_query fault)
-unparsed text parsing.OutOfMemory first = tt
-unparsed text fault first = record { not_memory = λ e. cc; first = first }
-
-pub unplanned : (tree : Tree) (fault : PlanFault)
-    → UnlessMemory planning.OutOfMemory fault (plan_fault tree ≡ Some fault)
-    → OrMemory (IsUnplanned tree) (fault_of_plan fault)
-unplanned tree planning.OutOfMemory first = tt
-unplanned tree fault (inl memory) = absurd (cc)
-unplanned tree fault (inr first) = first
 
 -- a step's faults are due where each of them is
 pub or_memory : (IsDue IsAlso : EngineFault → Type 0) (fault : EngineFault)
@@ -41,12 +22,6 @@ pub only_memory : (IsDue : EngineFault → Type 0) (fault : EngineFault)
 only_memory IsDue engine.OutOfMemory never due = tt
 only_memory IsDue (engine.Write sent) never due = absurd due
 only_memory IsDue fault never due = absurd (never fault due)
-
--- a text that means no query has no well named one
-pub unparsed_none : (text : List ℕ) (fault : EngineFault) → IsUnparsed text fault
-    → IsNoQuery text fault
-unparsed_none text (engine.Query fault) is = is
-unparsed_none text _ is = absurd is
 
 -- nor has one that means a query which is not well named
 pub unplanned_none : (text : List ℕ) (tree : Tree) → Means text tree

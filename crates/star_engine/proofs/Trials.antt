@@ -1,20 +1,15 @@
 -- What a trial over loaded tables answers.
-use Rattle.std.proofs.Common.{◌≡◌, ◌<◌, ◌++◌, ℕ, List, arith, codes, length, subst}
-use Rattle.std.specs.Prelude.{Result, Ok, Err, MatchResult}
+use Rattle.std.proofs.Common.{◌<◌, ◌++◌, ℕ, List, arith, codes, length}
 use Rattle.std.specs.List.{flat_map, join_with_byte}
 use Rattle.std.proofs.lemmas.List.{length-append}
 use Rattle.star_schema.specs.declared.table.TableId.{TableId}
-use Rattle.star_schema.specs.Database.{Database}
-use Rattle.star_schema.specs.Loadable.{IsLoadable, database_of}
 use Rattle.star_program.specs.declared.outcome.Cell.{Cell}
-use Rattle.star_program.specs.declared.outcome.Outcome.{Outcome}
 use Rattle.star_program.specs.declared.program.Parts.{Parts}
-use Rattle.star_program.specs.Run.{End, bounded_run_of}
+use Rattle.star_program.specs.Run.{End}
 use Rattle.star_report.specs.Report.{line_text, report_text, row_text}
 use Rattle.star_machine.specs.declared.fault.TrialFault.{TrialFault}
 use Rattle.star_machine.specs.declared.fault.TrialFault.TheVariants as trial
-use Rattle.star_machine.specs.Trials.{IsFaultOf, Yields}
-use Rattle.star_world.specs.WorldOf.{world_of}
+use Rattle.star_machine.specs.Trials.{IsFaultOf}
 use Rattle.star_engine.specs.declared.fault.EngineFault.{EngineFault}
 use Rattle.star_engine.specs.declared.fault.EngineFault.TheVariants.{Load, OutOfMemory, Trial}
 use Rattle.star_engine.specs.Faults.{fault_of_trial}
@@ -36,37 +31,6 @@ pub unloaded : (most : ℕ) (texts : TableId → List ℕ) (program : Parts) (vi
 unloaded most texts program visits OutOfMemory is = tt
 unloaded most texts program visits (Load fault) is = is
 unloaded most texts program visits _ is = absurd is
-
-no_outcome : (most : ℕ) (texts : TableId → List ℕ) (program : Parts) (visits : ℕ)
-    (database : Database) (fault : EngineFault)
-    → database ≡ database_of texts → IsLoadable most texts
-    → OrMemory (IsNoEnd (bounded_run_of (world_of database) visits program)) fault
-    → OrMemory (IsNoOutcome most texts program visits) fault
-no_outcome most texts program visits database OutOfMemory same loadable stopped = tt
-no_outcome most texts program visits database (Trial fault) same loadable stopped =
-    (loadable, rw same at stopped)
-no_outcome most texts program visits database _ same loadable stopped = absurd stopped
-
--- over the tables of five texts a program gives what it gives over the rows of these texts
-pub whole_outcome : (most : ℕ) (texts : TableId → List ℕ) (program : Parts) (visits : ℕ)
-    (database : Database) (result : Result Outcome EngineFault)
-    → database ≡ database_of texts → IsLoadable most texts
-    → MatchResult result
-    (Yields (world_of database) program (bounded_run_of (world_of database) visits program))
-    (OrMemory (IsNoEnd (bounded_run_of (world_of database) visits program)))
-    → MatchResult result
-    (λ outcome. IsLoadable most texts
-    × Yields (world_of (database_of texts)) program
-    (bounded_run_of (world_of (database_of texts)) visits program) outcome)
-    (OrMemory (IsNoOutcome most texts program visits))
-whole_outcome most texts program visits database (Ok outcome) same loadable yields = (
-  loadable,
-  subst
-      (λ d. Yields (world_of d) program (bounded_run_of (world_of d) visits program) outcome) same
-      yields,
-)
-whole_outcome most texts program visits database (Err fault) same loadable none =
-    no_outcome most texts program visits database fault same loadable none
 
 -- a program that gives no outcome has no report
 pub no_trial : (most : ℕ) (texts : TableId → List ℕ) (file : List ℕ) (program : Parts)

@@ -1,7 +1,6 @@
 -- Rows in flat storage: what stands at a number, and what is gathered.
 use Rattle.std.proofs.Common.{◌≡◌, ◌*◌, ◌+◌, ℕ, zero, suc, ℤ, List, [], ◌∷◌, ◌++◌, Option, length, drop, ap, sym, refl, ◌∙◌, arith}
 use Rattle.std.specs.List.{flat_map, AllByRecursion}
-use Rattle.std.proofs.lemmas.Grind.{flat_map-append}
 use Rattle.std.proofs.lemmas.List.{length-append}
 use Rattle.std.proofs.Math.Nat.{add_comm, suc-mul, zero-mul}
 use Rattle.std.specs.Prelude.{slice_index_or}
@@ -33,9 +32,6 @@ aggregates_read k a (suc n) keys numbers (suc number) = aggregates_read k a n (d
 
 -- ---- gathered
 
-pub none_gathered : (k a : ℕ) → AreParts k a 0 [] [] []
-none_gathered k a = record { fit = tt; many = refl; key_parts = refl; aggregate_parts = refl }
-
 fit_more : (k a : ℕ) (rows : List GroupRow) (row : GroupRow) → AllByRecursion (Fits k a) rows → Fits k a row → AllByRecursion (Fits k a) (rows ++ row ∷ [])
 fit_more k a [] row all fits = (fits, tt)
 fit_more k a (r ∷ rows) row all fits = (all.0, fit_more k a rows row all.1 fits)
@@ -47,18 +43,6 @@ append_nil (x ∷ xs) = ap (λ ys. x ∷ ys) (append_nil xs)
 length_more : (rows : List GroupRow) (row : GroupRow) → length rows + 1 ≡ length (rows ++ row ∷ [])
 length_more [] row = refl
 length_more (r ∷ rows) row = let next = length_more rows row in omega (arith, next)
-
-parts_more : {X : Type 0} (f : GroupRow → List X) (rows : List GroupRow) (row : GroupRow) → flat_map f rows ++ f row ≡ flat_map f (rows ++ row ∷ [])
-parts_more f rows row = ap (λ xs. flat_map f rows ++ xs) (sym (append_nil (f row))) ∙ sym (flat_map-append f rows (row ∷ []))
-
-pub one_gathered : (k a n : ℕ) (keys : List (Option KeyValue)) (numbers : List (Option ℤ)) (rows : List GroupRow) (row : GroupRow) (n' : ℕ) (keys' : List (Option KeyValue)) (numbers' : List (Option ℤ))
-    → n' ≡ n + 1 → keys' ≡ keys ++ row.keys → numbers' ≡ numbers ++ row.aggregates → Fits k a row → AreParts k a n keys numbers rows → AreParts k a n' keys' numbers' (rows ++ row ∷ [])
-one_gathered k a n keys numbers rows row n' keys' numbers' is_n is_keys is_numbers fits are = record {
-  fit = fit_more k a rows row are.fit fits;
-  many = is_n ∙ ap (λ m. m + 1) are.many ∙ length_more rows row;
-  key_parts = is_keys ∙ ap (λ xs. xs ++ row.keys) are.key_parts ∙ parts_more (λ r. r.keys) rows row;
-  aggregate_parts = is_numbers ∙ ap (λ xs. xs ++ row.aggregates) are.aggregate_parts ∙ parts_more (λ r. r.aggregates) rows row;
-}
 
 rows_again : (k a : ℕ) (rows : List GroupRow) → AllByRecursion (Fits k a) rows → rows_of k a (length rows) (flat_map (λ row. row.keys) rows) (flat_map (λ row. row.aggregates) rows) ≡ rows
 unfolding rows_of

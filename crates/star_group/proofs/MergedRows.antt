@@ -130,9 +130,6 @@ module _ (rows : KeyedRows) where
 
 -- ---- rows that have grown
 
-pub grown_same : (rows : KeyedRows) → IsGrown rows rows
-grown_same rows = record { more = omega arith; keys = λ same. refl; links = λ same. refl }
-
 pub grown_more : (a b c : KeyedRows) → IsGrown a b → IsGrown b c → IsGrown a c
 grown_more a b c ab bc = record {
   more = omega (arith, ab.more, bc.more);

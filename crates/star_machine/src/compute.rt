@@ -104,13 +104,13 @@ pub(crate) fn is_within(registers: &[Register], value: u16, from: u16, below: u1
     is_less_or_equal(registers, from, value) && is_less(registers, value, below)
 }
 
-fn both(registers: &[Register], left: u16, right: u16) -> bool
+fn and(registers: &[Register], left: u16, right: u16) -> bool
     ensures { result ≡ (flag_in (held registers.now left) && flag_in (held registers.now right)) }
 {
     flag(registers, left) && flag(registers, right)
 }
 
-fn either(registers: &[Register], left: u16, right: u16) -> bool
+fn or(registers: &[Register], left: u16, right: u16) -> bool
     ensures { result ≡ (flag_in (held registers.now left) || flag_in (held registers.now right)) }
 {
     flag(registers, left) || flag(registers, right)
@@ -133,8 +133,8 @@ pub(crate) fn answer(
         Operator::Less => Some(Value::Flag(is_less(registers, left, right))),
         Operator::LessOrEqual => Some(Value::Flag(is_less_or_equal(registers, left, right))),
         Operator::Equal => Some(Value::Flag(is_equal(registers, left, right))),
-        Operator::And => Some(Value::Flag(both(registers, left, right))),
-        Operator::Or => Some(Value::Flag(either(registers, left, right))),
+        Operator::And => Some(Value::Flag(and(registers, left, right))),
+        Operator::Or => Some(Value::Flag(or(registers, left, right))),
     }
 }
 

@@ -14,7 +14,7 @@ use Rattle.star_query.specs.declared.token.Fold.TheVariants as fold
 use Rattle.star_query.specs.Tree as tree
 use Rattle.star_query.specs.Tree.{Item, Name, SortKey}
 use Rattle.star_query.specs.Limits as asked
-use Rattle.star_plan.specs.Meaning.{Condition, either, both, negation, compare, between, Expression, column, constant, add, sub, mul, Measure, counted}
+use Rattle.star_plan.specs.Meaning.{Condition, or, and, not, compare, between, Expression, column, constant, add, sub, mul, Measure, counted}
 use Rattle.star_plan.specs.Names.{column_at, literal_value}
 use Rattle.star_plan.specs.Naming.{names_from}
 use Rattle.star_plan.specs.Shown.{folded}
@@ -53,14 +53,14 @@ resolved_operands (tree.fold f y) x e =
     ap measure_operands (sym g.2) ∙ folded_operands f g.0 ∙ expression_operands y g.0 g.1
 
 condition_comparisons : (q : tree.Condition) (x : Condition) → resolved_condition q ≡ Some x → comparisons_of x ≡ asked.comparisons_of q
-condition_comparisons (tree.either a b) x e =
-    let g = both_gave either (resolved_condition a) (resolved_condition b) x e in
+condition_comparisons (tree.or a b) x e =
+    let g = both_gave or (resolved_condition a) (resolved_condition b) x e in
     ap comparisons_of (sym g.made) ∙ omega (arith, condition_comparisons a g.left g.first, condition_comparisons b g.right g.second)
-condition_comparisons (tree.both a b) x e =
-    let g = both_gave both (resolved_condition a) (resolved_condition b) x e in
+condition_comparisons (tree.and a b) x e =
+    let g = both_gave and (resolved_condition a) (resolved_condition b) x e in
     ap comparisons_of (sym g.made) ∙ omega (arith, condition_comparisons a g.left g.first, condition_comparisons b g.right g.second)
-condition_comparisons (tree.negation a) x e =
-    let g = mapped_gave negation (resolved_condition a) x e in
+condition_comparisons (tree.not a) x e =
+    let g = mapped_gave not (resolved_condition a) x e in
     ap comparisons_of (sym g.2) ∙ omega (arith, condition_comparisons a g.0 g.1)
 condition_comparisons (tree.pair m n) x e = absurd (cc)
 condition_comparisons (tree.compare n s l) x e =
@@ -75,14 +75,14 @@ lone_comparisons q xs e =
     subst (λ ys. sum_by comparisons_of ys ≤ asked.comparisons_of q) g.2 (omega (arith, condition_comparisons q g.0 g.1))
 
 conjuncts_comparisons : (q : tree.Condition) (xs : List Condition) → conjuncts_of q ≡ Some xs → sum_by comparisons_of xs ≤ asked.comparisons_of q
-conjuncts_comparisons (tree.both a b) xs e =
+conjuncts_comparisons (tree.and a b) xs e =
     let g = both_gave (λ ys zs. ys ++ zs) (conjuncts_of a) (conjuncts_of b) xs e in
-    subst (λ ys. sum_by comparisons_of ys ≤ asked.comparisons_of (tree.both a b)) g.made
+    subst (λ ys. sum_by comparisons_of ys ≤ asked.comparisons_of (tree.and a b)) g.made
     (omega (arith, sum_by-append comparisons_of g.left g.right, conjuncts_comparisons a g.left g.first, conjuncts_comparisons b g.right g.second))
 conjuncts_comparisons (tree.pair m n) xs e =
     let none : [] ≡ xs = cc in subst (λ ys. sum_by comparisons_of ys ≤ 1) none (omega arith)
-conjuncts_comparisons (tree.either a b) xs e = lone_comparisons (tree.either a b) xs e
-conjuncts_comparisons (tree.negation a) xs e = lone_comparisons (tree.negation a) xs e
+conjuncts_comparisons (tree.or a b) xs e = lone_comparisons (tree.or a b) xs e
+conjuncts_comparisons (tree.not a) xs e = lone_comparisons (tree.not a) xs e
 conjuncts_comparisons (tree.compare n s l) xs e = lone_comparisons (tree.compare n s l) xs e
 conjuncts_comparisons (tree.between n from upto) xs e = lone_comparisons (tree.between n from upto) xs e
 

@@ -1,5 +1,5 @@
 -- The joins of a well named query: each by a foreign key, and each of another dimension.
-use Rattle.std.proofs.Common.{◌≡◌, ◌∙◌, ap, subst, ℕ, ◌+◌, ◌≤◌, Bool, true, false, not, if◌then◌else◌, inl, inr, List, [], ◌∷◌, ◌++◌, Option, Some, None, length, arith, refl}
+use Rattle.std.proofs.Common.{◌≡◌, ◌∙◌, ap, subst, ℕ, ◌+◌, ◌≤◌, Bool, true, false, not as negated, if◌then◌else◌, inl, inr, List, [], ◌∷◌, ◌++◌, Option, Some, None, length, arith, refl}
 use Rattle.std.specs.List.{AllByRecursion, list_all}
 use Rattle.std.proofs.lemmas.Bool.{and_from, and_parts, or_left, or_right}
 use Rattle.std.proofs.lemmas.List.Folds.{list_any-append}
@@ -8,7 +8,7 @@ use Rattle.star_schema.specs.declared.table.TableId.TheVariants.{Date, Customer,
 use Rattle.star_schema.specs.declared.column.ColumnId.{ColumnId}
 use Rattle.star_schema.specs.Schema.{is_table, key_of, references, table_of}
 use Rattle.star_schema.proofs.Same.{table_same}
-use Rattle.star_query.specs.Tree.{Condition, between, both, compare, either, negation, pair}
+use Rattle.star_query.specs.Tree.{Condition, between, and, compare, or, not, pair}
 use Rattle.star_plan.specs.declared.tree.Join.{Join}
 use Rattle.star_plan.specs.First.{first_after}
 use Rattle.star_plan.specs.Names.{column_at}
@@ -44,9 +44,9 @@ each_pair P [] ys l r = r
 each_pair P (x ∷ xs) ys l r = (l.0, each_pair P xs ys l.1 r)
 
 pairs_foreign : (b : Bool) (q : Condition) → AllByRecursion IsForeign (pairs_of b q)
-pairs_foreign b (both c d) = each_pair IsForeign (pairs_of b c) (pairs_of b d) (pairs_foreign b c) (pairs_foreign b d)
-pairs_foreign b (either c d) = each_pair IsForeign (pairs_of false c) (pairs_of false d) (pairs_foreign false c) (pairs_foreign false d)
-pairs_foreign b (negation c) = pairs_foreign false c
+pairs_foreign b (and c d) = each_pair IsForeign (pairs_of b c) (pairs_of b d) (pairs_foreign b c) (pairs_foreign b d)
+pairs_foreign b (or c d) = each_pair IsForeign (pairs_of false c) (pairs_of false d) (pairs_foreign false c) (pairs_foreign false d)
+pairs_foreign b (not c) = pairs_foreign false c
 pairs_foreign true (pair m n) = (λ j e. join_of_foreign (column_at m) (column_at n) j e, tt)
 pairs_foreign false (pair m n) = (λ j e. absurd (cc), tt)
 pairs_foreign b (compare n s l) = tt
@@ -81,20 +81,20 @@ not_joined before p j h e = go (is_joined before (table_of j.key)) refl (rw h at
     go true h e = absurd (let wrong = rw h at e in cc)
     go false h e = h
 
-not_same : (a b : Bool) → (a ≡ true → b ≡ true) → b ≡ false → not a ≡ true
+not_same : (a b : Bool) → (a ≡ true → b ≡ true) → b ≡ false → negated a ≡ true
 not_same true b f e = absurd (let yes = f refl in cc)
 not_same false b f e = refl
 
 -- a table that is joined before is that of no later join
 later_apart : (t : TableId) (before ps : List Pair) → ((u : TableId) → is_table u t ≡ true → is_joined before u ≡ true) → first_after pair_fault before ps ≡ None
-    → list_all (λ q. not (is_table (table_of q.key) t)) (joins_of ps) ≡ true
+    → list_all (λ q. negated (is_table (table_of q.key) t)) (joins_of ps) ≡ true
 later_apart t before [] known e = refl
 later_apart t before (p ∷ ps) known e =
     let parts = or_none (pair_fault before p) (first_after pair_fault (before ++ p ∷ []) ps) e in
     go p.join refl parts.0 (later_apart t (before ++ p ∷ []) ps (λ u h. joined_before before p u (known u h)) parts.1)
   where
-    go : (o : Option Join) → p.join ≡ o → pair_fault before p ≡ None → list_all (λ q. not (is_table (table_of q.key) t)) (joins_of ps) ≡ true
-        → list_all (λ q. not (is_table (table_of q.key) t)) (joins_of (p ∷ ps)) ≡ true
+    go : (o : Option Join) → p.join ≡ o → pair_fault before p ≡ None → list_all (λ q. negated (is_table (table_of q.key) t)) (joins_of ps) ≡ true
+        → list_all (λ q. negated (is_table (table_of q.key) t)) (joins_of (p ∷ ps)) ≡ true
     go None h fault rest = rw h rest
     go (Some j) h fault rest = rw h (and_from _ _ (not_same _ _ (known (table_of j.key)) (not_joined before p j h fault)) rest)
 
@@ -116,12 +116,12 @@ joins_to : TableId → List Join → ℕ
 joins_to t [] = 0
 joins_to t (j ∷ js) = (if is_table (table_of j.key) t then 1 else 0) + joins_to t js
 
-none_to : (t : TableId) (js : List Join) → list_all (λ q. not (is_table (table_of q.key) t)) js ≡ true → joins_to t js ≡ 0
+none_to : (t : TableId) (js : List Join) → list_all (λ q. negated (is_table (table_of q.key) t)) js ≡ true → joins_to t js ≡ 0
 unfolding joins_to
 none_to t [] e = refl
 none_to t (j ∷ js) e = let both = and_parts _ _ e in go (is_table (table_of j.key) t) refl both.0 (none_to t js both.1)
   where
-    go : (b : Bool) → is_table (table_of j.key) t ≡ b → not (is_table (table_of j.key) t) ≡ true → joins_to t js ≡ 0 → joins_to t (j ∷ js) ≡ 0
+    go : (b : Bool) → is_table (table_of j.key) t ≡ b → negated (is_table (table_of j.key) t) ≡ true → joins_to t js ≡ 0 → joins_to t (j ∷ js) ≡ 0
     go true h e rest = absurd (let wrong = rw h at e in cc)
     go false h e rest = rw h (omega arith)
 
@@ -130,7 +130,7 @@ unfolding joins_to
 once t [] e = omega arith
 once t (j ∷ js) e = let both = and_parts _ _ e in go (is_table (table_of j.key) t) refl both.0 (once t js both.1)
   where
-    go : (b : Bool) → is_table (table_of j.key) t ≡ b → list_all (λ q. not (is_table (table_of q.key) (table_of j.key))) js ≡ true → joins_to t js ≤ 1 → joins_to t (j ∷ js) ≤ 1
+    go : (b : Bool) → is_table (table_of j.key) t ≡ b → list_all (λ q. negated (is_table (table_of q.key) (table_of j.key))) js ≡ true → joins_to t js ≤ 1 → joins_to t (j ∷ js) ≤ 1
     go true h e rest = let none : joins_to t js ≡ 0 = none_to t js (rw (table_same (table_of j.key) t h) at e) in rw h (omega arith)
     go false h e rest = rw h (omega arith)
 

@@ -14,7 +14,7 @@ use Rattle.star_query.specs.Tree.{Aggregate, Item, Literal, Name}
 use Rattle.star_query.specs.Cut.{begins_with_letter, is_letter, is_word_byte}
 use Rattle.star_query.specs.Spelled as asked
 use Rattle.star_query.specs.Spelled.{is_name}
-use Rattle.star_plan.specs.Meaning.{Condition, either, both, negation, compare, between, Expression, column, constant, add, sub, mul, Measure, counted}
+use Rattle.star_plan.specs.Meaning.{Condition, or, and, not, compare, between, Expression, column, constant, add, sub, mul, Measure, counted}
 use Rattle.star_plan.specs.Names.{column_at, literal_value}
 use Rattle.star_plan.specs.Naming.{aggregate_name, default_name, function_word, names_from}
 use Rattle.star_plan.specs.Shown.{folded}
@@ -66,16 +66,16 @@ measures_spelled (tree.aggregate a ∷ is') ms e good =
     ap (list_all measure_is_spelled) (sym g.made) ∙ and_from _ _ (resolved_spelled a.measure g.left g.first here.0) (measures_spelled is' g.right g.second parts.1)
 
 condition_spelled : (q : tree.Condition) (x : Condition) → resolved_condition q ≡ Some x → asked.condition_is_spelled q ≡ true → condition_is_spelled x ≡ true
-condition_spelled (tree.either a b) x e good =
-    let g = both_gave either (resolved_condition a) (resolved_condition b) x e in
+condition_spelled (tree.or a b) x e good =
+    let g = both_gave or (resolved_condition a) (resolved_condition b) x e in
     let parts = and_parts (asked.condition_is_spelled a) (asked.condition_is_spelled b) good in
     ap condition_is_spelled (sym g.made) ∙ and_from _ _ (condition_spelled a g.left g.first parts.0) (condition_spelled b g.right g.second parts.1)
-condition_spelled (tree.both a b) x e good =
-    let g = both_gave both (resolved_condition a) (resolved_condition b) x e in
+condition_spelled (tree.and a b) x e good =
+    let g = both_gave and (resolved_condition a) (resolved_condition b) x e in
     let parts = and_parts (asked.condition_is_spelled a) (asked.condition_is_spelled b) good in
     ap condition_is_spelled (sym g.made) ∙ and_from _ _ (condition_spelled a g.left g.first parts.0) (condition_spelled b g.right g.second parts.1)
-condition_spelled (tree.negation a) x e good =
-    let g = mapped_gave negation (resolved_condition a) x e in ap condition_is_spelled (sym g.2) ∙ condition_spelled a g.0 g.1 good
+condition_spelled (tree.not a) x e good =
+    let g = mapped_gave not (resolved_condition a) x e in ap condition_is_spelled (sym g.2) ∙ condition_spelled a g.0 g.1 good
 condition_spelled (tree.pair m n) x e good = absurd (cc)
 condition_spelled (tree.compare n s l) x e good =
     let g = mapped_gave (λ c. compare c s (literal_value l)) (column_at n) x e in
@@ -94,14 +94,14 @@ lone_spelled q xs e good =
     ap (list_all condition_is_spelled) (sym g.2) ∙ and_from _ _ (condition_spelled q g.0 g.1 good) refl
 
 conjuncts_spelled : (q : tree.Condition) (xs : List Condition) → conjuncts_of q ≡ Some xs → asked.condition_is_spelled q ≡ true → list_all condition_is_spelled xs ≡ true
-conjuncts_spelled (tree.both a b) xs e good =
+conjuncts_spelled (tree.and a b) xs e good =
     let g = both_gave (λ ys zs. ys ++ zs) (conjuncts_of a) (conjuncts_of b) xs e in
     let parts = and_parts (asked.condition_is_spelled a) (asked.condition_is_spelled b) good in
     ap (list_all condition_is_spelled) (sym g.made) ∙ list_all-append condition_is_spelled g.left g.right
     ∙ and_from _ _ (conjuncts_spelled a g.left g.first parts.0) (conjuncts_spelled b g.right g.second parts.1)
 conjuncts_spelled (tree.pair m n) xs e good = let none : [] ≡ xs = cc in ap (list_all condition_is_spelled) (sym none)
-conjuncts_spelled (tree.either a b) xs e good = lone_spelled (tree.either a b) xs e good
-conjuncts_spelled (tree.negation a) xs e good = lone_spelled (tree.negation a) xs e good
+conjuncts_spelled (tree.or a b) xs e good = lone_spelled (tree.or a b) xs e good
+conjuncts_spelled (tree.not a) xs e good = lone_spelled (tree.not a) xs e good
 conjuncts_spelled (tree.compare n s l) xs e good = lone_spelled (tree.compare n s l) xs e good
 conjuncts_spelled (tree.between n from upto) xs e good = lone_spelled (tree.between n from upto) xs e good
 

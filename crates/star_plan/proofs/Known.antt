@@ -1,5 +1,5 @@
 -- The names of a well named query stand for something that is in scope and of the kind that is asked of it.
-use Rattle.std.proofs.Common.{◌≡◌, ◌∙◌, sym, ap, ◌+◌, ◌<◌, ℕ, Bool, true, false, ◌&&◌, ◌||◌, not, if◌then◌else◌, ◌⊎◌, inl, inr, List, [], ◌∷◌, ◌++◌, Option, Some, None, length, nat_eq, option_map, arith, refl}
+use Rattle.std.proofs.Common.{◌≡◌, ◌∙◌, sym, ap, ◌+◌, ◌<◌, ℕ, Bool, true, false, ◌&&◌, ◌||◌, not as negated, if◌then◌else◌, ◌⊎◌, inl, inr, List, [], ◌∷◌, ◌++◌, Option, Some, None, length, nat_eq, option_map, arith, refl}
 use Rattle.std.specs.Cmp.Lexicographic.{pointwise, same_text}
 use Rattle.std.specs.List.{AllByRecursion, list_all, list_any, position, prefix_len}
 use Rattle.std.specs.Option.{option_or}
@@ -22,7 +22,7 @@ use Rattle.star_query.specs.Tree as tree
 use Rattle.star_query.specs.Tree.{Item, Literal, Name, SortKey}
 use Rattle.star_plan.specs.declared.tree.Join.{Join}
 use Rattle.star_plan.specs.First.{first_after}
-use Rattle.star_plan.specs.Meaning.{Condition, either, both, negation, Expression, column, constant, add, sub, mul, Measure, counted, compare, between}
+use Rattle.star_plan.specs.Meaning.{Condition, or, and, not, Expression, column, constant, add, sub, mul, Measure, counted, compare, between}
 use Rattle.star_plan.specs.Names.{column_at, has_name, is_of, literal_value, same_kind, table_called}
 use Rattle.star_plan.specs.Uses.{Use, condition_uses, expression_uses, groups_uses, items_uses, kind_of_literal, measure_uses, where_uses}
 use Rattle.star_plan.specs.Joins.{Pair, is_joined, joins_of, pairs_of, where_pairs}
@@ -144,17 +144,17 @@ value_kind (tree.text bs) c e = e
 condition_known : (tables : List Name) (js : List Join) → Reaches tables js → (q : tree.Condition)
     → AreJoins (pairs_of false q) → AreScoped tables (condition_uses q) → AreFit (condition_uses q)
     → (x : Condition) × (resolved_condition q ≡ Some x) × (condition_is_sound js x ≡ true)
-condition_known tables js reach (tree.either a b) pairs scoped fit =
+condition_known tables js reach (tree.or a b) pairs scoped fit =
     let l = condition_known tables js reach a (each_left _ (pairs_of false a) (pairs_of false b) pairs) (each_left _ (condition_uses a) (condition_uses b) scoped) (each_left _ (condition_uses a) (condition_uses b) fit) in
     let r = condition_known tables js reach b (each_right _ (pairs_of false a) (pairs_of false b) pairs) (each_right _ (condition_uses a) (condition_uses b) scoped) (each_right _ (condition_uses a) (condition_uses b) fit) in
-    (either l.0 r.0, λ i. option_both either (l.1 i) (r.1 i), and_from _ _ l.2 r.2)
-condition_known tables js reach (tree.both a b) pairs scoped fit =
+    (or l.0 r.0, λ i. option_both or (l.1 i) (r.1 i), and_from _ _ l.2 r.2)
+condition_known tables js reach (tree.and a b) pairs scoped fit =
     let l = condition_known tables js reach a (each_left _ (pairs_of false a) (pairs_of false b) pairs) (each_left _ (condition_uses a) (condition_uses b) scoped) (each_left _ (condition_uses a) (condition_uses b) fit) in
     let r = condition_known tables js reach b (each_right _ (pairs_of false a) (pairs_of false b) pairs) (each_right _ (condition_uses a) (condition_uses b) scoped) (each_right _ (condition_uses a) (condition_uses b) fit) in
-    (both l.0 r.0, λ i. option_both both (l.1 i) (r.1 i), and_from _ _ l.2 r.2)
-condition_known tables js reach (tree.negation a) pairs scoped fit =
+    (and l.0 r.0, λ i. option_both and (l.1 i) (r.1 i), and_from _ _ l.2 r.2)
+condition_known tables js reach (tree.not a) pairs scoped fit =
     let x = condition_known tables js reach a pairs scoped fit in
-    (negation x.0, ap (option_map negation) x.1, x.2)
+    (not x.0, ap (option_map not) x.1, x.2)
 condition_known tables js reach (tree.pair m n) pairs scoped fit = absurd (let j = pairs.0.1 in cc)
 condition_known tables js reach (tree.compare n s l) pairs scoped fit =
     let c = scope_known tables n.place (column_at n) scoped.0 in
@@ -179,15 +179,15 @@ lone_known js o x e sound = (x ∷ [], ap (option_map (λ y. y ∷ [])) e, and_f
 
 conjuncts_known : (tables : List Name) (js : List Join) → Reaches tables js → (q : tree.Condition)
     → AreJoins (pairs_of true q) → AreScoped tables (condition_uses q) → AreFit (condition_uses q) → KnownConjuncts js q
-conjuncts_known tables js reach (tree.both a b) pairs scoped fit =
+conjuncts_known tables js reach (tree.and a b) pairs scoped fit =
     let l = conjuncts_known tables js reach a (each_left _ (pairs_of true a) (pairs_of true b) pairs) (each_left _ (condition_uses a) (condition_uses b) scoped) (each_left _ (condition_uses a) (condition_uses b) fit) in
     let r = conjuncts_known tables js reach b (each_right _ (pairs_of true a) (pairs_of true b) pairs) (each_right _ (condition_uses a) (condition_uses b) scoped) (each_right _ (condition_uses a) (condition_uses b) fit) in
     (l.0 ++ r.0, λ i. option_both (λ xs ys. xs ++ ys) (l.1 i) (r.1 i), list_all-append (condition_is_sound js) l.0 r.0 ∙ and_from _ _ l.2 r.2)
 conjuncts_known tables js reach (tree.pair m n) pairs scoped fit = ([], refl, refl)
-conjuncts_known tables js reach (tree.either a b) pairs scoped fit =
-    let x = condition_known tables js reach (tree.either a b) pairs scoped fit in lone_known js _ x.0 x.1 x.2
-conjuncts_known tables js reach (tree.negation a) pairs scoped fit =
-    let x = condition_known tables js reach (tree.negation a) pairs scoped fit in lone_known js _ x.0 x.1 x.2
+conjuncts_known tables js reach (tree.or a b) pairs scoped fit =
+    let x = condition_known tables js reach (tree.or a b) pairs scoped fit in lone_known js _ x.0 x.1 x.2
+conjuncts_known tables js reach (tree.not a) pairs scoped fit =
+    let x = condition_known tables js reach (tree.not a) pairs scoped fit in lone_known js _ x.0 x.1 x.2
 conjuncts_known tables js reach (tree.compare n s l) pairs scoped fit =
     let x = condition_known tables js reach (tree.compare n s l) pairs scoped fit in lone_known js _ x.0 x.1 x.2
 conjuncts_known tables js reach (tree.between n from upto) pairs scoped fit =
@@ -209,16 +209,16 @@ groups_known tables js reach (n ∷ ns) scoped =
     let cs = groups_known tables js reach ns scoped.1 in
     (c.0 ∷ cs.0, λ i. option_both (λ x xs. x ∷ xs) (c.1 i) (cs.1 i), and_from _ _ (reach c.0 c.2) cs.2)
 
-prefix_short : {X : Type 0} (p : X → Bool) (xs : List X) → list_any p xs ≡ true → prefix_len (λ x. not (p x)) xs < length xs
+prefix_short : {X : Type 0} (p : X → Bool) (xs : List X) → list_any p xs ≡ true → prefix_len (λ x. negated (p x)) xs < length xs
 prefix_short p [] e = absurd (cc)
 prefix_short p (x ∷ xs) e = go (p x) refl e (prefix_short p xs)
   where
-    go : (b : Bool) → p x ≡ b → list_any p (x ∷ xs) ≡ true → (list_any p xs ≡ true → prefix_len (λ y. not (p y)) xs < length xs) → prefix_len (λ y. not (p y)) (x ∷ xs) < length (x ∷ xs)
+    go : (b : Bool) → p x ≡ b → list_any p (x ∷ xs) ≡ true → (list_any p xs ≡ true → prefix_len (λ y. negated (p y)) xs < length xs) → prefix_len (λ y. negated (p y)) (x ∷ xs) < length (x ∷ xs)
     go true h e rest = rw h (omega arith)
     go false h e rest = let shorter = rest (rw h at e) in rw h (omega (arith, shorter))
 
 position_known : {X : Type 0} (p : X → Bool) (xs : List X) → list_any p xs ≡ true → (i : ℕ) × (position p xs ≡ Some i)
-position_known p xs e = (prefix_len (λ x. not (p x)) xs, rw (lt-ltb _ _ (prefix_short p xs e)) refl)
+position_known p xs e = (prefix_len (λ x. negated (p x)) xs, rw (lt-ltb _ _ (prefix_short p xs e)) refl)
 
 key_column_known : (groups : List Name) (text : List ℕ) → has_name groups text ≡ true → (c : GroupColumn) × (key_column groups text ≡ Some c)
 unfolding has_name

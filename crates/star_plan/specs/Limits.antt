@@ -2,13 +2,13 @@
 use Rattle.std.specs.Prelude.{ℕ, ◌+◌, ◌≤◌, length}
 use Rattle.std.specs.List.{sum_by}
 use Rattle.star_query.specs.Maxima.{most_aggregates, most_columns, most_comparisons, most_items, most_keys, most_operands}
-use Rattle.star_plan.specs.Meaning.{Condition, either, both, negation, compare, between, Expression, column, constant, add, sub, mul, Measure, counted, summed, least, greatest, Plan}
+use Rattle.star_plan.specs.Meaning.{Condition, or, and, not, compare, between, Expression, column, constant, add, sub, mul, Measure, counted, summed, least, greatest, Plan}
 
 -- the comparisons and negations of a condition
 abbrev pub comparisons_of : Condition → ℕ
-comparisons_of (either a b) = comparisons_of a + comparisons_of b
-comparisons_of (both a b) = comparisons_of a + comparisons_of b
-comparisons_of (negation a) = comparisons_of a + 1
+comparisons_of (or a b) = comparisons_of a + comparisons_of b
+comparisons_of (and a b) = comparisons_of a + comparisons_of b
+comparisons_of (not a) = comparisons_of a + 1
 comparisons_of (compare c s v) = 1
 comparisons_of (between c from upto) = 1
 

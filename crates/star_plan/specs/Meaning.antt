@@ -1,5 +1,5 @@
 -- What a resolved query means over the rows of the tables (Star Schema Benchmark, revision 3, section 3; Gray et al. 1997).
-use Rattle.std.specs.Prelude.{ℕ, ℤ, pos, ◌+ℤ◌, ◌-ℤ◌, ◌*ℤ◌, Bool, ◌&&◌, ◌||◌, not, List, [], ◌∷◌, filter, map, slice_index_or, if◌then◌else◌}
+use Rattle.std.specs.Prelude.{ℕ, ℤ, pos, ◌+ℤ◌, ◌-ℤ◌, ◌*ℤ◌, Bool, ◌&&◌, ◌||◌, not as negated, List, [], ◌∷◌, filter, map, slice_index_or, if◌then◌else◌}
 use Rattle.std.specs.List.{flat_map, list_all}
 use Rattle.std.specs.declared.cmp.Ordering.{Ordering}
 use Rattle.std.specs.Ordering.{is_eq, is_ne, is_lt, is_le, is_gt, is_ge}
@@ -22,8 +22,8 @@ use Rattle.star_plan.specs.declared.tree.Join.{Join}
 -- ---- a query whose names are resolved
 
 pub data Condition : Type 0 where
-  either both : (a b : Condition) → Condition
-  negation : (a : Condition) → Condition
+  or and : (a b : Condition) → Condition
+  not : (a : Condition) → Condition
   compare : ColumnId → Relation → Value → Condition
   between : ColumnId → (from upto : Value) → Condition
 
@@ -98,9 +98,9 @@ tests sign.AtLeast o = is_ge o
 
 -- numbers compare by value, texts by their bytes
 abbrev pub holds : Condition → Joined → Bool
-holds (either a b) row = holds a row || holds b row
-holds (both a b) row = holds a row && holds b row
-holds (negation a) row = not (holds a row)
+holds (or a b) row = holds a row || holds b row
+holds (and a b) row = holds a row && holds b row
+holds (not a) row = negated (holds a row)
 holds (compare c s v) row = tests s (value_cmp (value_of c row) v)
 holds (between c from upto) row = is_le (value_cmp from (value_of c row)) && is_le (value_cmp (value_of c row) upto)
 

@@ -9,7 +9,7 @@ use Rattle.star_schema.specs.declared.group.SortKey.{SortKey}
 use Rattle.star_query.specs.Tree as tree
 use Rattle.star_query.specs.Tree.{Item, Literal, Name, Tree}
 use Rattle.star_query.specs.declared.token.Relation.{Relation}
-use Rattle.star_plan.specs.Meaning.{Condition, either, both, negation, compare, between, Expression, column, constant, add, sub, mul, Measure, counted, Plan}
+use Rattle.star_plan.specs.Meaning.{Condition, or, and, not, compare, between, Expression, column, constant, add, sub, mul, Measure, counted, Plan}
 use Rattle.star_plan.specs.Names.{column_at, literal_value}
 use Rattle.star_plan.specs.Joins.{joins_of, where_pairs}
 use Rattle.star_plan.specs.Naming.{aggregate_names}
@@ -46,16 +46,16 @@ resolved_between n from upto = option_map (λ c. between c (literal_value from) 
 
 -- none where two columns are compared in it
 abbrev pub resolved_condition : tree.Condition → Option Condition
-resolved_condition (tree.either a b) = option_both either (resolved_condition a) (resolved_condition b)
-resolved_condition (tree.both a b) = option_both both (resolved_condition a) (resolved_condition b)
-resolved_condition (tree.negation a) = option_map negation (resolved_condition a)
+resolved_condition (tree.or a b) = option_both or (resolved_condition a) (resolved_condition b)
+resolved_condition (tree.and a b) = option_both and (resolved_condition a) (resolved_condition b)
+resolved_condition (tree.not a) = option_map not (resolved_condition a)
 resolved_condition (tree.pair m n) = None
 resolved_condition (tree.compare n s l) = resolved_compare n s l
 resolved_condition (tree.between n from upto) = resolved_between n from upto
 
 -- the conjuncts that don't compare two columns, from the left
 abbrev pub conjuncts_of : tree.Condition → Option (List Condition)
-conjuncts_of (tree.both a b) = option_both (λ xs ys. xs ++ ys) (conjuncts_of a) (conjuncts_of b)
+conjuncts_of (tree.and a b) = option_both (λ xs ys. xs ++ ys) (conjuncts_of a) (conjuncts_of b)
 conjuncts_of (tree.pair m n) = Some []
 conjuncts_of c = option_map (λ x. x ∷ []) (resolved_condition c)
 

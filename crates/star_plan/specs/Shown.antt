@@ -13,7 +13,7 @@ use Rattle.star_plan.specs.declared.tree.Measure as of_measure
 use Rattle.star_plan.specs.declared.tree.Measure.TheVariants as measure
 use Rattle.star_plan.specs.declared.tree.Aggregate.{Aggregate}
 use Rattle.star_plan.specs.declared.tree.PlanTree.{PlanTree}
-use Rattle.star_plan.specs.Meaning.{Condition, either, both, negation, compare, between, Expression, column, constant, add, sub, mul, Measure, counted, summed, least, greatest, Plan}
+use Rattle.star_plan.specs.Meaning.{Condition, or, and, not, compare, between, Expression, column, constant, add, sub, mul, Measure, counted, summed, least, greatest, Plan}
 use Rattle.star_plan.specs.Names.{literal_value}
 
 -- the value that a literal stands for
@@ -21,9 +21,9 @@ abbrev pub literal_shown : Literal → Value
 literal_shown l = literal_value (literal_view l)
 
 abbrev pub condition_shown : of_condition.Condition → Condition
-condition_shown (condition.Or' p a q b) = either (condition_shown a) (condition_shown b)
-condition_shown (condition.And' p a q b) = both (condition_shown a) (condition_shown b)
-condition_shown (condition.Not' p a) = negation (condition_shown a)
+condition_shown (condition.Or' p a q b) = or (condition_shown a) (condition_shown b)
+condition_shown (condition.And' p a q b) = and (condition_shown a) (condition_shown b)
+condition_shown (condition.Not' p a) = not (condition_shown a)
 condition_shown (condition.Compare c s l) = compare c s (literal_shown l)
 condition_shown (condition.Between c from upto) = between c (literal_shown from) (literal_shown upto)
 

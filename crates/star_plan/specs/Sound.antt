@@ -1,5 +1,5 @@
 -- What every plan keeps.
-use Rattle.std.specs.Prelude.{◌≡◌, ℕ, ◌≤◌, nat_lt, Bool, true, ◌&&◌, ◌||◌, not, List, [], ◌∷◌, length}
+use Rattle.std.specs.Prelude.{◌≡◌, ℕ, ◌≤◌, nat_lt, Bool, true, ◌&&◌, ◌||◌, not as negated, List, [], ◌∷◌, length}
 use Rattle.std.specs.List.{list_all, list_any}
 use Rattle.star_schema.specs.declared.table.TableId.{TableId}
 use Rattle.star_schema.specs.declared.table.TableId.TheVariants.{Lineorder}
@@ -10,7 +10,7 @@ use Rattle.star_schema.specs.Schema.{is_table, kind_of, table_of}
 use Rattle.star_schema.specs.Tables.{kind_of_value}
 use Rattle.star_plan.specs.declared.tree.Join.{Join}
 use Rattle.star_plan.specs.Joins.{is_foreign}
-use Rattle.star_plan.specs.Meaning.{Condition, either, both, negation, compare, between, Expression, column, constant, add, sub, mul, Measure, counted, summed, least, greatest, Plan}
+use Rattle.star_plan.specs.Meaning.{Condition, or, and, not, compare, between, Expression, column, constant, add, sub, mul, Measure, counted, summed, least, greatest, Plan}
 use Rattle.star_plan.specs.Names.{same_kind}
 
 abbrev pub joins_table : List Join → TableId → Bool
@@ -22,9 +22,9 @@ in_scope js t = is_table t Lineorder || joins_table js t
 
 -- the columns of a condition are in scope, and stand beside values of their kind
 abbrev pub condition_is_sound : List Join → Condition → Bool
-condition_is_sound js (either a b) = condition_is_sound js a && condition_is_sound js b
-condition_is_sound js (both a b) = condition_is_sound js a && condition_is_sound js b
-condition_is_sound js (negation a) = condition_is_sound js a
+condition_is_sound js (or a b) = condition_is_sound js a && condition_is_sound js b
+condition_is_sound js (and a b) = condition_is_sound js a && condition_is_sound js b
+condition_is_sound js (not a) = condition_is_sound js a
 condition_is_sound js (compare c s v) = in_scope js (table_of c) && same_kind (kind_of c) (kind_of_value v)
 condition_is_sound js (between c from upto) =
     in_scope js (table_of c) && (same_kind (kind_of c) (kind_of_value from) && same_kind (kind_of c) (kind_of_value upto))
@@ -46,7 +46,7 @@ measure_is_sound js (greatest e) = expression_is_sound js e
 -- no table is joined twice
 abbrev pub are_distinct : List Join → Bool
 are_distinct [] = true
-are_distinct (j ∷ js) = list_all (λ q. not (is_table (table_of q.key) (table_of j.key))) js && are_distinct js
+are_distinct (j ∷ js) = list_all (λ q. negated (is_table (table_of q.key) (table_of j.key))) js && are_distinct js
 
 -- a group with so many keys and aggregates has this column
 abbrev pub is_group_column : (keys aggregates : ℕ) → GroupColumn → Bool

@@ -3,16 +3,16 @@ use Rattle.std.specs.Prelude.{◌≡◌, Bool, true, ◌&&◌}
 use Rattle.std.specs.List.{list_all}
 use Rattle.star_schema.specs.Tables.{Value, Number, Text}
 use Rattle.star_query.specs.Spelled.{is_name, is_number, is_text}
-use Rattle.star_plan.specs.Meaning.{Condition, either, both, negation, compare, between, Expression, column, constant, add, sub, mul, Measure, counted, summed, least, greatest, Plan}
+use Rattle.star_plan.specs.Meaning.{Condition, or, and, not, compare, between, Expression, column, constant, add, sub, mul, Measure, counted, summed, least, greatest, Plan}
 
 abbrev pub value_is_spelled : Value → Bool
 value_is_spelled (Number z) = is_number z
 value_is_spelled (Text bytes) = is_text bytes
 
 abbrev pub condition_is_spelled : Condition → Bool
-condition_is_spelled (either a b) = condition_is_spelled a && condition_is_spelled b
-condition_is_spelled (both a b) = condition_is_spelled a && condition_is_spelled b
-condition_is_spelled (negation a) = condition_is_spelled a
+condition_is_spelled (or a b) = condition_is_spelled a && condition_is_spelled b
+condition_is_spelled (and a b) = condition_is_spelled a && condition_is_spelled b
+condition_is_spelled (not a) = condition_is_spelled a
 condition_is_spelled (compare c s v) = value_is_spelled v
 condition_is_spelled (between c from upto) = value_is_spelled from && value_is_spelled upto
 

@@ -4,7 +4,7 @@ use Rattle.std.specs.List.{flat_map}
 use Rattle.star_schema.specs.declared.column.ColumnId.{ColumnId}
 use Rattle.star_schema.specs.declared.column.Kind.{Kind}
 use Rattle.star_schema.specs.declared.column.Kind.TheVariants as kind
-use Rattle.star_query.specs.Tree.{Condition, Expression, Item, Literal, Measure, Name, Tree, add, aggregate, between, both, column, compare, constant, count, either, fold, mul, negation, number, pair, plain, sub, text}
+use Rattle.star_query.specs.Tree.{Condition, Expression, Item, Literal, Measure, Name, Tree, add, aggregate, between, and, column, compare, constant, count, or, fold, mul, not, number, pair, plain, sub, text}
 use Rattle.star_plan.specs.Names.{column_at, is_of}
 
 -- a column where a query names it: the column, if there is one of this name, and whether it is of the kind that is
@@ -46,9 +46,9 @@ item_uses (aggregate a) = measure_uses a.measure
 
 -- a column stands beside literals of its kind
 abbrev pub condition_uses : Condition → List Use
-condition_uses (either a b) = condition_uses a ++ condition_uses b
-condition_uses (both a b) = condition_uses a ++ condition_uses b
-condition_uses (negation a) = condition_uses a
+condition_uses (or a b) = condition_uses a ++ condition_uses b
+condition_uses (and a b) = condition_uses a ++ condition_uses b
+condition_uses (not a) = condition_uses a
 condition_uses (pair a b) = any_use a ∷ any_use b ∷ []
 condition_uses (compare n s l) = use_as (kind_of_literal l) n ∷ []
 condition_uses (between n from upto) = use_between from upto n ∷ []

@@ -111,21 +111,21 @@ fn copy_literal(alloc: Global, literal: &Literal) -> Result<Literal, AllocError>
 impl Condition {
     fn or(alloc: Global, left: Condition, right: Condition) -> Result<Condition, AllocError>
         ensures { IfOk result (λ c. shown.condition_shown c
-            ≡ meaning.either (shown.condition_shown left) (shown.condition_shown right)) }
+            ≡ meaning.or (shown.condition_shown left) (shown.condition_shown right)) }
     {
         Ok(Condition::Or(Box::new(alloc, left)?, Box::new(alloc, right)?))
     }
 
     fn and(alloc: Global, left: Condition, right: Condition) -> Result<Condition, AllocError>
         ensures { IfOk result (λ c. shown.condition_shown c
-            ≡ meaning.both (shown.condition_shown left) (shown.condition_shown right)) }
+            ≡ meaning.and (shown.condition_shown left) (shown.condition_shown right)) }
     {
         Ok(Condition::And(Box::new(alloc, left)?, Box::new(alloc, right)?))
     }
 
     fn not(alloc: Global, negated: Condition) -> Result<Condition, AllocError>
         ensures { IfOk result (λ c. shown.condition_shown c
-            ≡ meaning.negation (shown.condition_shown negated)) }
+            ≡ meaning.not (shown.condition_shown negated)) }
     {
         Ok(Condition::Not(Box::new(alloc, negated)?))
     }

@@ -58,10 +58,6 @@ pub read_equal : (old new : Spot) (i : Name) (answer : Result Condition ParseErr
 read_equal old new i answer none reads =
     along condition_view unit_tree (λ h. unit_depth h ≤ 32) (λ h. equal_had h (name_view i)) (λ h. lit_wanted (compared h (name_view i) r.Equal)) give_unit old old new answer (λ h deep. same_from old (equal_had h (name_view i)) (lit_wanted (compared h (name_view i) r.Equal)) refl (λ x head. equal_step h (name_view i) x (head_no_name old.left x head none))) reads
 
-behind_other : (h : UnitHole) (i : tree.Name) (q : Relation) → (q ≡ r.Equal → ⊥) → behind_relation h i q ≡ lit_wanted (compared h i q)
-behind_other h i r.Equal other = absurd (other refl)
-behind_other h i _ other = refl
-
 pub read_compare_between : (old mid new : Spot) (i : Name) (answer : Result Condition ParseError) → Takes old mid (keyword k.Between) [] → ReadsNamed (λ h. lit_wanted (low h (name_view i))) mid new answer → ReadsNamed (λ h. unit_named h (name_view i)) old new answer
 read_compare_between old mid new i answer t reads =
     along condition_view unit_tree (λ h. unit_depth h ≤ 32) (λ h. unit_named h (name_view i)) (λ h. lit_wanted (low h (name_view i))) give_unit old mid new answer (λ h deep. takes old mid _ [] (unit_depth h) (unit_named h (name_view i)) (lit_wanted (low h (name_view i))) t deep refl) reads
@@ -85,9 +81,9 @@ bad_comparison old new answer e same no_not no_open b =
     refused condition_view unit_tree (λ h. unit_depth h ≤ 32) unit_wanted give_unit old new answer e same (λ h deep. bad_name (part.Comparison ∷ []) (unit_depth h) (unit_wanted h) old new e deep (λ t p. (unit_named h (record { text = t; place = p }), refl)) (λ none. stuck old (unit_wanted h) refl (λ x head. no_unit h x (head_no_name old.left x head none) (λ q. no_not (head ∙ ap Some q)) (λ q. no_open (head ∙ ap Some q)))) b)
 
 -- conditions
-pub read_not : (old mid new : Spot) (d : ℕ) (x y : Condition) → Takes old mid (keyword k.Not) (part.Comparison ∷ []) → d < 32 → y ≡ x → ReadsUnit (d + 1) mid new (Ok x) → (u : Unary) × (unit_tree u ≡ tree.negation (condition_view y)) × ((h : UnitHole) → unit_depth h ≡ d → verdict old (unit_wanted h) ≡ verdict new (give_unit u h))
+pub read_not : (old mid new : Spot) (d : ℕ) (x y : Condition) → Takes old mid (keyword k.Not) (part.Comparison ∷ []) → d < 32 → y ≡ x → ReadsUnit (d + 1) mid new (Ok x) → (u : Unary) × (unit_tree u ≡ tree.not (condition_view y)) × ((h : UnitHole) → unit_depth h ≡ d → verdict old (unit_wanted h) ≡ verdict new (give_unit u h))
 read_not old mid new d x y t deep same reads =
-    (not_unit reads.0, ap tree.negation (reads.1 ∙ ap condition_view (sym same)), λ h q. takes old mid _ (part.Comparison ∷ []) (unit_depth h + 1) (unit_wanted h) (unit_wanted (under_not h)) t (omega arith) refl ∙ reads.2 (under_not h) (ap (λ m. m + 1) q))
+    (not_unit reads.0, ap tree.not (reads.1 ∙ ap condition_view (sym same)), λ h q. takes old mid _ (part.Comparison ∷ []) (unit_depth h + 1) (unit_wanted h) (unit_wanted (under_not h)) t (omega arith) refl ∙ reads.2 (under_not h) (ap (λ m. m + 1) q))
 
 pub read_group : (old here a b new : Spot) (d : ℕ) (x : Condition) → here ≡ old → Takes here a (sign s.Open) [] → d < 32 → ReadsCond (d + 1) a b (Ok x) → Takes b new (sign s.Close) [] → ReadsUnit d old new (Ok x)
 read_group old here a b new d x same opened deep reads closed =
@@ -99,10 +95,10 @@ named_unit old here new d (Ok x) same deep reads =
 named_unit old here new d (Err e) same deep b =
     λ h q. bad_along e new _ _ (ap (λ s. verdict s (unit_wanted h)) (sym same)) (b h (omega (arith, q)))
 
-pub one_more_unit : (before : ConjHole → Verdict) (old mid new : Spot) (d : ℕ) (a x z : Condition) → ((c : Conj) × (conj_tree c ≡ condition_view a) × ((h : ConjHole) → conj_depth h ≡ d → before h ≡ verdict old (conj_had c h))) → Takes old mid (keyword k.And) [] → d ≤ 32 → condition_view z ≡ tree.both (condition_view a) (condition_view x) → ReadsUnit d mid new (Ok x) → (c : Conj) × (conj_tree c ≡ condition_view z) × ((h : ConjHole) → conj_depth h ≡ d → before h ≡ verdict new (conj_had c h))
+pub one_more_unit : (before : ConjHole → Verdict) (old mid new : Spot) (d : ℕ) (a x z : Condition) → ((c : Conj) × (conj_tree c ≡ condition_view a) × ((h : ConjHole) → conj_depth h ≡ d → before h ≡ verdict old (conj_had c h))) → Takes old mid (keyword k.And) [] → d ≤ 32 → condition_view z ≡ tree.and (condition_view a) (condition_view x) → ReadsUnit d mid new (Ok x) → (c : Conj) × (conj_tree c ≡ condition_view z) × ((h : ConjHole) → conj_depth h ≡ d → before h ≡ verdict new (conj_had c h))
 one_more_unit before old mid new d a x z so_far t deep ez reads =
-    (and_unit so_far.0 reads.0, ap (λ l. tree.both l (unit_tree reads.0)) so_far.1 ∙ ap (tree.both (condition_view a)) reads.1 ∙ sym ez, λ h q. so_far.2 h q ∙ takes old mid _ [] (conj_depth h) (conj_had so_far.0 h) (unit_wanted (next_unit so_far.0 h)) t (omega arith) refl ∙ reads.2 (next_unit so_far.0 h) q)
+    (and_unit so_far.0 reads.0, ap (λ l. tree.and l (unit_tree reads.0)) so_far.1 ∙ ap (tree.and (condition_view a)) reads.1 ∙ sym ez, λ h q. so_far.2 h q ∙ takes old mid _ [] (conj_depth h) (conj_had so_far.0 h) (unit_wanted (next_unit so_far.0 h)) t (omega arith) refl ∙ reads.2 (next_unit so_far.0 h) q)
 
-pub one_more_conj : (before : CondHole → Verdict) (old mid new : Spot) (d : ℕ) (a x z : Condition) → ((p : Cond) × (cond_tree p ≡ condition_view a) × ((h : CondHole) → cond_depth h ≡ d → before h ≡ verdict old (cond_had p h))) → Takes old mid (keyword k.Or) [] → d ≤ 32 → condition_view z ≡ tree.either (condition_view a) (condition_view x) → ReadsConj d mid new (Ok x) → (p : Cond) × (cond_tree p ≡ condition_view z) × ((h : CondHole) → cond_depth h ≡ d → before h ≡ verdict new (cond_had p h))
+pub one_more_conj : (before : CondHole → Verdict) (old mid new : Spot) (d : ℕ) (a x z : Condition) → ((p : Cond) × (cond_tree p ≡ condition_view a) × ((h : CondHole) → cond_depth h ≡ d → before h ≡ verdict old (cond_had p h))) → Takes old mid (keyword k.Or) [] → d ≤ 32 → condition_view z ≡ tree.or (condition_view a) (condition_view x) → ReadsConj d mid new (Ok x) → (p : Cond) × (cond_tree p ≡ condition_view z) × ((h : CondHole) → cond_depth h ≡ d → before h ≡ verdict new (cond_had p h))
 one_more_conj before old mid new d a x z so_far t deep ez reads =
-    (or_conj so_far.0 reads.0, ap (λ l. tree.either l (conj_tree reads.0)) so_far.1 ∙ ap (tree.either (condition_view a)) reads.1 ∙ sym ez, λ h q. so_far.2 h q ∙ takes old mid _ [] (cond_depth h) (cond_had so_far.0 h) (unit_wanted (first_unit (next_conj so_far.0 h))) t (omega arith) (cond_joins so_far.0 h) ∙ reads.2 (next_conj so_far.0 h) q)
+    (or_conj so_far.0 reads.0, ap (λ l. tree.or l (conj_tree reads.0)) so_far.1 ∙ ap (tree.or (condition_view a)) reads.1 ∙ sym ez, λ h q. so_far.2 h q ∙ takes old mid _ [] (cond_depth h) (cond_had so_far.0 h) (unit_wanted (first_unit (next_conj so_far.0 h))) t (omega arith) (cond_joins so_far.0 h) ∙ reads.2 (next_conj so_far.0 h) q)

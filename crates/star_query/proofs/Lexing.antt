@@ -7,12 +7,12 @@ use Rattle.star_query.specs.declared.token.Word.TheVariants.{Keyword, Fold, Coun
 use Rattle.star_query.specs.declared.token.Keyword.TheVariants.{Select}
 use Rattle.star_query.specs.declared.token.Fold.TheVariants.{Sum}
 use Rattle.star_query.specs.Symbols.{Symbol, Placed, spelling, lowered}
-use Rattle.star_query.specs.Cut.{is_spelled, Ending, closed, stopped, open_ended, farther, blank, token, bad, cut_from, cut_of, with_token, begins_with_letter, is_word_byte, number_piece}
+use Rattle.star_query.specs.Cut.{is_spelled, blank, token, bad, cut_from, cut_of, with_token, begins_with_letter, is_word_byte, number_piece}
 use Rattle.star_query.specs.declared.fault.QueryFault.TheVariants.{BadNumber, OutOfMemory, TooLong}
 use Rattle.star_query.specs.declared.fault.QueryFault.{QueryFault}
 use Rattle.std.specs.Char.{is_ascii_digit}
 use Rattle.std.proofs.lemmas.List.{drop_all}
-use Rattle.star_query.specs.Private.Lexed.{ended_at, front_piece, with_tokens, begins_with_digit, IsCutFault}
+use Rattle.star_query.specs.Private.Lexed.{front_piece, with_tokens, begins_with_digit, IsCutFault}
 use Rattle.std.specs.List.{list_all, prefix_len}
 use Rattle.std.specs.Prelude.{nat_lt}
 use Rattle.star_common.specs.Numerals.{is_numeral, numeral_of}
@@ -41,11 +41,6 @@ by_bytes false xs ys e = by_test (pointwise nat_eq xs ys) refl
 
 pub spelled : (w : Word) (word : List ℕ) (b : Bool) → (IsTrue b ↔ (lowered (spelling w) ≡ lowered word)) → b ≡ is_spelled word w
 spelled w word b e = by_bytes b (spelling w) (lowered word) (subst (λ xs. IsTrue b ↔ (xs ≡ lowered word)) (lowered-spelling w) e)
-
-pub ended-farther : (n : ℕ) (e : Ending) → ended_at n (farther e) ≡ ended_at (n + 1) e
-ended-farther n (closed m) = ap closed (omega arith)
-ended-farther n (stopped m) = ap stopped (omega arith)
-ended-farther n open_ended = refl
 
 pub prefix_within : {X : Type 0} (p : X → Bool) (xs : List X) → prefix_len p xs ≤ length xs
 prefix_within p xs = prefix_len-le-length p xs

@@ -13,7 +13,7 @@ use Rattle.star_query.specs.Symbols.{Symbol, Placed, symbols}
 use Rattle.star_query.specs.Private.Lexed.{placed, symbol_of, IsCutFault, IsLexical}
 use Rattle.star_query.specs.Cut.{cut_of}
 use Rattle.star_query.specs.Tree as tree
-use Rattle.star_query.specs.Derives.{symbols_at, Derives, FirstFault, Means, StopsAt, IsFirstFault, place_of}
+use Rattle.star_query.specs.Derives.{symbols_at, Derives, FirstFault, Means, IsFirstFault, place_of}
 use Rattle.star_query.specs.declared.counts.Counts.{Counts}
 use Rattle.star_query.specs.Private.Machine.{Bad, begin, nothing_counted, run}
 use Rattle.star_query.specs.Views.{tree_view}
@@ -66,16 +66,6 @@ pub no_tree : (xs : List Symbol) (f : Fault) (left : List Symbol) (place : ℕ) 
 no_tree xs Unexpected left place t e d = refuses xs Unexpected left t e d
 no_tree xs TooDeep left place t e d = refuses xs TooDeep left t e d
 no_tree xs TooMany left place t e d = refuses xs TooMany left t e d
-
--- the fault of a text whose tokens have it
-text_stops : (bytes : List ℕ) (tokens left : List Placed) (f : Fault) → length bytes ≤ 65536 → cut_of bytes ≡ Ok tokens → TokensStopAt tokens f left → StopsAt bytes f left
-text_stops bytes tokens left f short cut s =
-    record {
-      short = short;
-      front = s.front;
-      cut = cut ∙ ap Ok s.cut;
-      first = subst (λ ts. FirstFault (symbols ts) f (symbols left)) s.cut s.first;
-    }
 
 cut_is_cut : (a b : List Placed) (c : Result (List Placed) QueryFault) → c ≡ Ok a → c ≡ Ok b → a ≡ b
 cut_is_cut a b c e f = let same : the_ok a ≡ the_ok b = sym e ∙ f in cc

@@ -32,8 +32,8 @@ use Rattle.star_query.specs.declared.tree.Tree.{Tree}
 use Rattle.star_query.specs.Symbols.{Symbol, keyword, sign, name}
 use Rattle.star_query.specs.Tree as tree
 use Rattle.star_query.specs.Grammar as grammar
-use Rattle.star_query.specs.Grammar.{Several, one, more, Agg, folded, counted, Cond, lone_conj, or_conj, Key, unmarked, ascending, descending, ungrouped, grouped, cubed, Query, first, ident, cond_tree, agg_tree, item_tree, key_tree, listed, names, groups_tree}
-use Rattle.star_query.specs.Private.Machine.{extended, in_fold, in_where, first_factor, first_term, first_unit, first_conj, Filtered, Grouped, filtered_by, grouped_by, query_of, State, begin, item_wanted, fold_named, count_named, count_opened, count_starred, factor_wanted, expr_had, cond_had, agg_had, alias_wanted, items_had, table_wanted, tables_had, unit_wanted, filtered_had, group_had, by_had, cube_had, column_wanted, columns_had, grouped_had, order_had, key_wanted, key_named, keys_had, done, ended, to, step, at_end, Whole, Bad, after, ends, run}
+use Rattle.star_query.specs.Grammar.{Several, one, more, Agg, folded, counted, Cond, lone_conj, or_conj, Key, unmarked, ascending, descending, grouped, cubed, Query, first, ident, cond_tree, agg_tree, item_tree, key_tree, listed, names, groups_tree}
+use Rattle.star_query.specs.Private.Machine.{extended, in_fold, in_where, first_factor, first_term, first_unit, first_conj, Filtered, Grouped, filtered_by, grouped_by, query_of, State, begin, item_wanted, fold_named, count_named, count_opened, count_starred, factor_wanted, expr_had, cond_had, agg_had, alias_wanted, items_had, table_wanted, tables_had, unit_wanted, filtered_had, by_had, cube_had, column_wanted, columns_had, grouped_had, order_had, key_wanted, key_named, keys_had, done, ended, to, step, at_end, Whole, Bad, after, ends, run}
 use Rattle.star_query.specs.Views.{name_view, condition_view, measure_view, aggregate_view, item_view, grouping_view, key_view}
 use Rattle.star_query.specs.Private.Reads.{Spot, spot_of, head_of, No, verdict, EndsBad, Takes, NoName, ReadsName, ReadsExpr, ReadsCond, NoLogic}
 use Rattle.star_query.specs.Private.Clauses.{function_symbol, function_named, function_parts, ReadsFolded, ReadsCounted, ReadsMeasure, ReadsAlias, ReadsAggregate, ReadsItem, NoComma, ReadsItems, ReadsTables, ReadsFilter, ReadsColumns, ReadsGroups, ReadsGrouping, ReadsKey, ReadsKeyList, ReadsKeys, ReadsEnd, ReadsQuery}
@@ -232,15 +232,6 @@ pub bad_cube_close : (old a b c new : Spot) (v : _) (r : Result Grouping ParseEr
 bad_cube_close old a b c new v r e is cube opened reads no_comma bad =
     refused grouping_view groups_tree (λ h. Unit {0}) by_had (λ g f. grouped_had (grouped_by f g)) old new r e is (λ f u. bad_along e new _ _ (takes old a _ [] 0 (by_had f) (cube_had f) cube zero_deep refl ∙ takes a b _ [] 0 (cube_had f) (column_wanted f true None) opened zero_deep refl ∙ reads.2 (f, true) tt) (not_next (sign s.Close) c new (columns_had f true reads.0) e refl (λ y head other. cube_ends f reads.0 y (λ q. no_comma (head ∙ ap Some q)) other) bad))
 
-filtered_step : (f : Filtered) (x : Symbol) → (x ≡ keyword k.Group → ⊥) → step (filtered_had f) x ≡ step (grouped_had (grouped_by f ungrouped)) x
-filtered_step f (keyword k.Group) other = absurd (other refl)
-filtered_step f _ other = refl
-
--- behind GROUP BY
-group_by_passed : (old a b : Spot) (f : Filtered) → Takes old a (keyword k.Group) [] → Takes a b (keyword k.By) [] → verdict old (filtered_had f) ≡ verdict b (by_had f)
-group_by_passed old a b f group by =
-    takes old a _ [] 0 (filtered_had f) (group_had f) group zero_deep refl ∙ takes a b _ [] 0 (group_had f) (by_had f) by zero_deep refl
-
 -- sort keys
 key_step : (g : Grouped) (b : Option (Several Key)) (i : tree.Name) (x : Symbol) → (x ≡ keyword k.Asc → ⊥) → (x ≡ keyword k.Desc → ⊥) → step (key_named g b i) x ≡ step (keys_had g (extended b (unmarked i))) x
 key_step g b i (keyword k.Asc) p q = absurd (p refl)
@@ -283,10 +274,6 @@ pub read_keys : (old a b new : Spot) (r : Result (Vec SortKey Global) ParseError
 read_keys old a b new (Ok v) order by reads none =
     (Some reads.0, reads.1, λ g u. order_by_passed old a b g order by ∙ reads.2 g tt ∙ same_from new (keys_had g reads.0) (done g (Some reads.0)) refl (λ x head. keys_step g reads.0 x (λ q. none (head ∙ ap Some q))))
 read_keys old a b new (Err e) order by bad none = λ g u. bad_along e new _ _ (order_by_passed old a b g order by) (bad g tt)
-
-grouped_step : (g : Grouped) (x : Symbol) → (x ≡ keyword k.Order → ⊥) → step (grouped_had g) x ≡ step (done g None) x
-grouped_step g (keyword k.Order) other = absurd (other refl)
-grouped_step g _ other = refl
 
 -- the end
 at_nothing : (here : Spot) (from : State) (q : Query) → length here.left ≡ 0 → at_end from ≡ Some q → verdict here from ≡ Whole q
@@ -373,10 +360,6 @@ past_select old a t = takes old a _ [] 0 begin (item_wanted None) t zero_deep re
 
 pub past_from : (b c : Spot) (is : Several grammar.Item) → Takes b c (keyword k.From) [] → verdict b (items_had is) ≡ verdict c (table_wanted is None)
 past_from b c is t = takes b c _ [] 0 (items_had is) (table_wanted is None) t zero_deep refl
-
-only_select : (x : Symbol) → (x ≡ keyword k.Select → ⊥) → step begin x ≡ None
-only_select (keyword k.Select) other = absurd (other refl)
-only_select _ other = refl
 
 items_end : (is : Several grammar.Item) (x : Symbol) → (x ≡ sign s.Comma → ⊥) → (x ≡ keyword k.From → ⊥) → step (items_had is) x ≡ None
 items_end is (sign s.Comma) f g = absurd (f refl)

@@ -7,7 +7,7 @@ use Rattle.star_query.specs.declared.token.Relation.TheVariants.{Equal, Less}
 use Rattle.star_schema.specs.declared.group.Shape.TheVariants.{Plain}
 use Rattle.star_query.specs.Symbols.{Placed, spelling, reserved_words}
 use Rattle.star_query.specs.Cut.{cut_of, cut_from, reserved}
-use Rattle.star_query.specs.Tree.{Name, number, column, mul, Condition, both, pair, compare, between, fold, Aggregate, aggregate, Tree}
+use Rattle.star_query.specs.Tree.{Name, number, column, mul, Condition, and, pair, compare, between, fold, Aggregate, aggregate, Tree}
 use Rattle.star_query.specs.Derives.{Means}
 use Rattle.star_query.proofs.Verdicts.{derives}
 
@@ -42,7 +42,7 @@ abbrev query_tree : Tree
 query_tree = record {
   items = aggregate revenue ∷ [];
   tables = called (codes "lineorder") 57 ∷ called (codes "date") 68 ∷ [];
-  condition = Some (both (both (both of_the_day of_1993) discounted) of_few);
+  condition = Some (and (and (and of_the_day of_1993) discounted) of_few);
   grouping = record { shape = Plain; columns = [] };
   keys = [];
 }

@@ -221,14 +221,14 @@ lit_tree (quoted t) = tree.text t
 abbrev mutual
   pub cond_tree : Cond → tree.Condition
   cond_tree (lone_conj c) = conj_tree c
-  cond_tree (or_conj a c) = tree.either (cond_tree a) (conj_tree c)
+  cond_tree (or_conj a c) = tree.or (cond_tree a) (conj_tree c)
 
   pub conj_tree : Conj → tree.Condition
   conj_tree (lone_unit u) = unit_tree u
-  conj_tree (and_unit c u) = tree.both (conj_tree c) (unit_tree u)
+  conj_tree (and_unit c u) = tree.and (conj_tree c) (unit_tree u)
 
   pub unit_tree : Unary → tree.Condition
-  unit_tree (not_unit u) = tree.negation (unit_tree u)
+  unit_tree (not_unit u) = tree.not (unit_tree u)
   unit_tree (group a) = cond_tree a
   unit_tree (pair a b) = tree.pair a b
   unit_tree (compare a q l) = tree.compare a q (lit_tree l)

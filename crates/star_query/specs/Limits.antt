@@ -2,7 +2,7 @@
 use Rattle.std.specs.Prelude.{ℕ, ◌+◌, ◌≤◌, length, Option, Some, None}
 use Rattle.std.specs.List.{sum_by}
 use Rattle.star_query.specs.Maxima.{most_aggregates, most_columns, most_comparisons, most_items, most_keys, most_operands}
-use Rattle.star_query.specs.Tree.{Expression, column, constant, add, sub, mul, Condition, either, both, negation, pair, compare, between, Measure, fold, count, Item, plain, aggregate, Tree}
+use Rattle.star_query.specs.Tree.{Expression, column, constant, add, sub, mul, Condition, or, and, not, pair, compare, between, Measure, fold, count, Item, plain, aggregate, Tree}
 
 -- the columns and numbers of an expression
 abbrev pub operands_of : Expression → ℕ
@@ -26,9 +26,9 @@ aggregates_in (aggregate a) = 1
 
 -- the comparisons and negations of a condition
 abbrev pub comparisons_of : Condition → ℕ
-comparisons_of (either a b) = comparisons_of a + comparisons_of b
-comparisons_of (both a b) = comparisons_of a + comparisons_of b
-comparisons_of (negation a) = comparisons_of a + 1
+comparisons_of (or a b) = comparisons_of a + comparisons_of b
+comparisons_of (and a b) = comparisons_of a + comparisons_of b
+comparisons_of (not a) = comparisons_of a + 1
 comparisons_of (pair n m) = 1
 comparisons_of (compare n q l) = 1
 comparisons_of (between n l h) = 1

@@ -4,7 +4,7 @@ use Rattle.std.specs.List.{list_all}
 use Rattle.star_schema.specs.Tables.{is_printable}
 use Rattle.star_query.specs.Cut.{begins_with_letter, is_word_byte}
 use Rattle.star_query.specs.Maxima.{most_digits, most_name_bytes}
-use Rattle.star_query.specs.Tree.{Name, Literal, number, text, Expression, column, constant, add, sub, mul, Condition, either, both, negation, pair, compare, between, Measure, fold, count, Item, plain, aggregate, Tree}
+use Rattle.star_query.specs.Tree.{Name, Literal, number, text, Expression, column, constant, add, sub, mul, Condition, or, and, not, pair, compare, between, Measure, fold, count, Item, plain, aggregate, Tree}
 
 -- 1 to 64 letters, digits and _, of which the first is no digit
 unfoldable pub is_name : List ℕ → Bool
@@ -30,9 +30,9 @@ expression_is_spelled (sub a b) = expression_is_spelled a && expression_is_spell
 expression_is_spelled (mul a b) = expression_is_spelled a && expression_is_spelled b
 
 abbrev pub condition_is_spelled : Condition → Bool
-condition_is_spelled (either a b) = condition_is_spelled a && condition_is_spelled b
-condition_is_spelled (both a b) = condition_is_spelled a && condition_is_spelled b
-condition_is_spelled (negation a) = condition_is_spelled a
+condition_is_spelled (or a b) = condition_is_spelled a && condition_is_spelled b
+condition_is_spelled (and a b) = condition_is_spelled a && condition_is_spelled b
+condition_is_spelled (not a) = condition_is_spelled a
 condition_is_spelled (pair m n) = is_name m.text && is_name n.text
 condition_is_spelled (compare n q l) = is_name n.text && literal_is_spelled l
 condition_is_spelled (between n l h) = is_name n.text && (literal_is_spelled l && literal_is_spelled h)

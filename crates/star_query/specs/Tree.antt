@@ -19,8 +19,8 @@ pub data Expression : Type 0 where
   add sub mul : Expression → Expression → Expression
 
 pub data Condition : Type 0 where
-  either both : Condition → Condition → Condition
-  negation : Condition → Condition
+  or and : Condition → Condition → Condition
+  not : Condition → Condition
   pair : Name → Name → Condition
   compare : Name → Relation → Literal → Condition
   between : Name → Literal → Literal → Condition

@@ -32,9 +32,9 @@ expression_view (Sub' p a q b) = tree.sub (expression_view a) (expression_view b
 expression_view (Mul' p a q b) = tree.mul (expression_view a) (expression_view b)
 
 abbrev pub condition_view : Condition → tree.Condition
-condition_view (Or' p a q b) = tree.either (condition_view a) (condition_view b)
-condition_view (And' p a q b) = tree.both (condition_view a) (condition_view b)
-condition_view (Not' p a) = tree.negation (condition_view a)
+condition_view (Or' p a q b) = tree.or (condition_view a) (condition_view b)
+condition_view (And' p a q b) = tree.and (condition_view a) (condition_view b)
+condition_view (Not' p a) = tree.not (condition_view a)
 condition_view (Pair n m) = tree.pair (name_view n) (name_view m)
 condition_view (Compare n q l) = tree.compare (name_view n) q (literal_view l)
 condition_view (Between n l m) = tree.between (name_view n) (literal_view l) (literal_view m)

@@ -164,7 +164,7 @@ impl<'a> Parser<'a> {
         let mut all = self.unit(depth)?;
         while self.take_keyword(Keyword::And) {
             let next = self.unit(depth)?;
-            all = both(self.alloc, all, next)?;
+            all = and(self.alloc, all, next)?;
         }
         Ok(all)
     }
@@ -180,22 +180,22 @@ impl<'a> Parser<'a> {
         let mut any = self.conjunction(depth)?;
         while self.take_keyword(Keyword::Or) {
             let next = self.conjunction(depth)?;
-            any = either(self.alloc, any, next)?;
+            any = or(self.alloc, any, next)?;
         }
         Ok(any)
     }
 }
 
-fn both(alloc: Global, left: Condition, right: Condition) -> Result<Condition, AllocError>
+fn and(alloc: Global, left: Condition, right: Condition) -> Result<Condition, AllocError>
     ensures { IfOk result (λ c. condition_view c
-        ≡ tree.both (condition_view left) (condition_view right)) }
+        ≡ tree.and (condition_view left) (condition_view right)) }
 {
     Ok(Condition::And(Box::new(alloc, left)?, Box::new(alloc, right)?))
 }
 
-fn either(alloc: Global, left: Condition, right: Condition) -> Result<Condition, AllocError>
+fn or(alloc: Global, left: Condition, right: Condition) -> Result<Condition, AllocError>
     ensures { IfOk result (λ c. condition_view c
-        ≡ tree.either (condition_view left) (condition_view right)) }
+        ≡ tree.or (condition_view left) (condition_view right)) }
 {
     Ok(Condition::Or(Box::new(alloc, left)?, Box::new(alloc, right)?))
 }

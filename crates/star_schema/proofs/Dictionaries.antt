@@ -1,5 +1,5 @@
 -- Each column of texts has one dictionary.
-use Rattle.std.proofs.Common.{◌≡◌, ◌⊎◌, ◌↔◌, ℕ, ◌+◌, ◌<◌, ◌≤◌, List, [], ◌∷◌, length, refl, sym, ap, ◌∙◌, arith, inl, inr, ⊎_elim, subst}
+use Rattle.std.proofs.Common.{◌≡◌, ◌⊎◌, ◌↔◌, ℕ, ◌+◌, ◌≤◌, List, [], ◌∷◌, length, refl, sym, ap, ◌∙◌, arith, inl, inr, ⊎_elim, subst}
 use Rattle.std.specs.List.{AllByRecursion, Contains}
 use Rattle.std.specs.List.Sorted.{IsStrictlySortedBy}
 use Rattle.std.specs.Ordering.{match_ordering, ordering_reverse}
@@ -168,13 +168,3 @@ unfolding dictionary_of
 length-dictionary_of-le [] = omega arith
 length-dictionary_of-le (t ∷ ts) = let rest = length-dictionary_of-le ts in let more =
     length-with_text-le t (dictionary_of ts) in omega (arith, rest, more)
-
--- what a type keeps of a dictionary of fewer than n texts
-pub dictionary_kept : (ds ts : List (List ℕ)) (n : ℕ) → ds ≡ dictionary_of ts → length ts < n
-    → (length ds < n) × IsStrictlySortedBy text_cmp ds
-dictionary_kept ds ts n e few =
-    rw e (
-      let le = length-dictionary_of-le ts in
-          omega (arith, le, few),
-      (IsDictionary-dictionary_of ts).sorted,
-    )

@@ -1,5 +1,5 @@
 -- What a check begins with.
-use Rattle.std.proofs.Common.{◌≡◌, ◌<◌, ◌≤◌, ◌+◌, ◌*◌, ℕ, false, [], get_or, arith, ap, sym, subst, ⊎_elim}
+use Rattle.std.proofs.Common.{◌≡◌, ◌<◌, ◌+◌, ◌*◌, ℕ, false, [], get_or, arith, ap, sym, subst, ⊎_elim}
 use Rattle.std.specs.Prelude.{replicate}
 use Rattle.std.proofs.lemmas.Bool.{cases_lt}
 use Rattle.std.proofs.lemmas.List.{get_or-replicate, get_or_past, length-replicate}
@@ -9,8 +9,7 @@ use Rattle.star_program.specs.Limits.{IsSmall, IsWithinLimits}
 use Rattle.star_program.specs.declared.program.Parts.{Parts}
 use Rattle.star_admission.specs.Contexts.{at_first}
 use Rattle.star_verify.specs.declared.tally.Tally.{Tally}
-use Rattle.star_verify.specs.Private.Bounded.{IsBounded}
-use Rattle.star_verify.specs.Private.Kept.{AreFew, HasShares, flag_at}
+use Rattle.star_verify.specs.Private.Kept.{HasShares, flag_at}
 use Rattle.star_verify.specs.Private.Shown.{IsTally, known_in, known_of, nothing_known}
 
 all_one : {X : Type 0} (n i : ℕ) (x : X) → get_or (replicate n x) i x ≡ x
@@ -34,12 +33,3 @@ no_shares parts none limits is g there a within t =
     All-get_or IsSmall parts.groups g _ there limits.each_group in
     let inside : 8 * g + a < 64 = omega (arith, there, within, limits.groups, small.aggregates) in
     subst (λ s. IsTally s []) (sym (get_or-replicate 64 (8 * g + a) none t inside)) is
-
-pub none_many : (most : ℕ) (none : Tally) → IsBounded none → none.many ≡ 0
-    → AreFew (replicate 64 none) most
-none_many most none bounded few p t within =
-    let same : get_or (replicate 64 none) p t ≡ none =
-    get_or-replicate 64 p none t (omega (arith, within, length-replicate 64 none)) in (
-      subst IsBounded (sym same) bounded,
-      subst (λ s. s.many ≤ most) (sym same) (omega (arith, few)),
-    )

@@ -1,5 +1,5 @@
 -- What is first of the steps of a body, one step after another.
-use Rattle.std.proofs.Common.{◌≡◌, ◌+◌, ◌-◌, ◌≤◌, ◌<◌, ◌^◌, ℕ, Bool, List, [], ◌∷◌, length, take, drop, get_or, Option, Some, None, Result, Ok, Err, arith, refl, ap, sym, subst, ◌∙◌}
+use Rattle.std.proofs.Common.{◌≡◌, ◌+◌, ◌-◌, ◌≤◌, ◌<◌, ℕ, Bool, List, [], ◌∷◌, length, take, drop, get_or, Option, Some, None, Result, Ok, Err, arith, refl, ap, sym, subst, ◌∙◌}
 use Rattle.std.specs.Option.{option_or}
 use Rattle.std.specs.Prelude.{◌||◌}
 use Rattle.star_schema.specs.Sizes.{size_of}
@@ -137,20 +137,6 @@ opened_in g pending table r body rest body_as old inner outer e f is same =
     ∙ either_assoc (pending g) (code_puts_to g body) (code_puts_to g rest)
 
 -- ---- how far a walk is
-
-pub none_walked : (walk : Walk) → turns_met (size_of walk.subject.facts.now.sizes) walk.place.met (code_of_steps walk.steps) ≤ 10 ^ 15
-    → IsSized walk.subject.parts.now walk.noted → AreFewAt walk.noted walk.place.at
-    → IsLeft walk walk.registers walk.noted walk.place.at walk.steps
-none_walked walk turns sized few = record {
-  past = omega arith;
-  size = refl;
-  turns = turns;
-  wide = refl;
-  sized = sized;
-  few = few;
-  kept = λ w x pending facts keeps placed marked.
-      (x, keeps, placed, record { first = refl; after = refl });
-}
 
 -- what the walk of a step answers where nothing refuses it
 abbrev IsStepped : Walk → List Register → Noted → ℕ → Step → Code → List Register → Noted → Type 0

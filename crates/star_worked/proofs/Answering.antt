@@ -14,7 +14,7 @@ use Rattle.star_schema.specs.declared.group.Direction.TheVariants.{Ascending, De
 use Rattle.star_query.specs.Symbols.{Placed, spelling, reserved_words}
 use Rattle.star_query.specs.Cut.{cut_of, cut_from, reserved}
 use Rattle.star_query.specs.Tree as tree
-use Rattle.star_query.specs.Tree.{Name, column, mul, Condition, both, either, pair, compare, between, fold, count, aggregate, plain, Tree}
+use Rattle.star_query.specs.Tree.{Name, column, mul, Condition, and, or, pair, compare, between, fold, count, aggregate, plain, Tree}
 use Rattle.star_query.specs.Derives.{Means}
 use Rattle.star_query.proofs.Verdicts.{derives}
 use Rattle.star_plan.specs.Meaning.{Tables}
@@ -48,9 +48,9 @@ first_text = codes "select sum(lo_extendedprice*lo_discount) as revenue from lin
 
 abbrev first_where : Condition
 first_where =
-    both
-    (both
-    (both (pair (called (codes "lo_orderdate") 79) (called (codes "d_datekey") 94)) (compare (called (codes "d_year") 108) Equal (tree.number (pos 1993))))
+    and
+    (and
+    (and (pair (called (codes "lo_orderdate") 79) (called (codes "d_datekey") 94)) (compare (called (codes "d_year") 108) Equal (tree.number (pos 1993))))
     (between (called (codes "lo_discount") 126) (tree.number (pos 1)) (tree.number (pos 3))))
     (compare (called (codes "lo_quantity") 158) Less (tree.number (pos 25)))
 
@@ -95,10 +95,10 @@ second_text = codes "select sum(lo_revenue), d_year, p_brand1 from lineorder, da
 
 abbrev second_where : Condition
 second_where =
-    both
-    (both
-    (both
-    (both (pair (called (codes "lo_orderdate") 84) (called (codes "d_datekey") 99)) (pair (called (codes "lo_partkey") 113) (called (codes "p_partkey") 126)))
+    and
+    (and
+    (and
+    (and (pair (called (codes "lo_orderdate") 84) (called (codes "d_datekey") 99)) (pair (called (codes "lo_partkey") 113) (called (codes "p_partkey") 126)))
     (pair (called (codes "lo_suppkey") 140) (called (codes "s_suppkey") 153)))
     (compare (called (codes "p_category") 167) Equal (tree.text (codes "MFGR#12"))))
     (compare (called (codes "s_region") 194) Equal (tree.text (codes "AMERICA")))
@@ -159,7 +159,7 @@ cube_query = record {
       ∷ aggregate (record { measure = fold Sum (column (called (codes "lo_revenue") 29)); place = 25; name = Some (called (codes "revenue") 44) })
       ∷ aggregate (record { measure = count; place = 53; name = Some (called (codes "n") 65) }) ∷ [];
   tables = called (codes "lineorder") 72 ∷ called (codes "date") 83 ∷ called (codes "supplier") 89 ∷ [];
-  condition = Some (both (pair (called (codes "lo_orderdate") 104) (called (codes "d_datekey") 119)) (pair (called (codes "lo_suppkey") 133) (called (codes "s_suppkey") 146)));
+  condition = Some (and (pair (called (codes "lo_orderdate") 104) (called (codes "d_datekey") 119)) (pair (called (codes "lo_suppkey") 133) (called (codes "s_suppkey") 146)));
   grouping =
       record { shape = Cube; columns = called (codes "d_year") 170 ∷ called (codes "s_region") 178 ∷ [] };
   keys = record { name = called (codes "revenue") 197; direction = Descending } ∷ [];
@@ -240,15 +240,15 @@ abbrev cities_text : List ℕ
 cities_text = codes "select c_city, s_city, d_year, sum(lo_revenue) as revenue from customer, lineorder, supplier, date where lo_custkey = c_custkey and lo_suppkey = s_suppkey and lo_orderdate = d_datekey and (c_city = 'UNITED KI1' or c_city = 'UNITED KI5') and (s_city = 'UNITED KI1' or s_city = 'UNITED KI5') and d_year >= 1992 and d_year <= 1997 group by c_city, s_city, d_year order by d_year asc, revenue desc;"
 
 abbrev either_of : Name → Name → Condition
-either_of a b = either (compare a Equal (tree.text (codes "UNITED KI1"))) (compare b Equal (tree.text (codes "UNITED KI5")))
+either_of a b = or (compare a Equal (tree.text (codes "UNITED KI1"))) (compare b Equal (tree.text (codes "UNITED KI5")))
 
 abbrev cities_where : Condition
 cities_where =
-    both
-    (both
-    (both
-    (both
-    (both (both (pair (called (codes "lo_custkey") 105) (called (codes "c_custkey") 118)) (pair (called (codes "lo_suppkey") 132) (called (codes "s_suppkey") 145))) (pair (called (codes "lo_orderdate") 159) (called (codes "d_datekey") 174)))
+    and
+    (and
+    (and
+    (and
+    (and (and (pair (called (codes "lo_custkey") 105) (called (codes "c_custkey") 118)) (pair (called (codes "lo_suppkey") 132) (called (codes "s_suppkey") 145))) (pair (called (codes "lo_orderdate") 159) (called (codes "d_datekey") 174)))
     (either_of (called (codes "c_city") 189) (called (codes "c_city") 214)))
     (either_of (called (codes "s_city") 242) (called (codes "s_city") 267)))
     (compare (called (codes "d_year") 294) AtLeast (tree.number (pos 1992))))

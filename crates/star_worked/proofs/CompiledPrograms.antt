@@ -10,7 +10,7 @@ use Rattle.star_schema.specs.declared.group.GroupColumn.TheVariants.{Key, Aggreg
 use Rattle.star_schema.specs.declared.group.Shape.TheVariants.{Plain}
 use Rattle.star_schema.specs.Schema.{column_of, table_name}
 use Rattle.star_query.specs.declared.token.Relation.TheVariants.{AtLeast, Equal, Greater, Unequal}
-use Rattle.star_plan.specs.Meaning.{Plan, add, between, both, column, compare, counted, either, greatest, mul, negation, sub, summed}
+use Rattle.star_plan.specs.Meaning.{Plan, add, between, and, column, compare, counted, or, greatest, mul, not, sub, summed}
 use Rattle.star_program.specs.Text.Keywords.{shape_name, aggregate_name, mnemonic_name, direction_name}
 use Rattle.star_program.specs.Text.Statements.{lines_of_code}
 use Rattle.star_program.specs.Text.Written.{text_of, line_text, op_text, assigned_text, register_text, target_text, group_text, key_text, column_text, show_text, sort_text}
@@ -27,7 +27,7 @@ asked = record {
   conjuncts =
       compare LoCustkey Greater (number 1)
       ∷ between CNation (text (codes "CHINA")) (text (codes "PERU"))
-      ∷ negation (either (compare DYear Unequal (number 1993)) (both (compare LoTax AtLeast (number 2)) (compare CRegion Equal (text (codes "ASIA")))))
+      ∷ not (or (compare DYear Unequal (number 1993)) (and (compare LoTax AtLeast (number 2)) (compare CRegion Equal (text (codes "ASIA")))))
       ∷ between LoDiscount (number 1) (number 3) ∷ [];
   shape = Plain;
   keys = DYear ∷ CNation ∷ [];

@@ -7,7 +7,7 @@ use Rattle.star_schema.specs.Schema.{column_of, place_of}
 use Rattle.star_schema.specs.Tables.{Value}
 use Rattle.star_query.specs.declared.token.Relation.{Relation}
 use Rattle.star_query.specs.declared.token.Relation.TheVariants.{Equal, Unequal, Less, AtMost, Greater, AtLeast}
-use Rattle.star_plan.specs.Meaning.{Joined, Condition, either, both, negation, compare, between, only_row, holds, all_hold}
+use Rattle.star_plan.specs.Meaning.{Joined, Condition, or, and, not, compare, between, only_row, holds, all_hold}
 use Rattle.star_worked.proofs.Sample.{number, below_zero, text}
 
 -- a line of lineorder with this quantity and this mode
@@ -96,15 +96,15 @@ never = compare LoQuantity Equal (number 11)
 abbrev ten : Joined
 ten = line (number 10) (text (codes "MAIL"))
 
-or_holds : map (λ c. holds c ten) (either yes yes ∷ either yes never ∷ either never yes ∷ either never never ∷ []) ≡ true ∷ true ∷ true ∷ false ∷ []
+or_holds : map (λ c. holds c ten) (or yes yes ∷ or yes never ∷ or never yes ∷ or never never ∷ []) ≡ true ∷ true ∷ true ∷ false ∷ []
 unfolding column_of place_of
 or_holds = refl
 
-and_holds : map (λ c. holds c ten) (both yes yes ∷ both yes never ∷ both never yes ∷ both never never ∷ []) ≡ true ∷ false ∷ false ∷ false ∷ []
+and_holds : map (λ c. holds c ten) (and yes yes ∷ and yes never ∷ and never yes ∷ and never never ∷ []) ≡ true ∷ false ∷ false ∷ false ∷ []
 unfolding column_of place_of
 and_holds = refl
 
-not_holds : map (λ c. holds c ten) (negation yes ∷ negation never ∷ negation (negation yes) ∷ []) ≡ false ∷ true ∷ true ∷ []
+not_holds : map (λ c. holds c ten) (not yes ∷ not never ∷ not (not yes) ∷ []) ≡ false ∷ true ∷ true ∷ []
 unfolding column_of place_of
 not_holds = refl
 

@@ -7,7 +7,7 @@ use Rattle.star_query.specs.declared.token.Fold.TheVariants.{Sum, Min, Max}
 use Rattle.star_query.specs.declared.token.Relation.TheVariants.{Equal, Unequal, Less, AtMost, Greater, AtLeast}
 use Rattle.star_query.specs.Symbols.{spelling, reserved_words}
 use Rattle.star_query.specs.Cut.{cut_from, reserved}
-use Rattle.star_query.specs.Tree.{Name, number, text, column, constant, add, sub, mul, either, both, negation, pair, compare, between, fold, count, plain, aggregate, Grouping, Tree}
+use Rattle.star_query.specs.Tree.{Name, number, text, column, constant, add, sub, mul, or, and, not, pair, compare, between, fold, count, plain, aggregate, Grouping, Tree}
 use Rattle.star_query.specs.Derives.{Means}
 use Rattle.star_query.specs.Meant.{IsMeant}
 use Rattle.star_query.proofs.Verdicts.{derives}
@@ -50,8 +50,8 @@ conditions = record {
   items = aggregate (record { measure = count; place = 7; name = None }) ∷ [];
   tables = called (codes "t") 21 ∷ [];
   condition = Some
-      (either
-      (either (both (negation (compare (called (codes "a") 33) Unequal (text (codes "x")))) (pair (called (codes "b") 46) (called (codes "c") 50))) (both (between (called (codes "d") 55) (number (neg_ℤ (pos 1))) (number (pos 2))) (negation (either (compare (called (codes "e") 83) Less (number (pos 1))) (compare (called (codes "f") 92) AtLeast (number (neg_ℤ (pos 2))))))))
+      (or
+      (or (and (not (compare (called (codes "a") 33) Unequal (text (codes "x")))) (pair (called (codes "b") 46) (called (codes "c") 50))) (and (between (called (codes "d") 55) (number (neg_ℤ (pos 1))) (number (pos 2))) (not (or (compare (called (codes "e") 83) Less (number (pos 1))) (compare (called (codes "f") 92) AtLeast (number (neg_ℤ (pos 2))))))))
       (between (called (codes "g") 104) (text (codes "a'b")) (text (codes "c"))));
   grouping = ungrouped;
   keys = [];
@@ -68,7 +68,7 @@ abbrev relations : Tree
 relations = record {
   items = aggregate (record { measure = count; place = 7; name = None }) ∷ [];
   tables = called (codes "t") 21 ∷ [];
-  condition = Some (both (both (both (compare (called (codes "a") 29) Equal (number (pos 1))) (compare (called (codes "b") 37) Unequal (number (pos 2)))) (compare (called (codes "c") 46) Less (number (pos 3)))) (both (both (compare (called (codes "d") 55) AtMost (number (pos 4))) (compare (called (codes "e") 64) Greater (number (pos 5)))) (compare (called (codes "f") 72) AtLeast (number (pos 6)))));
+  condition = Some (and (and (and (compare (called (codes "a") 29) Equal (number (pos 1))) (compare (called (codes "b") 37) Unequal (number (pos 2)))) (compare (called (codes "c") 46) Less (number (pos 3)))) (and (and (compare (called (codes "d") 55) AtMost (number (pos 4))) (compare (called (codes "e") 64) Greater (number (pos 5)))) (compare (called (codes "f") 72) AtLeast (number (pos 6)))));
   grouping = ungrouped;
   keys = [];
 }

@@ -11,7 +11,7 @@ use Rattle.star_query.specs.declared.token.Relation.TheVariants.{Equal}
 use Rattle.star_plan.specs.declared.tree.Join.{Join}
 use Rattle.star_plan.specs.Joins.{is_foreign}
 use Rattle.star_plan.specs.Limits.{IsPlanWithinLimits, comparisons_of, operands_of, measure_operands}
-use Rattle.star_plan.specs.Meaning.{Condition, either, both, negation, compare, between, Expression, column, constant, add, sub, mul, counted, summed, least, greatest, Plan}
+use Rattle.star_plan.specs.Meaning.{Condition, or, and, not, compare, between, Expression, column, constant, add, sub, mul, counted, summed, least, greatest, Plan}
 use Rattle.star_plan.specs.Sound.{IsSoundPlan, in_scope, condition_is_sound, expression_is_sound, measure_is_sound, are_distinct, is_group_column}
 use Rattle.star_worked.proofs.Sample.{number, text, by_order, by_commit, of_part, tax}
 
@@ -43,7 +43,7 @@ unfolding column_of
 betweens_sound = refl
 
 conditions_sound : map (condition_is_sound dated)
-    (either good good ∷ either unjoined good ∷ either good unjoined ∷ both good good ∷ both unjoined good ∷ both good unjoined ∷ negation good ∷ negation unjoined ∷ [])
+    (or good good ∷ or unjoined good ∷ or good unjoined ∷ and good good ∷ and unjoined good ∷ and good unjoined ∷ not good ∷ not unjoined ∷ [])
     ≡ true ∷ false ∷ false ∷ true ∷ false ∷ false ∷ true ∷ false ∷ []
 unfolding column_of
 conditions_sound = refl
@@ -126,7 +126,7 @@ sort_past_the_group sound = let broken : false ≡ true = sound.sorts in cc
 
 -- ---- within limits, at each limit and one past it
 
-comparisons_counted : map comparisons_of (good ∷ between DYear (number 1) (number 2) ∷ negation good ∷ either good (negation good) ∷ both (negation good) (both good good) ∷ []) ≡ 1 ∷ 1 ∷ 2 ∷ 3 ∷ 4 ∷ []
+comparisons_counted : map comparisons_of (good ∷ between DYear (number 1) (number 2) ∷ not good ∷ or good (not good) ∷ and (not good) (and good good) ∷ []) ≡ 1 ∷ 1 ∷ 2 ∷ 3 ∷ 4 ∷ []
 comparisons_counted = refl
 
 operands_counted : map operands_of (tax ∷ constant (pos 1) ∷ add tax tax ∷ sub tax (add tax tax) ∷ mul (sub tax tax) (mul tax tax) ∷ []) ≡ 1 ∷ 1 ∷ 2 ∷ 3 ∷ 4 ∷ []
@@ -153,7 +153,7 @@ largest_within = record { joins = omega arith; comparisons = omega arith; keys =
 five_joins : IsPlanWithinLimits (record largest { joins = replicate 5 by_order }) → ⊥
 five_joins within = let many : 5 ≤ 4 = within.joins in omega (arith, many)
 
-comparison_too_many : IsPlanWithinLimits (record largest { conjuncts = negation good ∷ replicate 255 good }) → ⊥
+comparison_too_many : IsPlanWithinLimits (record largest { conjuncts = not good ∷ replicate 255 good }) → ⊥
 comparison_too_many within = let many : 257 ≤ 256 = within.comparisons in omega (arith, many)
 
 seven_keys : IsPlanWithinLimits (record largest { keys = replicate 7 DYear }) → ⊥

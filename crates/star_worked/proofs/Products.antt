@@ -10,7 +10,7 @@ use Rattle.star_schema.specs.Tables.{Value}
 use Rattle.star_query.specs.declared.token.Relation.TheVariants.{Greater}
 use Rattle.star_schema.specs.declared.group.Shape.TheVariants.{Plain}
 use Rattle.star_query.specs.Tree as tree
-use Rattle.star_query.specs.Tree.{Name, Condition, both, either, negation, pair, compare, Tree}
+use Rattle.star_query.specs.Tree.{Name, Condition, and, or, not, pair, compare, Tree}
 use Rattle.star_plan.specs.Meaning.{Joined, value_of}
 use Rattle.star_plan.specs.Names.{column_called, table_called}
 use Rattle.star_answers.specs.Rows.{product, selected, tables_of}
@@ -69,21 +69,21 @@ unfolding column_of columns_of place_of pieces column_called table_called table_
 not_joined = refl
 
 -- a comparison of two columns is one of WHERE's conditions like another
-joined : quantities (both supplied many)
+joined : quantities (and supplied many)
     ≡ (number 30 ∷ number 1 ∷ []) ∷ (number 24 ∷ number 2 ∷ []) ∷ (number 50 ∷ number 2 ∷ []) ∷ []
 unfolding column_of columns_of place_of pieces column_called table_called table_name
 joined = refl
 
-joined_in_either_order : quantities (both many (pair (called (codes "s_suppkey")) (called (codes "lo_suppkey")))) ≡ quantities (both supplied many)
+joined_in_either_order : quantities (and many (pair (called (codes "s_suppkey")) (called (codes "lo_suppkey")))) ≡ quantities (and supplied many)
 unfolding column_of columns_of place_of pieces column_called table_called table_name
 joined_in_either_order = refl
 
-not_the_supplier : quantities (both (negation supplied) many)
+not_the_supplier : quantities (and (not supplied) many)
     ≡ (number 30 ∷ number 2 ∷ []) ∷ (number 24 ∷ number 1 ∷ []) ∷ (number 50 ∷ number 1 ∷ []) ∷ []
 unfolding column_of columns_of place_of pieces column_called table_called table_name
 not_the_supplier = refl
 
-joined_or_few : quantities (either supplied (negation many))
+joined_or_few : quantities (or supplied (not many))
     ≡ (number 10 ∷ number 1 ∷ []) ∷ (number 10 ∷ number 2 ∷ []) ∷ (number 30 ∷ number 1 ∷ [])
     ∷ (number 24 ∷ number 2 ∷ []) ∷ (number 50 ∷ number 2 ∷ []) ∷ (number 1 ∷ number 1 ∷ []) ∷ (number 1 ∷ number 2 ∷ []) ∷ []
 unfolding column_of columns_of place_of pieces column_called table_called table_name

@@ -14,7 +14,7 @@ use Rattle.star_query.specs.Cut.{cut_from, reserved}
 use Rattle.star_query.specs.Derives.{Means}
 use Rattle.star_query.specs.Tree.{Tree}
 use Rattle.star_query.proofs.Verdicts.{derives}
-use Rattle.star_plan.specs.Meaning.{either, both, negation, compare, between, constant, add, sub, mul, counted, summed, least, greatest, Plan}
+use Rattle.star_plan.specs.Meaning.{or, and, not, compare, between, constant, add, sub, mul, counted, summed, least, greatest, Plan}
 use Rattle.star_plan.specs.Names.{column_called, has_name, table_called}
 use Rattle.star_plan.specs.Naming.{function_word, has_text}
 use Rattle.star_plan.specs.Planned.{IsPlanned}
@@ -38,8 +38,8 @@ abbrev profits : Plan
 profits = record {
   joins = by_order ∷ of_part ∷ [];
   conjuncts =
-      either (compare DYear Equal (number 1993)) (negation (between LoShipmode (text (codes "A")) (text (codes "B"))))
-      ∷ either (compare LoTax Less (number 3)) (both (compare LoTax Greater (number 4)) (compare LoTax Unequal (number 5))) ∷ [];
+      or (compare DYear Equal (number 1993)) (not (between LoShipmode (text (codes "A")) (text (codes "B"))))
+      ∷ or (compare LoTax Less (number 3)) (and (compare LoTax Greater (number 4)) (compare LoTax Unequal (number 5))) ∷ [];
   shape = Plain;
   keys = DYear ∷ PBrand1 ∷ [];
   measures = summed (sub revenue cost) ∷ least (add (mul tax (constant (pos 2))) tax) ∷ greatest tax ∷ counted ∷ [];

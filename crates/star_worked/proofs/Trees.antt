@@ -5,7 +5,7 @@ use Rattle.star_query.specs.declared.token.Fold.TheVariants.{Sum}
 use Rattle.star_query.specs.declared.token.Relation.TheVariants.{Equal}
 use Rattle.star_schema.specs.declared.group.Shape.TheVariants.{Plain}
 use Rattle.star_schema.specs.declared.group.Direction.TheVariants.{Ascending}
-use Rattle.star_query.specs.Tree.{Name, number, text, Expression, column, constant, add, sub, mul, Condition, either, both, negation, pair, compare, between, Measure, fold, count, Item, plain, aggregate, Tree}
+use Rattle.star_query.specs.Tree.{Name, number, text, Expression, column, constant, add, sub, mul, Condition, or, and, not, pair, compare, between, Measure, fold, count, Item, plain, aggregate, Tree}
 use Rattle.star_query.specs.Limits.{IsQueryWithinLimits, operands_of, comparisons_of, where_comparisons}
 use Rattle.star_query.specs.Spelled.{IsSpelledQuery, is_name, is_number, is_text, expression_is_spelled, condition_is_spelled, item_is_spelled}
 
@@ -26,7 +26,7 @@ good = compare a Equal (number (pos 1))
 
 -- ---- within limits, at each limit and one past it
 
-comparisons_counted : map comparisons_of (good ∷ pair a a ∷ between a (number (pos 1)) (number (pos 2)) ∷ negation good ∷ either good (negation good) ∷ both (negation good) (both good good) ∷ [])
+comparisons_counted : map comparisons_of (good ∷ pair a a ∷ between a (number (pos 1)) (number (pos 2)) ∷ not good ∷ or good (not good) ∷ and (not good) (and good good) ∷ [])
     ≡ 1 ∷ 1 ∷ 1 ∷ 2 ∷ 3 ∷ 4 ∷ []
 comparisons_counted = refl
 
@@ -44,7 +44,7 @@ chain (suc n) = add (chain n) (column a)
 
 abbrev conjunction : ℕ → Condition
 conjunction zero = good
-conjunction (suc n) = both (conjunction n) good
+conjunction (suc n) = and (conjunction n) good
 
 abbrev largest : Tree
 largest = record {
@@ -67,7 +67,7 @@ nine_aggregates within = let many : 9 ≤ 8 = within.aggregates in omega (arith,
 operand_too_many : IsQueryWithinLimits (record largest { items = item (fold Sum (chain 511)) ∷ item count ∷ item (fold Sum (column a)) ∷ [] }) → ⊥
 operand_too_many within = let many : 513 ≤ 512 = within.operands in omega (arith, many)
 
-comparison_too_many : IsQueryWithinLimits (record largest { condition = Some (negation (conjunction 255)) }) → ⊥
+comparison_too_many : IsQueryWithinLimits (record largest { condition = Some (not (conjunction 255)) }) → ⊥
 comparison_too_many within = let many : 257 ≤ 256 = within.comparisons in omega (arith, many)
 
 seven_columns : IsQueryWithinLimits (record largest { grouping = record { shape = Plain; columns = replicate 7 a } }) → ⊥
@@ -95,7 +95,7 @@ comparisons_spelled : map condition_is_spelled
 unfolding is_name is_number is_text
 comparisons_spelled = refl
 
-conditions_spelled : map condition_is_spelled (either good good ∷ either bad good ∷ either good bad ∷ both bad good ∷ both good bad ∷ negation bad ∷ [])
+conditions_spelled : map condition_is_spelled (or good good ∷ or bad good ∷ or good bad ∷ and bad good ∷ and good bad ∷ not bad ∷ [])
     ≡ true ∷ false ∷ false ∷ false ∷ false ∷ false ∷ []
 unfolding is_name is_number is_text
 conditions_spelled = refl

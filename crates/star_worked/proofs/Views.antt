@@ -22,7 +22,7 @@ use Rattle.star_plan.specs.declared.tree.Condition.{Condition}
 use Rattle.star_plan.specs.declared.tree.Condition.TheVariants as of_plan
 use Rattle.star_plan.specs.declared.tree.Expression.TheVariants as operand
 use Rattle.star_plan.specs.declared.tree.Measure.TheVariants as of_measure
-use Rattle.star_plan.specs.Meaning.{either, both, negation, compare, between, column, constant, add, sub, mul, counted, summed, least, greatest}
+use Rattle.star_plan.specs.Meaning.{or, and, not, compare, between, column, constant, add, sub, mul, counted, summed, least, greatest}
 use Rattle.star_plan.specs.Shown.{condition_shown, expression_shown, measure_shown}
 
 abbrev value : ℕ → Value
@@ -52,7 +52,7 @@ comparisons_viewed : (m n : Name) → map condition_view (Pair m n ∷ Compare m
 comparisons_viewed m n = refl
 
 conditions_viewed : (m n : Name) (p q : _) → map condition_view (Or' p (Pair m n) q (Pair n m) ∷ And' p (Pair m n) q (Pair n m) ∷ Not' p (Pair m n) ∷ [])
-    ≡ tree.either (tree.pair (name_view m) (name_view n)) (tree.pair (name_view n) (name_view m)) ∷ tree.both (tree.pair (name_view m) (name_view n)) (tree.pair (name_view n) (name_view m)) ∷ tree.negation (tree.pair (name_view m) (name_view n)) ∷ []
+    ≡ tree.or (tree.pair (name_view m) (name_view n)) (tree.pair (name_view n) (name_view m)) ∷ tree.and (tree.pair (name_view m) (name_view n)) (tree.pair (name_view n) (name_view m)) ∷ tree.not (tree.pair (name_view m) (name_view n)) ∷ []
 conditions_viewed m n p q = refl
 
 measures_viewed : map measure_view (measure.Fold Sum (Number (pos 1)) ∷ measure.Count ∷ []) ≡ tree.fold Sum (tree.constant (pos 1)) ∷ tree.count ∷ []
@@ -79,8 +79,8 @@ no_other_fault t read = read
 -- ---- the trees of plans
 
 plan_conditions_shown : (p q : _) → map condition_shown (of_plan.Or' p one_tax q some_taxes ∷ of_plan.And' p one_tax q some_taxes ∷ of_plan.Not' p one_tax ∷ one_tax ∷ some_taxes ∷ [])
-    ≡ either (compare LoTax Less (value 1)) (between LoTax (value 1) (value 2)) ∷ both (compare LoTax Less (value 1)) (between LoTax (value 1) (value 2))
-    ∷ negation (compare LoTax Less (value 1)) ∷ compare LoTax Less (value 1) ∷ between LoTax (value 1) (value 2) ∷ []
+    ≡ or (compare LoTax Less (value 1)) (between LoTax (value 1) (value 2)) ∷ and (compare LoTax Less (value 1)) (between LoTax (value 1) (value 2))
+    ∷ not (compare LoTax Less (value 1)) ∷ compare LoTax Less (value 1) ∷ between LoTax (value 1) (value 2) ∷ []
 plan_conditions_shown p q = refl
 
 plan_expressions_shown : (p q : _) → map expression_shown (operand.Column LoTax ∷ operand.Number (pos 1) ∷ operand.Add' p (operand.Column LoTax) q (operand.Number (pos 1)) ∷ operand.Sub' p (operand.Column LoTax) q (operand.Number (pos 1)) ∷ operand.Mul' p (operand.Column LoTax) q (operand.Number (pos 1)) ∷ [])

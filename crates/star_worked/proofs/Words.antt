@@ -5,7 +5,7 @@ use Rattle.star_schema.specs.declared.column.ColumnId.TheVariants.{LoTax, LoShip
 use Rattle.star_schema.specs.declared.group.Shape.TheVariants.{Plain}
 use Rattle.star_query.specs.declared.token.Relation.TheVariants.{Equal}
 use Rattle.star_query.specs.Spelled.{is_name, is_number, is_text}
-use Rattle.star_plan.specs.Meaning.{Condition, either, both, negation, compare, between, Expression, column, constant, add, sub, mul, counted, summed, least, greatest, Plan}
+use Rattle.star_plan.specs.Meaning.{Condition, or, and, not, compare, between, Expression, column, constant, add, sub, mul, counted, summed, least, greatest, Plan}
 use Rattle.star_plan.specs.Spelled.{IsSpelledPlan, condition_is_spelled, expression_is_spelled, measure_is_spelled}
 use Rattle.star_worked.proofs.Sample.{number, text}
 
@@ -36,7 +36,7 @@ abbrev bad : Condition
 bad = compare LoShipmode Equal (text (10 ∷ []))
 
 conditions_spelled : map condition_is_spelled
-    (good ∷ compare LoTax Equal (number 1000000000000000000) ∷ bad ∷ either good bad ∷ either bad good ∷ either good good ∷ both good bad ∷ both bad good ∷ both good good ∷ negation bad ∷ negation good ∷ [])
+    (good ∷ compare LoTax Equal (number 1000000000000000000) ∷ bad ∷ or good bad ∷ or bad good ∷ or good good ∷ and good bad ∷ and bad good ∷ and good good ∷ not bad ∷ not good ∷ [])
     ≡ true ∷ false ∷ false ∷ false ∷ false ∷ true ∷ false ∷ false ∷ true ∷ false ∷ true ∷ []
 unfolding is_number is_text
 conditions_spelled = refl

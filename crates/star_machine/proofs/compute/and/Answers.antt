@@ -1,5 +1,5 @@
 use Rattle.std.proofs.Common.{rules}
-use Rattle.star_machine.proofs.compute.both.Goals as goal
+use Rattle.star_machine.proofs.compute.and.Goals as goal
 
 pub returns-then-flag : goal.returns-then-flag
 returns-then-flag c = search rules
