@@ -109,13 +109,16 @@ module _ (d : Group) (u : Put) (own : List (List (Option KeyValue))) (gs : List 
       (subst (λ o. SomeLeaves old o d.aggregates row) is_own (subst (λ g. SomeLeaves old own g row) is_gs h)))
 
 -- the rows of no puts: the row of all of them
-pub holds_new : (d : Group) (es : List (List KeyPart × List (Option ℤ))) (row : List (Option ℤ)) → IsBlank row → IsWithRow (key_of all_hidden) row [] es → Holds d (row_at es) []
+pub holds_looked : (d : Group) (look : List (Option KeyValue) → Option (List (Option ℤ))) (row : List (Option ℤ)) → IsBlank row → ((q : List (Option KeyValue)) → look q ≡ cond (key_eq q (padded 6 [])) (Some row) None) → Holds d look []
 unfolding held
-holds_new d es row blank h = record { fit = tt; rows = λ q. by q (key_eq q (padded 6 [])) refl }
+holds_looked d look row blank h = record { fit = tt; rows = λ q. by q (key_eq q (padded 6 [])) refl }
   where
-    found : (q : List (Option KeyValue)) (b : Bool) → key_eq q (padded 6 []) ≡ b → row_at es q ≡ cond b (Some row) None
-    found q b e = h q ∙ ap (λ c. cond c (Some row) None) (ap (key_eq q) (sym all_padded) ∙ e)
+    found : (q : List (Option KeyValue)) (b : Bool) → key_eq q (padded 6 []) ≡ b → look q ≡ cond b (Some row) None
+    found q b e = h q ∙ ap (λ c. cond c (Some row) None) e
 
-    by : (q : List (Option KeyValue)) (b : Bool) → key_eq q (padded 6 []) ≡ b → IsRow d [] q (row_at es q)
+    by : (q : List (Option KeyValue)) (b : Bool) → key_eq q (padded 6 []) ≡ b → IsRow d [] q (look q)
     by q true e = subst (IsRow d [] q) (sym (found q true e)) (record { due = ap (λ b. b || false) e; cells = λ place lt. blank place })
     by q false e = subst (IsRow d [] q) (sym (found q false e)) (ap (λ b. b || false) e)
+
+pub holds_new : (d : Group) (es : List (List KeyPart × List (Option ℤ))) (row : List (Option ℤ)) → IsBlank row → IsWithRow (key_of all_hidden) row [] es → Holds d (row_at es) []
+holds_new d es row blank h = holds_looked d (row_at es) row blank (λ q. h q ∙ ap (λ c. cond c (Some row) None) (ap (key_eq q) (sym all_padded)))

@@ -28,6 +28,7 @@ pub mod KeyedRows
 pub mod ListedRows
 pub mod MergedRows
 pub mod AllRows
+pub mod PlainPuts
 pub mod Worked
 pub mod WorkedCells
 pub mod WorkedHeld

@@ -2,14 +2,11 @@
 use Rattle.std.proofs.Common.{◌≡◌, ℕ, zero, suc, ◌<◌, ◌≤◌, List, [], ◌∷◌, ◌++◌, Option, Some, None, take, drop, set, length, get_or, map, ap, sym, ◌∙◌, subst, refl, arith, take-append-drop}
 use Rattle.std.proofs.Math.Seq.{drop-cons}
 use Rattle.std.proofs.lemmas.List.{drop-set-lt, map-append, map-set}
-use Rattle.star_schema.specs.declared.group.Shape.{Shape}
-use Rattle.star_schema.specs.declared.group.Shape.TheVariants.{Plain, Cube}
 use Rattle.star_program.specs.declared.key.KeyValue.{KeyValue}
 use Rattle.star_group.specs.declared.keyed.key.KeyPart.{KeyPart}
 use Rattle.star_group.specs.declared.keyed.key.KeyPart.TheVariants.{All}
 use Rattle.star_group.specs.Base.{key_of, value_of}
-use Rattle.star_group.specs.Keyed.{all_hidden}
-use Rattle.star_group.specs.OwnKeys.{padded, vary, own_keys}
+use Rattle.star_group.specs.OwnKeys.{padded, vary}
 use Rattle.star_group.specs.Private.Numbers.{AreNarrow}
 
 pub padded-set : (n : ℕ) (ks : List KeyValue) (i : ℕ) (d : KeyValue) → i < length ks → length ks ≤ n → set (padded n (take i ks)) i (Some (get_or ks i d)) ≡ padded n (take (suc i) ks)
@@ -88,12 +85,3 @@ module _ (width p : ℕ) (h : p < width) where
 
   pub narrow_doubled : (xs ys : List (List KeyPart)) → ys ≡ xs ++ map (λ key. set key p All) xs → AreNarrow width xs → AreNarrow width ys
   narrow_doubled xs ys e are = subst (AreNarrow width) (sym e) (narrow_both xs (map (λ key. set key p All) xs) are (narrow_hidden xs are))
-
-pub plain_own : (shape : Shape) (n : ℕ) (base : List KeyPart) (key : List (Option KeyValue)) (ys : List (List KeyPart)) → shape ≡ Plain → 0 < n → key_of base ≡ key → ys ≡ base ∷ all_hidden ∷ [] → map key_of ys ≡ own_keys shape n key
-plain_own Cube n base key ys is h same e = absurd (let no : ⊥ = cc in no)
-plain_own Plain zero base key ys is h same e = absurd (omega arith)
-plain_own Plain (suc n) base key ys is h same e = ap (map key_of) e ∙ (λ i. same i ∷ sym all_padded i ∷ [])
-
-pub cube_own : (shape : Shape) (n : ℕ) (base : List KeyPart) (key : List (Option KeyValue)) (zs : List (List (Option KeyValue))) → shape ≡ Cube → key_of base ≡ key → zs ≡ vary n (key_of base) → zs ≡ own_keys shape n key
-cube_own Cube n base key zs is same e = e ∙ ap (vary n) same
-cube_own Plain n base key zs is same e = absurd (let no : ⊥ = cc in no)

@@ -6,12 +6,11 @@ ghost use Rattle.star_group.specs.Entries.{entries_of};
 
 mod base;
 mod coarser;
-mod newest;
 mod store;
 
 use crate::cell::Row;
 use crate::keyed::KeyedRows;
-use newest::Newest;
+use crate::newest::Newest;
 use star_schema::{Aggregate, Shape};
 use std::alloc::Global;
 

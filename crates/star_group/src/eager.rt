@@ -2,17 +2,25 @@
 
 ghost use Rattle.std.specs.Prelude.{◌≡◌, ◌≤◌, vec_len};
 
+mod cube;
 mod own;
+mod plain;
 mod store;
 
+use crate::cell::Row;
 use crate::keyed::KeyedRows;
 use crate::keyed::key::OrderedKey;
 use crate::keyed::trie::Place;
+use crate::newest::Newest;
 use star_schema::{Aggregate, Shape};
 use std::alloc::Global;
 
 /// The rows of a group and the row of all puts, each up to date after every put. The keys stand in
 /// a trie of their digits, so that no keys are slow to find.
+///
+/// A put into a plain group changes one row beside the total, which stands by itself; rows that
+/// were made lately are mostly found with one look. A put into a cube changes the row of each
+/// subset of its keys, that of none of them among the others.
 #[derive(Drop)]
 pub struct EagerStore {
     alloc: Global,
@@ -20,6 +28,10 @@ pub struct EagerStore {
     count: usize,
     aggregates: Vec<Aggregate>,
     rows: KeyedRows,
+    // Of a plain group.
+    newest: Newest,
+    total: Row,
+    // Of a cube: the keys of a put's rows, and where they are.
     own: Vec<OrderedKey>,
     places: Vec<Place>,
     ghost few_keys: { count ≤ 6 },

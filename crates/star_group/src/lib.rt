@@ -14,6 +14,8 @@ mod group_row;
 mod group_rows;
 mod keyed;
 pub mod law;
+mod newest;
+mod placed;
 mod rows;
 mod store;
 

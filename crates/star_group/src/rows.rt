@@ -54,7 +54,12 @@ fn find_places(
 
 // Whether the row at this place, or one that is missing, stays within 64 bits with one more merged
 // in.
-fn stays_at(rows: &KeyedRows, place: Place, aggregates: &[Aggregate], more: &[Option<i64>]) -> bool
+pub(crate) fn stays_at(
+    rows: &KeyedRows,
+    place: Place,
+    aggregates: &[Aggregate],
+    more: &[Option<i64>],
+) -> bool
     requires within { IsWithin rows.now place }
     requires few { length aggregates.now ≤ 8 }
     requires many { length aggregates.now ≡ rows.now.many }

@@ -3,13 +3,23 @@ use Rattle.std.specs.Prelude.{◌≡◌, ℕ, true, false, ℤ, List, [], Option
 use Rattle.std.specs.List.{list_any}
 use Rattle.std.specs.Option.{unwrap_or}
 use Rattle.star_schema.specs.declared.group.Aggregate.{Aggregate}
+use Rattle.star_schema.specs.declared.group.Shape.{Shape}
+use Rattle.star_schema.specs.declared.group.Shape.TheVariants.{Plain, Cube}
 use Rattle.star_program.specs.declared.key.KeyValue.{KeyValue}
+use Rattle.star_group.specs.declared.keyed.key.KeyPart.{KeyPart}
+use Rattle.star_group.specs.Base.{key_of}
+use Rattle.star_group.specs.Keyed.{all_hidden}
 use Rattle.star_group.specs.OwnKeys.{key_eq}
-use Rattle.star_group.specs.Private.Merged.{IsMergedInto, MergeLeaves, MergeStays}
+use Rattle.star_group.specs.Private.Merged.{IsMergedInto, IsWithRow, MergeLeaves, MergeStays}
 
 -- a row over no puts
 abbrev pub IsBlank : List (Option ℤ) → Type 0
 IsBlank row = (place : ℕ) → slice_index_or row place None ≡ None
+
+-- the rows over no puts: of a cube there is that of all puts
+abbrev pub AreFirst : Shape → List (List KeyPart × List (Option ℤ)) → Type 0
+AreFirst Plain entries = entries ≡ []
+AreFirst Cube entries = (row : List (Option ℤ)) × IsBlank row × IsWithRow (key_of all_hidden) row [] entries
 
 -- with one more row merged in no row of these keys leaves 64 bits
 pub record AllStay (look : List (Option KeyValue) → Option (List (Option ℤ))) (own : List (List (Option KeyValue))) (gs : List Aggregate) (more : List (Option ℤ)) : Type 0 where

@@ -1,56 +1,18 @@
 // The rows of all keys and the total, with one put more.
 
-ghost use Rattle.std.specs.Prelude.{◌≡◌, ◌≤◌, drop, length, OnOk, OnErr};
-ghost use Rattle.star_group.specs.Base.{key_of, row_at};
+ghost use Rattle.std.specs.Prelude.{◌≡◌, ◌≤◌, length, OnOk, OnErr};
 ghost use Rattle.star_group.specs.Entries.{entries_of};
-ghost use Rattle.star_group.specs.Keyed.{all_hidden};
 ghost use Rattle.star_group.specs.Private.BasePut.{HasRoomFor, TakesPut};
-ghost use Rattle.star_group.specs.Private.Merged.{IsMergedAt, RowsStay};
 
-use super::newest::Newest;
 use crate::KeyValue;
 use crate::cell::Row;
 use crate::keyed::KeyedRows;
-use crate::keyed::key::{OrderedKey, base_key};
+use crate::keyed::key::base_key;
 use crate::keyed::merge::{merge_into, row_of_put};
+use crate::newest::Newest;
+use crate::placed::{merge, place_of};
 use star_schema::Aggregate;
 use std::alloc::AllocError;
-
-// One more row for this key, merged into the row that is there; that of a newer row is found with
-// one look.
-fn merge(
-    rows: &mut KeyedRows,
-    newest: &mut Newest,
-    key: &OrderedKey,
-    aggregates: &[Aggregate],
-    more: &[Option<i64>],
-) -> Result<(), AllocError>
-    requires narrow { drop rows.old.trie.width key.now ≡ drop rows.old.trie.width all_hidden }
-    requires many { length aggregates.now ≡ rows.old.many }
-    requires wide { rows.old.many ≤ length more.now }
-    requires stays { RowsStay aggregates.now
-        (row_at (entries_of rows.old) (key_of key.now)) more.now }
-    ensures ok { OnOk result (IsMergedAt aggregates.now (key_of key.now) more.now
-        (entries_of rows.old) (entries_of rows.new)) }
-    ensures refused { OnErr result (entries_of rows.new ≡ entries_of rows.old) }
-    ensures width { rows.new.trie.width ≡ rows.old.trie.width }
-    ensures many { rows.new.many ≡ rows.old.many }
-{
-    match newest.number(rows, key) {
-        Some(number) => {
-            rows.merge_row(number, aggregates, more);
-            Ok(())
-        }
-        None => {
-            let count = rows.len();
-            rows.merge(key, aggregates, more)?;
-            if count < rows.len() {
-                newest.set(rows, key, count);
-            }
-            Ok(())
-        }
-    }
-}
 
 // One more put of the row of its keys and of the total; or nothing changes.
 pub(super) fn add_put(
@@ -77,7 +39,9 @@ pub(super) fn add_put(
     ensures many { rows.new.many ≡ rows.old.many }
 {
     let row = row_of_put(aggregates, values);
-    merge(rows, newest, &base_key(keys), aggregates, &row)?;
+    let key = base_key(keys);
+    let place = place_of(rows, newest, &key);
+    merge(rows, newest, &key, place, aggregates, &row)?;
     merge_into(aggregates, total, &row);
     Ok(())
 }

@@ -1,6 +1,7 @@
-// The keys of the rows that one put changes.
+// The keys of the rows of a cube that one put changes.
 
 ghost use Rattle.std.specs.Prelude.{◌≡◌, ◌≤◌, ◌<◌, ◌++◌, [], ◌∷◌, ℕ, List, length, map, slice_set, OnOk};
+ghost use Rattle.star_schema.specs.declared.group.Shape.TheVariants.{Cube};
 ghost use Rattle.star_group.specs.Base.{key_of};
 ghost use Rattle.star_group.specs.OwnKeys.{padded, own_keys};
 ghost use Rattle.star_group.specs.OwnKeys as spec;
@@ -8,8 +9,7 @@ ghost use Rattle.star_group.specs.Private.Numbers.{AreNarrow};
 ghost use Rattle.star_group.specs.declared.keyed.key.KeyPart.{KeyPart};
 
 use crate::KeyValue;
-use crate::keyed::key::{ALL_HIDDEN, OrderedKey, base_key, hidden};
-use star_schema::Shape;
+use crate::keyed::key::{OrderedKey, base_key, hidden};
 use std::alloc::AllocError;
 
 // Each key once more, with ALL at this place.
@@ -41,27 +41,16 @@ fn vary(own: &mut Vec<OrderedKey>, count: usize) -> Result<(), AllocError>
     Ok(())
 }
 
-// The keys of the rows that a put changes, among them the row of all puts.
-pub(crate) fn fill_own(
-    own: &mut Vec<OrderedKey>,
-    shape: Shape,
-    keys: &[KeyValue],
-) -> Result<(), AllocError>
+// The keys of the rows of a cube that a put changes, among them the row of all puts.
+pub(super) fn fill_own(own: &mut Vec<OrderedKey>, keys: &[KeyValue]) -> Result<(), AllocError>
     requires { length keys.now ≤ 6 }
     ensures keys { OnOk result (map key_of own.new.items
-        ≡ own_keys shape (length keys.now) (padded 6 keys.now)) }
+        ≡ own_keys Cube (length keys.now) (padded 6 keys.now)) }
     ensures narrow { OnOk result ((width : ℕ) → length keys.now ≤ width
         → AreNarrow width own.new.items) }
 {
     own.clear();
     own.push(base_key(keys))?;
-    match shape {
-        Shape::Plain => {
-            if !keys.is_empty() {
-                own.push(ALL_HIDDEN)?;
-            }
-        }
-        Shape::Cube => vary(own, keys.len())?,
-    }
+    vary(own, keys.len())?;
     Ok(())
 }

@@ -210,6 +210,7 @@ impl KeyedRows {
             (row_at (entries_of self.old) (key_of key.now)) more.now }
         ensures ok { OnOk result (IsMergedAt aggregates.now (key_of key.now) more.now
             (entries_of self.old) (entries_of self.new)) }
+        ensures refused { OnErr result (entries_of self.new ≡ entries_of self.old) }
         ensures held { (other : List KeyPart) (number : ℕ) → IsHeld (keys_in self.old) other number
             → IsHeld (keys_in self.new) other number }
         ensures space { (count : ℕ) → HasSpace self.old (count + 1)

@@ -1,25 +1,25 @@
 use Rattle.std.proofs.Common.{◌≡◌, length, rules, subst}
-use Rattle.star_group.specs.Private.Numbers.{IsKnown}
+use Rattle.star_group.specs.Private.Numbers.{IsPlace}
 use Rattle.star_group.proofs.KeyedRows.{held_stays, number_among}
-use Rattle.star_group.proofs.deferred.base.merge.Goals as goal
+use Rattle.star_group.proofs.placed.merge.Goals as goal
 
 pub merge_row-requires-clause-within : goal.merge_row-requires-clause-within
 merge_row-requires-clause-within c =
     let s = c.args.rows.now in
     let key = c.args.key.now in
     let six : length key ≡ 6 = search rules in
-    number_among s key six c.requires.narrow c.in-Some.number (subst (IsKnown s key) c.in-Some.is c.number.ensures)
+    number_among s key six c.requires.narrow c.in-Held.number (subst (IsPlace s key) c.in-Held.is c.requires.place)
 
 pub merge_row-requires-clause-stays : goal.merge_row-requires-clause-stays
 merge_row-requires-clause-stays c =
     let s = c.args.rows.now in
     let key = c.args.key.now in
     let six : length key ≡ 6 = search rules in
-    held_stays s key six c.requires.narrow c.in-Some.number (subst (IsKnown s key) c.in-Some.is c.number.ensures) c.args.aggregates.now c.args.more.now c.requires.stays
+    held_stays s key six c.requires.narrow c.in-Held.number (subst (IsPlace s key) c.in-Held.is c.requires.place) c.args.aggregates.now c.args.more.now c.requires.stays
 
-pub returns-in-Some-clause-ok : goal.returns-in-Some-clause-ok
-returns-in-Some-clause-ok c =
+pub returns-in-Held-clause-ok : goal.returns-in-Held-clause-ok
+returns-in-Held-clause-ok c =
     let s = c.args.rows.now in
     let key = c.args.key.now in
     let six : length key ≡ 6 = search rules in
-    c.merge_row.ensures.rows key six c.requires.narrow (subst (IsKnown s key) c.in-Some.is c.number.ensures)
+    c.merge_row.ensures.rows key six c.requires.narrow (subst (IsPlace s key) c.in-Held.is c.requires.place)

@@ -13,7 +13,7 @@ const SLOTS: u64 = 8192;
 /// row whose key tells it, or of any other row; so the row is asked for its key before the number
 /// is believed, and what is not known here is looked up in the trie.
 #[derive(Drop)]
-pub(super) struct Newest {
+pub(crate) struct Newest {
     numbers: Vec<usize>,
 }
 
@@ -23,14 +23,14 @@ fn slot_of(rows: &KeyedRows, key: &OrderedKey) -> usize {
 
 impl Newest {
     // No number is of any use yet.
-    pub(super) fn new(alloc: Global) -> Result<Newest, AllocError> {
+    pub(crate) fn new(alloc: Global) -> Result<Newest, AllocError> {
         Ok(Newest {
             numbers: vec![in alloc; 0; SLOTS as usize]?,
         })
     }
 
     // The number of this key's row, where it is known.
-    pub(super) fn number(&self, rows: &KeyedRows, key: &OrderedKey) -> Option<usize>
+    pub(crate) fn number(&self, rows: &KeyedRows, key: &OrderedKey) -> Option<usize>
         ensures { IsKnown rows.now key.now result }
     {
         match self.numbers.get(slot_of(rows, key)) {
@@ -40,7 +40,7 @@ impl Newest {
     }
 
     // The number of the row of a key from now on.
-    pub(super) fn set(&mut self, rows: &KeyedRows, key: &OrderedKey, number: usize) {
+    pub(crate) fn set(&mut self, rows: &KeyedRows, key: &OrderedKey, number: usize) {
         if let Some(slot) = self.numbers.get_mut(slot_of(rows, key)) {
             *slot = number;
         }

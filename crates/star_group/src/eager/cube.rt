@@ -1,0 +1,45 @@
+// One more put of a cube: the row of each subset of its keys.
+
+ghost use Rattle.std.specs.Prelude.{◌≡◌, ◌≤◌, length, IfErr, OnErr, OnOk};
+ghost use Rattle.star_common.specs.Memory.{UnlessMemory};
+ghost use Rattle.star_schema.specs.declared.group.Shape.TheVariants.{Cube};
+ghost use Rattle.star_group.specs.Base.{row_at};
+ghost use Rattle.star_group.specs.Entries.{entries_of};
+ghost use Rattle.star_group.specs.OwnKeys.{own_keys, padded};
+ghost use Rattle.star_group.specs.Private.Rows.{PutsRows, SomeLeaves};
+
+use super::own::fill_own;
+use crate::KeyValue;
+use crate::keyed::KeyedRows;
+use crate::keyed::key::OrderedKey;
+use crate::keyed::trie::Place;
+use crate::rows::{PutFault, put_rows};
+use star_schema::Aggregate;
+
+// The row of one put merged into that of each subset of its keys; or nothing changes.
+pub(super) fn put_cube(
+    rows: &mut KeyedRows,
+    own: &mut Vec<OrderedKey>,
+    places: &mut Vec<Place>,
+    aggregates: &[Aggregate],
+    keys: &[KeyValue],
+    more: &[Option<i64>],
+) -> Result<(), PutFault>
+    requires few_keys { length keys.now ≤ 6 }
+    requires narrow { length keys.now ≤ rows.old.trie.width }
+    requires few { length aggregates.now ≤ 8 }
+    requires many { length aggregates.now ≡ rows.old.many }
+    requires wide { rows.old.many ≤ length more.now }
+    ensures ok { OnOk result (PutsRows
+        (own_keys Cube (length keys.now) (padded 6 keys.now)) aggregates.now more.now
+        (row_at (entries_of rows.old)) (row_at (entries_of rows.new))) }
+    ensures refused { OnErr result (entries_of rows.new ≡ entries_of rows.old) }
+    ensures overflow { IfErr result (λ fault. UnlessMemory PutFault.OutOfMemory fault
+        (SomeLeaves (row_at (entries_of rows.old))
+        (own_keys Cube (length keys.now) (padded 6 keys.now)) aggregates.now more.now)) }
+    ensures width { rows.new.trie.width ≡ rows.old.trie.width }
+    ensures many { rows.new.many ≡ rows.old.many }
+{
+    fill_own(own, keys)?;
+    put_rows(rows, own.as_slice(), places, aggregates, more)
+}
