@@ -7,10 +7,9 @@ use Rattle.std.specs.Str.{bytes_eq}
 use Rattle.std.specs.Prelude.{pos}
 use Rattle.clap.proofs.CallerLemmas.{added_plain}
 use Rattle.clap.proofs.CallerReads.{required_reads}
-use Rattle.clap.specs.Built.{AddsArg, AddsInTurn, FitsChain, HasDistinctIds, IsAuto, IsParsedFrom, IsPlain, IsPlainArg, KeepsList, SameRules}
-use Rattle.clap.specs.Facts.{args_of, groups_of, least_values}
+use Rattle.clap.specs.Built.{AddsArg, AddsInTurn, FitsChain, IsParsedFrom, IsPlain, IsPlainArg, KeepsList, SameRules}
+use Rattle.clap.specs.Facts.{args_of, least_values}
 use Rattle.clap.specs.Matches.{found_of, one_text}
-use Rattle.clap.specs.Values.{Accepts}
 use Rattle.clap.specs.Lexer.{without_minus}
 use Rattle.clap.specs.declared.builder.action.ArgAction.TheVariants.{Set}
 use Rattle.clap.specs.declared.builder.arg.Arg.{Arg}
@@ -19,7 +18,7 @@ use Rattle.clap.specs.declared.builder.command.Command.TheViews.{out-Command as 
 use Rattle.clap.specs.declared.builder.value_parser.ValueParser.TheVariants.{Signed}
 use Rattle.clap.specs.declared.parser.matches.ArgMatches.{ArgMatches}
 use Rattle.star_schema.specs.declared.limits.TheConstants.{MOST_VISITS}
-use Rattle.star_cli.specs.Private.Asked.{Asks, AsksForLimit, HasLimit, IsWord}
+use Rattle.star_cli.specs.Private.Asked.{AsksForLimit, HasLimit, IsWord}
 use Rattle.star_cli.proofs.Asking.{all_distinct, all_fit, first_word, folder_file_and_limit, lengths, word_at}
 
 -- words that are added in turn stand behind those that were there

@@ -8,7 +8,6 @@ use Rattle.std.specs.Cmp.Lexicographic.{slice_cmp, nat_list_cmp_total}
 use Rattle.star_schema.specs.declared.table.TableId.{TableId}
 use Rattle.star_schema.specs.declared.table.TableId.TheVariants.{Lineorder}
 use Rattle.star_schema.specs.declared.column.ColumnId.{ColumnId}
-use Rattle.star_schema.specs.declared.column.Kind.TheVariants as kind
 use Rattle.star_schema.specs.Order.{value_cmp}
 use Rattle.star_schema.specs.Schema.{kind_of, table_of}
 use Rattle.star_schema.specs.Tables as held

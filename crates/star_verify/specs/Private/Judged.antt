@@ -11,7 +11,7 @@ use Rattle.star_admission.specs.Admissible.{first_refusal}
 use Rattle.star_admission.specs.Private.Forward.{first_reason}
 use Rattle.star_admission.specs.Quote.{quote}
 use Rattle.star_admission.specs.declared.reason.Reason.{Reason}
-use Rattle.star_admission.specs.Refusals.{op_reason, scan_reason}
+use Rattle.star_admission.specs.Refusals.{scan_reason}
 use Rattle.star_admission.specs.Standing.{at_place}
 use Rattle.star_verify.specs.declared.instructions.Noted.{Noted}
 use Rattle.star_verify.specs.declared.instructions.Place.{Place}

@@ -1,4 +1,3 @@
-use Rattle.std.proofs.Common.{rules}
 use Rattle.star_cli.proofs.Telling.{told}
 use Rattle.star_engine.specs.Answered.{change}
 use Rattle.star_cli.proofs.lines.tell.Goals as goal

@@ -1,4 +1,4 @@
-use Rattle.std.proofs.Common.{◌++◌, encode_utf8, chars, flat_map, sym, ap, ◌∙◌, append_assoc, rules, subst}
+use Rattle.std.proofs.Common.{◌++◌, flat_map, sym, ap, ◌∙◌, append_assoc, rules, subst}
 use Rattle.std.specs.Fmt.{HasWritten}
 use Rattle.star_cli.proofs.NameLemmas.{whole_name}
 use Rattle.std.proofs.Output.{has_written_append}
