@@ -17,10 +17,9 @@ use Rattle.star_program.specs.declared.value.Value.{Value}
 use Rattle.star_program.specs.Values.{Registers, with_entry}
 use Rattle.star_machine.specs.declared.fault.Stop.{Stop}
 use Rattle.star_machine.specs.declared.fault.Stop.TheVariants as stop
-use Rattle.star_machine.specs.declared.run.Run.{Run}
 use Rattle.star_machine.specs.Private.Acts.{IsMade, IsStop, Sets}
 use Rattle.star_machine.specs.Private.Stops.{stop_of_put}
-use Rattle.star_machine.specs.Private.Runs.{HasDone}
+use Rattle.star_machine.specs.Private.Runs.{HasDone, Run}
 use Rattle.star_machine.specs.Sound.{IsSoundValue}
 
 answer_sound : (database : Database) (o : Operator) (l r : Option Value)

@@ -19,18 +19,16 @@ use Rattle.star_program.specs.Effects.{Store}
 use Rattle.star_program.specs.Faults.{group_at}
 use Rattle.star_program.specs.Outcome.{AreRows, IsOutcome, decoded_row, shown_cells}
 use Rattle.star_program.specs.Puts.{Update}
-use Rattle.star_group.specs.declared.eager.EagerStore.{EagerStore}
 use Rattle.star_group.specs.declared.group_row.GroupRow.{GroupRow}
-use Rattle.star_group.specs.Eager.{Has, group_of}
 use Rattle.star_group.specs.Shown.{AreRows as AreGroupRows, row_at, row_shown}
-use Rattle.star_group.specs.Stores.{Group, group_declared}
+use Rattle.star_group.specs.Stores.{Group, Put, group_declared}
 use Rattle.star_machine.specs.Private.Decoded.{AreDecodable, AreSortedGroups, row_cells}
-use Rattle.star_machine.specs.Private.Runs.{HasDone}
+use Rattle.star_machine.specs.Done.{HasDone}
 use Rattle.star_machine.specs.SoundKeys.{AreSoundKeys}
 use Rattle.star_world.specs.WorldOf.{world_of}
-use Rattle.star_machine.specs.Reported.{IsLeft}
+use Rattle.star_machine.specs.Private.LeftRows.{IsLeft}
 use Rattle.star_machine.specs.declared.outcome.Counts.{Counts}
-use Rattle.star_machine.specs.declared.run.Run.{Run}
+use Rattle.star_machine.specs.declared.work.Work.{Work}
 use Rattle.star_machine.proofs.DecodedRows.{decoded_in_order, group_decodable}
 use Rattle.star_common.proofs.Members.{contains_mapped}
 
@@ -69,11 +67,12 @@ pub left_counts : (db : Database) (parts : Parts) (s : Store) (rows : List Group
 left_counts db parts s rows counts left = sound_counts db (group_at parts parts.report).keys (s.updates_of parts.report) left.sound
 
 -- what a run has done leaves the rows of its reported store
-pub is_left : (db : Database) (parts : Parts) (run : Run) (s : Store) (store : EagerStore) (rows : List GroupRow) → HasDone db parts run s → slice_get run.stores.items parts.report ≡ Some store
-    → ((updates : List Update) → Has store updates → AreGroupRows (group_of store) updates rows) → IsLeft db parts s rows (record { visits = run.visits; lookups = run.lookups; updates = run.updates })
-is_left db parts run s store rows done at are =
+pub is_left : {S : Type 0} (group : S → Group) (has : S → List Put → Type 0) (db : Database) (parts : Parts) (work : Work S) (s : Store) (store : S) (rows : List GroupRow) → HasDone group has db parts work s
+    → slice_get work.stores.items parts.report ≡ Some store → ((updates : List Put) → has store updates → AreGroupRows (group store) updates rows)
+    → IsLeft db parts s rows (record { visits = work.visits; lookups = work.lookups; updates = work.updates })
+is_left group has db parts work s store rows done at are =
     let is = done.stores.each parts.report store at in record {
-      are = subst (λ d. AreGroupRows d (s.updates_of parts.report) rows) is.group (are (s.updates_of parts.report) is.has);
+      are = subst (λ d. AreGroupRows d (s.updates_of parts.report) rows) is.is (are (s.updates_of parts.report) is.content);
       sound = done.sound.each parts.report;
       visits = done.visits;
       lookups = done.lookups;

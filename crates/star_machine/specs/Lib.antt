@@ -2,5 +2,5 @@ pub mod Trials
 pub mod FaultTexts
 pub mod Sound
 pub mod SoundKeys
-pub mod Reported
+pub mod Done
 pub mod Private

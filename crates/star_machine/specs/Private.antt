@@ -1,6 +1,7 @@
 -- What the contracts of functions that are not public cite.
 pub mod Shown
 pub mod Stops
+pub mod LeftRows
 pub mod Runs
 pub mod Acts
 pub mod Walks

@@ -28,10 +28,12 @@ ghost use Rattle.star_world.specs.WorldOf.{world_of};
 use crate::compute::{answer, flag, is_within, number, row, set};
 use crate::fault::Stop;
 use crate::lookups::{find, load, place};
-use crate::run::Run;
+use crate::puts::put;
 use crate::value::Register;
+use crate::work::Work;
 use star_catalogue::Catalogue;
 use star_check::check;
+use star_group::EagerStore;
 use star_program::{Op, Operation, Parts, RegisterList, TrapKind, Value};
 use star_schema::TableId;
 
@@ -63,7 +65,7 @@ fn answered(answer: Option<Value>) -> Result<Value, Stop>
 fn look_up(
     catalogue: &Catalogue,
     registers: &[Register],
-    run: &mut Run,
+    run: &mut Work<EagerStore>,
     table: TableId,
     key: u16,
 ) -> Result<Value, Stop>
@@ -88,7 +90,7 @@ fn look_up(
 fn update(
     parts: &Parts,
     registers: &[Register],
-    run: &mut Run,
+    run: &mut Work<EagerStore>,
     group: u16,
     keys: &RegisterList,
     values: &RegisterList,
@@ -107,7 +109,7 @@ fn update(
     ensures work { run.new.lookups + run.new.updates ≤ run.old.lookups + run.old.updates + 1 }
     ensures visits { run.new.visits ≡ run.old.visits }
 {
-    match run.put(parts, registers, group, keys, values) {
+    match put(run, parts, registers, group, keys, values) {
         Ok(()) => {
             run.updates += 1;
             Ok(Flow::GoesOn)
@@ -117,7 +119,7 @@ fn update(
 }
 
 // Reads the total of an aggregate, or a default where it is NULL.
-fn read(run: &Run, group: u16, aggregate: u16, default: i64) -> Value
+fn read(run: &Work<EagerStore>, group: u16, aggregate: u16, default: i64) -> Value
     requires there { group < length run.now.stores.items }
     requires declared { (store : EagerStore) → slice_get run.now.stores.items group ≡ Some store
         → aggregate < length (group_of store).aggregates }
@@ -133,7 +135,7 @@ fn read(run: &Run, group: u16, aggregate: u16, default: i64) -> Value
 fn operate(
     catalogue: &Catalogue,
     registers: &[Register],
-    run: &mut Run,
+    run: &mut Work<EagerStore>,
     operation: &Operation,
 ) -> Result<Value, Stop>
     requires few { run.old.lookups < 2 ^ 63 }
@@ -176,7 +178,7 @@ fn operate(
 fn assign(
     catalogue: &Catalogue,
     registers: &mut [Register],
-    run: &mut Run,
+    run: &mut Work<EagerStore>,
     target: u16,
     operation: &Operation,
 ) -> Result<Flow, Stop>
@@ -207,7 +209,7 @@ fn perform(
     catalogue: &Catalogue,
     parts: &Parts,
     registers: &mut [Register],
-    run: &mut Run,
+    run: &mut Work<EagerStore>,
     op: &Op,
 ) -> Result<Flow, Stop>
     requires few { run.old.lookups + run.old.updates < 2 ^ 63 }
@@ -244,7 +246,7 @@ pub(crate) fn act(
     parts: &Parts,
     inside: bool,
     registers: &mut [Register],
-    run: &mut Run,
+    run: &mut Work<EagerStore>,
     op: &Op,
 ) -> Result<Flow, Stop>
     requires few { run.old.lookups + run.old.updates < 2 ^ 63 }

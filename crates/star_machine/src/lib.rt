@@ -8,14 +8,15 @@ pub mod law;
 pub mod lookups;
 mod machine;
 mod outcome;
+mod puts;
 mod report;
-mod run;
 mod start;
 mod trials;
 mod value;
 mod walk;
+mod work;
 
 pub use fault::TrialFault;
-pub use outcome::{Counts, outcome_of_rows};
 pub use star_program::{Cell, Fault, Outcome, TrapKind};
 pub use trials::trial;
+pub use work::Work;

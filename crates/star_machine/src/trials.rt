@@ -9,12 +9,12 @@ ghost use Rattle.star_world.specs.WorldOf.{world_of};
 
 use crate::fault::TrialFault;
 use crate::machine::Machine;
-use crate::outcome::outcome;
 use crate::report::names_what_is_there;
-use crate::run::Run;
-use crate::start::{empty_registers, start};
+use crate::start::empty_registers;
 use crate::walk::walk;
+use crate::work::Work;
 use star_catalogue::Catalogue;
+use star_group::EagerStore;
 use star_program::{Fault, MOST_SCANS, Outcome, Parts, Program, TrapKind};
 use std::alloc::Global;
 
@@ -25,7 +25,7 @@ fn run_through(
     catalogue: &Catalogue,
     parts: &Parts,
     most: u64,
-) -> Result<Run, TrialFault>
+) -> Result<Work<EagerStore>, TrialFault>
     requires limits { IsWithinLimits parts.now }
     requires most { most ≤ 10 ^ 15 }
     ensures { MatchResult result
@@ -36,7 +36,7 @@ fn run_through(
     let wide = parts.registers as usize;
     let mut registers = empty_registers(alloc, wide)?;
     let mut frames = empty_registers(alloc, MOST_SCANS as usize * wide)?;
-    let mut run = start(alloc, parts)?;
+    let mut run = Work::new(alloc, parts)?;
     let machine = Machine {
         catalogue,
         parts,
@@ -80,5 +80,5 @@ pub fn trial(
         });
     }
     let run = run_through(alloc, catalogue, parts, visits)?;
-    Ok(outcome(alloc, catalogue, parts, run)?)
+    Ok(run.into_outcome(alloc, catalogue, parts)?)
 }

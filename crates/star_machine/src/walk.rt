@@ -10,8 +10,9 @@ use crate::act::{Flow, act};
 use crate::compute::set;
 use crate::fault::{Stop, TrialFault};
 use crate::machine::{Machine, Scanned};
-use crate::run::Run;
 use crate::value::Register;
+use crate::work::Work;
+use star_group::EagerStore;
 use star_program::{Body, Fault, Step, TrapKind, Value};
 
 // How many instructions a body has.
@@ -47,7 +48,7 @@ fn turn(
     row: Value,
     registers: &mut [Register],
     frames: &mut [Register],
-    run: &mut Run,
+    run: &mut Work<EagerStore>,
 ) -> Result<(), TrialFault>
     requires target { scanned.now.target < machine.now.parts.now.registers }
     requires before { length scanned.now.before.now ≡ machine.now.parts.now.registers }
@@ -86,7 +87,7 @@ fn turns(
     scanned: &Scanned<'_>,
     registers: &mut [Register],
     frames: &mut [Register],
-    run: &mut Run,
+    run: &mut Work<EagerStore>,
 ) -> Result<(), TrialFault>
     requires target { scanned.now.target < machine.now.parts.now.registers }
     requires before { length scanned.now.before.now ≡ machine.now.parts.now.registers }
@@ -111,7 +112,7 @@ fn scan(
     machine: &Machine<'_>,
     scanned: &Scanned<'_>,
     frames: &mut [Register],
-    run: &mut Run,
+    run: &mut Work<EagerStore>,
 ) -> Result<(), TrialFault>
     requires before { length scanned.now.before.now ≡ machine.now.parts.now.registers }
     requires deep { (1 + scan_depth scanned.now.body.now) * machine.now.parts.now.registers
@@ -142,7 +143,7 @@ pub(crate) fn walk(
     inside: bool,
     registers: &mut [Register],
     frames: &mut [Register],
-    run: &mut Run,
+    run: &mut Work<EagerStore>,
 ) -> Result<(), TrialFault>
     requires size { code_size body.now ≤ 4096 }
     requires at { at + code_size body.now < 2 ^ 16 }
