@@ -10,8 +10,8 @@ ghost use Rattle.star_check.specs.Kinds.{Answers, kinds_of};
 ghost use Rattle.star_check.specs.Private.Taken.{taken};
 
 use crate::register::{Kinded, kind_at};
-use star_program::{Fault, GroupKey, Kind, Operation, Operator};
-use star_schema::{ColumnId, TableId, is_text, table_of};
+use star_program::{Fault, GroupKey, Kind, Operation, Operator, is_column};
+use star_schema::{ColumnId, is_table, is_text, table_of};
 
 // What an operand may be.
 #[derive(Clone, Copy)]
@@ -23,18 +23,6 @@ pub(crate) enum Wanted {
     // What compares with this.
     Like(Option<Kind>),
     Key(GroupKey),
-}
-
-fn is_column(column: ColumnId, other: ColumnId) -> bool
-    ensures { result ≡ world.is_column column other }
-{
-    column == other
-}
-
-fn is_table(table: TableId, other: TableId) -> bool
-    ensures { result ≡ schema.is_table table other }
-{
-    table == other
 }
 
 fn compares(left: Option<Kind>, right: Kind) -> bool

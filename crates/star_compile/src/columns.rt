@@ -3,28 +3,15 @@
 ghost use Rattle.std.specs.Prelude.{◌≡◌, IfOk};
 ghost use Rattle.star_schema.specs.Schema as schema;
 ghost use Rattle.star_schema.specs.declared.table.TableId.TheVariants.{Lineorder};
-ghost use Rattle.star_program.specs.World as world;
 ghost use Rattle.star_compiled.specs.Compiled as spec;
 ghost use Rattle.star_compiled.specs.Compiled.{found_in, foreign_of, loaded_in};
 ghost use Rattle.star_compile.specs.Private.Emitted.{HasRoom, Writes};
 
 use crate::emitter::Emitter;
 use star_plan::Join;
-use star_program::Operation;
-use star_schema::{ColumnId, TableId, table_of};
+use star_program::{Operation, is_column};
+use star_schema::{ColumnId, TableId, is_table, table_of};
 use std::alloc::AllocError;
-
-fn is_table(table: TableId, other: TableId) -> bool
-    ensures { result ≡ schema.is_table table other }
-{
-    table == other
-}
-
-fn is_column(column: ColumnId, other: ColumnId) -> bool
-    ensures { result ≡ world.is_column column other }
-{
-    column == other
-}
 
 // The register of a column, if it is loaded.
 fn register_of(loaded: &[(ColumnId, u16)], column: ColumnId) -> Option<u16>

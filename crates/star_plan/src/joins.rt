@@ -15,7 +15,7 @@ use crate::fault::PlanFault;
 use crate::names::{column_at, table_at};
 use crate::tree::Join;
 use star_query::{Condition, Name};
-use star_schema::{ColumnId, Key, TableId, key_of, references, table_of};
+use star_schema::{ColumnId, Key, TableId, is_table, key_of, references, table_of};
 use std::alloc::{AllocError, Global};
 
 /// Two columns that are compared.
@@ -159,12 +159,6 @@ fn joins(table: TableId, join: Option<Join>) -> bool
         None => false,
         Some(join) => is_table(table, table_of(join.key)),
     }
-}
-
-fn is_table(table: TableId, other: TableId) -> bool
-    ensures { result ≡ schema.is_table table other }
-{
-    table == other
 }
 
 impl Pair {

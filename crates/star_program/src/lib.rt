@@ -6,6 +6,7 @@
 
 mod body;
 mod cell_rows;
+mod columns;
 mod fault;
 mod group;
 mod key;
@@ -18,6 +19,7 @@ mod value;
 
 pub use body::{Body, Step};
 pub use cell_rows::{CellRows, row_of};
+pub use columns::is_column;
 pub use fault::{Fault, TrapKind};
 pub use group::{Aggregates, GroupDecl, GroupKey, GroupKeys};
 pub use key::KeyValue;

@@ -81,6 +81,13 @@ pub fn columns(table: TableId) -> &'static [ColumnId]
     }
 }
 
+/// Whether two tables are one.
+pub fn is_table(table: TableId, other: TableId) -> bool
+    ensures { result ≡ spec.is_table table other }
+{
+    table == other
+}
+
 /// How many columns the table has.
 pub fn width(table: TableId) -> usize
     ensures { result ≡ spec.width_of table }

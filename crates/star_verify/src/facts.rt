@@ -17,7 +17,7 @@ use crate::reach::Reach;
 use star_admission::{Reached, ReachedColumns};
 use star_catalogue::Catalogue;
 use star_interval::Interval;
-use star_schema::{COLUMNS, ColumnId, Sizes, TableId, is_text, references};
+use star_schema::{COLUMNS, ColumnId, Sizes, TableId, is_table, is_text, references};
 use std::alloc::{AllocError, Global};
 
 // The bounds go by the order of all columns, and are 0 and 0 for columns of texts.
@@ -104,11 +104,11 @@ impl Facts {
     }
 }
 
-fn is_table(table: TableId, other: Option<TableId>) -> bool
+fn is_some_table(table: TableId, other: Option<TableId>) -> bool
     ensures { result ≡ refusals.is_some_table table other }
 {
     match other {
-        Some(other) => table == other,
+        Some(other) => is_table(table, other),
         None => false,
     }
 }
@@ -118,7 +118,7 @@ pub(crate) fn refers_to(table: TableId, column: Option<ColumnId>) -> bool
     ensures { result ≡ refusals.refers_to table column }
 {
     match column {
-        Some(column) => is_table(table, references(column)),
+        Some(column) => is_some_table(table, references(column)),
         None => false,
     }
 }
