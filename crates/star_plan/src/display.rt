@@ -3,7 +3,10 @@
 // again, and nothing is proved from it.
 
 use crate::tree::{Aggregate, Condition, Expression, Join, Measure, PlanTree};
-use star_query::{Operand, write_grouping, write_list, write_operand, write_operation};
+use star_query::{
+    Operand, write_comparison, write_grouping, write_list, write_operand, write_operation,
+    write_range,
+};
 use star_schema::{Direction, GroupColumn, SortKey, table_of};
 use std::fmt;
 
@@ -57,11 +60,9 @@ impl fmt::Display for Condition {
                 write_operand(f, negated, negated.tightness() < 2)
             }
             Condition::Compare(column, relation, literal) => {
-                write!(f, "{column} {relation} {literal}")
+                write_comparison(f, column, relation, literal)
             }
-            Condition::Between(column, from, upto) => {
-                write!(f, "{column} between {from} and {upto}")
-            }
+            Condition::Between(column, from, upto) => write_range(f, column, from, upto),
         }
     }
 }

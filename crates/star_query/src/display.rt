@@ -1,7 +1,10 @@
 // Queries as SQL, with the parentheses that their grouping needs. No contract says what is printed:
 // its definition would be this file again, and nothing is proved from it.
 
-use crate::printing::{Operand, write_grouping, write_list, write_operand, write_operation};
+use crate::printing::{
+    Operand, write_comparison, write_grouping, write_list, write_operand, write_operation,
+    write_range,
+};
 use crate::token::{Fold, Relation};
 use crate::tree::{
     Aggregate, Condition, Expression, Grouping, Item, Literal, Measure, Name, SortKey, Tree,
@@ -94,6 +97,14 @@ impl Operand for Condition {
     }
 }
 
+fn write_pair<W: fmt::Write>(
+    f: &mut fmt::Formatter<W>,
+    first: &Name,
+    second: &Name,
+) -> fmt::Result {
+    write!(f, "{first} = {second}")
+}
+
 impl fmt::Display for Condition {
     fn fmt<W: fmt::Write>(&self, f: &mut fmt::Formatter<W>) -> fmt::Result {
         match self {
@@ -103,13 +114,11 @@ impl fmt::Display for Condition {
                 f.write_str("not ")?;
                 write_operand(f, negated, negated.tightness() < 2)
             }
-            Condition::Pair(first, second) => write!(f, "{first} = {second}"),
+            Condition::Pair(first, second) => write_pair(f, first, second),
             Condition::Compare(name, relation, literal) => {
-                write!(f, "{name} {relation} {literal}")
+                write_comparison(f, name, relation, literal)
             }
-            Condition::Between(name, from, upto) => {
-                write!(f, "{name} between {from} and {upto}")
-            }
+            Condition::Between(name, from, upto) => write_range(f, name, from, upto),
         }
     }
 }

@@ -20,7 +20,10 @@ mod tree;
 
 pub use counts::MAX_TEXT;
 pub use fault::QueryFault;
-pub use printing::{Operand, write_grouping, write_list, write_operand, write_operation};
+pub use printing::{
+    Operand, write_comparison, write_grouping, write_list, write_operand, write_operation,
+    write_range,
+};
 pub use query::Query;
 pub use token::{Fold, Relation};
 pub use tree::{
