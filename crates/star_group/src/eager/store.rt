@@ -51,6 +51,14 @@ fn first_rows(
     }
 }
 
+// What remembers the rows that are made: a cube's are not looked up by it.
+fn newest_of(alloc: Global, shape: Shape) -> Result<Newest, AllocError> {
+    match shape {
+        Shape::Plain => Newest::new(alloc),
+        Shape::Cube => Ok(Newest::none(alloc)),
+    }
+}
+
 // The row of all puts.
 fn all_row<'a>(rows: &'a KeyedRows, shape: Shape, total: &'a Row) -> Option<&'a [Option<i64>]>
     requires few { rows.now.many ≤ 8 }
@@ -101,7 +109,7 @@ impl GroupStore for EagerStore {
             count,
             aggregates,
             rows,
-            newest: Newest::new(alloc)?,
+            newest: newest_of(alloc, declared.shape)?,
             total: BLANK,
             own: Vec::with_capacity(alloc, MOST_OWN)?,
             places: Vec::with_capacity(alloc, MOST_OWN)?,
