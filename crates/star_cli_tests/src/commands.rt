@@ -37,26 +37,65 @@ pub(crate) fn text(bytes: &[u8]) -> &str {
     str::from_utf8(bytes).unwrap_or("no text")
 }
 
+// The words of a command, what it prints on its two streams, and its status.
+pub(crate) type Case = (&'static [&'static str], &'static str, &'static str, u8);
+
+// Whether each command prints what it is said to.
+pub(crate) fn assert_runs<R: Files + AllocGlobal + Abort>(
+    rt: &R,
+    cases: &[Case],
+) -> Result<(), Fail> {
+    for (words, out, err, status) in cases {
+        assert_run(rt, words, out, err, *status)?;
+    }
+    Ok(())
+}
+
+fn assert_run<R: Files + AllocGlobal + Abort>(
+    rt: &R,
+    words: &[&str],
+    out: &str,
+    err: &str,
+    status: u8,
+) -> Result<(), Fail> {
+    let ran = run(rt, words)?;
+    assert_eq!(rt; text(ran.out.as_slice()), out, "{words:?}");
+    assert_eq!(rt; text(ran.err.as_slice()), err, "{words:?}");
+    assert_eq!(rt; ran.status, status, "{words:?}");
+    Ok(())
+}
+
+// A run that prints one line on standard error and nothing else.
+pub(crate) fn assert_fault<R: Files + AllocGlobal + Abort>(
+    rt: &R,
+    words: &[&str],
+    line: &str,
+    status: u8,
+) -> Result<(), Fail> {
+    assert_run(rt, words, "", line, status)
+}
+
+const NO_COMMANDS: &[&[&str]] = &[
+    &["no"],
+    &["check"],
+    &["check", "a", "b"],
+    &["exec", "a"],
+    &["query", "a"],
+    &["explain"],
+    &["bench"],
+    &["quote", "a", "b", "c"],
+    &["trial", "a", "b"],
+    &["trial", "a", "b", "1000000000000001"],
+    &["trial", "a", "b", "-1"],
+    &["trial", "a", "b", "x"],
+    &["--no"],
+];
+
 #[test]
 fn asks_for_words(rt: HostRuntime) -> Result<(), Fail> {
-    for words in [
-        ["no"].as_slice(),
-        ["check"].as_slice(),
-        ["check", "a", "b"].as_slice(),
-        ["exec", "a"].as_slice(),
-        ["query", "a"].as_slice(),
-        ["explain"].as_slice(),
-        ["bench"].as_slice(),
-        ["quote", "a", "b", "c"].as_slice(),
-        ["trial", "a", "b"].as_slice(),
-        ["trial", "a", "b", "1000000000000001"].as_slice(),
-        ["trial", "a", "b", "-1"].as_slice(),
-        ["trial", "a", "b", "x"].as_slice(),
-        ["--no"].as_slice(),
-    ] {
+    for words in NO_COMMANDS {
         let ran = run(&rt, words)?;
-        assert_eq!(rt; ran.status, 2, "{words:?}");
-        assert_eq!(rt; ran.out.len(), 0);
+        assert_eq!(rt; (ran.status, ran.out.len()), (2, 0), "{words:?}");
         assert!(rt;
             text(ran.err.as_slice()).starts_with("error: "),
             "{words:?}"
@@ -72,9 +111,8 @@ fn helps(rt: HostRuntime) -> Result<(), Fail> {
         (["--version"], "star 0.1.0\n"),
     ] {
         let ran = run(&rt, words.as_slice())?;
-        assert_eq!(rt; ran.status, 0);
+        assert_eq!(rt; (ran.status, ran.err.len()), (0, 0));
         assert!(rt; text(ran.out.as_slice()).starts_with(front), "{front}");
-        assert_eq!(rt; ran.err.len(), 0);
     }
     Ok(())
 }
@@ -120,43 +158,29 @@ fn answers_the_benchmark_behind_the_listing(rt: HostRuntime) -> Result<(), Fail>
     Ok(())
 }
 
-// A run that prints one line on standard error and nothing else.
-pub(crate) fn assert_fault<R: Files + AllocGlobal + Abort>(
-    rt: &R,
-    words: &[&str],
-    line: &str,
-    status: u8,
-) -> Result<(), Fail> {
-    let ran = run(rt, words)?;
-    assert_eq!(rt; text(ran.err.as_slice()), line);
-    assert_eq!(rt; ran.status, status, "{line}");
-    assert_eq!(rt; ran.out.len(), 0);
-    Ok(())
-}
+const NO_FOLDERS: &[Case] = &[
+    (&["check", "empty"], "", "file date.tbl\n", 6),
+    (&["check", "none"], "", "file date.tbl\n", 6),
+    (&["check", "damaged/part.tbl"], "", "file date.tbl\n", 6),
+];
 
 #[test]
 fn tells_faults(rt: HostRuntime) -> Result<(), Fail> {
     write_sample(&rt, "damaged")?;
     fs::create_dir_all(&rt, "empty")?;
-    assert_fault(&rt, ["check", "empty"].as_slice(), "file date.tbl\n", 6)?;
-    assert_fault(&rt, ["check", "none"].as_slice(), "file date.tbl\n", 6)?;
-    assert_fault(
-        &rt,
-        ["check", "damaged/part.tbl"].as_slice(),
-        "file date.tbl\n",
-        6,
-    )?;
+    assert_runs(&rt, NO_FOLDERS)?;
     fs::write(&rt, "damaged/supplier.tbl", b"\n1|a\n")?;
+    let damaged = ["check", "damaged"].as_slice();
     assert_fault(
         &rt,
-        ["check", "damaged"].as_slice(),
+        damaged,
         "load 4 FieldCount table supplier record 1\n",
         3,
     )?;
     fs::remove_file(&rt, "damaged/part.tbl")?;
-    assert_fault(&rt, ["check", "damaged"].as_slice(), "file part.tbl\n", 6)?;
+    assert_fault(&rt, damaged, "file part.tbl\n", 6)?;
     fs::create_dir_all(&rt, "damaged/part.tbl")?;
-    assert_fault(&rt, ["check", "damaged"].as_slice(), "file part.tbl\n", 6)?;
+    assert_fault(&rt, damaged, "file part.tbl\n", 6)?;
     // So that the next run finds a folder of files.
     fs::remove_dir(&rt, "damaged/part.tbl")?;
     Ok(())
@@ -192,20 +216,41 @@ const ASTRAY: &str = concat!(
     "show n aggregate 0\n",
 );
 
-#[test]
-fn runs_trials(rt: HostRuntime) -> Result<(), Fail> {
-    write_sample(&rt, "tables")?;
-    fs::write(&rt, "above.star", ABOVE_AVERAGE.as_bytes())?;
-    for limit in ["10", "+010", "1000000000000000"] {
-        let ran = run(&rt, ["trial", "tables", "above.star", limit].as_slice())?;
-        assert_eq!(rt; text(ran.out.as_slice()), "n\n2\n");
-        assert_eq!(rt; (ran.status, ran.err.len()), (0, 0), "{limit}");
-    }
-    Ok(())
-}
+const TRIALS: &[Case] = &[
+    (&["trial", "tables", "above.star", "10"], "n\n2\n", "", 0),
+    (&["trial", "tables", "above.star", "+010"], "n\n2\n", "", 0),
+    (
+        &["trial", "tables", "above.star", "1000000000000000"],
+        "n\n2\n",
+        "",
+        0,
+    ),
+    (&["trial", "tables", "above.star", "9"], "", "limit\n", 1),
+    (&["trial", "tables", "above.star", "0"], "", "limit\n", 1),
+    (
+        &["trial", "tables", "astray.star", "10"],
+        "",
+        "trap AbsentKey at 3\n",
+        1,
+    ),
+    (
+        &["trial", "none", "open.star", "10"],
+        "",
+        "file date.tbl\n",
+        6,
+    ),
+    (
+        &["trial", "tables", "open.star", "10"],
+        "",
+        "program 52 OpenScan\n",
+        5,
+    ),
+    (&["trial", "none", "no.star", "10"], "", "file no.star\n", 6),
+    (&["trial", "tables", "tables", "10"], "", "file tables\n", 6),
+];
 
 #[test]
-fn tells_faults_of_trials(rt: HostRuntime) -> Result<(), Fail> {
+fn runs_trials(rt: HostRuntime) -> Result<(), Fail> {
     write_sample(&rt, "tables")?;
     fs::write(&rt, "above.star", ABOVE_AVERAGE.as_bytes())?;
     fs::write(&rt, "astray.star", ASTRAY.as_bytes())?;
@@ -214,71 +259,52 @@ fn tells_faults_of_trials(rt: HostRuntime) -> Result<(), Fail> {
         "open.star",
         b"star program 1\nregisters 1\nscan date r0\n",
     )?;
-    for (folder, file, limit, line, status) in [
-        ("tables", "above.star", "9", "limit\n", 1),
-        ("tables", "above.star", "0", "limit\n", 1),
-        ("tables", "astray.star", "10", "trap AbsentKey at 3\n", 1),
-        ("none", "open.star", "10", "file date.tbl\n", 6),
-        ("tables", "open.star", "10", "program 52 OpenScan\n", 5),
-        ("none", "no.star", "10", "file no.star\n", 6),
-        ("tables", "tables", "10", "file tables\n", 6),
-    ] {
-        assert_fault(&rt, ["trial", folder, file, limit].as_slice(), line, status)?;
-    }
-    Ok(())
+    assert_runs(&rt, TRIALS)
 }
+
+const EXECUTIONS: &[Case] = &[
+    (
+        &["exec", "tables", "above.star"],
+        "n\n2\n",
+        "quote 10\nvisits 10 lookups 0 updates 7\n",
+        0,
+    ),
+    (&["quote", "tables", "above.star"], "quote 10\n", "", 0),
+    (
+        &["exec", "tables", "astray.star"],
+        "",
+        "quote 5\nrefused 65 NotAForeignKey at 3\n",
+        1,
+    ),
+    (
+        &["exec", "tables", "query.sql"],
+        "",
+        "program 50 BadHeader\n",
+        5,
+    ),
+    (&["exec", "none", "above.star"], "", "file date.tbl\n", 6),
+    (&["quote", "none", "no.star"], "", "file no.star\n", 6),
+    (
+        &["exec", "", "above.star"],
+        "",
+        "error: the folder's name is empty\n",
+        2,
+    ),
+    (
+        &["quote", "", "above.star"],
+        "",
+        "error: the folder's name is empty\n",
+        2,
+    ),
+];
 
 #[test]
 fn executes_programs(rt: HostRuntime) -> Result<(), Fail> {
     write_sample(&rt, "tables")?;
     fs::write(&rt, "above.star", ABOVE_AVERAGE.as_bytes())?;
-    let ran = run(&rt, ["exec", "tables", "above.star"].as_slice())?;
-    assert_eq!(rt; text(ran.out.as_slice()), "n\n2\n");
-    assert_eq!(rt;
-        text(ran.err.as_slice()),
-        "quote 10\nvisits 10 lookups 0 updates 7\n"
-    );
-    let quoted = run(&rt, ["quote", "tables", "above.star"].as_slice())?;
-    assert_eq!(rt; text(quoted.out.as_slice()), "quote 10\n");
-    assert_eq!(rt; (ran.status, quoted.status, quoted.err.len()), (0, 0, 0));
-    Ok(())
-}
-
-#[test]
-fn tells_faults_of_executions(rt: HostRuntime) -> Result<(), Fail> {
-    write_sample(&rt, "tables")?;
-    fs::write(&rt, "above.star", ABOVE_AVERAGE.as_bytes())?;
     fs::write(&rt, "astray.star", ASTRAY.as_bytes())?;
     fs::write(&rt, "query.sql", b"select count(*) from lineorder")?;
-    for (command, folder, file, line, status) in [
-        (
-            "exec",
-            "tables",
-            "astray.star",
-            "quote 5\nrefused 65 NotAForeignKey at 3\n",
-            1,
-        ),
-        ("exec", "tables", "query.sql", "program 50 BadHeader\n", 5),
-        ("exec", "none", "above.star", "file date.tbl\n", 6),
-        ("quote", "none", "no.star", "file no.star\n", 6),
-        (
-            "exec",
-            "",
-            "above.star",
-            "error: the folder's name is empty\n",
-            2,
-        ),
-        (
-            "quote",
-            "",
-            "above.star",
-            "error: the folder's name is empty\n",
-            2,
-        ),
-    ] {
-        assert_fault(&rt, [command, folder, file].as_slice(), line, status)?;
-    }
-    Ok(())
+    assert_runs(&rt, EXECUTIONS)
 }
 
 const YEARS: &str = concat!(
@@ -286,22 +312,48 @@ const YEARS: &str = concat!(
     "where lo_orderdate = d_datekey group by d_year order by d_year",
 );
 
+const QUERIES: &[Case] = &[
+    (
+        &["query", "tables", "years.sql"],
+        "d_year|revenue\n1993|2920\n1994|495\n1997|3630\n",
+        "quote 5\nvisits 5 lookups 5 updates 5\n",
+        0,
+    ),
+    (&["quote", "tables", "years.sql"], "quote 5\n", "", 0),
+    (
+        &["query", "tables", "open.sql"],
+        "",
+        "query 24 Unexpected at 20\n",
+        4,
+    ),
+    (
+        &["quote", "tables", "join.sql"],
+        "",
+        "query 34 JoinMissing at 32\n",
+        4,
+    ),
+    (&["query", "none", "open.sql"], "", "file date.tbl\n", 6),
+    (
+        &["query", "", "open.sql"],
+        "",
+        "error: the folder's name is empty\n",
+        2,
+    ),
+    (
+        &["explain", "join.sql"],
+        "",
+        "query 34 JoinMissing at 32\n",
+        4,
+    ),
+];
+
 #[test]
 fn answers_queries(rt: HostRuntime) -> Result<(), Fail> {
     write_sample(&rt, "tables")?;
     fs::write(&rt, "years.sql", YEARS.as_bytes())?;
-    let ran = run(&rt, ["query", "tables", "years.sql"].as_slice())?;
-    assert_eq!(rt;
-        text(ran.out.as_slice()),
-        "d_year|revenue\n1993|2920\n1994|495\n1997|3630\n"
-    );
-    assert_eq!(rt;
-        text(ran.err.as_slice()),
-        "quote 5\nvisits 5 lookups 5 updates 5\n"
-    );
-    let quoted = run(&rt, ["quote", "tables", "years.sql"].as_slice())?;
-    assert_eq!(rt; text(quoted.out.as_slice()), "quote 5\n");
-    Ok(())
+    fs::write(&rt, "open.sql", b"select count(*) from")?;
+    fs::write(&rt, "join.sql", b"select count(*) from lineorder, date")?;
+    assert_runs(&rt, QUERIES)
 }
 
 // The program that `explain` prints is run by `exec` as the query is by `query`.
@@ -320,45 +372,6 @@ fn explains_queries(rt: HostRuntime) -> Result<(), Fail> {
         (0, 0, 0)
     );
     Ok(())
-}
-
-#[test]
-fn tells_faults_of_queries(rt: HostRuntime) -> Result<(), Fail> {
-    write_sample(&rt, "tables")?;
-    fs::write(&rt, "open.sql", b"select count(*) from")?;
-    fs::write(&rt, "join.sql", b"select count(*) from lineorder, date")?;
-    for (command, folder, file, line, status) in [
-        (
-            "query",
-            "tables",
-            "open.sql",
-            "query 24 Unexpected at 20\n",
-            4,
-        ),
-        (
-            "quote",
-            "tables",
-            "join.sql",
-            "query 34 JoinMissing at 32\n",
-            4,
-        ),
-        ("query", "none", "open.sql", "file date.tbl\n", 6),
-        (
-            "query",
-            "",
-            "open.sql",
-            "error: the folder's name is empty\n",
-            2,
-        ),
-    ] {
-        assert_fault(&rt, [command, folder, file].as_slice(), line, status)?;
-    }
-    assert_fault(
-        &rt,
-        ["explain", "join.sql"].as_slice(),
-        "query 34 JoinMissing at 32\n",
-        4,
-    )
 }
 
 fn spaces(alloc: Global, count: usize) -> Result<Vec<u8>, AllocError> {

@@ -15,6 +15,17 @@ fn explained<R: Files + AllocGlobal>(rt: &R, query: &str) -> Result<Ran, Fail> {
     Ok(run(rt, ["explain", "damaged.sql"].as_slice())?)
 }
 
+// What is told of a text that is refused.
+fn assert_refused<R: Files + AllocGlobal + Abort>(
+    rt: &R,
+    query: &str,
+    line: &str,
+) -> Result<(), Fail> {
+    let ran = explained(rt, query)?;
+    assert_eq!(rt; (ran.status, text(ran.err.as_slice())), (4, line));
+    Ok(())
+}
+
 // A query with so much of something is taken, and one with more is not.
 const BOUNDS: [(&str, &str, u32, &str, &str); 5] = [
     (
@@ -60,8 +71,7 @@ fn bounds_of_queries_are_told(rt: HostRuntime) -> Result<(), Fail> {
         let most = repeated(rt.alloc(), front, middle, count, end)?;
         assert_eq!(rt; explained(&rt, most.as_str())?.status, 0, "{front}{middle}");
         let more = repeated(rt.alloc(), front, middle, count + 1, end)?;
-        let ran = explained(&rt, more.as_str())?;
-        assert_eq!(rt; (ran.status, text(ran.err.as_slice())), (4, line));
+        assert_refused(&rt, more.as_str(), line)?;
     }
     Ok(())
 }
@@ -83,34 +93,31 @@ fn faults_of_odd_queries_are_told(rt: HostRuntime) -> Result<(), Fail> {
     let most = nested(rt.alloc(), 32)?;
     assert_eq!(rt; explained(&rt, most.as_str())?.status, 0);
     let more = nested(rt.alloc(), 33)?;
+    assert_refused(&rt, more.as_str(), "query 25 TooDeep\n")?;
     let name = repeated(rt.alloc(), "select count(*) from ", "n", 65, "")?;
+    assert_refused(&rt, name.as_str(), "query 26 TooMany\n")?;
     let spaces = repeated(rt.alloc(), "", "  ", 32_768, "")?;
-    for (query, line) in [
-        (more.as_str(), "query 25 TooDeep\n"),
-        (name.as_str(), "query 26 TooMany\n"),
-        (spaces.as_str(), "query 24 Unexpected at 65536\n"),
-        ("select count(*)\0", "query 21 BadCharacter at 15\n"),
-        ("select sum(1x)", "query 22 BadNumber at 11\n"),
-    ] {
-        let ran = explained(&rt, query)?;
-        assert_eq!(rt; (ran.status, text(ran.err.as_slice())), (4, line));
-    }
-    Ok(())
+    assert_refused(&rt, spaces.as_str(), "query 24 Unexpected at 65536\n")?;
+    assert_refused(&rt, "select count(*)\0", "query 21 BadCharacter at 15\n")?;
+    assert_refused(&rt, "select sum(1x)", "query 22 BadNumber at 11\n")
 }
+
+// Lines behind three scans, and what is told of the program.
+const ODD_LINES: &[(&str, &str)] = &[
+    ("scan lineorder r3\n", "program 53 TooLarge line 6\n"),
+    ("", "program 52 OpenScan\n"),
+    (
+        "r3 = const 9223372036854775808\n",
+        "program 51 BadLine line 6\n",
+    ),
+];
 
 // Programs of one line too many, that end too early, or with a number that is none.
 #[test]
 fn faults_of_odd_programs_are_told(rt: HostRuntime) -> Result<(), Fail> {
     write_sample(&rt, "odd")?;
     let scans = "scan lineorder r0\nscan lineorder r1\nscan lineorder r2\n";
-    for (body, line) in [
-        ("scan lineorder r3\n", "program 53 TooLarge line 6\n"),
-        ("", "program 52 OpenScan\n"),
-        (
-            "r3 = const 9223372036854775808\n",
-            "program 51 BadLine line 6\n",
-        ),
-    ] {
+    for (body, line) in ODD_LINES {
         let program = format!(in rt.alloc(); "star program 1\nregisters 4\n{scans}{body}")?;
         fs::write(&rt, "odd.star", program.as_bytes())?;
         assert_fault(&rt, ["exec", "odd", "odd.star"].as_slice(), line, 5)?;

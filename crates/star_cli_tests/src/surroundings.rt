@@ -1,7 +1,7 @@
 // What commands do where the surroundings are against them: odd words and names, missing files,
 // streams that fail, and answers of many bytes.
 
-use crate::commands::{assert_fault, run, text, write_sample};
+use crate::commands::{Case, assert_fault, assert_runs, run, text, write_sample};
 use star_cli::command;
 use star_fixtures::programs::ABOVE_AVERAGE;
 use star_fixtures::streams::Short;
@@ -11,33 +11,46 @@ use std::fs;
 use std::rt::Files;
 use std::test::Fail;
 
-#[test]
-fn refuses_an_empty_folder(rt: HostRuntime) -> Result<(), Fail> {
-    for words in [
-        ["check", ""].as_slice(),
-        ["trial", "", "none.star", "1"].as_slice(),
-    ] {
-        assert_fault(&rt, words, "error: the folder's name is empty\n", 2)?;
-    }
-    Ok(())
-}
+const ODD_NAMES: &[Case] = &[
+    (&["check", ""], "", "error: the folder's name is empty\n", 2),
+    (
+        &["trial", "", "none.star", "1"],
+        "",
+        "error: the folder's name is empty\n",
+        2,
+    ),
+    (
+        &["trial", "none", "no such file", "1"],
+        "",
+        "file no such file\n",
+        6,
+    ),
+    (
+        &["trial", "none", "a\nload 1", "1"],
+        "",
+        "file a\\nload 1\n",
+        6,
+    ),
+    (
+        &["trial", "none", "\0\t\r\u{1b}\u{7f}\u{85}", "1"],
+        "",
+        "file \\0\\t\\r\\u{1b}\\u{7f}\\u{85}\n",
+        6,
+    ),
+    (&["trial", "none", "a\\nb", "1"], "", "file a\\\\nb\n", 6),
+    (
+        &["trial", "none", "é'\"\u{301}\u{2028}", "1"],
+        "",
+        "file é'\"\u{301}\u{2028}\n",
+        6,
+    ),
+    (&["trial", "none", "", "1"], "", "file \n", 6),
+];
 
+// An empty folder is refused, and a file is named on one line.
 #[test]
 fn names_files_on_one_line(rt: HostRuntime) -> Result<(), Fail> {
-    for (name, line) in [
-        ("no such file", "file no such file\n"),
-        ("a\nload 1", "file a\\nload 1\n"),
-        (
-            "\0\t\r\u{1b}\u{7f}\u{85}",
-            "file \\0\\t\\r\\u{1b}\\u{7f}\\u{85}\n",
-        ),
-        ("a\\nb", "file a\\\\nb\n"),
-        ("é'\"\u{301}\u{2028}", "file é'\"\u{301}\u{2028}\n"),
-        ("", "file \n"),
-    ] {
-        assert_fault(&rt, ["trial", "none", name, "1"].as_slice(), line, 6)?;
-    }
-    Ok(())
+    assert_runs(&rt, ODD_NAMES)
 }
 
 // The status of a command whose two streams take so many bytes, and what they took.
@@ -57,61 +70,68 @@ fn run_short<R: Files + AllocGlobal>(
     }
 }
 
+// The words of a command, how many bytes its two streams take, one at a time, its status, and what
+// it prints on standard error.
+const SHORT_STREAMS: &[(&[&str], usize, usize, u8, &str)] = &[
+    (&[], 4_000, 0, 0, ""),
+    (&[], 0, 100, 6, "write 0\n"),
+    (&[], 10, 100, 6, "write 10\n"),
+    (&[], 10, 0, 6, ""),
+    (&[], 10, 7, 6, "write 1"),
+    (&["check", "none"], 0, 9, 6, "file date"),
+    (&["check", ""], 0, 0, 2, ""),
+    (&["--version"], 0, 100, 0, ""),
+    (&["--no"], 0, 6, 2, "error:"),
+];
+
 #[test]
 fn keeps_its_status_where_streams_fail(rt: HostRuntime) -> Result<(), Fail> {
-    for (words, out_left, err_left, status, line) in [
-        ([].as_slice(), 4_000, 0, 0, ""),
-        ([].as_slice(), 0, 100, 6, "write 0\n"),
-        ([].as_slice(), 10, 100, 6, "write 10\n"),
-        ([].as_slice(), 10, 0, 6, ""),
-        ([].as_slice(), 10, 7, 6, "write 1"),
-        (["check", "none"].as_slice(), 0, 9, 6, "file date"),
-        (["check", ""].as_slice(), 0, 0, 2, ""),
-        (["--version"].as_slice(), 0, 100, 0, ""),
-        (["--no"].as_slice(), 0, 6, 2, "error:"),
-    ] {
-        let out = Short::with_room(rt.alloc(), out_left, 1)?;
-        let err = Short::with_room(rt.alloc(), err_left, 1)?;
+    for (words, out_left, err_left, status, line) in SHORT_STREAMS {
+        let out = Short::with_room(rt.alloc(), *out_left, 1)?;
+        let err = Short::with_room(rt.alloc(), *err_left, 1)?;
         let got = run_short(&rt, words, out, err)?;
         assert_eq!(rt;
             (got.0, text(got.2.as_slice())),
-            (status, line),
+            (*status, *line),
             "{words:?} {out_left}"
         );
     }
     Ok(())
 }
 
+// How many bytes the two streams of `exec` take, its status, and what it prints.
+const SHORT_NOTES: &[(usize, usize, u8, &str, &str)] = &[
+    (100, 0, 6, "", ""),
+    (100, 8, 6, "", "quote 10"),
+    (100, 9, 6, "n\n2\n", "quote 10\n"),
+    (
+        100,
+        38,
+        6,
+        "n\n2\n",
+        "quote 10\nvisits 10 lookups 0 updates 7",
+    ),
+    (
+        100,
+        39,
+        0,
+        "n\n2\n",
+        "quote 10\nvisits 10 lookups 0 updates 7\n",
+    ),
+    (3, 100, 6, "n\n2", "quote 10\nwrite 3\n"),
+];
+
 #[test]
 fn tells_notes_that_fail(rt: HostRuntime) -> Result<(), Fail> {
     write_sample(&rt, "noted")?;
     fs::write(&rt, "noted.star", ABOVE_AVERAGE.as_bytes())?;
-    for (out_left, err_left, status, out_text, err_text) in [
-        (100, 0, 6, "", ""),
-        (100, 8, 6, "", "quote 10"),
-        (100, 9, 6, "n\n2\n", "quote 10\n"),
-        (
-            100,
-            38,
-            6,
-            "n\n2\n",
-            "quote 10\nvisits 10 lookups 0 updates 7",
-        ),
-        (
-            100,
-            39,
-            0,
-            "n\n2\n",
-            "quote 10\nvisits 10 lookups 0 updates 7\n",
-        ),
-        (3, 100, 6, "n\n2", "quote 10\nwrite 3\n"),
-    ] {
-        let out = Short::with_room(rt.alloc(), out_left, 1)?;
-        let err = Short::with_room(rt.alloc(), err_left, 1)?;
+    for (out_left, err_left, status, out_text, err_text) in SHORT_NOTES {
+        let out = Short::with_room(rt.alloc(), *out_left, 1)?;
+        let err = Short::with_room(rt.alloc(), *err_left, 1)?;
         let got = run_short(&rt, ["exec", "noted", "noted.star"].as_slice(), out, err)?;
         assert_eq!(rt;
             (got.0, text(got.1.as_slice()), text(got.2.as_slice())),
-            (status, out_text, err_text),
+            (*status, *out_text, *err_text),
             "{out_left} {err_left}"
         );
     }
@@ -134,82 +154,88 @@ fn tells_the_first_missing_file(rt: HostRuntime) -> Result<(), Fail> {
     Ok(())
 }
 
+// The text of a program, the line of its fault, and the status.
+const PROGRAMS: &[(&str, &str, u8)] = &[
+    ("", "program 50 BadHeader\n", 5),
+    (
+        "star program 1\nregisters 99999\n",
+        "program 51 BadLine line 2\n",
+        5,
+    ),
+    (
+        "star program 1\nregisters 4097\n",
+        "program 53 TooLarge line 2\n",
+        5,
+    ),
+    (
+        "star program 1\nregisters 0\nr\u{e9}\n",
+        "program 51 BadLine line 3\n",
+        5,
+    ),
+];
+
 #[test]
 fn tells_faults_of_program_files(rt: HostRuntime) -> Result<(), Fail> {
     write_sample(&rt, "programs")?;
-    for (program, line, status) in [
-        ("", "program 50 BadHeader\n", 5),
-        (
-            "star program 1\nregisters 99999\n",
-            "program 51 BadLine line 2\n",
-            5,
-        ),
-        (
-            "star program 1\nregisters 4097\n",
-            "program 53 TooLarge line 2\n",
-            5,
-        ),
-        (
-            "star program 1\nregisters 0\nr\u{e9}\n",
-            "program 51 BadLine line 3\n",
-            5,
-        ),
-    ] {
+    for (program, line, status) in PROGRAMS {
         fs::write(&rt, "fault.star", program.as_bytes())?;
         let words = ["trial", "programs", "fault.star", "0"];
-        assert_fault(&rt, words.as_slice(), line, status)?;
+        assert_fault(&rt, words.as_slice(), line, *status)?;
     }
     Ok(())
 }
 
+// Words that ask for help, and parts of what it says.
+const HELP: &[(&[&str], &str, &str)] = &[
+    (
+        &["--help"],
+        "Usage: star [COMMAND]\n",
+        "  star check data\n",
+    ),
+    (
+        &["check", "--help"],
+        "Usage: star check <FOLDER>\n",
+        "  star check data\n",
+    ),
+    (
+        &["bench", "--help"],
+        "Usage: star bench <FOLDER>\n",
+        "  star bench data\n",
+    ),
+    (
+        &["query", "--help"],
+        "Usage: star query <FOLDER> <FILE>\n",
+        "  star query data revenue.sql\n",
+    ),
+    (
+        &["explain", "--help"],
+        "Usage: star explain <FILE>\n",
+        "  star explain revenue.sql\n",
+    ),
+    (
+        &["exec", "--help"],
+        "Usage: star exec <FOLDER> <FILE>\n",
+        "  star exec data above.star\n",
+    ),
+    (
+        &["quote", "--help"],
+        "Usage: star quote <FOLDER> <FILE>\n",
+        "  star quote data above.star\n",
+    ),
+    (
+        &["trial", "--help"],
+        "Usage: star trial <FOLDER> <FILE> <LIMIT>\n",
+        "  star trial data above.star 1000\n",
+    ),
+];
+
 #[test]
 fn helps_with_each_command(rt: HostRuntime) -> Result<(), Fail> {
-    for (words, usage, example) in [
-        (
-            ["--help"].as_slice(),
-            "Usage: star [COMMAND]\n",
-            "  star check data\n",
-        ),
-        (
-            ["check", "--help"].as_slice(),
-            "Usage: star check <FOLDER>\n",
-            "  star check data\n",
-        ),
-        (
-            ["bench", "--help"].as_slice(),
-            "Usage: star bench <FOLDER>\n",
-            "  star bench data\n",
-        ),
-        (
-            ["query", "--help"].as_slice(),
-            "Usage: star query <FOLDER> <FILE>\n",
-            "  star query data revenue.sql\n",
-        ),
-        (
-            ["explain", "--help"].as_slice(),
-            "Usage: star explain <FILE>\n",
-            "  star explain revenue.sql\n",
-        ),
-        (
-            ["exec", "--help"].as_slice(),
-            "Usage: star exec <FOLDER> <FILE>\n",
-            "  star exec data above.star\n",
-        ),
-        (
-            ["quote", "--help"].as_slice(),
-            "Usage: star quote <FOLDER> <FILE>\n",
-            "  star quote data above.star\n",
-        ),
-        (
-            ["trial", "--help"].as_slice(),
-            "Usage: star trial <FOLDER> <FILE> <LIMIT>\n",
-            "  star trial data above.star 1000\n",
-        ),
-    ] {
+    for (words, usage, example) in HELP {
         let ran = run(&rt, words)?;
         let help = text(ran.out.as_slice());
         assert_eq!(rt; (ran.status, ran.err.len()), (0, 0));
-        for part in [usage, example, "\nExit status:\n  0  "] {
+        for part in [*usage, *example, "\nExit status:\n  0  "] {
             assert!(rt; help.contains(part), "{part} in {help}");
         }
     }

@@ -68,6 +68,20 @@ fn fault_line(alloc: Global, fault: Option<EngineFault>) -> Result<String, Alloc
     }
 }
 
+// What a call printed, and the line of its fault.
+fn told(
+    alloc: Global,
+    report: Short,
+    notes: Vec<u8>,
+    fault: Option<EngineFault>,
+) -> Result<Printed, AllocError> {
+    Ok(Printed {
+        report: report.taken,
+        notes,
+        fault: fault_line(alloc, fault)?,
+    })
+}
+
 // The widest limits, but for so many visits.
 pub(crate) fn limits_of(visits: u64) -> Limits {
     Limits::new(MOST_ROWS, visits.min(MOST_VISITS)).unwrap_or(Limits::widest())
@@ -91,11 +105,7 @@ pub(crate) fn answered(
         &mut out,
         &mut Out::new(&mut notes),
     );
-    Ok(Printed {
-        report: report.taken,
-        notes: notes.taken,
-        fault: fault_line(alloc, answer.err())?,
-    })
+    told(alloc, report, notes.taken, answer.err())
 }
 
 pub(crate) fn executed(
@@ -115,30 +125,13 @@ pub(crate) fn executed(
         &mut out,
         &mut Out::new(&mut notes),
     );
-    Ok(Printed {
-        report: report.taken,
-        notes: notes.taken,
-        fault: fault_line(alloc, answer.err())?,
-    })
-}
-
-// What a call printed that writes no notes.
-fn unnoted(
-    alloc: Global,
-    report: Short,
-    fault: Option<EngineFault>,
-) -> Result<Printed, AllocError> {
-    Ok(Printed {
-        report: report.taken,
-        notes: Vec::new(alloc),
-        fault: fault_line(alloc, fault)?,
-    })
+    told(alloc, report, notes.taken, answer.err())
 }
 
 pub(crate) fn explained(alloc: Global, query: &[u8], room: usize) -> Result<Printed, AllocError> {
     let mut report = Short::with_room(alloc, room, AT_ONCE)?;
     let answer = explain_query(alloc, query, &mut Out::new(&mut report));
-    unnoted(alloc, report, answer.err())
+    told(alloc, report, Vec::new(alloc), answer.err())
 }
 
 pub(crate) fn quoted(
@@ -149,7 +142,7 @@ pub(crate) fn quoted(
 ) -> Result<Printed, AllocError> {
     let mut report = Short::with_room(alloc, room, AT_ONCE)?;
     let answer = quote_text(alloc, texts, file, limits_of(0), &mut Out::new(&mut report));
-    unnoted(alloc, report, answer.err())
+    told(alloc, report, Vec::new(alloc), answer.err())
 }
 
 // What the benchmark prints, and whether it answers that no query was refused.
@@ -162,5 +155,5 @@ pub(crate) fn benched(
     let mut report = Short::with_room(alloc, room, AT_ONCE)?;
     let answer = bench(alloc, texts, limits, &mut Out::new(&mut report));
     let fits = matches!(&answer, Ok(true));
-    Ok((unnoted(alloc, report, answer.err())?, fits))
+    Ok((told(alloc, report, Vec::new(alloc), answer.err())?, fits))
 }
