@@ -2,26 +2,52 @@
 
 ghost use Rattle.std.specs.Prelude.{◌≡◌, true, map, IfOk};
 ghost use Rattle.std.specs.List.{list_all};
-ghost use Rattle.star_plan.specs.Shown.{condition_shown};
+ghost use Rattle.star_plan.specs.Shown.{comparison_shown, condition_shown};
 ghost use Rattle.star_plan.specs.Spelled.{condition_is_spelled};
 ghost use Rattle.star_compiled.specs.Compiled as spec;
 ghost use Rattle.star_compiled.specs.Compiled.{condition_code};
 ghost use Rattle.star_compile.specs.Private.Emitted.{HasRoom, Writes, Wrote};
 
 use crate::emitter::Emitter;
-use star_plan::{Condition, Join};
+use star_plan::{Join, RowCondition};
 use star_program::{Operation, Operator};
+use star_query::{Comparison, Condition};
+use star_schema::ColumnId;
 use std::alloc::AllocError;
 
 impl Emitter {
+    // The register of whether a comparison holds.
+    fn comparison(
+        &mut self,
+        joins: &[Join],
+        comparison: &Comparison<ColumnId>,
+    ) -> Result<u16, AllocError>
+        requires room { HasRoom self.old
+            (condition_code joins.now (comparison_shown comparison.now)) }
+        requires spelled { condition_is_spelled (comparison_shown comparison.now) ≡ true }
+        ensures written { IfOk result (Writes self.old self.new
+            (condition_code joins.now (comparison_shown comparison.now))) }
+    {
+        match comparison {
+            Comparison::Compare(column, relation, literal) => {
+                let value = self.column(joins, *column)?;
+                self.compare(*relation, *column, value, literal)
+            }
+            Comparison::Between(column, from, upto) => {
+                let value = self.column(joins, *column)?;
+                self.between(*column, value, from, upto)
+            }
+        }
+    }
+
     // The left part, the right one, and the operator behind both.
     #[cycle(condition)]
     fn connective(
         &mut self,
         joins: &[Join],
         operator: Operator,
-        left: &Condition,
-        right: &Condition,
+        left: &RowCondition,
+        right: &RowCondition,
     ) -> Result<u16, AllocError>
         requires room { HasRoom self.old (spec.binary_code
             (condition_code joins.now (condition_shown left.now))
@@ -46,7 +72,7 @@ impl Emitter {
     pub(crate) fn condition(
         &mut self,
         joins: &[Join],
-        condition: &Condition,
+        condition: &RowCondition,
     ) -> Result<u16, AllocError>
         requires room { HasRoom self.old
             (condition_code joins.now (condition_shown condition.now)) }
@@ -61,19 +87,12 @@ impl Emitter {
                 let flag = self.condition(joins, negated)?;
                 self.write(Operation::Not { flag })
             }
-            Condition::Compare(column, relation, literal) => {
-                let value = self.column(joins, *column)?;
-                self.compare(*relation, *column, value, literal)
-            }
-            Condition::Between(column, from, upto) => {
-                let value = self.column(joins, *column)?;
-                self.between(*column, value, from, upto)
-            }
+            Condition::Test(comparison) => self.comparison(joins, comparison),
         }
     }
 
     // Keeps the rows for which a condition holds.
-    fn conjunct(&mut self, joins: &[Join], condition: &Condition) -> Result<(), AllocError>
+    fn conjunct(&mut self, joins: &[Join], condition: &RowCondition) -> Result<(), AllocError>
         requires room { HasRoom self.old
             (spec.conjunct_code joins.now (condition_shown condition.now)) }
         requires spelled { condition_is_spelled (condition_shown condition.now) ≡ true }
@@ -88,7 +107,7 @@ impl Emitter {
     pub(crate) fn conjuncts(
         &mut self,
         joins: &[Join],
-        conditions: &[Condition],
+        conditions: &[RowCondition],
     ) -> Result<(), AllocError>
         requires room { HasRoom self.old
             (spec.conjuncts_code joins.now (map condition_shown conditions.now)) }

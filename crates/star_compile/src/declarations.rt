@@ -8,9 +8,9 @@ ghost use Rattle.star_plan.specs.Sound.{is_group_column};
 ghost use Rattle.star_compiled.specs.Compiled as spec;
 ghost use Rattle.star_answers.specs.Answers.{shown_name};
 
-use star_plan::{Measure, PlanTree};
+use star_plan::PlanTree;
 use star_program::{GroupDecl, GroupKey, Items, Show};
-use star_query::Fold;
+use star_query::{Fold, Measure};
 use star_schema::{Aggregate, ColumnId, GroupColumn, is_text, name_of};
 use std::alloc::{AllocError, Global};
 
@@ -30,7 +30,7 @@ fn keys(alloc: Global, columns: &[ColumnId]) -> Result<Vec<GroupKey>, AllocError
     columns.iter().map(|column| key_of(*column)).collect(alloc)
 }
 
-fn aggregate(measure: &Measure) -> Aggregate
+fn aggregate(measure: &Measure<ColumnId>) -> Aggregate
     ensures { result ≡ aggregate_of (measure_shown measure.now) }
 {
     match measure {

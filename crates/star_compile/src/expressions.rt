@@ -7,8 +7,10 @@ ghost use Rattle.star_compiled.specs.Compiled.{expression_code};
 ghost use Rattle.star_compile.specs.Private.Emitted.{HasRoom, Writes};
 
 use crate::emitter::Emitter;
-use star_plan::{Expression, Join};
+use star_plan::Join;
 use star_program::{Operation, Operator};
+use star_query::Expression;
+use star_schema::ColumnId;
 use std::alloc::AllocError;
 
 impl Emitter {
@@ -18,8 +20,8 @@ impl Emitter {
         &mut self,
         joins: &[Join],
         operator: Operator,
-        left: &Expression,
-        right: &Expression,
+        left: &Expression<ColumnId>,
+        right: &Expression<ColumnId>,
     ) -> Result<u16, AllocError>
         requires room { HasRoom self.old (spec.binary_code
             (expression_code joins.now (expression_shown left.now))
@@ -42,7 +44,7 @@ impl Emitter {
     pub(crate) fn expression(
         &mut self,
         joins: &[Join],
-        expression: &Expression,
+        expression: &Expression<ColumnId>,
     ) -> Result<u16, AllocError>
         requires room { HasRoom self.old
             (expression_code joins.now (expression_shown expression.now)) }

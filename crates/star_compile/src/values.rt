@@ -6,7 +6,8 @@ ghost use Rattle.star_compiled.specs.Compiled.{keys_code, values_code};
 ghost use Rattle.star_compile.specs.Private.Emitted.{HasRoom, Writes, value_after};
 
 use crate::emitter::Emitter;
-use star_plan::{Aggregate, Join, Measure};
+use star_plan::{Aggregate, Join};
+use star_query::Measure;
 use star_schema::ColumnId;
 use std::alloc::{AllocError, Global};
 
@@ -34,7 +35,7 @@ impl Emitter {
     fn value(
         &mut self,
         joins: &[Join],
-        measure: &Measure,
+        measure: &Measure<ColumnId>,
         registers: &mut Vec<u16>,
     ) -> Result<(), AllocError>
         requires room { HasRoom self.old

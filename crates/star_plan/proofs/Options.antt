@@ -1,7 +1,9 @@
 -- Both values of two options, or none.
 use Rattle.std.proofs.Common.{◌≡◌, ◌∙◌, sym, ap, ◌+◌, ◌<◌, ◌≤◌, ◌⊎◌, inl, inr, ℕ, zero, suc, List, [], ◌∷◌, ◌++◌, Option, Some, None, drop, get_or, length, map, option_map, arith, append_assoc, append-nil, refl}
 use Rattle.std.specs.Option.{option_or}
-use Rattle.star_plan.specs.declared.tree.Condition.{Condition}
+use Rattle.star_schema.specs.declared.column.ColumnId.{ColumnId}
+use Rattle.star_query.specs.declared.tree.Comparison.{Comparison}
+use Rattle.star_query.specs.declared.tree.Condition.{Condition}
 use Rattle.star_plan.specs.Resolved.{option_all, option_both}
 use Rattle.star_plan.specs.Shown.{condition_shown}
 
@@ -19,7 +21,7 @@ both_there f None b x y z e g h = cc
 both_there f (Some a) None x y z e g h = cc
 both_there f (Some a) (Some b) x y z e g h = cc
 
-pub conditions_join : (xs ys : List Condition) → map condition_shown (xs ++ ys) ≡ map condition_shown xs ++ map condition_shown ys
+pub conditions_join : (xs ys : List (Condition (Comparison ColumnId))) → map condition_shown (xs ++ ys) ≡ map condition_shown xs ++ map condition_shown ys
 conditions_join [] ys = refl
 conditions_join (x ∷ xs) ys = ap (λ rest. condition_shown x ∷ rest) (conditions_join xs ys)
 

@@ -1,16 +1,19 @@
 -- The trees of plans as the resolved queries that they hold.
 use Rattle.std.specs.Prelude.{ℕ, List, map}
+use Rattle.star_schema.specs.declared.column.ColumnId.{ColumnId}
 use Rattle.star_schema.specs.Tables.{Value}
 use Rattle.star_query.specs.declared.token.Fold.{Fold}
 use Rattle.star_query.specs.declared.token.Fold.TheVariants as fold
 use Rattle.star_query.specs.declared.tree.Literal.{Literal}
 use Rattle.star_query.specs.Views.{literal_view}
-use Rattle.star_plan.specs.declared.tree.Condition as of_condition
-use Rattle.star_plan.specs.declared.tree.Condition.TheVariants as condition
-use Rattle.star_plan.specs.declared.tree.Expression as of_expression
-use Rattle.star_plan.specs.declared.tree.Expression.TheVariants as expression
-use Rattle.star_plan.specs.declared.tree.Measure as of_measure
-use Rattle.star_plan.specs.declared.tree.Measure.TheVariants as measure
+use Rattle.star_query.specs.declared.tree.Comparison.{Comparison}
+use Rattle.star_query.specs.declared.tree.Comparison.TheVariants as comparison
+use Rattle.star_query.specs.declared.tree.Condition as of_condition
+use Rattle.star_query.specs.declared.tree.Condition.TheVariants as condition
+use Rattle.star_query.specs.declared.tree.Expression as of_expression
+use Rattle.star_query.specs.declared.tree.Expression.TheVariants as expression
+use Rattle.star_query.specs.declared.tree.Measure as of_measure
+use Rattle.star_query.specs.declared.tree.Measure.TheVariants as measure
 use Rattle.star_plan.specs.declared.tree.Aggregate.{Aggregate}
 use Rattle.star_plan.specs.declared.tree.PlanTree.{PlanTree}
 use Rattle.star_plan.specs.Meaning.{Condition, or, and, not, compare, between, Expression, column, constant, add, sub, mul, Measure, counted, summed, least, greatest, Plan}
@@ -20,14 +23,17 @@ use Rattle.star_plan.specs.Names.{literal_value}
 abbrev pub literal_shown : Literal → Value
 literal_shown l = literal_value (literal_view l)
 
-abbrev pub condition_shown : of_condition.Condition → Condition
+abbrev pub comparison_shown : Comparison ColumnId → Condition
+comparison_shown (comparison.Compare c s l) = compare c s (literal_shown l)
+comparison_shown (comparison.Between c from upto) = between c (literal_shown from) (literal_shown upto)
+
+abbrev pub condition_shown : of_condition.Condition (Comparison ColumnId) → Condition
 condition_shown (condition.Or' p a q b) = or (condition_shown a) (condition_shown b)
 condition_shown (condition.And' p a q b) = and (condition_shown a) (condition_shown b)
 condition_shown (condition.Not' p a) = not (condition_shown a)
-condition_shown (condition.Compare c s l) = compare c s (literal_shown l)
-condition_shown (condition.Between c from upto) = between c (literal_shown from) (literal_shown upto)
+condition_shown (condition.Test t) = comparison_shown t
 
-abbrev pub expression_shown : of_expression.Expression → Expression
+abbrev pub expression_shown : of_expression.Expression ColumnId → Expression
 expression_shown (expression.Column c) = column c
 expression_shown (expression.Number z) = constant z
 expression_shown (expression.Add' p a q b) = add (expression_shown a) (expression_shown b)
@@ -39,7 +45,7 @@ folded fold.Sum e = summed e
 folded fold.Min e = least e
 folded fold.Max e = greatest e
 
-abbrev pub measure_shown : of_measure.Measure → Measure
+abbrev pub measure_shown : of_measure.Measure ColumnId → Measure
 measure_shown measure.Count = counted
 measure_shown (measure.Fold f e) = folded f (expression_shown e)
 

@@ -2,11 +2,8 @@
 // each aggregate has its name. No contract says what is printed: its definition would be this file
 // again, and nothing is proved from it.
 
-use crate::tree::{Aggregate, Condition, Expression, Join, Measure, PlanTree};
-use star_query::{
-    Operand, write_comparison, write_grouping, write_list, write_operand, write_operation,
-    write_range,
-};
+use crate::tree::{Aggregate, Join, PlanTree};
+use star_query::{Operand, write_grouping, write_list, write_operand};
 use star_schema::{Direction, GroupColumn, SortKey, table_of};
 use std::fmt;
 
@@ -15,64 +12,6 @@ impl fmt::Display for Join {
         let foreign = self.foreign;
         let key = self.key;
         write!(f, "{foreign} = {key}")
-    }
-}
-
-impl Operand for Expression {
-    fn tightness(&self) -> u8 {
-        match self {
-            Expression::Add(_, _) | Expression::Sub(_, _) => 0,
-            Expression::Mul(_, _) => 1,
-            Expression::Column(_) | Expression::Number(_) => 2,
-        }
-    }
-}
-
-impl fmt::Display for Expression {
-    fn fmt<W: fmt::Write>(&self, f: &mut fmt::Formatter<W>) -> fmt::Result {
-        match self {
-            Expression::Column(column) => write!(f, "{column}"),
-            Expression::Number(number) => write!(f, "{number}"),
-            Expression::Add(left, right) => write_operation(f, &**left, "+", &**right, 0),
-            Expression::Sub(left, right) => write_operation(f, &**left, "-", &**right, 0),
-            Expression::Mul(left, right) => write_operation(f, &**left, "*", &**right, 1),
-        }
-    }
-}
-
-impl Operand for Condition {
-    fn tightness(&self) -> u8 {
-        match self {
-            Condition::Or(_, _) => 0,
-            Condition::And(_, _) => 1,
-            _ => 2,
-        }
-    }
-}
-
-impl fmt::Display for Condition {
-    fn fmt<W: fmt::Write>(&self, f: &mut fmt::Formatter<W>) -> fmt::Result {
-        match self {
-            Condition::Or(left, right) => write_operation(f, &**left, "or", &**right, 0),
-            Condition::And(left, right) => write_operation(f, &**left, "and", &**right, 1),
-            Condition::Not(negated) => {
-                f.write_str("not ")?;
-                write_operand(f, negated, negated.tightness() < 2)
-            }
-            Condition::Compare(column, relation, literal) => {
-                write_comparison(f, column, relation, literal)
-            }
-            Condition::Between(column, from, upto) => write_range(f, column, from, upto),
-        }
-    }
-}
-
-impl fmt::Display for Measure {
-    fn fmt<W: fmt::Write>(&self, f: &mut fmt::Formatter<W>) -> fmt::Result {
-        match self {
-            Measure::Fold(fold, expression) => write!(f, "{fold}({expression})"),
-            Measure::Count => write!(f, "count(*)"),
-        }
     }
 }
 

@@ -14,7 +14,7 @@ ghost use Rattle.star_plan.specs.Private.Found.{pair_shown, pairs_shown};
 use crate::fault::PlanFault;
 use crate::names::{column_at, table_at};
 use crate::tree::Join;
-use star_query::{Condition, Name};
+use star_query::{Condition, Name, Test};
 use star_schema::{ColumnId, Key, TableId, is_table, key_of, references, table_of};
 use std::alloc::{AllocError, Global};
 
@@ -82,7 +82,7 @@ fn join_of(first: Option<ColumnId>, second: Option<ColumnId>) -> Option<Join>
 fn add_pairs(
     pairs: &mut Vec<Pair>,
     is_conjunct: bool,
-    condition: &Condition,
+    condition: &Condition<Test>,
 ) -> Result<(), AllocError>
     ensures { OnOk result (pairs_shown pairs.new.items ≡ pairs_shown pairs.old.items
         ++ spec.pairs_of is_conjunct (condition_view condition.now)) }
@@ -97,7 +97,7 @@ fn add_pairs(
             add_pairs(pairs, false, right)?;
         }
         Condition::Not(negated) => add_pairs(pairs, false, negated)?,
-        Condition::Pair(first, second) => {
+        Condition::Test(Test::Pair(first, second)) => {
             let join = if is_conjunct {
                 join_of(column_at(first), column_at(second))
             } else {
@@ -106,7 +106,7 @@ fn add_pairs(
             let at = first.place;
             pairs.push(Pair { join, at })?;
         }
-        Condition::Compare(_, _, _) | Condition::Between(_, _, _) => {}
+        Condition::Test(Test::Comparison(_)) => {}
     }
     Ok(())
 }
@@ -114,7 +114,7 @@ fn add_pairs(
 /// The comparisons of two columns, from the left.
 pub(crate) fn pairs_of(
     alloc: Global,
-    condition: &Option<Condition>,
+    condition: &Option<Condition<Test>>,
 ) -> Result<Vec<Pair>, AllocError>
     ensures { IfOk result (λ pairs. pairs_shown pairs.items
         ≡ spec.where_pairs (option_map condition_view condition.now)) }

@@ -21,4 +21,4 @@ mod uses;
 pub use fault::PlanFault;
 pub use planner::plan;
 pub use plans::Plan;
-pub use tree::{Aggregate, Condition, Expression, Join, Measure, PlanTree};
+pub use tree::{Aggregate, Join, PlanTree, RowCondition};

@@ -7,7 +7,7 @@ ghost use Rattle.star_plan.specs.Naming as naming;
 ghost use Rattle.std.specs.Cmp.Lexicographic.{pointwise};
 ghost use Rattle.std.specs.List.{position};
 ghost use Rattle.star_query.specs.Maxima.{most_columns, most_items};
-ghost use Rattle.star_query.specs.Views.{aggregate_view, condition_view, expression_view, item_view, key_view, literal_view, measure_view, name_view};
+ghost use Rattle.star_query.specs.Views.{aggregate_view, condition_view, expression_view, item_view, key_view, literal_view, measure_view, name_view, test_view};
 ghost use Rattle.star_plan.specs.Meaning as meaning;
 ghost use Rattle.star_plan.specs.Names.{column_at};
 ghost use Rattle.star_plan.specs.Resolved as spec;
@@ -17,9 +17,9 @@ ghost use Rattle.star_plan.specs.Private.Answers.{Resolves, conditions_shown};
 use crate::fault::PlanFault;
 use crate::names::column_at;
 use crate::select::aggregate_name;
-use crate::tree::{Aggregate, Condition, Expression, Measure};
+use crate::tree::{Aggregate, RowCondition};
 use star_query as query;
-use star_query::{Item, Literal, Name};
+use star_query::{Comparison, Condition, Expression, Item, Literal, Measure, Name, Relation, Test};
 use star_schema::{ColumnId, GroupColumn, SortKey};
 use std::alloc::{AllocError, Global};
 
@@ -33,66 +33,76 @@ fn resolve_column(name: &Name) -> Result<ColumnId, PlanFault>
     }
 }
 
-impl Expression {
-    fn add(alloc: Global, left: Expression, right: Expression) -> Result<Expression, AllocError>
-        ensures { IfOk result (λ e. shown.expression_shown e
-            ≡ meaning.add (shown.expression_shown left) (shown.expression_shown right)) }
-    {
-        Ok(Expression::Add(Box::new(alloc, left)?, Box::new(alloc, right)?))
-    }
+fn add(
+    alloc: Global,
+    left: Expression<ColumnId>,
+    right: Expression<ColumnId>,
+) -> Result<Expression<ColumnId>, AllocError>
+    ensures { IfOk result (λ e. shown.expression_shown e
+        ≡ meaning.add (shown.expression_shown left) (shown.expression_shown right)) }
+{
+    Ok(Expression::Add(Box::new(alloc, left)?, Box::new(alloc, right)?))
+}
 
-    fn sub(alloc: Global, left: Expression, right: Expression) -> Result<Expression, AllocError>
-        ensures { IfOk result (λ e. shown.expression_shown e
-            ≡ meaning.sub (shown.expression_shown left) (shown.expression_shown right)) }
-    {
-        Ok(Expression::Sub(Box::new(alloc, left)?, Box::new(alloc, right)?))
-    }
+fn sub(
+    alloc: Global,
+    left: Expression<ColumnId>,
+    right: Expression<ColumnId>,
+) -> Result<Expression<ColumnId>, AllocError>
+    ensures { IfOk result (λ e. shown.expression_shown e
+        ≡ meaning.sub (shown.expression_shown left) (shown.expression_shown right)) }
+{
+    Ok(Expression::Sub(Box::new(alloc, left)?, Box::new(alloc, right)?))
+}
 
-    fn mul(alloc: Global, left: Expression, right: Expression) -> Result<Expression, AllocError>
-        ensures { IfOk result (λ e. shown.expression_shown e
-            ≡ meaning.mul (shown.expression_shown left) (shown.expression_shown right)) }
-    {
-        Ok(Expression::Mul(Box::new(alloc, left)?, Box::new(alloc, right)?))
-    }
+fn mul(
+    alloc: Global,
+    left: Expression<ColumnId>,
+    right: Expression<ColumnId>,
+) -> Result<Expression<ColumnId>, AllocError>
+    ensures { IfOk result (λ e. shown.expression_shown e
+        ≡ meaning.mul (shown.expression_shown left) (shown.expression_shown right)) }
+{
+    Ok(Expression::Mul(Box::new(alloc, left)?, Box::new(alloc, right)?))
 }
 
 #[tactic(auto, using(crate::proofs::Options::left_missing, crate::proofs::Options::right_missing, crate::proofs::Options::both_there))]
 fn resolve_expression(
     alloc: Global,
-    expression: &query::Expression,
-) -> Result<Expression, PlanFault>
+    expression: &Expression<Name>,
+) -> Result<Expression<ColumnId>, PlanFault>
     ensures { Resolves shown.expression_shown
         (spec.resolved_expression (expression_view expression.now)) result }
 {
     match expression {
-        query::Expression::Column(name) => Ok(Expression::Column(resolve_column(name)?)),
-        query::Expression::Number(number) => Ok(Expression::Number(*number)),
-        query::Expression::Add(left, right) => {
+        Expression::Column(name) => Ok(Expression::Column(resolve_column(name)?)),
+        Expression::Number(number) => Ok(Expression::Number(*number)),
+        Expression::Add(left, right) => {
             let left = resolve_expression(alloc, left)?;
             let right = resolve_expression(alloc, right)?;
-            Ok(Expression::add(alloc, left, right)?)
+            Ok(add(alloc, left, right)?)
         }
-        query::Expression::Sub(left, right) => {
+        Expression::Sub(left, right) => {
             let left = resolve_expression(alloc, left)?;
             let right = resolve_expression(alloc, right)?;
-            Ok(Expression::sub(alloc, left, right)?)
+            Ok(sub(alloc, left, right)?)
         }
-        query::Expression::Mul(left, right) => {
+        Expression::Mul(left, right) => {
             let left = resolve_expression(alloc, left)?;
             let right = resolve_expression(alloc, right)?;
-            Ok(Expression::mul(alloc, left, right)?)
+            Ok(mul(alloc, left, right)?)
         }
     }
 }
 
 /// What an aggregate computes.
-fn resolve_measure(alloc: Global, measure: &query::Measure) -> Result<Measure, PlanFault>
+fn resolve_measure(alloc: Global, measure: &Measure<Name>) -> Result<Measure<ColumnId>, PlanFault>
     ensures { Resolves shown.measure_shown (spec.resolved_measure (measure_view measure.now))
         result }
 {
     match measure {
-        query::Measure::Count => Ok(Measure::Count),
-        query::Measure::Fold(fold, expression) => {
+        Measure::Count => Ok(Measure::Count),
+        Measure::Fold(fold, expression) => {
             let expression = resolve_expression(alloc, expression)?;
             Ok(Measure::Fold(*fold, expression))
         }
@@ -108,41 +118,39 @@ fn copy_literal(alloc: Global, literal: &Literal) -> Result<Literal, AllocError>
     }
 }
 
-impl Condition {
-    fn or(alloc: Global, left: Condition, right: Condition) -> Result<Condition, AllocError>
-        ensures { IfOk result (λ c. shown.condition_shown c
-            ≡ meaning.or (shown.condition_shown left) (shown.condition_shown right)) }
-    {
-        Ok(Condition::Or(Box::new(alloc, left)?, Box::new(alloc, right)?))
-    }
+fn or(alloc: Global, left: RowCondition, right: RowCondition) -> Result<RowCondition, AllocError>
+    ensures { IfOk result (λ c. shown.condition_shown c
+        ≡ meaning.or (shown.condition_shown left) (shown.condition_shown right)) }
+{
+    Ok(Condition::Or(Box::new(alloc, left)?, Box::new(alloc, right)?))
+}
 
-    fn and(alloc: Global, left: Condition, right: Condition) -> Result<Condition, AllocError>
-        ensures { IfOk result (λ c. shown.condition_shown c
-            ≡ meaning.and (shown.condition_shown left) (shown.condition_shown right)) }
-    {
-        Ok(Condition::And(Box::new(alloc, left)?, Box::new(alloc, right)?))
-    }
+fn and(alloc: Global, left: RowCondition, right: RowCondition) -> Result<RowCondition, AllocError>
+    ensures { IfOk result (λ c. shown.condition_shown c
+        ≡ meaning.and (shown.condition_shown left) (shown.condition_shown right)) }
+{
+    Ok(Condition::And(Box::new(alloc, left)?, Box::new(alloc, right)?))
+}
 
-    fn not(alloc: Global, negated: Condition) -> Result<Condition, AllocError>
-        ensures { IfOk result (λ c. shown.condition_shown c
-            ≡ meaning.not (shown.condition_shown negated)) }
-    {
-        Ok(Condition::Not(Box::new(alloc, negated)?))
-    }
+fn not(alloc: Global, negated: RowCondition) -> Result<RowCondition, AllocError>
+    ensures { IfOk result (λ c. shown.condition_shown c
+        ≡ meaning.not (shown.condition_shown negated)) }
+{
+    Ok(Condition::Not(Box::new(alloc, negated)?))
 }
 
 fn resolve_compare(
     alloc: Global,
     name: &Name,
-    relation: query::Relation,
+    relation: Relation,
     literal: &Literal,
-) -> Result<Condition, PlanFault>
-    ensures { Resolves shown.condition_shown (spec.resolved_compare (name_view name.now) relation
+) -> Result<Comparison<ColumnId>, PlanFault>
+    ensures { Resolves shown.comparison_shown (spec.resolved_compare (name_view name.now) relation
         (literal_view literal.now)) result }
 {
     let column = resolve_column(name)?;
     let literal = copy_literal(alloc, literal)?;
-    Ok(Condition::Compare(column, relation, literal))
+    Ok(Comparison::Compare(column, relation, literal))
 }
 
 fn resolve_between(
@@ -150,46 +158,58 @@ fn resolve_between(
     name: &Name,
     from: &Literal,
     upto: &Literal,
-) -> Result<Condition, PlanFault>
-    ensures { Resolves shown.condition_shown (spec.resolved_between (name_view name.now)
+) -> Result<Comparison<ColumnId>, PlanFault>
+    ensures { Resolves shown.comparison_shown (spec.resolved_between (name_view name.now)
         (literal_view from.now) (literal_view upto.now)) result }
 {
     let column = resolve_column(name)?;
     let from = copy_literal(alloc, from)?;
     let upto = copy_literal(alloc, upto)?;
-    Ok(Condition::Between(column, from, upto))
+    Ok(Comparison::Between(column, from, upto))
+}
+
+// What a test of a row compares.
+fn resolve_test(alloc: Global, test: &Test) -> Result<Comparison<ColumnId>, PlanFault>
+    ensures { Resolves shown.comparison_shown (spec.resolved_condition (test_view test.now))
+        result }
+{
+    match test {
+        Test::Pair(name, _) => Err(PlanFault::NotAKeyPair { at: name.place }),
+        Test::Comparison(Comparison::Compare(name, relation, literal)) => {
+            resolve_compare(alloc, name, *relation, literal)
+        }
+        Test::Comparison(Comparison::Between(name, from, upto)) => {
+            resolve_between(alloc, name, from, upto)
+        }
+    }
 }
 
 // A condition in which no two columns are compared.
 #[tactic(auto, using(crate::proofs::Options::left_missing, crate::proofs::Options::right_missing, crate::proofs::Options::both_there))]
-fn resolve_condition(alloc: Global, condition: &query::Condition) -> Result<Condition, PlanFault>
+fn resolve_condition(alloc: Global, condition: &Condition<Test>) -> Result<RowCondition, PlanFault>
     ensures { Resolves shown.condition_shown (spec.resolved_condition
         (condition_view condition.now)) result }
 {
     match condition {
-        query::Condition::Or(left, right) => {
+        Condition::Or(left, right) => {
             let left = resolve_condition(alloc, left)?;
             let right = resolve_condition(alloc, right)?;
-            Ok(Condition::or(alloc, left, right)?)
+            Ok(or(alloc, left, right)?)
         }
-        query::Condition::And(left, right) => {
+        Condition::And(left, right) => {
             let left = resolve_condition(alloc, left)?;
             let right = resolve_condition(alloc, right)?;
-            Ok(Condition::and(alloc, left, right)?)
+            Ok(and(alloc, left, right)?)
         }
-        query::Condition::Not(negated) => {
+        Condition::Not(negated) => {
             let negated = resolve_condition(alloc, negated)?;
-            Ok(Condition::not(alloc, negated)?)
+            Ok(not(alloc, negated)?)
         }
-        query::Condition::Pair(name, _) => Err(PlanFault::NotAKeyPair { at: name.place }),
-        query::Condition::Compare(name, relation, literal) => {
-            resolve_compare(alloc, name, *relation, literal)
-        }
-        query::Condition::Between(name, from, upto) => resolve_between(alloc, name, from, upto),
+        Condition::Test(test) => Ok(Condition::Test(resolve_test(alloc, test)?)),
     }
 }
 
-fn lone_conjunct(alloc: Global, condition: &query::Condition) -> Result<Vec<Condition>, PlanFault>
+fn lone_conjunct(alloc: Global, condition: &Condition<Test>) -> Result<Vec<RowCondition>, PlanFault>
     ensures { Resolves conditions_shown (option_map (λ c. c ∷ [])
         (spec.resolved_condition (condition_view condition.now))) result }
 {
@@ -201,29 +221,28 @@ fn lone_conjunct(alloc: Global, condition: &query::Condition) -> Result<Vec<Cond
 
 // The conjuncts that don't compare two columns, from the left.
 #[tactic(auto, using(crate::proofs::Options::left_missing, crate::proofs::Options::right_missing, crate::proofs::Options::both_there, crate::proofs::Options::conditions_join))]
-fn conjuncts_of(alloc: Global, condition: &query::Condition) -> Result<Vec<Condition>, PlanFault>
+fn conjuncts_of(alloc: Global, condition: &Condition<Test>) -> Result<Vec<RowCondition>, PlanFault>
     ensures { Resolves conditions_shown (spec.conjuncts_of (condition_view condition.now)) result }
 {
     match condition {
-        query::Condition::And(left, right) => {
+        Condition::And(left, right) => {
             let mut conjuncts = conjuncts_of(alloc, left)?;
             let mut others = conjuncts_of(alloc, right)?;
             conjuncts.append(&mut others)?;
             Ok(conjuncts)
         }
-        query::Condition::Pair(_, _) => Ok(Vec::new(alloc)),
-        query::Condition::Or(_, _)
-        | query::Condition::Not(_)
-        | query::Condition::Compare(_, _, _)
-        | query::Condition::Between(_, _, _) => lone_conjunct(alloc, condition),
+        Condition::Test(Test::Pair(_, _)) => Ok(Vec::new(alloc)),
+        Condition::Or(_, _) | Condition::Not(_) | Condition::Test(Test::Comparison(_)) => {
+            lone_conjunct(alloc, condition)
+        }
     }
 }
 
 /// The conjuncts of WHERE that don't compare two columns, from the left.
 pub(crate) fn resolve_where(
     alloc: Global,
-    condition: &Option<query::Condition>,
-) -> Result<Vec<Condition>, PlanFault>
+    condition: &Option<Condition<Test>>,
+) -> Result<Vec<RowCondition>, PlanFault>
     ensures { Resolves conditions_shown (spec.where_conjuncts
         (option_map condition_view condition.now)) result }
 {

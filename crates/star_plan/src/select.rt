@@ -76,7 +76,7 @@ pub(crate) fn check_groups(groups: &[Name]) -> Result<(), PlanFault>
 
 // The word of an aggregate's function.
 #[tactic(auto, unfolding(crate::specs::Naming::function_word))]
-fn function_word(measure: &Measure) -> &'static str
+fn function_word(measure: &Measure<Name>) -> &'static str
     ensures { result.now ≡ spec.function_word (measure_view measure.now) }
 {
     match measure {
@@ -87,7 +87,11 @@ fn function_word(measure: &Measure) -> &'static str
     }
 }
 
-fn default_name(alloc: Global, measure: &Measure, number: usize) -> Result<Vec<u8>, AllocError>
+fn default_name(
+    alloc: Global,
+    measure: &Measure<Name>,
+    number: usize,
+) -> Result<Vec<u8>, AllocError>
     ensures { IfOk result (λ name. name.items
         ≡ spec.default_name (measure_view measure.now) number) }
 {

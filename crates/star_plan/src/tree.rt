@@ -1,6 +1,6 @@
 // The tree of a plan: a query's tree with its names resolved.
 
-use star_query::{Fold, Literal, Relation};
+use star_query::{Comparison, Condition, Measure};
 use star_schema::{ColumnId, GroupColumn, Shape, SortKey};
 
 /// A dimension is joined: the foreign key of lineorder, and the key that it references.
@@ -11,38 +11,12 @@ pub struct Join {
 }
 
 /// A condition on a joined row. No two columns are compared in it.
-#[derive(Drop)]
-pub enum Condition {
-    Or(Box<Condition>, Box<Condition>),
-    And(Box<Condition>, Box<Condition>),
-    Not(Box<Condition>),
-    Compare(ColumnId, Relation, Literal),
-    /// From the first literal to the second, both among them.
-    Between(ColumnId, Literal, Literal),
-}
-
-/// A whole number of a joined row.
-#[derive(Drop)]
-pub enum Expression {
-    Column(ColumnId),
-    Number(i64),
-    Add(Box<Expression>, Box<Expression>),
-    Sub(Box<Expression>, Box<Expression>),
-    Mul(Box<Expression>, Box<Expression>),
-}
-
-/// What is computed over the rows of a group.
-#[derive(Drop)]
-pub enum Measure {
-    Fold(Fold, Expression),
-    /// The number of rows.
-    Count,
-}
+pub type RowCondition = Condition<Comparison<ColumnId>>;
 
 /// An aggregate, with the name under which it is shown.
 #[derive(Drop)]
 pub struct Aggregate {
-    pub measure: Measure,
+    pub measure: Measure<ColumnId>,
     pub name: Vec<u8>,
 }
 
@@ -52,7 +26,7 @@ pub struct Aggregate {
 pub struct PlanTree {
     pub joins: Vec<Join>,
     /// All of these hold of a selected row.
-    pub conjuncts: Vec<Condition>,
+    pub conjuncts: Vec<RowCondition>,
     pub shape: Shape,
     pub keys: Vec<ColumnId>,
     /// In the order of SELECT.

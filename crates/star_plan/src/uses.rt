@@ -3,14 +3,14 @@
 ghost use Rattle.std.specs.Prelude.{◌≡◌, ◌++◌, OnOk, IfOk, map};
 ghost use Rattle.std.specs.Result.{result_err};
 ghost use Rattle.star_common.specs.First.{first_answer};
-ghost use Rattle.star_query.specs.Views.{condition_view, expression_view, item_view, literal_view, measure_view, name_view, tree_view};
+ghost use Rattle.star_query.specs.Views.{condition_view, expression_view, item_view, literal_view, measure_view, name_view, test_view, tree_view};
 ghost use Rattle.star_plan.specs.Uses as spec;
 ghost use Rattle.star_plan.specs.Faults.{kind_fault, scope_fault};
 ghost use Rattle.star_plan.specs.Private.Found.{use_shown, uses_shown};
 
 use crate::fault::PlanFault;
 use crate::names::{column_at, has_name, is_of};
-use star_query::{Condition, Expression, Item, Literal, Measure, Name, Tree};
+use star_query::{Comparison, Condition, Expression, Item, Literal, Measure, Name, Test, Tree};
 use star_schema::{ColumnId, Kind, name_of, table_of};
 use std::alloc::{AllocError, Global};
 
@@ -92,7 +92,7 @@ fn kind_of_literal(literal: &Literal) -> Kind
     }
 }
 
-fn add_expression(uses: &mut Vec<Use>, expression: &Expression) -> Result<(), AllocError>
+fn add_expression(uses: &mut Vec<Use>, expression: &Expression<Name>) -> Result<(), AllocError>
     ensures { OnOk result (uses_shown uses.new.items ≡ uses_shown uses.old.items
         ++ spec.expression_uses (expression_view expression.now)) }
 {
@@ -111,7 +111,7 @@ fn add_expression(uses: &mut Vec<Use>, expression: &Expression) -> Result<(), Al
     }
 }
 
-fn add_measure(uses: &mut Vec<Use>, measure: &Measure) -> Result<(), AllocError>
+fn add_measure(uses: &mut Vec<Use>, measure: &Measure<Name>) -> Result<(), AllocError>
     ensures { OnOk result (uses_shown uses.new.items ≡ uses_shown uses.old.items
         ++ spec.measure_uses (measure_view measure.now)) }
 {
@@ -134,7 +134,26 @@ fn add_item(uses: &mut Vec<Use>, item: &Item) -> Result<(), AllocError>
     }
 }
 
-fn add_condition(uses: &mut Vec<Use>, condition: &Condition) -> Result<(), AllocError>
+fn add_test(uses: &mut Vec<Use>, test: &Test) -> Result<(), AllocError>
+    ensures { OnOk result (uses_shown uses.new.items ≡ uses_shown uses.old.items
+        ++ spec.condition_uses (test_view test.now)) }
+{
+    match test {
+        Test::Pair(left, right) => {
+            uses.push(Use::any(left))?;
+            uses.push(Use::any(right))?;
+        }
+        Test::Comparison(Comparison::Compare(name, _, literal)) => {
+            uses.push(Use::of_kind(kind_of_literal(literal), name))?;
+        }
+        Test::Comparison(Comparison::Between(name, from, upto)) => {
+            uses.push(Use::between(from, upto, name))?;
+        }
+    }
+    Ok(())
+}
+
+fn add_condition(uses: &mut Vec<Use>, condition: &Condition<Test>) -> Result<(), AllocError>
     ensures { OnOk result (uses_shown uses.new.items ≡ uses_shown uses.old.items
         ++ spec.condition_uses (condition_view condition.now)) }
 {
@@ -144,14 +163,7 @@ fn add_condition(uses: &mut Vec<Use>, condition: &Condition) -> Result<(), Alloc
             add_condition(uses, right)?;
         }
         Condition::Not(negated) => add_condition(uses, negated)?,
-        Condition::Pair(left, right) => {
-            uses.push(Use::any(left))?;
-            uses.push(Use::any(right))?;
-        }
-        Condition::Compare(name, _, literal) => {
-            uses.push(Use::of_kind(kind_of_literal(literal), name))?;
-        }
-        Condition::Between(name, from, upto) => uses.push(Use::between(from, upto, name))?,
+        Condition::Test(test) => add_test(uses, test)?,
     }
     Ok(())
 }

@@ -126,11 +126,11 @@ pub read_column : (old new : Spot) (n : Name) → Takes old new (ident (name_vie
 read_column old new n t =
     (column (name_view n), refl, λ h deep. takes old new _ (part.Operand ∷ []) (factor_depth h) (factor_wanted h) (give_factor (column (name_view n)) h) t deep refl)
 
-pub read_constant : (old mid new : Spot) (x : Expression) (n : ℕ) → expression_view x ≡ tree.constant (pos n) → mid ≡ old → Takes mid new (number n) (part.Operand ∷ []) → ReadsOperand old new (Ok x)
+pub read_constant : (old mid new : Spot) (x : Expression Name) (n : ℕ) → expression_view x ≡ tree.constant (pos n) → mid ≡ old → Takes mid new (number n) (part.Operand ∷ []) → ReadsOperand old new (Ok x)
 read_constant old mid new x n is same t =
     (constant n, sym is, λ h deep. ap (λ s. verdict s (factor_wanted h)) (sym same) ∙ takes mid new _ (part.Operand ∷ []) (factor_depth h) (factor_wanted h) (give_factor (constant n) h) t deep refl)
 
-pub read_negative : (old mid new : Spot) (x : Expression) (n : ℕ) → expression_view x ≡ tree.constant (neg_ℤ (pos n)) → Takes old mid (additive Minus) [] → Takes mid new (number n) (part.Operand ∷ []) → ReadsOperand old new (Ok x)
+pub read_negative : (old mid new : Spot) (x : Expression Name) (n : ℕ) → expression_view x ≡ tree.constant (neg_ℤ (pos n)) → Takes old mid (additive Minus) [] → Takes mid new (number n) (part.Operand ∷ []) → ReadsOperand old new (Ok x)
 read_negative old mid new x n is minus t =
     (negative n, sym is, λ h deep. takes old mid _ [] (factor_depth h) (factor_wanted h) (factor_negative h) minus deep refl ∙ takes mid new _ (part.Operand ∷ []) (factor_depth h) (factor_negative h) (give_factor (negative n) h) t deep refl)
 
@@ -145,29 +145,29 @@ no_factor h (additive Minus) a b c d = absurd (c refl)
 no_factor h (sign s.Open) a b c d = absurd (d refl)
 no_factor h _ a b c d = refl
 
-pub bad_column : (old new : Spot) (r : Result Expression ParseError) (e : ParseError) → r ≡ Err e → IsName old.left → ReadsName (part.Operand ∷ []) old new (Err e) → ReadsOperand old new r
+pub bad_column : (old new : Spot) (r : Result (Expression Name) ParseError) (e : ParseError) → r ≡ Err e → IsName old.left → ReadsName (part.Operand ∷ []) old new (Err e) → ReadsOperand old new r
 bad_column old new r e same is b =
     refused expression_view factor_tree (λ h. factor_depth h ≤ 32) factor_wanted give_factor old new r e same (λ h deep. bad_name (part.Operand ∷ []) (factor_depth h) (factor_wanted h) old new e deep (λ t p. (give_factor (column (record { text = t; place = p })) h, refl)) (λ none. absurd (no_name_there old.left is none)) b)
 
-pub bad_negative : (old mid new : Spot) (r : Result Expression ParseError) (e : ParseError) → r ≡ Err e → Takes old mid (additive Minus) [] → ReadsNumber (part.Operand ∷ []) mid new (Err e) → ReadsOperand old new r
+pub bad_negative : (old mid new : Spot) (r : Result (Expression Name) ParseError) (e : ParseError) → r ≡ Err e → Takes old mid (additive Minus) [] → ReadsNumber (part.Operand ∷ []) mid new (Err e) → ReadsOperand old new r
 bad_negative old mid new r e same t b =
     refused expression_view factor_tree (λ h. factor_depth h ≤ 32) factor_wanted give_factor old new r e same (λ h deep. bad_along e new _ _ (takes old mid _ [] (factor_depth h) (factor_wanted h) (factor_negative h) t deep refl) (bad_number (part.Operand ∷ []) (factor_depth h) (factor_negative h) mid new e deep (λ n. (give_factor (negative n) h, refl)) (λ none. stuck mid (factor_negative h) refl (λ x head. only_number h x (head_no_number mid.left x head none))) b))
 
-pub bad_constant : (old mid new : Spot) (r : Result Expression ParseError) (e : ParseError) → r ≡ Err e → mid ≡ old → NoName old.left → No (additive Minus) old → No (sign s.Open) old → ReadsNumber (part.Operand ∷ []) mid new (Err e) → ReadsOperand old new r
+pub bad_constant : (old mid new : Spot) (r : Result (Expression Name) ParseError) (e : ParseError) → r ≡ Err e → mid ≡ old → NoName old.left → No (additive Minus) old → No (sign s.Open) old → ReadsNumber (part.Operand ∷ []) mid new (Err e) → ReadsOperand old new r
 bad_constant old mid new r e same here no_name no_minus no_open b =
     let number_bad = subst (λ s. ReadsNumber (part.Operand ∷ []) s new (Err e)) here b in
     refused expression_view factor_tree (λ h. factor_depth h ≤ 32) factor_wanted give_factor old new r e same (λ h deep. bad_number (part.Operand ∷ []) (factor_depth h) (factor_wanted h) old new e deep (λ n. (give_factor (constant n) h, refl)) (λ none. stuck old (factor_wanted h) refl (λ x head. no_factor h x (head_no_name old.left x head no_name) (head_no_number old.left x head none) (λ q. no_minus (head ∙ ap Some q)) (λ q. no_open (head ∙ ap Some q)))) number_bad)
 
 -- expressions
-pub read_parens : (old a b new : Spot) (d : ℕ) (x : Expression) → Takes old a (sign s.Open) [] → d < 32 → ReadsExpr (d + 1) a b (Ok x) → Takes b new (sign s.Close) [] → ReadsFactor d old new (Ok x)
+pub read_parens : (old a b new : Spot) (d : ℕ) (x : Expression Name) → Takes old a (sign s.Open) [] → d < 32 → ReadsExpr (d + 1) a b (Ok x) → Takes b new (sign s.Close) [] → ReadsFactor d old new (Ok x)
 read_parens old a b new d x opened deep r closed =
     (parens r.0, r.1, λ h q. takes old a _ [] (factor_depth h + 1) (factor_wanted h) (factor_wanted (first_factor (first_term (in_parens h)))) opened (omega arith) refl ∙ r.2 (in_parens h) (ap (λ m. m + 1) q) ∙ takes b new _ [] (factor_depth h + 1) (expr_had r.0 (in_parens h)) (give_factor (parens r.0) h) closed (omega arith) (parens_close r.0 h))
 
-pub one_more_factor : (before : TermHole → Verdict) (old mid new : Spot) (d : ℕ) (a b x y : Expression) → ((t : Term) × (term_tree t ≡ expression_view a) × ((h : TermHole) → term_depth h ≡ d → before h ≡ verdict old (term_had t h))) → Takes old mid (sign s.Star) [] → d ≤ 32 → b ≡ a → y ≡ x → ReadsFactor d mid new (Ok x) → (t : Term) × (term_tree t ≡ tree.mul (expression_view b) (expression_view y)) × ((h : TermHole) → term_depth h ≡ d → before h ≡ verdict new (term_had t h))
+pub one_more_factor : (before : TermHole → Verdict) (old mid new : Spot) (d : ℕ) (a b x y : Expression Name) → ((t : Term) × (term_tree t ≡ expression_view a) × ((h : TermHole) → term_depth h ≡ d → before h ≡ verdict old (term_had t h))) → Takes old mid (sign s.Star) [] → d ≤ 32 → b ≡ a → y ≡ x → ReadsFactor d mid new (Ok x) → (t : Term) × (term_tree t ≡ tree.mul (expression_view b) (expression_view y)) × ((h : TermHole) → term_depth h ≡ d → before h ≡ verdict new (term_had t h))
 one_more_factor before old mid new d a b x y so_far star deep eb ey r =
     (times so_far.0 r.0, ap (λ z. tree.mul z (factor_tree r.0)) (so_far.1 ∙ ap expression_view (sym eb)) ∙ ap (tree.mul (expression_view b)) (r.1 ∙ ap expression_view (sym ey)), λ h q. so_far.2 h q ∙ takes old mid _ [] (term_depth h) (term_had so_far.0 h) (factor_wanted (next_factor so_far.0 h)) star (omega arith) refl ∙ r.2 (next_factor so_far.0 h) q)
 
-pub one_more_term : (before : ExprHole → Verdict) (old mid new : Spot) (d : ℕ) (a x z : Expression) (q : Additive) → ((e : Expr) × (expr_tree e ≡ expression_view a) × ((h : ExprHole) → expr_depth h ≡ d → before h ≡ verdict old (expr_had e h))) → Takes old mid (additive q) [] → d ≤ 32 → expression_view z ≡ combined q (expression_view a) (expression_view x) → ReadsTerm d mid new (Ok x) → (e : Expr) × (expr_tree e ≡ expression_view z) × ((h : ExprHole) → expr_depth h ≡ d → before h ≡ verdict new (expr_had e h))
+pub one_more_term : (before : ExprHole → Verdict) (old mid new : Spot) (d : ℕ) (a x z : Expression Name) (q : Additive) → ((e : Expr) × (expr_tree e ≡ expression_view a) × ((h : ExprHole) → expr_depth h ≡ d → before h ≡ verdict old (expr_had e h))) → Takes old mid (additive q) [] → d ≤ 32 → expression_view z ≡ combined q (expression_view a) (expression_view x) → ReadsTerm d mid new (Ok x) → (e : Expr) × (expr_tree e ≡ expression_view z) × ((h : ExprHole) → expr_depth h ≡ d → before h ≡ verdict new (expr_had e h))
 one_more_term before old mid new d a x z q so_far sign_taken deep ez r =
     (joined so_far.0 q r.0, ap (λ u. combined q u (term_tree r.0)) so_far.1 ∙ ap (combined q (expression_view a)) r.1 ∙ sym ez, λ h e. so_far.2 h e ∙ takes old mid _ [] (expr_depth h) (expr_had so_far.0 h) (factor_wanted (first_factor (next_term so_far.0 q h))) sign_taken (omega arith) (expr_joins so_far.0 h q) ∙ r.2 (next_term so_far.0 q h) e)
 

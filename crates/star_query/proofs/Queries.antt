@@ -18,6 +18,7 @@ use Rattle.star_query.specs.declared.token.Token.{Token}
 use Rattle.star_query.specs.Private.Lexed.{symbol_of}
 use Rattle.star_query.specs.declared.tree.Name.{Name}
 use Rattle.star_query.specs.declared.tree.Expression.{Expression}
+use Rattle.star_query.specs.declared.tree.Test.{Test}
 use Rattle.star_query.specs.declared.tree.Condition.{Condition}
 use Rattle.star_query.specs.declared.tree.Measure.{Measure}
 use Rattle.star_query.specs.declared.tree.Measure.TheVariants as measures
@@ -49,7 +50,7 @@ not_next x old new from e no_end others b =
     subst (λ f. EndsBad f new (verdict old from)) (sym b.0) (stuck old from no_end (λ y head. others y head (λ q. b.1 (head ∙ ap Some q))) ∙ ap (λ s. Bad Unexpected s.left) (sym b.2))
 
 -- aggregates
-pub read_folded : (old a b new : Spot) (f : Fold) (x : Expression) → Takes old a (sign s.Open) [] → ReadsExpr 0 a b (Ok x) → Takes b new (sign s.Close) [] → ReadsFolded f old new (Ok (measures.Fold f x))
+pub read_folded : (old a b new : Spot) (f : Fold) (x : Expression Name) → Takes old a (sign s.Open) [] → ReadsExpr 0 a b (Ok x) → Takes b new (sign s.Close) [] → ReadsFolded f old new (Ok (measures.Fold f x))
 read_folded old a b new f x opened reads closed =
     (reads.0, ap (tree.fold f) reads.1, λ h u. takes old a _ [] 0 (fold_named h.0 f h.1) (factor_wanted (first_factor (first_term (in_fold h.0 f h.1)))) opened zero_deep refl ∙ reads.2 (in_fold h.0 f h.1) refl ∙ takes b new _ [] 0 (expr_had reads.0 (in_fold h.0 f h.1)) (agg_had h.0 (folded f h.1 reads.0)) closed zero_deep (fold_closes reads.0 h.0 f h.1))
 
@@ -57,7 +58,7 @@ pub read_counted : (old a b new : Spot) → Takes old a (sign s.Open) [] → Tak
 read_counted old a b new opened star closed =
     (tt, refl, λ h u. takes old a _ [] 0 (count_named h.0 h.1) (count_opened h.0 h.1) opened zero_deep refl ∙ takes a b _ [] 0 (count_opened h.0 h.1) (count_starred h.0 h.1) star zero_deep refl ∙ takes b new _ [] 0 (count_starred h.0 h.1) (agg_had h.0 (counted h.1)) closed zero_deep refl)
 
-pub folded_measure : (f : Function) (q : Fold) (old new : Spot) (r : Result Measure ParseError) → f.fold ≡ Some q → ReadsFolded q old new r → ReadsMeasure f old new r
+pub folded_measure : (f : Function) (q : Fold) (old new : Spot) (r : Result (Measure Name) ParseError) → f.fold ≡ Some q → ReadsFolded q old new r → ReadsMeasure f old new r
 folded_measure f q old new (Ok m) e reads =
     (folded q f.place reads.0, ap (λ x. record { measure = x; place = f.place; name = None }) reads.1, λ b u. ap (verdict old) (named b) ∙ reads.2 (b, f.place) tt)
   where
@@ -66,7 +67,7 @@ folded_measure f q old new (Ok m) e reads =
 folded_measure f q old new (Err x) e reads =
     λ b u. bad_along x new _ _ (ap (verdict old) (let named : function_named b f ≡ fold_named b q f.place = rw e refl in named)) (reads (b, f.place) tt)
 
-pub counted_measure : (f : Function) (old new : Spot) (r : Result Measure ParseError) → f.fold ≡ None → ReadsCounted old new r → ReadsMeasure f old new r
+pub counted_measure : (f : Function) (old new : Spot) (r : Result (Measure Name) ParseError) → f.fold ≡ None → ReadsCounted old new r → ReadsMeasure f old new r
 counted_measure f old new (Ok m) e reads =
     (counted f.place, ap (λ x. record { measure = x; place = f.place; name = None }) reads.1, λ b u. ap (verdict old) (let named : function_named b f ≡ count_named b f.place = rw e refl in named) ∙ reads.2 (b, f.place) tt)
 counted_measure f old new (Err x) e reads =
@@ -102,7 +103,7 @@ renamed : (a : Agg) (p : Option tree.Name) → agg_tree a p ≡ with_name p (agg
 renamed (folded f p e) i = refl
 renamed (counted p) i = refl
 
-pub read_aggregate : (f : Function) (old mid new : Spot) (m : Measure) (n : Option Name) → ReadsMeasure f old mid (Ok m) → ReadsAlias mid new (Ok n) → ReadsAggregate f old new (Ok (record { measure = m; place = f.place; name = n }))
+pub read_aggregate : (f : Function) (old mid new : Spot) (m : Measure Name) (n : Option Name) → ReadsMeasure f old mid (Ok m) → ReadsAlias mid new (Ok n) → ReadsAggregate f old new (Ok (record { measure = m; place = f.place; name = n }))
 read_aggregate f old mid new m n measure alias =
     (grammar.aggregate measure.0 alias.0, ap tree.aggregate (renamed measure.0 alias.0 ∙ ap (with_name alias.0) measure.1 ∙ ap (aggregate_with (measure_view m) f.place) alias.1), λ b u. measure.2 b tt ∙ alias.2 (b, measure.0) tt)
 
@@ -160,11 +161,11 @@ cond_step (or_conj a c) is ts (keyword k.And) f g = absurd (f refl)
 cond_step (or_conj a c) is ts (keyword k.Or) f g = absurd (g refl)
 cond_step (or_conj a c) is ts _ f g = refl
 
-pub read_filter : (old mid new : Spot) (c : Condition) → Takes old mid (keyword k.Where) [] → ReadsCond 0 mid new (Ok c) → NoLogic new → ReadsFilter old new (Ok (Some c))
+pub read_filter : (old mid new : Spot) (c : Condition Test) → Takes old mid (keyword k.Where) [] → ReadsCond 0 mid new (Ok c) → NoLogic new → ReadsFilter old new (Ok (Some c))
 read_filter old mid new c t reads none =
     (Some reads.0, ap Some reads.1, λ h u. takes old mid _ [] 0 (tables_had h.0 h.1) (unit_wanted (first_unit (first_conj (in_where h.0 h.1)))) t zero_deep refl ∙ reads.2 (in_where h.0 h.1) refl ∙ same_from new (cond_had reads.0 (in_where h.0 h.1)) (filtered_had (filtered_by h.0 h.1 (Some reads.0))) (cond_acts_end reads.0 h.0 h.1) (λ x head. cond_step reads.0 h.0 h.1 x (λ q. none.0 (head ∙ ap Some q)) (λ q. none.1 (head ∙ ap Some q))))
 
-pub bad_filter : (old mid new : Spot) (r : Result (Option Condition) ParseError) (e : ParseError) → r ≡ Err e → Takes old mid (keyword k.Where) [] → ReadsCond 0 mid new (Err e) → ReadsFilter old new r
+pub bad_filter : (old mid new : Spot) (r : Result (Option (Condition Test)) ParseError) (e : ParseError) → r ≡ Err e → Takes old mid (keyword k.Where) [] → ReadsCond 0 mid new (Err e) → ReadsFilter old new r
 bad_filter old mid new r e same t b =
     refused (option_map condition_view) (option_map cond_tree) (λ h. Unit {0}) (λ (h : Several grammar.Item × Several tree.Name). tables_had h.0 h.1) (λ c h. filtered_had (filtered_by h.0 h.1 c)) old new r e same (λ h u. bad_along e new _ _ (takes old mid _ [] 0 (tables_had h.0 h.1) (unit_wanted (first_unit (first_conj (in_where h.0 h.1)))) t zero_deep refl) (b (in_where h.0 h.1) refl))
 
@@ -346,7 +347,7 @@ pub bad_next_key : (old here mid new : Spot) (so_far : List SortKey) (r : Result
 bad_next_key old here mid new so_far r e is before t b =
     refused (λ v. map key_view v.items) (listed key_tree) (λ h. Unit {0}) (λ g. key_wanted g None) (λ ks g. keys_had g ks) old new r e is (λ g u. bad_along e new _ _ (before.2 g ∙ takes here mid _ [] 0 (keys_had g before.0) (key_wanted g (Some before.0)) t zero_deep refl) (b (g, Some before.0) tt))
 
-pub bad_aggregate : (f : Function) (old mid new : Spot) (m : Measure) (r : Result Aggregate ParseError) (e : ParseError) → r ≡ Err e → ReadsMeasure f old mid (Ok m) → ReadsAlias mid new (Err e) → ReadsAggregate f old new r
+pub bad_aggregate : (f : Function) (old mid new : Spot) (m : Measure Name) (r : Result Aggregate ParseError) (e : ParseError) → r ≡ Err e → ReadsMeasure f old mid (Ok m) → ReadsAlias mid new (Err e) → ReadsAggregate f old new r
 bad_aggregate f old mid new m r e is measure b =
     refused (λ a. tree.aggregate (aggregate_view a)) item_tree (λ h. Unit {0}) (λ b. function_named b f) (λ i b. items_had (extended b i)) old new r e is (λ h u. bad_along e new _ _ (measure.2 h tt) (b (h, measure.0) tt))
 

@@ -5,8 +5,12 @@ use Rattle.star_query.specs.declared.tree.Literal.{Literal}
 use Rattle.star_query.specs.declared.tree.Literal.TheVariants as literals
 use Rattle.star_query.specs.declared.tree.Expression.{Expression}
 use Rattle.star_query.specs.declared.tree.Expression.TheVariants.{Column, Number, Add', Sub', Mul'}
+use Rattle.star_query.specs.declared.tree.Comparison.{Comparison}
+use Rattle.star_query.specs.declared.tree.Comparison.TheVariants.{Compare, Between}
+use Rattle.star_query.specs.declared.tree.Test as of_test
+use Rattle.star_query.specs.declared.tree.Test.TheVariants as tests
 use Rattle.star_query.specs.declared.tree.Condition.{Condition}
-use Rattle.star_query.specs.declared.tree.Condition.TheVariants.{Or', And', Not', Pair, Compare, Between}
+use Rattle.star_query.specs.declared.tree.Condition.TheVariants.{Or', And', Not', Test}
 use Rattle.star_query.specs.declared.tree.Measure.{Measure}
 use Rattle.star_query.specs.declared.tree.Measure.TheVariants.{Fold, Count}
 use Rattle.star_query.specs.declared.tree.Aggregate.{Aggregate}
@@ -24,22 +28,28 @@ abbrev pub literal_view : Literal → tree.Literal
 literal_view (literals.Number x) = tree.number x
 literal_view (literals.Text t) = tree.text t.items
 
-abbrev pub expression_view : Expression → tree.Expression
+abbrev pub expression_view : Expression Name → tree.Expression
 expression_view (Column n) = tree.column (name_view n)
 expression_view (Number x) = tree.constant x
 expression_view (Add' p a q b) = tree.add (expression_view a) (expression_view b)
 expression_view (Sub' p a q b) = tree.sub (expression_view a) (expression_view b)
 expression_view (Mul' p a q b) = tree.mul (expression_view a) (expression_view b)
 
-abbrev pub condition_view : Condition → tree.Condition
+abbrev pub comparison_view : Comparison Name → tree.Condition
+comparison_view (Compare n q l) = tree.compare (name_view n) q (literal_view l)
+comparison_view (Between n l m) = tree.between (name_view n) (literal_view l) (literal_view m)
+
+abbrev pub test_view : of_test.Test → tree.Condition
+test_view (tests.Pair n m) = tree.pair (name_view n) (name_view m)
+test_view (tests.Comparison c) = comparison_view c
+
+abbrev pub condition_view : Condition of_test.Test → tree.Condition
 condition_view (Or' p a q b) = tree.or (condition_view a) (condition_view b)
 condition_view (And' p a q b) = tree.and (condition_view a) (condition_view b)
 condition_view (Not' p a) = tree.not (condition_view a)
-condition_view (Pair n m) = tree.pair (name_view n) (name_view m)
-condition_view (Compare n q l) = tree.compare (name_view n) q (literal_view l)
-condition_view (Between n l m) = tree.between (name_view n) (literal_view l) (literal_view m)
+condition_view (Test t) = test_view t
 
-abbrev pub measure_view : Measure → tree.Measure
+abbrev pub measure_view : Measure Name → tree.Measure
 measure_view (Fold f e) = tree.fold f (expression_view e)
 measure_view Count = tree.count
 

@@ -8,7 +8,7 @@ use crate::counts::Part;
 use crate::fault::{Fault, ParseError};
 use crate::parser::Parser;
 use crate::token::{Fold, Keyword, Kind, Sign};
-use crate::tree::{Aggregate, Condition, Grouping, Item, Measure, Name, SortKey, Tree};
+use crate::tree::{Aggregate, Condition, Grouping, Item, Measure, Name, SortKey, Test, Tree};
 use star_schema::{Direction, Shape};
 
 // A function whose word was read: what it folds by, if it isn't `count`, and the place of its word.
@@ -51,7 +51,7 @@ impl<'a> Parser<'a> {
     }
 
     // ( expr ), behind the word of a function
-    fn folded(&mut self, fold: Fold) -> Result<Measure, ParseError>
+    fn folded(&mut self, fold: Fold) -> Result<Measure<Name>, ParseError>
         ensures reads { ReadsFolded fold (spot_of self.old) (spot_of self.new) result }
         ensures shorter { length self.new.left.now ≤ length self.old.left.now }
     {
@@ -62,7 +62,7 @@ impl<'a> Parser<'a> {
     }
 
     // ( * ), behind `count`
-    fn counted(&mut self) -> Result<Measure, ParseError>
+    fn counted(&mut self) -> Result<Measure<Name>, ParseError>
         ensures reads { ReadsCounted (spot_of self.old) (spot_of self.new) result }
         ensures shorter { length self.new.left.now ≤ length self.old.left.now }
     {
@@ -73,7 +73,7 @@ impl<'a> Parser<'a> {
     }
 
     // agg, behind the word of the function
-    fn measure(&mut self, function: Function) -> Result<Measure, ParseError>
+    fn measure(&mut self, function: Function) -> Result<Measure<Name>, ParseError>
         ensures reads { ReadsMeasure function (spot_of self.old) (spot_of self.new) result }
         ensures shorter { length self.new.left.now ≤ length self.old.left.now }
     {
@@ -158,7 +158,7 @@ impl<'a> Parser<'a> {
     }
 
     // [where cond]
-    fn filter(&mut self) -> Result<Option<Condition>, ParseError>
+    fn filter(&mut self) -> Result<Option<Condition<Test>>, ParseError>
         requires { NoComma (spot_of self.old) }
         ensures { ReadsFilter (spot_of self.old) (spot_of self.new) result }
     {

@@ -13,7 +13,7 @@ use crate::counts::{MAX_DEPTH, Part};
 use crate::fault::{Fault, ParseError};
 use crate::parser::Parser;
 use crate::token::{Digits, Keyword, Kind, Relation, Sign};
-use crate::tree::{Condition, Literal, Name};
+use crate::tree::{Comparison, Condition, Literal, Name, Test};
 use std::alloc::{AllocError, Global};
 
 impl<'a> Parser<'a> {
@@ -60,7 +60,7 @@ impl<'a> Parser<'a> {
     }
 
     // name between lit and lit, from behind `between`
-    fn between(&mut self, column: Name) -> Result<Condition, ParseError>
+    fn between(&mut self, column: Name) -> Result<Condition<Test>, ParseError>
         ensures reads { ReadsNamed (λ h. lit_wanted (low h (name_view column))) (spot_of self.old)
             (spot_of self.new) result }
         ensures shorter { length self.new.left.now ≤ length self.old.left.now }
@@ -68,34 +68,34 @@ impl<'a> Parser<'a> {
         let least = self.literal()?;
         self.expect_keyword(Keyword::And)?;
         let most = self.literal()?;
-        Ok(Condition::Between(column, least, most))
+        Ok(Condition::Test(Test::Comparison(Comparison::Between(column, least, most))))
     }
 
     // name sign lit, from behind the sign
-    fn compared(&mut self, column: Name, relation: Relation) -> Result<Condition, ParseError>
+    fn compared(&mut self, column: Name, relation: Relation) -> Result<Condition<Test>, ParseError>
         ensures reads { ReadsNamed (λ h. lit_wanted (compared h (name_view column) relation))
             (spot_of self.old) (spot_of self.new) result }
         ensures shorter { length self.new.left.now ≤ length self.old.left.now }
     {
         let literal = self.literal()?;
-        Ok(Condition::Compare(column, relation, literal))
+        Ok(Condition::Test(Test::Comparison(Comparison::Compare(column, relation, literal))))
     }
 
     // name = name | name = lit, from behind the sign
-    fn equal(&mut self, column: Name) -> Result<Condition, ParseError>
+    fn equal(&mut self, column: Name) -> Result<Condition<Test>, ParseError>
         ensures reads { ReadsNamed (λ h. equal_had h (name_view column)) (spot_of self.old)
             (spot_of self.new) result }
         ensures shorter { length self.new.left.now ≤ length self.old.left.now }
     {
         if self.is_name() {
             let other = self.name()?;
-            return Ok(Condition::Pair(column, other));
+            return Ok(Condition::Test(Test::Pair(column, other)));
         }
         self.compared(column, Relation::Equal)
     }
 
     // What follows a column and a sign.
-    fn related(&mut self, column: Name, relation: Relation) -> Result<Condition, ParseError>
+    fn related(&mut self, column: Name, relation: Relation) -> Result<Condition<Test>, ParseError>
         ensures reads { ReadsNamed (λ h. behind_relation h (name_view column) relation)
             (spot_of self.old) (spot_of self.new) result }
         ensures shorter { length self.new.left.now ≤ length self.old.left.now }
@@ -107,7 +107,7 @@ impl<'a> Parser<'a> {
     }
 
     // What follows a column.
-    fn compare(&mut self, column: Name) -> Result<Condition, ParseError>
+    fn compare(&mut self, column: Name) -> Result<Condition<Test>, ParseError>
         ensures reads { ReadsNamed (λ h. unit_named h (name_view column)) (spot_of self.old)
             (spot_of self.new) result }
         ensures shorter { length self.new.left.now ≤ length self.old.left.now }
@@ -122,7 +122,7 @@ impl<'a> Parser<'a> {
     }
 
     // name = name | name sign lit | name between lit and lit
-    fn comparison(&mut self) -> Result<Condition, ParseError>
+    fn comparison(&mut self) -> Result<Condition<Test>, ParseError>
         requires no_not { No (symbols.keyword Keyword.Not) (spot_of self.old) }
         requires no_open { No (symbols.sign Sign.Open) (spot_of self.old) }
         ensures reads { ReadsNamed unit_wanted (spot_of self.old) (spot_of self.new) result }
@@ -134,7 +134,7 @@ impl<'a> Parser<'a> {
 
     // not unit | ( cond ) | a comparison
     #[cycle(condition)]
-    fn unit(&mut self, depth: u32) -> Result<Condition, ParseError>
+    fn unit(&mut self, depth: u32) -> Result<Condition<Test>, ParseError>
         requires { depth ≤ most_nestings }
         ensures reads { ReadsUnit depth (spot_of self.old) (spot_of self.new) result }
         ensures shorter { length self.new.left.now ≤ length self.old.left.now }
@@ -155,7 +155,7 @@ impl<'a> Parser<'a> {
 
     // unit {and unit}
     #[cycle(condition)]
-    fn conjunction(&mut self, depth: u32) -> Result<Condition, ParseError>
+    fn conjunction(&mut self, depth: u32) -> Result<Condition<Test>, ParseError>
         requires { depth ≤ most_nestings }
         ensures reads { ReadsConj depth (spot_of self.old) (spot_of self.new) result }
         ensures ends { OnOk result (NoAnd (spot_of self.new)) }
@@ -171,7 +171,7 @@ impl<'a> Parser<'a> {
 
     // conj {or conj}
     #[cycle(condition)]
-    pub(crate) fn condition(&mut self, depth: u32) -> Result<Condition, ParseError>
+    pub(crate) fn condition(&mut self, depth: u32) -> Result<Condition<Test>, ParseError>
         requires { depth ≤ most_nestings }
         ensures reads { ReadsCond depth (spot_of self.old) (spot_of self.new) result }
         ensures ends { OnOk result (NoLogic (spot_of self.new)) }
@@ -186,14 +186,22 @@ impl<'a> Parser<'a> {
     }
 }
 
-fn and(alloc: Global, left: Condition, right: Condition) -> Result<Condition, AllocError>
+fn and(
+    alloc: Global,
+    left: Condition<Test>,
+    right: Condition<Test>,
+) -> Result<Condition<Test>, AllocError>
     ensures { IfOk result (λ c. condition_view c
         ≡ tree.and (condition_view left) (condition_view right)) }
 {
     Ok(Condition::And(Box::new(alloc, left)?, Box::new(alloc, right)?))
 }
 
-fn or(alloc: Global, left: Condition, right: Condition) -> Result<Condition, AllocError>
+fn or(
+    alloc: Global,
+    left: Condition<Test>,
+    right: Condition<Test>,
+) -> Result<Condition<Test>, AllocError>
     ensures { IfOk result (λ c. condition_view c
         ≡ tree.or (condition_view left) (condition_view right)) }
 {

@@ -1,13 +1,11 @@
 // Queries as SQL, with the parentheses that their grouping needs. No contract says what is printed:
 // its definition would be this file again, and nothing is proved from it.
 
-use crate::printing::{
-    Operand, write_comparison, write_grouping, write_list, write_operand, write_operation,
-    write_range,
-};
+use crate::printing::{Operand, write_grouping, write_list, write_operand, write_operation};
 use crate::token::{Fold, Relation};
 use crate::tree::{
-    Aggregate, Condition, Expression, Grouping, Item, Literal, Measure, Name, SortKey, Tree,
+    Aggregate, Comparison, Condition, Expression, Grouping, Item, Literal, Measure, Name, SortKey,
+    Test, Tree,
 };
 use star_schema::Direction;
 use std::fmt;
@@ -65,7 +63,7 @@ impl fmt::Display for Literal {
     }
 }
 
-impl Operand for Expression {
+impl<C: fmt::Display> Operand for Expression<C> {
     fn tightness(&self) -> u8 {
         match self {
             Expression::Add(_, _) | Expression::Sub(_, _) => 0,
@@ -75,10 +73,10 @@ impl Operand for Expression {
     }
 }
 
-impl fmt::Display for Expression {
+impl<C: fmt::Display> fmt::Display for Expression<C> {
     fn fmt<W: fmt::Write>(&self, f: &mut fmt::Formatter<W>) -> fmt::Result {
         match self {
-            Expression::Column(name) => write!(f, "{name}"),
+            Expression::Column(column) => write!(f, "{column}"),
             Expression::Number(number) => write!(f, "{number}"),
             Expression::Add(left, right) => write_operation(f, &**left, "+", &**right, 0),
             Expression::Sub(left, right) => write_operation(f, &**left, "-", &**right, 0),
@@ -87,25 +85,39 @@ impl fmt::Display for Expression {
     }
 }
 
-impl Operand for Condition {
+impl<T: fmt::Display> Operand for Condition<T> {
     fn tightness(&self) -> u8 {
         match self {
             Condition::Or(_, _) => 0,
             Condition::And(_, _) => 1,
-            _ => 2,
+            Condition::Not(_) | Condition::Test(_) => 2,
         }
     }
 }
 
-fn write_pair<W: fmt::Write>(
-    f: &mut fmt::Formatter<W>,
-    first: &Name,
-    second: &Name,
-) -> fmt::Result {
-    write!(f, "{first} = {second}")
+impl<C: fmt::Display> fmt::Display for Comparison<C> {
+    fn fmt<W: fmt::Write>(&self, f: &mut fmt::Formatter<W>) -> fmt::Result {
+        match self {
+            Comparison::Compare(column, relation, literal) => {
+                write!(f, "{column} {relation} {literal}")
+            }
+            Comparison::Between(column, from, upto) => {
+                write!(f, "{column} between {from} and {upto}")
+            }
+        }
+    }
 }
 
-impl fmt::Display for Condition {
+impl fmt::Display for Test {
+    fn fmt<W: fmt::Write>(&self, f: &mut fmt::Formatter<W>) -> fmt::Result {
+        match self {
+            Test::Pair(first, second) => write!(f, "{first} = {second}"),
+            Test::Comparison(comparison) => write!(f, "{comparison}"),
+        }
+    }
+}
+
+impl<T: fmt::Display> fmt::Display for Condition<T> {
     fn fmt<W: fmt::Write>(&self, f: &mut fmt::Formatter<W>) -> fmt::Result {
         match self {
             Condition::Or(left, right) => write_operation(f, &**left, "or", &**right, 0),
@@ -114,16 +126,12 @@ impl fmt::Display for Condition {
                 f.write_str("not ")?;
                 write_operand(f, negated, negated.tightness() < 2)
             }
-            Condition::Pair(first, second) => write_pair(f, first, second),
-            Condition::Compare(name, relation, literal) => {
-                write_comparison(f, name, relation, literal)
-            }
-            Condition::Between(name, from, upto) => write_range(f, name, from, upto),
+            Condition::Test(test) => write!(f, "{test}"),
         }
     }
 }
 
-impl fmt::Display for Measure {
+impl<C: fmt::Display> fmt::Display for Measure<C> {
     fn fmt<W: fmt::Write>(&self, f: &mut fmt::Formatter<W>) -> fmt::Result {
         match self {
             Measure::Fold(fold, expression) => write!(f, "{fold}({expression})"),

@@ -12,12 +12,12 @@ use crate::counts::Part;
 use crate::fault::ParseError;
 use crate::parser::Parser;
 use crate::token::{Additive, Digits, Sign};
-use crate::tree::Expression;
+use crate::tree::{Expression, Name};
 use std::alloc::{AllocError, Global};
 
 impl<'a> Parser<'a> {
     // name | [-] number
-    fn operand(&mut self) -> Result<Expression, ParseError>
+    fn operand(&mut self) -> Result<Expression<Name>, ParseError>
         requires { No (symbols.sign Sign.Open) (spot_of self.old) }
         ensures reads { ReadsOperand (spot_of self.old) (spot_of self.new) result }
         ensures shorter { length self.new.left.now ≤ length self.old.left.now }
@@ -36,7 +36,7 @@ impl<'a> Parser<'a> {
 
     // name | [-] number | ( expr )
     #[cycle(expression)]
-    fn factor(&mut self, depth: u32) -> Result<Expression, ParseError>
+    fn factor(&mut self, depth: u32) -> Result<Expression<Name>, ParseError>
         requires { depth ≤ most_nestings }
         ensures reads { ReadsFactor depth (spot_of self.old) (spot_of self.new) result }
         ensures shorter { length self.new.left.now ≤ length self.old.left.now }
@@ -52,7 +52,7 @@ impl<'a> Parser<'a> {
 
     // factor {* factor}
     #[cycle(expression)]
-    fn term(&mut self, depth: u32) -> Result<Expression, ParseError>
+    fn term(&mut self, depth: u32) -> Result<Expression<Name>, ParseError>
         requires { depth ≤ most_nestings }
         ensures reads { ReadsTerm depth (spot_of self.old) (spot_of self.new) result }
         ensures ends { OnOk result (NoTimes (spot_of self.new)) }
@@ -68,7 +68,7 @@ impl<'a> Parser<'a> {
 
     // term {+ term | - term}
     #[cycle(expression)]
-    pub(crate) fn expression(&mut self, depth: u32) -> Result<Expression, ParseError>
+    pub(crate) fn expression(&mut self, depth: u32) -> Result<Expression<Name>, ParseError>
         requires { depth ≤ most_nestings }
         ensures reads { ReadsExpr depth (spot_of self.old) (spot_of self.new) result }
         ensures ends { OnOk result (NoOperator (spot_of self.new)) }
@@ -86,10 +86,10 @@ impl<'a> Parser<'a> {
 // A sum or a difference.
 fn joined(
     alloc: Global,
-    a: Expression,
+    a: Expression<Name>,
     sign: Additive,
-    b: Expression,
-) -> Result<Expression, AllocError>
+    b: Expression<Name>,
+) -> Result<Expression<Name>, AllocError>
     ensures { IfOk result (λ sum. expression_view sum
         ≡ combined sign (expression_view a) (expression_view b)) }
 {
@@ -101,13 +101,13 @@ fn joined(
     })
 }
 
-fn constant(digits: Digits) -> Expression
+fn constant(digits: Digits) -> Expression<Name>
     ensures { expression_view result ≡ tree.constant (pos digits.value) }
 {
     Expression::Number(digits.value as i64)
 }
 
-fn negative(digits: Digits) -> Expression
+fn negative(digits: Digits) -> Expression<Name>
     ensures { expression_view result ≡ tree.constant (neg_ℤ (pos digits.value)) }
 {
     Expression::Number(-(digits.value as i64))

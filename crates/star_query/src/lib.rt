@@ -20,12 +20,10 @@ mod tree;
 
 pub use counts::MAX_TEXT;
 pub use fault::QueryFault;
-pub use printing::{
-    Operand, write_comparison, write_grouping, write_list, write_operand, write_operation,
-    write_range,
-};
+pub use printing::{Operand, write_grouping, write_list, write_operand};
 pub use query::Query;
 pub use token::{Fold, Relation};
 pub use tree::{
-    Aggregate, Condition, Expression, Grouping, Item, Literal, Measure, Name, SortKey, Tree,
+    Aggregate, Comparison, Condition, Expression, Grouping, Item, Literal, Measure, Name, SortKey,
+    Test, Tree,
 };

@@ -1,8 +1,6 @@
 // What queries and plans print alike: operations with the parentheses that their grouping needs,
-// comparisons, lists, and how rows are grouped.
+// lists, and how rows are grouped.
 
-use crate::token::Relation;
-use crate::tree::Literal;
 use star_schema::Shape;
 use std::fmt;
 
@@ -37,26 +35,6 @@ pub fn write_operation<T: Operand, W: fmt::Write>(
     write_operand(f, left, left.tightness() < tightness)?;
     write!(f, " {operator} ")?;
     write_operand(f, right, right.tightness() <= tightness)
-}
-
-/// Writes a comparison of a column.
-pub fn write_comparison<T: fmt::Display, W: fmt::Write>(
-    f: &mut fmt::Formatter<W>,
-    column: &T,
-    relation: &Relation,
-    literal: &Literal,
-) -> fmt::Result {
-    write!(f, "{column} {relation} {literal}")
-}
-
-/// Writes between what a column lies.
-pub fn write_range<T: fmt::Display, W: fmt::Write>(
-    f: &mut fmt::Formatter<W>,
-    column: &T,
-    from: &Literal,
-    upto: &Literal,
-) -> fmt::Result {
-    write!(f, "{column} between {from} and {upto}")
 }
 
 /// Writes a word before the first element of a list, and a separator before each other one; nothing

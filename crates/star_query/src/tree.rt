@@ -1,4 +1,5 @@
-// What a query text means. Parentheses leave no trace.
+// What a query text means. Parentheses leave no trace. Expressions, conditions and measures are those
+// of plans too, which have columns where a query has names.
 
 use crate::token::{Fold, Relation};
 use star_schema::{Direction, Shape};
@@ -18,34 +19,46 @@ pub enum Literal {
     Text(Vec<u8>),
 }
 
-/// What an aggregate folds. Operators of one level group to the left.
+/// What an aggregate folds, of columns or of their names. Operators of one level group to the left.
 #[derive(Drop)]
-pub enum Expression {
-    Column(Name),
+pub enum Expression<C> {
+    Column(C),
     /// At most 18 digits.
     Number(i64),
-    Add(Box<Expression>, Box<Expression>),
-    Sub(Box<Expression>, Box<Expression>),
-    Mul(Box<Expression>, Box<Expression>),
+    Add(Box<Expression<C>>, Box<Expression<C>>),
+    Sub(Box<Expression<C>>, Box<Expression<C>>),
+    Mul(Box<Expression<C>>, Box<Expression<C>>),
 }
 
-/// Which rows are selected. Operators of one level group to the left.
+/// A column, or one by its name, is compared with literals.
 #[derive(Drop)]
-pub enum Condition {
-    Or(Box<Condition>, Box<Condition>),
-    And(Box<Condition>, Box<Condition>),
-    Not(Box<Condition>),
+pub enum Comparison<C> {
+    Compare(C, Relation, Literal),
+    /// From the first literal to the second, with both.
+    Between(C, Literal, Literal),
+}
+
+/// What a condition of a query tests.
+#[derive(Drop)]
+pub enum Test {
     /// Two columns are equal.
     Pair(Name, Name),
-    Compare(Name, Relation, Literal),
-    /// From the first literal to the second, with both.
-    Between(Name, Literal, Literal),
+    Comparison(Comparison<Name>),
 }
 
-/// What is computed of each group.
+/// Which rows are selected, by tests of them. Operators of one level group to the left.
 #[derive(Drop)]
-pub enum Measure {
-    Fold(Fold, Expression),
+pub enum Condition<T> {
+    Or(Box<Condition<T>>, Box<Condition<T>>),
+    And(Box<Condition<T>>, Box<Condition<T>>),
+    Not(Box<Condition<T>>),
+    Test(T),
+}
+
+/// What is computed of each group, of columns or of their names.
+#[derive(Drop)]
+pub enum Measure<C> {
+    Fold(Fold, Expression<C>),
     /// The number of rows.
     Count,
 }
@@ -53,7 +66,7 @@ pub enum Measure {
 /// An aggregate, with the place of its function's word and its name, if it is given one.
 #[derive(Drop)]
 pub struct Aggregate {
-    pub measure: Measure,
+    pub measure: Measure<Name>,
     pub place: usize,
     pub name: Option<Name>,
 }
@@ -84,7 +97,7 @@ pub struct SortKey {
 pub struct Tree {
     pub items: Vec<Item>,
     pub tables: Vec<Name>,
-    pub condition: Option<Condition>,
+    pub condition: Option<Condition<Test>>,
     pub grouping: Grouping,
     pub keys: Vec<SortKey>,
 }

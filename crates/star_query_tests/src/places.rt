@@ -1,6 +1,6 @@
 // The places of a query's names and of the words of its functions, in the order of its clauses.
 
-use star_query::{Aggregate, Condition, Expression, Item, Measure, Name, Tree};
+use star_query::{Aggregate, Comparison, Condition, Expression, Item, Measure, Name, Test, Tree};
 use std::alloc::{AllocError, Global};
 
 fn push_names(places: &mut Vec<usize>, names: &[Name]) -> Result<(), AllocError> {
@@ -10,7 +10,10 @@ fn push_names(places: &mut Vec<usize>, names: &[Name]) -> Result<(), AllocError>
     Ok(())
 }
 
-fn push_expression(places: &mut Vec<usize>, expression: &Expression) -> Result<(), AllocError> {
+fn push_expression(
+    places: &mut Vec<usize>,
+    expression: &Expression<Name>,
+) -> Result<(), AllocError> {
     match expression {
         Expression::Column(name) => {
             places.push(name.place)?;
@@ -26,18 +29,23 @@ fn push_expression(places: &mut Vec<usize>, expression: &Expression) -> Result<(
     }
 }
 
-fn push_condition(places: &mut Vec<usize>, condition: &Condition) -> Result<(), AllocError> {
-    match condition {
-        Condition::Not(negated) => push_condition(places, negated),
-        Condition::Pair(first, second) => {
+fn push_test(places: &mut Vec<usize>, test: &Test) -> Result<(), AllocError> {
+    match test {
+        Test::Pair(first, second) => {
             places.push(first.place)?;
             places.push(second.place)?;
-            Ok(())
         }
-        Condition::Compare(name, _, _) | Condition::Between(name, _, _) => {
+        Test::Comparison(Comparison::Compare(name, _, _) | Comparison::Between(name, _, _)) => {
             places.push(name.place)?;
-            Ok(())
         }
+    }
+    Ok(())
+}
+
+fn push_condition(places: &mut Vec<usize>, condition: &Condition<Test>) -> Result<(), AllocError> {
+    match condition {
+        Condition::Not(negated) => push_condition(places, negated),
+        Condition::Test(test) => push_test(places, test),
         Condition::Or(left, right) | Condition::And(left, right) => {
             push_condition(places, left)?;
             push_condition(places, right)

@@ -1,6 +1,7 @@
 -- The trees of the code as the trees of the definitions: each kind of phrase as its own, its parts in order.
 use Rattle.std.proofs.Common.{◌≡◌, ℕ, [], ◌∷◌, Some, None, Ok, Err, refl}
 use Rattle.std.specs.Prelude.{pos, map}
+use Rattle.star_schema.specs.declared.column.ColumnId.{ColumnId}
 use Rattle.star_schema.specs.declared.column.ColumnId.TheVariants.{LoTax}
 use Rattle.star_schema.specs.Tables as of_table
 use Rattle.star_schema.specs.Tables.{Value}
@@ -11,28 +12,28 @@ use Rattle.star_query.specs.declared.token.Relation.TheVariants.{Less}
 use Rattle.star_query.specs.declared.tree.Name.{Name}
 use Rattle.star_query.specs.declared.tree.Literal.TheVariants as literal
 use Rattle.star_query.specs.declared.tree.Expression.TheVariants.{Column, Number, Add', Sub', Mul'}
-use Rattle.star_query.specs.declared.tree.Condition.TheVariants.{Or', And', Not', Pair, Compare, Between}
+use Rattle.star_query.specs.declared.tree.Comparison.{Comparison}
+use Rattle.star_query.specs.declared.tree.Comparison.TheVariants.{Compare, Between}
+use Rattle.star_query.specs.declared.tree.Test.TheVariants as test
+use Rattle.star_query.specs.declared.tree.Condition.{Condition}
+use Rattle.star_query.specs.declared.tree.Condition.TheVariants.{Or', And', Not', Test}
 use Rattle.star_query.specs.declared.tree.Measure.TheVariants as measure
 use Rattle.star_query.specs.declared.tree.Item.TheVariants as item
 use Rattle.star_query.specs.Tree as tree
 use Rattle.star_query.specs.Tree.{Tree}
 use Rattle.star_query.specs.Shown.{IsRead, query_shown}
-use Rattle.star_query.specs.Views.{literal_view, expression_view, condition_view, measure_view, item_view, name_view}
-use Rattle.star_plan.specs.declared.tree.Condition.{Condition}
-use Rattle.star_plan.specs.declared.tree.Condition.TheVariants as of_plan
-use Rattle.star_plan.specs.declared.tree.Expression.TheVariants as operand
-use Rattle.star_plan.specs.declared.tree.Measure.TheVariants as of_measure
+use Rattle.star_query.specs.Views.{literal_view, expression_view, test_view, condition_view, measure_view, item_view, name_view}
 use Rattle.star_plan.specs.Meaning.{or, and, not, compare, between, column, constant, add, sub, mul, counted, summed, least, greatest}
 use Rattle.star_plan.specs.Shown.{condition_shown, expression_shown, measure_shown}
 
 abbrev value : ℕ → Value
 value n = of_table.Number (pos n)
 
-abbrev one_tax : Condition
-one_tax = of_plan.Compare LoTax Less (literal.Number (pos 1))
+abbrev one_tax : Condition (Comparison ColumnId)
+one_tax = Test (Compare LoTax Less (literal.Number (pos 1)))
 
-abbrev some_taxes : Condition
-some_taxes = of_plan.Between LoTax (literal.Number (pos 1)) (literal.Number (pos 2))
+abbrev some_taxes : Condition (Comparison ColumnId)
+some_taxes = Test (Between LoTax (literal.Number (pos 1)) (literal.Number (pos 2)))
 
 literals_viewed : map literal_view (literal.Number (pos 1) ∷ []) ≡ tree.number (pos 1) ∷ []
 literals_viewed = refl
@@ -47,12 +48,12 @@ operators_viewed : (p q : _) → map expression_view (Add' p (Number (pos 1)) q 
     ≡ tree.add (tree.constant (pos 1)) (tree.constant (pos 2)) ∷ tree.sub (tree.constant (pos 1)) (tree.constant (pos 2)) ∷ tree.mul (tree.constant (pos 1)) (tree.constant (pos 2)) ∷ []
 operators_viewed p q = refl
 
-comparisons_viewed : (m n : Name) → map condition_view (Pair m n ∷ Compare m Less (literal.Number (pos 1)) ∷ Between m (literal.Number (pos 1)) (literal.Number (pos 2)) ∷ [])
+comparisons_viewed : (m n : Name) → map test_view (test.Pair m n ∷ test.Comparison (Compare m Less (literal.Number (pos 1))) ∷ test.Comparison (Between m (literal.Number (pos 1)) (literal.Number (pos 2))) ∷ [])
     ≡ tree.pair (name_view m) (name_view n) ∷ tree.compare (name_view m) Less (tree.number (pos 1)) ∷ tree.between (name_view m) (tree.number (pos 1)) (tree.number (pos 2)) ∷ []
 comparisons_viewed m n = refl
 
-conditions_viewed : (m n : Name) (p q : _) → map condition_view (Or' p (Pair m n) q (Pair n m) ∷ And' p (Pair m n) q (Pair n m) ∷ Not' p (Pair m n) ∷ [])
-    ≡ tree.or (tree.pair (name_view m) (name_view n)) (tree.pair (name_view n) (name_view m)) ∷ tree.and (tree.pair (name_view m) (name_view n)) (tree.pair (name_view n) (name_view m)) ∷ tree.not (tree.pair (name_view m) (name_view n)) ∷ []
+conditions_viewed : (m n : Name) (p q : _) → map condition_view (Or' p (Test (test.Pair m n)) q (Test (test.Pair n m)) ∷ And' p (Test (test.Pair m n)) q (Test (test.Pair n m)) ∷ Not' p (Test (test.Pair m n)) ∷ Test (test.Pair m n) ∷ [])
+    ≡ tree.or (tree.pair (name_view m) (name_view n)) (tree.pair (name_view n) (name_view m)) ∷ tree.and (tree.pair (name_view m) (name_view n)) (tree.pair (name_view n) (name_view m)) ∷ tree.not (tree.pair (name_view m) (name_view n)) ∷ tree.pair (name_view m) (name_view n) ∷ []
 conditions_viewed m n p q = refl
 
 measures_viewed : map measure_view (measure.Fold Sum (Number (pos 1)) ∷ measure.Count ∷ []) ≡ tree.fold Sum (tree.constant (pos 1)) ∷ tree.count ∷ []
@@ -78,15 +79,15 @@ no_other_fault t read = read
 
 -- ---- the trees of plans
 
-plan_conditions_shown : (p q : _) → map condition_shown (of_plan.Or' p one_tax q some_taxes ∷ of_plan.And' p one_tax q some_taxes ∷ of_plan.Not' p one_tax ∷ one_tax ∷ some_taxes ∷ [])
+plan_conditions_shown : (p q : _) → map condition_shown (Or' p one_tax q some_taxes ∷ And' p one_tax q some_taxes ∷ Not' p one_tax ∷ one_tax ∷ some_taxes ∷ [])
     ≡ or (compare LoTax Less (value 1)) (between LoTax (value 1) (value 2)) ∷ and (compare LoTax Less (value 1)) (between LoTax (value 1) (value 2))
     ∷ not (compare LoTax Less (value 1)) ∷ compare LoTax Less (value 1) ∷ between LoTax (value 1) (value 2) ∷ []
 plan_conditions_shown p q = refl
 
-plan_expressions_shown : (p q : _) → map expression_shown (operand.Column LoTax ∷ operand.Number (pos 1) ∷ operand.Add' p (operand.Column LoTax) q (operand.Number (pos 1)) ∷ operand.Sub' p (operand.Column LoTax) q (operand.Number (pos 1)) ∷ operand.Mul' p (operand.Column LoTax) q (operand.Number (pos 1)) ∷ [])
+plan_expressions_shown : (p q : _) → map expression_shown (Column LoTax ∷ Number (pos 1) ∷ Add' p (Column LoTax) q (Number (pos 1)) ∷ Sub' p (Column LoTax) q (Number (pos 1)) ∷ Mul' p (Column LoTax) q (Number (pos 1)) ∷ [])
     ≡ column LoTax ∷ constant (pos 1) ∷ add (column LoTax) (constant (pos 1)) ∷ sub (column LoTax) (constant (pos 1)) ∷ mul (column LoTax) (constant (pos 1)) ∷ []
 plan_expressions_shown p q = refl
 
-plan_measures_shown : map measure_shown (of_measure.Count ∷ of_measure.Fold Sum (operand.Number (pos 1)) ∷ of_measure.Fold Min (operand.Number (pos 2)) ∷ of_measure.Fold Max (operand.Number (pos 3)) ∷ [])
+plan_measures_shown : map measure_shown (measure.Count ∷ measure.Fold Sum (Number (pos 1)) ∷ measure.Fold Min (Number (pos 2)) ∷ measure.Fold Max (Number (pos 3)) ∷ [])
     ≡ counted ∷ summed (constant (pos 1)) ∷ least (constant (pos 2)) ∷ greatest (constant (pos 3)) ∷ []
 plan_measures_shown = refl

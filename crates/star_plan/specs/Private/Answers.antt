@@ -2,9 +2,11 @@
 use Rattle.std.specs.Prelude.{◌≡◌, List, map, Option, None, Some, Result, Ok, Err, Vec}
 use Rattle.std.specs.Global.{Global}
 use Rattle.star_common.specs.Memory.{UnlessMemory}
+use Rattle.star_schema.specs.declared.column.ColumnId.{ColumnId}
 use Rattle.star_plan.specs.declared.fault.PlanFault.{PlanFault}
 use Rattle.star_plan.specs.declared.fault.PlanFault.TheVariants.{OutOfMemory}
-use Rattle.star_plan.specs.declared.tree.Condition as of_plan
+use Rattle.star_query.specs.declared.tree.Comparison.{Comparison}
+use Rattle.star_query.specs.declared.tree.Condition as of_query
 use Rattle.star_plan.specs.Meaning.{Condition}
 use Rattle.star_plan.specs.Shown.{condition_shown}
 
@@ -18,5 +20,5 @@ abbrev pub Resolves : {X A : Type 0} → (X → A) → Option A → Result X Pla
 Resolves shown there (Ok x) = Some (shown x) ≡ there
 Resolves shown there (Err e) = UnlessMemory OutOfMemory e (None ≡ there)
 
-abbrev pub conditions_shown : Vec of_plan.Condition Global → List Condition
+abbrev pub conditions_shown : Vec (of_query.Condition (Comparison ColumnId)) Global → List Condition
 conditions_shown cs = map condition_shown cs.items

@@ -11,6 +11,7 @@ use Rattle.star_query.specs.declared.fault.ParseError.{ParseError}
 use Rattle.star_query.specs.declared.fault.ParseError.TheVariants as errors
 use Rattle.star_query.specs.declared.clauses.Function.{Function}
 use Rattle.star_query.specs.declared.tree.Name.{Name}
+use Rattle.star_query.specs.declared.tree.Test.{Test}
 use Rattle.star_query.specs.declared.tree.Condition.{Condition}
 use Rattle.star_query.specs.declared.tree.Measure.{Measure}
 use Rattle.star_query.specs.declared.tree.Aggregate.{Aggregate}
@@ -63,18 +64,18 @@ function_named b f = by_fold f.fold
 abbrev pub Anywhere : {H : Type 0} → H → Type 0
 Anywhere h = Unit {0}
 
-abbrev pub ReadsFolded : Fold → Spot → Spot → Result Measure ParseError → Type 0
+abbrev pub ReadsFolded : Fold → Spot → Spot → Result (Measure Name) ParseError → Type 0
 ReadsFolded f =
     ReadsPhrase {P = Expr} {H = Option (Several grammar.Item) × ℕ} measure_view (λ e. tree.fold f (expr_tree e)) Anywhere (λ h. fold_named h.0 f h.1) (λ e h. agg_had h.0 (folded f h.1 e))
 
-abbrev pub ReadsCounted : Spot → Spot → Result Measure ParseError → Type 0
+abbrev pub ReadsCounted : Spot → Spot → Result (Measure Name) ParseError → Type 0
 ReadsCounted =
     ReadsPhrase {P = Unit {0}} {H = Option (Several grammar.Item) × ℕ} measure_view (λ u. tree.count) Anywhere (λ h. count_named h.0 h.1) (λ u h. agg_had h.0 (counted h.1))
 
-abbrev pub unnamed : ℕ → Measure → tree.Aggregate
+abbrev pub unnamed : ℕ → Measure Name → tree.Aggregate
 unnamed place m = record { measure = measure_view m; place = place; name = None }
 
-abbrev pub ReadsMeasure : Function → Spot → Spot → Result Measure ParseError → Type 0
+abbrev pub ReadsMeasure : Function → Spot → Spot → Result (Measure Name) ParseError → Type 0
 ReadsMeasure f =
     ReadsPhrase {P = Agg} {H = Option (Several grammar.Item)} (unnamed f.place) (λ a. agg_tree a None) Anywhere (λ b. function_named b f) (λ a b. agg_had b a)
 
@@ -101,7 +102,7 @@ abbrev pub ReadsTables : Spot → Spot → Result (Vec Name Global) ParseError �
 ReadsTables =
     ReadsPhrase {P = Several tree.Name} {H = Several grammar.Item} (λ v. map name_view v.items) names Anywhere (λ is. table_wanted is None) (λ ts is. tables_had is ts)
 
-abbrev pub ReadsFilter : Spot → Spot → Result (Option Condition) ParseError → Type 0
+abbrev pub ReadsFilter : Spot → Spot → Result (Option (Condition Test)) ParseError → Type 0
 ReadsFilter =
     ReadsPhrase {P = Option grammar.Cond} {H = Several grammar.Item × Several tree.Name} (option_map condition_view) (option_map cond_tree) Anywhere (λ h. tables_had h.0 h.1) (λ c h. filtered_had (filtered_by h.0 h.1 c))
 

@@ -13,6 +13,7 @@ use Rattle.star_query.specs.declared.parser.Parser.{Parser}
 use Rattle.star_query.specs.declared.tree.Name.{Name}
 use Rattle.star_query.specs.declared.tree.Expression.{Expression}
 use Rattle.star_query.specs.declared.tree.Literal.{Literal}
+use Rattle.star_query.specs.declared.tree.Test.{Test}
 use Rattle.star_query.specs.declared.tree.Condition.{Condition}
 use Rattle.std.specs.declared.alloc.Global.{Global}
 use Rattle.std.specs.declared.vec.Vec.{Vec}
@@ -128,16 +129,16 @@ ReadsPhrase {A} {T} {P} {H} view tree IsHole wanted given old new (Ok x) =
     (p : P) × (tree p ≡ view x) × ((h : H) → IsHole h → verdict old (wanted h) ≡ verdict new (given p h))
 ReadsPhrase {A} {T} {P} {H} view tree IsHole wanted given old new (Err e) = (h : H) → IsHole h → EndsBad e new (verdict old (wanted h))
 
-abbrev pub ReadsFactor : ℕ → Spot → Spot → Result Expression ParseError → Type 0
+abbrev pub ReadsFactor : ℕ → Spot → Spot → Result (Expression Name) ParseError → Type 0
 ReadsFactor d = ReadsPhrase expression_view factor_tree (λ h. factor_depth h ≡ d) factor_wanted give_factor
 
-abbrev pub ReadsTerm : ℕ → Spot → Spot → Result Expression ParseError → Type 0
+abbrev pub ReadsTerm : ℕ → Spot → Spot → Result (Expression Name) ParseError → Type 0
 ReadsTerm d = ReadsPhrase expression_view term_tree (λ h. term_depth h ≡ d) (λ h. factor_wanted (first_factor h)) term_had
 
-abbrev pub ReadsExpr : ℕ → Spot → Spot → Result Expression ParseError → Type 0
+abbrev pub ReadsExpr : ℕ → Spot → Spot → Result (Expression Name) ParseError → Type 0
 ReadsExpr d = ReadsPhrase expression_view expr_tree (λ h. expr_depth h ≡ d) (λ h. factor_wanted (first_factor (first_term h))) expr_had
 
-abbrev pub ReadsOperand : Spot → Spot → Result Expression ParseError → Type 0
+abbrev pub ReadsOperand : Spot → Spot → Result (Expression Name) ParseError → Type 0
 ReadsOperand = ReadsPhrase expression_view factor_tree (λ h. factor_depth h ≤ most_nestings) factor_wanted give_factor
 
 -- no operator goes on with a term, or with an expression
@@ -150,17 +151,17 @@ NoOperator spot = No (sign s.Star) spot × ((q : Additive) → No (additive q) s
 abbrev pub ReadsLit : Spot → Spot → Result Literal ParseError → Type 0
 ReadsLit = ReadsPhrase literal_view lit_tree (λ h. lit_depth h ≤ most_nestings) lit_wanted give_lit
 
-abbrev pub ReadsUnit : ℕ → Spot → Spot → Result Condition ParseError → Type 0
+abbrev pub ReadsUnit : ℕ → Spot → Spot → Result (Condition Test) ParseError → Type 0
 ReadsUnit d = ReadsPhrase condition_view unit_tree (λ h. unit_depth h ≡ d) unit_wanted give_unit
 
 -- a comparison from behind its column, from behind BETWEEN, and from behind its relation
-abbrev pub ReadsNamed : (UnitHole → State) → Spot → Spot → Result Condition ParseError → Type 0
+abbrev pub ReadsNamed : (UnitHole → State) → Spot → Spot → Result (Condition Test) ParseError → Type 0
 ReadsNamed wanted = ReadsPhrase condition_view unit_tree (λ h. unit_depth h ≤ most_nestings) wanted give_unit
 
-abbrev pub ReadsConj : ℕ → Spot → Spot → Result Condition ParseError → Type 0
+abbrev pub ReadsConj : ℕ → Spot → Spot → Result (Condition Test) ParseError → Type 0
 ReadsConj d = ReadsPhrase condition_view conj_tree (λ h. conj_depth h ≡ d) (λ h. unit_wanted (first_unit h)) conj_had
 
-abbrev pub ReadsCond : ℕ → Spot → Spot → Result Condition ParseError → Type 0
+abbrev pub ReadsCond : ℕ → Spot → Spot → Result (Condition Test) ParseError → Type 0
 ReadsCond d = ReadsPhrase condition_view cond_tree (λ h. cond_depth h ≡ d) (λ h. unit_wanted (first_unit (first_conj h))) cond_had
 
 abbrev pub NoAnd : Spot → Type 0
