@@ -33,40 +33,8 @@ fn resolve_column(name: &Name) -> Result<ColumnId, PlanFault>
     }
 }
 
-fn add(
-    alloc: Global,
-    left: Expression<ColumnId>,
-    right: Expression<ColumnId>,
-) -> Result<Expression<ColumnId>, AllocError>
-    ensures { IfOk result (λ e. shown.expression_shown e
-        ≡ meaning.add (shown.expression_shown left) (shown.expression_shown right)) }
-{
-    Ok(Expression::Add(Box::new(alloc, left)?, Box::new(alloc, right)?))
-}
-
-fn sub(
-    alloc: Global,
-    left: Expression<ColumnId>,
-    right: Expression<ColumnId>,
-) -> Result<Expression<ColumnId>, AllocError>
-    ensures { IfOk result (λ e. shown.expression_shown e
-        ≡ meaning.sub (shown.expression_shown left) (shown.expression_shown right)) }
-{
-    Ok(Expression::Sub(Box::new(alloc, left)?, Box::new(alloc, right)?))
-}
-
-fn mul(
-    alloc: Global,
-    left: Expression<ColumnId>,
-    right: Expression<ColumnId>,
-) -> Result<Expression<ColumnId>, AllocError>
-    ensures { IfOk result (λ e. shown.expression_shown e
-        ≡ meaning.mul (shown.expression_shown left) (shown.expression_shown right)) }
-{
-    Ok(Expression::Mul(Box::new(alloc, left)?, Box::new(alloc, right)?))
-}
-
 #[tactic(auto, using(crate::proofs::Options::left_missing, crate::proofs::Options::right_missing, crate::proofs::Options::both_there))]
+#[cycle(expression)]
 fn resolve_expression(
     alloc: Global,
     expression: &Expression<Name>,
@@ -77,22 +45,32 @@ fn resolve_expression(
     match expression {
         Expression::Column(name) => Ok(Expression::Column(resolve_column(name)?)),
         Expression::Number(number) => Ok(Expression::Number(*number)),
-        Expression::Add(left, right) => {
-            let left = resolve_expression(alloc, left)?;
-            let right = resolve_expression(alloc, right)?;
-            Ok(add(alloc, left, right)?)
-        }
-        Expression::Sub(left, right) => {
-            let left = resolve_expression(alloc, left)?;
-            let right = resolve_expression(alloc, right)?;
-            Ok(sub(alloc, left, right)?)
-        }
-        Expression::Mul(left, right) => {
-            let left = resolve_expression(alloc, left)?;
-            let right = resolve_expression(alloc, right)?;
-            Ok(mul(alloc, left, right)?)
-        }
+        Expression::Add(left, right) => Ok(Expression::Add(
+            resolve_operand(alloc, left)?,
+            resolve_operand(alloc, right)?,
+        )),
+        Expression::Sub(left, right) => Ok(Expression::Sub(
+            resolve_operand(alloc, left)?,
+            resolve_operand(alloc, right)?,
+        )),
+        Expression::Mul(left, right) => Ok(Expression::Mul(
+            resolve_operand(alloc, left)?,
+            resolve_operand(alloc, right)?,
+        )),
     }
+}
+
+// What an operator joins.
+#[cycle(expression)]
+fn resolve_operand(
+    alloc: Global,
+    operand: &Expression<Name>,
+) -> Result<Box<Expression<ColumnId>>, PlanFault>
+    ensures { Resolves (λ boxed. shown.expression_shown boxed.value)
+        (spec.resolved_expression (expression_view operand.now)) result }
+{
+    let operand = resolve_expression(alloc, operand)?;
+    Ok(Box::new(alloc, operand)?)
 }
 
 /// What an aggregate computes.
@@ -116,27 +94,6 @@ fn copy_literal(alloc: Global, literal: &Literal) -> Result<Literal, AllocError>
         Literal::Number(number) => Ok(Literal::Number(*number)),
         Literal::Text(text) => Ok(Literal::Text(Vec::from_slice(alloc, text)?)),
     }
-}
-
-fn or(alloc: Global, left: RowCondition, right: RowCondition) -> Result<RowCondition, AllocError>
-    ensures { IfOk result (λ c. shown.condition_shown c
-        ≡ meaning.or (shown.condition_shown left) (shown.condition_shown right)) }
-{
-    Ok(Condition::Or(Box::new(alloc, left)?, Box::new(alloc, right)?))
-}
-
-fn and(alloc: Global, left: RowCondition, right: RowCondition) -> Result<RowCondition, AllocError>
-    ensures { IfOk result (λ c. shown.condition_shown c
-        ≡ meaning.and (shown.condition_shown left) (shown.condition_shown right)) }
-{
-    Ok(Condition::And(Box::new(alloc, left)?, Box::new(alloc, right)?))
-}
-
-fn not(alloc: Global, negated: RowCondition) -> Result<RowCondition, AllocError>
-    ensures { IfOk result (λ c. shown.condition_shown c
-        ≡ meaning.not (shown.condition_shown negated)) }
-{
-    Ok(Condition::Not(Box::new(alloc, negated)?))
 }
 
 fn resolve_compare(
@@ -186,27 +143,31 @@ fn resolve_test(alloc: Global, test: &Test) -> Result<Comparison<ColumnId>, Plan
 
 // A condition in which no two columns are compared.
 #[tactic(auto, using(crate::proofs::Options::left_missing, crate::proofs::Options::right_missing, crate::proofs::Options::both_there))]
+#[cycle(condition)]
 fn resolve_condition(alloc: Global, condition: &Condition<Test>) -> Result<RowCondition, PlanFault>
     ensures { Resolves shown.condition_shown (spec.resolved_condition
         (condition_view condition.now)) result }
 {
     match condition {
         Condition::Or(left, right) => {
-            let left = resolve_condition(alloc, left)?;
-            let right = resolve_condition(alloc, right)?;
-            Ok(or(alloc, left, right)?)
+            Ok(Condition::Or(resolve_part(alloc, left)?, resolve_part(alloc, right)?))
         }
         Condition::And(left, right) => {
-            let left = resolve_condition(alloc, left)?;
-            let right = resolve_condition(alloc, right)?;
-            Ok(and(alloc, left, right)?)
+            Ok(Condition::And(resolve_part(alloc, left)?, resolve_part(alloc, right)?))
         }
-        Condition::Not(negated) => {
-            let negated = resolve_condition(alloc, negated)?;
-            Ok(not(alloc, negated)?)
-        }
+        Condition::Not(negated) => Ok(Condition::Not(resolve_part(alloc, negated)?)),
         Condition::Test(test) => Ok(Condition::Test(resolve_test(alloc, test)?)),
     }
+}
+
+// What a logical operator joins.
+#[cycle(condition)]
+fn resolve_part(alloc: Global, part: &Condition<Test>) -> Result<Box<RowCondition>, PlanFault>
+    ensures { Resolves (λ boxed. shown.condition_shown boxed.value)
+        (spec.resolved_condition (condition_view part.now)) result }
+{
+    let part = resolve_condition(alloc, part)?;
+    Ok(Box::new(alloc, part)?)
 }
 
 fn lone_conjunct(alloc: Global, condition: &Condition<Test>) -> Result<Vec<RowCondition>, PlanFault>
