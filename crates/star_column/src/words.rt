@@ -144,7 +144,7 @@ impl Words {
         values: &[u32],
     ) -> Result<Words, AllocError>
         requires places { All (λ place. place < length values.now) places.now }
-        requires values { All (λ place. slice_index values.now place < length values.now) places.now }
+        requires held { All (λ place. slice_index values.now place < length values.now) places.now }
         requires few { length values.now < 2 ^ 32 }
         ensures numbers { IfOk result
             (λ words. numbers_in words ≡ map (λ place. slice_index values.now place) places.now) }

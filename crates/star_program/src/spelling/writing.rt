@@ -184,10 +184,10 @@ fn push_keep(out: &mut Vec<u8>, flag: u16) -> Result<(), AllocError>
 
 // Adds an instruction that writes a register.
 #[tactic(auto, unfolding(crate::specs::Text::Written::assigned_text))]
-fn push_assigned(out: &mut Vec<u8>, target: u16, operation: &Operation) -> Result<(), AllocError>
-    ensures { OnOk result (out.new.items ≡ out.old.items ++ spec.assigned_text target operation.now) }
+fn push_assigned(out: &mut Vec<u8>, target: u16, source: &Operation) -> Result<(), AllocError>
+    ensures { OnOk result (out.new.items ≡ out.old.items ++ spec.assigned_text target source.now) }
 {
-    match operation {
+    match source {
         Operation::Const { number } => push_constant(out, target, *number),
         Operation::Edge { edge, column, text } => {
             push_edge(out, target, *edge, *column, text.as_slice())

@@ -7,8 +7,8 @@ places_of-requires-clause-within c =
     rw c.as_slice-2.ensures.value
     (numbers_within c.in_ok-distinct.distinct c.in_ok-ordered.ordered.items c.in_ok-ordered.ensures)
 
-pub of_places-requires-clause-values : goal.of_places-requires-clause-values
-of_places-requires-clause-values c =
+pub of_places-requires-clause-held : goal.of_places-requires-clause-held
+of_places-requires-clause-held c =
     places_fit c.in_ok-distinct.distinct c.in_ok-ordered.ordered.items c.as_slice.result.now
     c.as_slice-2.result.now c.args.texts.now c.as_slice-3.result.now c.in_ok-places.places.items
     c.as_slice-4.result.now
