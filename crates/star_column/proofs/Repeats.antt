@@ -1,5 +1,6 @@
 -- Texts of which equal ones are kept once, numbered among the different ones.
-use Rattle.std.proofs.Common.{◌≡◌, ℕ, ℤ, ◌<◌, List, [], ◌∷◌, length, get_or, map, sym, ap, ◌∙◌, subst, arith}
+use Rattle.std.proofs.Common.{◌≡◌, ℕ, ℤ, ◌<◌, List, [], ◌∷◌, length, get_or, map, Vec, sym, ap, ◌∙◌, subst, arith}
+use Rattle.std.specs.declared.alloc.Global.{Global}
 use Rattle.std.specs.Prelude.{Result, Ok, Err, IfOk}
 use Rattle.std.specs.Int.RustNames.{unsigned_abs}
 use Rattle.std.specs.List.{All, Contains}
@@ -58,13 +59,10 @@ module _ (words rows : List ℤ) (ns : List ℕ) (read : words ≡ rows) where
           (from_places zs
           (All-tail (λ p. p < length ns) (unsigned_abs z) (map unsigned_abs zs) all))
 
-  pub words_read : map (λ z. get_or ns (unsigned_abs z) 0) words
-      ≡ map (λ p. get_or ns p 0) (places rows)
-  words_read =
-      ap (map (λ z. get_or ns (unsigned_abs z) 0)) read
+  pub words_read : {E : Type 0} (found : Result (Vec ℕ Global) E)
+      → IfOk found (λ kept. kept.items ≡ map (λ z. get_or ns (unsigned_abs z) 0) words)
+      → IfOk found (λ kept. kept.items ≡ map (λ p. get_or ns p 0) (places rows))
+  words_read (Ok kept) is =
+      is ∙ ap (map (λ z. get_or ns (unsigned_abs z) 0)) read
       ∙ sym (map-map (λ p. get_or ns p 0) unsigned_abs rows)
-
-pub on_read : {T E : Type 0} {P Q : T → Type 0} (r : Result T E) → IfOk r P
-    → ((x : T) → P x → Q x) → IfOk r Q
-on_read (Ok x) p follows = follows x p
-on_read (Err e) p follows = tt
+  words_read (Err e) is = tt

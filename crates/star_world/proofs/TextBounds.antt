@@ -1,10 +1,9 @@
 -- A column of texts has no numbers, so that its bounds are 0 and 0.
-use Rattle.std.proofs.Common.{◌≡◌, ℤ, pos, List, [], ◌∷◌, Option, Some, None, refl, sym, ap, ◌∙◌, ⊎_elim}
+use Rattle.std.proofs.Common.{◌≡◌, ℤ, pos, List, [], ◌∷◌, Option, Some, None, refl, sym, ap, ◌∙◌}
 use Rattle.std.specs.List.{All}
 use Rattle.std.specs.Option.{option_map}
 use Rattle.std.specs.Prelude.{slice_get}
-use Rattle.std.proofs.lemmas.Int.{fold-int_min_reached, fold-int_max_reached}
-use Rattle.std.proofs.lemmas.List.Elements.{All-contains, All-head, All-map, All-tail}
+use Rattle.std.proofs.lemmas.List.Elements.{All-contains, All-map}
 use Rattle.std.proofs.lemmas.Option.{slice_get-map}
 use Rattle.star_schema.specs.Bounds.{greatest, least, number_in, numbers_at}
 use Rattle.star_schema.specs.Database.{Database, rows_in}
@@ -12,6 +11,7 @@ use Rattle.star_schema.specs.Schema.{columns_of, kind_of, place_of, table_of}
 use Rattle.star_schema.specs.Tables.{IsRowOf, Number, Text, Value, kind_of_value}
 use Rattle.star_schema.specs.declared.column.ColumnId.{ColumnId}
 use Rattle.star_schema.specs.declared.column.Kind.TheVariants as kind
+use Rattle.star_schema.proofs.Extremes.{least_there, greatest_there}
 use Rattle.star_schema.proofs.Places.{at_place}
 use Rattle.star_interval.specs.Range.{only}
 use Rattle.star_world.specs.WorldOf.{column_numbers, world_of}
@@ -22,18 +22,12 @@ IsZero n = n ≡ pos 0
 least_zero : (zs : List ℤ) → All IsZero zs → least zs ≡ pos 0
 unfolding least
 least_zero [] zero = refl
-least_zero (z ∷ zs) zero =
-    ⊎_elim {C = least (z ∷ zs) ≡ pos 0} (λ first. first ∙ All-head IsZero z zs zero)
-    (λ later. All-contains IsZero zs _ (All-tail IsZero z zs zero) later)
-    (fold-int_min_reached z zs _ refl)
+least_zero (z ∷ zs) zero = All-contains IsZero (z ∷ zs) _ zero (least_there z zs)
 
 greatest_zero : (zs : List ℤ) → All IsZero zs → greatest zs ≡ pos 0
 unfolding greatest
 greatest_zero [] zero = refl
-greatest_zero (z ∷ zs) zero =
-    ⊎_elim {C = greatest (z ∷ zs) ≡ pos 0} (λ first. first ∙ All-head IsZero z zs zero)
-    (λ later. All-contains IsZero zs _ (All-tail IsZero z zs zero) later)
-    (fold-int_max_reached z zs _ refl)
+greatest_zero (z ∷ zs) zero = All-contains IsZero (z ∷ zs) _ zero (greatest_there z zs)
 
 text_zero : (o : Option Value) → option_map kind_of_value o ≡ Some kind.Text → IsZero (number_in o)
 text_zero None e = absurd (cc)

@@ -1,4 +1,4 @@
-use Rattle.std.proofs.Common.{◌≡◌, ◌<◌, Some, arith, get_or, length, map}
+use Rattle.std.proofs.Common.{◌≡◌, Some, arith, get_or, map, set}
 use Rattle.std.specs.List.{slice_get}
 use Rattle.std.proofs.lemmas.List.{length-map}
 use Rattle.std.proofs.lemmas.Option.{slice_get-get_or}
@@ -7,6 +7,7 @@ use Rattle.star_reader.specs.Columns.{kind_of}
 use Rattle.star_reader.proofs.LineSteps as steps
 use Rattle.star_reader.proofs.Pushes as pushes
 use Rattle.star_reader.proofs.line.push_line.Goals as goal
+use Rattle.star_reader.proofs.line.push_line.Goals.{After-index-columns-place}
 
 pub loop-place-init : goal.loop-place-init
 loop-place-init c = steps.start c.args.line.now (map kind_of c.args.columns.now) c.args.columns.now
@@ -21,59 +22,59 @@ returns-then-at-line-clause-pushed c = λ at_row.
 pub returns-then-at-line-clause-kinds : goal.returns-then-at-line-clause-kinds
 returns-then-at-line-clause-kinds c = (c.loop-place.invariant.pushed 0).kinds
 
+-- the column at the loop's place, its kind, and the kinds once it has another value
+abbrev column : After-index-columns-place → RawColumn
+column c = get_or c.loop-place.columns c.loop-place.place c.index-columns-place.result
+
+column_there : (c : After-index-columns-place)
+    → slice_get c.loop-place.columns c.loop-place.place ≡ Some (column c)
+column_there c =
+    slice_get-get_or c.loop-place.columns c.loop-place.place c.index-columns-place.result
+    (omega (arith, c.loop-place.auto.columns, c.loop-place-test.true))
+
+kind_there : (c : After-index-columns-place)
+    → slice_get (map kind_of c.args.columns.now) c.loop-place.place ≡ Some (kind_of (column c))
+kind_there c =
+    pushes.kind_there c.args.columns.now c.loop-place.columns c.loop-place.place (column c)
+    (c.loop-place.invariant.pushed 0).kinds (column_there c)
+
+kinds_kept : (c : After-index-columns-place) (next : RawColumn) → kind_of next ≡ kind_of (column c)
+    → map kind_of (set c.loop-place.columns c.loop-place.place next) ≡ map kind_of c.args.columns.now
+kinds_kept c next kind =
+    pushes.kinds_kept c.args.columns.now c.loop-place.columns c.loop-place.place (column c) next
+    (c.loop-place.invariant.pushed 0).kinds (column_there c) kind
+
 pub returns-in_err-count-clause-kinds : goal.returns-in_err-count-clause-kinds
 returns-in_err-count-clause-kinds c =
-    let within : c.loop-place.place < length c.loop-place.columns =
-    omega (arith, c.loop-place.auto.columns) in
-    let at = slice_get-get_or c.loop-place.columns c.loop-place.place c.index-columns-place.result
-    within in
-    pushes.kinds_kept c.args.columns.now c.loop-place.columns c.loop-place.place _
-    c.push_front.new.self (c.loop-place.invariant.pushed 0).kinds at c.push_front.ensures.kind
+    kinds_kept (goal.at.returns-in_err-count-clause-kinds c).After-index-columns-place
+    c.push_front.new.self c.push_front.ensures.kind
 
 pub returns-in-None-clause-pushed : goal.returns-in-None-clause-pushed
 returns-in-None-clause-pushed c = λ at_row.
-    let within : c.loop-place.place < length c.loop-place.columns =
-    omega (arith, c.loop-place.auto.columns) in
-    let column : RawColumn =
-    get_or c.loop-place.columns c.loop-place.place c.index-columns-place.result in
-    let at : slice_get c.loop-place.columns c.loop-place.place ≡ Some column =
-    slice_get-get_or c.loop-place.columns c.loop-place.place c.index-columns-place.result within in
-    let at_kind =
-    pushes.kind_there c.args.columns.now c.loop-place.columns c.loop-place.place column
-    (c.loop-place.invariant.pushed 0).kinds at in
+    let at = (goal.at.returns-in-None-clause-pushed c).After-index-columns-place in
     steps.no_cell c.args.line.now (map kind_of c.args.columns.now) c.loop-place.place
     c.loop-place.at at_row c.args.columns.now c.loop-place.columns
-    (kind_of column) c.loop-place.invariant
+    (kind_of (column at)) c.loop-place.invariant
     (omega (arith, c.loop-place-test.true, length-map c.args.columns.now kind_of))
-    c.if-at-line.false at_kind (rw (c.in-None.is, c.from.ensures) at c.in_ok-count.ensures.pushed)
+    c.if-at-line.false (kind_there at)
+    (rw (c.in-None.is, c.from.ensures) at c.in_ok-count.ensures.pushed)
 
 pub returns-in-None-clause-kinds : goal.returns-in-None-clause-kinds
 returns-in-None-clause-kinds c =
-    let within : c.loop-place.place < length c.loop-place.columns =
-    omega (arith, c.loop-place.auto.columns) in
-    let at = slice_get-get_or c.loop-place.columns c.loop-place.place c.index-columns-place.result
-    within in
-    pushes.kinds_kept c.args.columns.now c.loop-place.columns c.loop-place.place _
-    c.push_front.new.self (c.loop-place.invariant.pushed 0).kinds at c.push_front.ensures.kind
+    kinds_kept (goal.at.returns-in-None-clause-kinds c).After-index-columns-place
+    c.push_front.new.self c.push_front.ensures.kind
 
 pub loop-place-preserved : goal.loop-place-preserved
 loop-place-preserved c =
-    let within : c.loop-place.place < length c.loop-place.columns =
-    omega (arith, c.loop-place.auto.columns) in
-    let column : RawColumn =
-    get_or c.loop-place.columns c.loop-place.place c.index-columns-place.result in
-    let at : slice_get c.loop-place.columns c.loop-place.place ≡ Some column =
-    slice_get-get_or c.loop-place.columns c.loop-place.place c.index-columns-place.result within in
-    let at_kind =
-    pushes.kind_there c.args.columns.now c.loop-place.columns c.loop-place.place column
-    (c.loop-place.invariant.pushed 0).kinds at in
+    let at = (goal.at.loop-place-preserved c).After-index-columns-place in
     let pushed = rw (c.in-Some.is, c.from.ensures) at c.in_ok-count.ensures.pushed in
     steps.more c.args.line.now (map kind_of c.args.columns.now) c.loop-place.place
     c.loop-place.at c.in-Some.count c.args.columns.now c.loop-place.columns
-    (kind_of column) column c.push_front.new.self
+    (kind_of (column at)) (column at) c.push_front.new.self
     c.loop-place.invariant
     (omega (arith, c.loop-place-test.true, length-map c.args.columns.now kind_of))
-    c.if-at-line.false pushed.0 at_kind pushed.1 at pushed.2 c.push_front.ensures.kind
+    c.if-at-line.false pushed.0 (kind_there at) pushed.1 (column_there at) pushed.2
+    c.push_front.ensures.kind
 
 pub returns-then-at-line-2-clause-pushed : goal.returns-then-at-line-2-clause-pushed
 returns-then-at-line-2-clause-pushed c = λ at_row.

@@ -1,4 +1,5 @@
-use Rattle.std.proofs.Common.{◌≡◌, ◌<◌, ◌≤◌, ◌∙◌, length, map, ℕ, List, inl, inr, sym, arith}
+use Rattle.std.proofs.Common.{◌≡◌, ◌≤◌, ◌∙◌, Some, get_or, length, map, ℕ, List, inl, inr, sym, arith}
+use Rattle.std.specs.List.{slice_get}
 use Rattle.std.proofs.lemmas.List.{length-map}
 use Rattle.std.proofs.lemmas.Option.{slice_get-get_or}
 use Rattle.std.proofs.lemmas.Result.{err_from_is_err_and}
@@ -10,6 +11,7 @@ use Rattle.star_reader.proofs.Counts.{right_count, wrong_count}
 use Rattle.star_reader.proofs.Fields.{cell_at, field_there}
 use Rattle.star_reader.proofs.Pushes as pushes
 use Rattle.star_reader.proofs.record.push_record.Goals as goal
+use Rattle.star_reader.proofs.record.push_record.Goals.{After-index-columns-place}
 
 pub returns-then-cell_count-columns-clause-pushed : goal.returns-then-cell_count-columns-clause-pushed
 returns-then-cell_count-columns-clause-pushed c =
@@ -20,23 +22,38 @@ returns-then-cell_count-columns-clause-pushed c =
 pub loop-place-init : goal.loop-place-init
 loop-place-init c = pushes.start c.args.at_row (map kind_of c.args.columns.now) _ c.args.columns.now
 
+-- the column at the loop's place, its kind, and the cell there
+column_there : (c : After-index-columns-place)
+    → slice_get c.loop-place.columns c.loop-place.place
+    ≡ Some (get_or c.loop-place.columns c.loop-place.place c.index-columns-place.result)
+column_there c =
+    slice_get-get_or c.loop-place.columns c.loop-place.place c.index-columns-place.result
+    (omega (arith, c.loop-place.auto.columns, c.loop-place-test.true))
+
+kind_there : (c : After-index-columns-place)
+    → slice_get (map kind_of c.args.columns.now) c.loop-place.place
+    ≡ Some (kind_of (get_or c.loop-place.columns c.loop-place.place c.index-columns-place.result))
+kind_there c =
+    pushes.kind_there c.args.columns.now c.loop-place.columns c.loop-place.place _
+    c.loop-place.invariant.kinds (column_there c)
+
+cell_there : (c : After-index-columns-place)
+    → slice_get (cells_of (length (map kind_of c.args.columns.now)) (fields_read c.args.line.now))
+    c.loop-place.place
+    ≡ Some c.in-Some.field.now
+cell_there c =
+    let width = length-map c.args.columns.now kind_of in
+    cell_at (length (map kind_of c.args.columns.now)) (fields_read c.args.line.now)
+    c.loop-place.place (omega (arith, width, c.loop-place-test.true)) ∙ sym c.in-Some.ensures
+
 pub returns-in_err-push_cell-in-Some-clause-pushed : goal.returns-in_err-push_cell-in-Some-clause-pushed
 returns-in_err-push_cell-in-Some-clause-pushed c =
     let ks : List Kind = map kind_of c.args.columns.now in
     let fields : List (List ℕ) = fields_read c.args.line.now in
-    let width : length ks ≡ length c.args.columns.now = length-map c.args.columns.now kind_of in
     let all : length (cells_of (length ks) fields) ≡ length ks =
-    rw width (sym c.cell_count.ensures ∙ c.if-cell_count-columns.false) in
-    let within : c.loop-place.place < length c.loop-place.columns =
-    omega (arith, c.loop-place.auto.columns) in
-    let at = slice_get-get_or c.loop-place.columns c.loop-place.place c.index-columns-place.result
-    within in
-    let at_kind =
-    pushes.kind_there c.args.columns.now c.loop-place.columns c.loop-place.place _
-    c.loop-place.invariant.kinds at in
-    let at_cell =
-    cell_at (length ks) fields c.loop-place.place (omega (arith, width))
-    ∙ sym c.in-Some.ensures in
+    rw (length-map c.args.columns.now kind_of)
+    (sym c.cell_count.ensures ∙ c.if-cell_count-columns.false) in
+    let at = (goal.at.returns-in_err-push_cell-in-Some-clause-pushed c).After-index-columns-place in
     let p = err_from_is_err_and c.from_residual.result c.from_residual.ensures.1 in
     rw (p.1, p.2) (elim c.in_err-push_cell-in-Some.ensures.pushed [
       | inl memory ↦ inl memory
@@ -44,15 +61,12 @@ returns-in_err-push_cell-in-Some-clause-pushed c =
           inr (right_count ks c.args.at_row fields all
           ∙ pushes.faulty c.args.at_row ks
           (cells_of (length ks) fields) c.loop-place.place c.args.columns.now c.loop-place.columns _
-          _ _ c.loop-place.invariant at_kind at_cell fault)
+          _ _ c.loop-place.invariant (kind_there at) (cell_there at) fault)
     ])
 
 pub returns-in_err-push_cell-in-Some-clause-kinds : goal.returns-in_err-push_cell-in-Some-clause-kinds
 returns-in_err-push_cell-in-Some-clause-kinds c =
-    let within : c.loop-place.place < length c.loop-place.columns =
-    omega (arith, c.loop-place.auto.columns) in
-    let at = slice_get-get_or c.loop-place.columns c.loop-place.place c.index-columns-place.result
-    within in
+    let at = column_there (goal.at.returns-in_err-push_cell-in-Some-clause-kinds c).After-index-columns-place in
     pushes.kinds_kept c.args.columns.now c.loop-place.columns c.loop-place.place _
     c.push_cell.new.self c.loop-place.invariant.kinds at c.push_cell.ensures.kind
 
@@ -66,21 +80,12 @@ pub loop-place-preserved : goal.loop-place-preserved
 loop-place-preserved c =
     let ks : List Kind = map kind_of c.args.columns.now in
     let fields : List (List ℕ) = fields_read c.args.line.now in
-    let width : length ks ≡ length c.args.columns.now = length-map c.args.columns.now kind_of in
-    let within : c.loop-place.place < length c.loop-place.columns =
-    omega (arith, c.loop-place.auto.columns) in
-    let at = slice_get-get_or c.loop-place.columns c.loop-place.place c.index-columns-place.result
-    within in
-    let at_kind =
-    pushes.kind_there c.args.columns.now c.loop-place.columns c.loop-place.place _
-    c.loop-place.invariant.kinds at in
-    let at_cell =
-    cell_at (length ks) fields c.loop-place.place (omega (arith, width))
-    ∙ sym c.in-Some.ensures in
+    let at = (goal.at.loop-place-preserved c).After-index-columns-place in
     pushes.more c.args.at_row ks
     (cells_of (length ks) fields) c.loop-place.place c.args.columns.now c.loop-place.columns _
     c.in-Some.field.now _ c.push_cell.new.self
-    c.loop-place.invariant at_kind at_cell c.in_ok-push_cell-in-Some.ensures.pushed.0 at
+    c.loop-place.invariant (kind_there at) (cell_there at)
+    c.in_ok-push_cell-in-Some.ensures.pushed.0 (column_there at)
     c.in_ok-push_cell-in-Some.ensures.pushed.1 c.push_cell.ensures.kind
 
 pub returns-clause-pushed : goal.returns-clause-pushed
