@@ -16,9 +16,9 @@ use Rattle.star_schema.proofs.NamesApart.{found_named}
 use Rattle.star_query.specs.declared.token.Fold.{Fold}
 use Rattle.star_query.specs.declared.token.Fold.TheVariants as fold
 use Rattle.star_query.specs.Tree as tree
-use Rattle.star_query.specs.Tree.{Item, Name, SortKey, Tree}
+use Rattle.star_query.specs.Tree.{Expression, Item, Name, SortKey, Tree, add, column, constant, mul, sub}
 use Rattle.star_plan.specs.Meaning as plan
-use Rattle.star_plan.specs.Meaning.{Joined, Plan, add, column, constant, mul, sub, value_of}
+use Rattle.star_plan.specs.Meaning.{Joined, Plan, value_of}
 use Rattle.star_plan.specs.Names.{column_at, column_called}
 use Rattle.star_plan.specs.Naming.{aggregate_name, aggregate_names, names_from}
 use Rattle.star_plan.specs.Resolved as resolved
@@ -26,7 +26,7 @@ use Rattle.star_plan.specs.Resolved.{items_from, key_column, option_all, resolve
 use Rattle.star_plan.specs.Shown.{folded}
 use Rattle.star_plan.proofs.Options.{both_gave, mapped_gave}
 use Rattle.star_answers.specs.Answers.{shown_name}
-use Rattle.star_answers.specs.Rows.{measured, measures_of, query_number, value_named}
+use Rattle.star_answers.specs.Rows.{measured, measures_of, value_named}
 use Rattle.star_answers.specs.Shows.{columns_from, function_of, item_names_from}
 use Rattle.star_answers.proofs.OwnConditions.{named}
 
@@ -38,7 +38,7 @@ keys_same (n ∷ ns) cs row e =
     let g = both_gave (λ y ys. y ∷ ys) (column_at n) (option_all column_at ns) cs e in
     (λ i. named n g.left row g.first i ∷ keys_same ns g.right row g.second i) ∙ ap (map (λ c. value_of c row)) g.made
 
-expression_same : (e : tree.Expression) (x : plan.Expression) (row : Joined) → resolved_expression e ≡ Some x → query_number e row ≡ plan.expression_number x row
+expression_same : (e : Expression Name) (x : Expression ColumnId) (row : Joined) → resolved_expression e ≡ Some x → plan.number_with (λ n. value_named n row) e ≡ plan.expression_number x row
 expression_same (tree.column n) x row e =
     let g = mapped_gave column (column_at n) x e in ap plan.number_of (named n g.0 row g.1) ∙ ap (λ y. plan.expression_number y row) g.2
 expression_same (tree.constant z) x row e = let same : constant z ≡ x = cc in ap (λ y. plan.expression_number y row) same
@@ -52,12 +52,12 @@ expression_same (tree.mul a b) x row e =
     let g = both_gave mul (resolved_expression a) (resolved_expression b) x e in
     (λ i. expression_same a g.left row g.first i *ℤ expression_same b g.right row g.second i) ∙ ap (λ y. plan.expression_number y row) g.made
 
-folded_number : (f : Fold) (x : plan.Expression) (row : Joined) → plan.expression_number x row ≡ plan.measured (folded f x) row
+folded_number : (f : Fold) (x : Expression ColumnId) (row : Joined) → plan.expression_number x row ≡ plan.measured (folded f x) row
 folded_number fold.Sum x row = refl
 folded_number fold.Min x row = refl
 folded_number fold.Max x row = refl
 
-folded_function : (f : Fold) (e : tree.Expression) (x : plan.Expression) → function_of (tree.fold f e) ≡ plan.aggregate_of (folded f x)
+folded_function : (f : Fold) (e : Expression Name) (x : Expression ColumnId) → function_of (tree.fold f e) ≡ plan.aggregate_of (folded f x)
 folded_function fold.Sum e x = refl
 folded_function fold.Min e x = refl
 folded_function fold.Max e x = refl

@@ -9,8 +9,8 @@ use Rattle.star_schema.specs.declared.column.ColumnId.{ColumnId}
 use Rattle.star_schema.specs.Groups.{Entry}
 use Rattle.star_schema.specs.Order.{value_cmp}
 use Rattle.star_schema.specs.Tables.{Value, Number}
-use Rattle.star_query.specs.Tree.{Name, Expression, column, constant, add, sub, mul, Condition, or, and, not, pair, compare, between, Measure, count, fold, Item, plain, aggregate, Tree}
-use Rattle.star_plan.specs.Meaning.{Joined, Tables, number_of, tests, value_of, with_row}
+use Rattle.star_query.specs.Tree.{Name, Condition, or, and, not, pair, compare, between, Measure, count, fold, Item, plain, aggregate, Tree}
+use Rattle.star_plan.specs.Meaning.{Joined, Tables, number_with, tests, value_of, with_row}
 use Rattle.star_plan.specs.Names.{column_at, literal_value, table_at}
 
 -- ---- the product
@@ -62,17 +62,10 @@ selected ts q = filter (where_is_true q.condition) (product ts (tables_of q.tabl
 
 -- ---- what a selected row adds to its groups
 
-abbrev pub query_number : Expression → Joined → ℤ
-query_number (column n) row = number_of (value_named n row)
-query_number (constant z) row = z
-query_number (add a b) row = query_number a row +ℤ query_number b row
-query_number (sub a b) row = query_number a row -ℤ query_number b row
-query_number (mul a b) row = query_number a row *ℤ query_number b row
-
 -- 1 to a count
 abbrev pub measured : Measure → Joined → ℤ
 measured count row = pos 1
-measured (fold function e) row = query_number e row
+measured (fold function e) row = number_with (λ n. value_named n row) e
 
 -- what SELECT computes of each group, from the left
 abbrev pub measures_of : List Item → List Measure

@@ -4,8 +4,10 @@ use Rattle.std.specs.declared.alloc.AllocError.{AllocError}
 use Rattle.star_schema.specs.declared.column.ColumnId.{ColumnId}
 use Rattle.star_schema.specs.declared.table.TableId.{TableId}
 use Rattle.star_plan.specs.declared.tree.Join.{Join}
-use Rattle.star_plan.specs.Limits.{comparisons_of, operands_of}
-use Rattle.star_plan.specs.Meaning.{Condition, or, and, not, compare, between, Expression, column, constant, add, sub, mul, Measure, counted, summed, least, greatest}
+use Rattle.star_query.specs.Limits.{operands_of}
+use Rattle.star_plan.specs.Limits.{comparisons_of}
+use Rattle.star_query.specs.Tree.{Expression, column, constant, add, sub, mul}
+use Rattle.star_plan.specs.Meaning.{Condition, or, and, not, compare, between, Measure, counted, summed, least, greatest}
 use Rattle.star_program.specs.declared.op.Op.{Op}
 use Rattle.star_program.specs.declared.op.Op.TheVariants.{Assign, Keep}
 use Rattle.star_program.specs.declared.op.Operation.{Operation}
@@ -197,7 +199,7 @@ module _ (js : List Join) where
   keys_are cs env k = keys_more cs [] env k
 
   -- a number, and those after it
-  number_more : (a : Expression) (ms : List Measure) (so_far : List ℕ) (env : Env) (k : Rests)
+  number_more : (a : Expression ColumnId) (ms : List Measure) (so_far : List ℕ) (env : Env) (k : Rests)
       → ((so_far : List ℕ) (env : Env)
       → values_after js ms so_far env k ≡ values_code js ms env (λ e xs. k e (so_far ++ xs)))
       → expression_code js a env (λ e x. values_after js ms (so_far ++ x ∷ []) e k)
@@ -292,7 +294,7 @@ conjunct_written (Ok u) js c old middle new x wrote pushed next loaded found = r
 
 -- ---- parts have something in them
 
-pub some_operand : (a : Expression) → 1 ≤ operands_of a
+pub some_operand : (a : Expression ColumnId) → 1 ≤ operands_of a
 some_operand (column c) = omega arith
 some_operand (constant z) = omega arith
 some_operand (add a b) = omega (arith, some_operand a)

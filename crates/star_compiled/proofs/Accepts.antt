@@ -12,7 +12,8 @@ use Rattle.star_interval.specs.Range.{Range, only, corner_range, fits_i64}
 use Rattle.star_query.specs.declared.token.Relation.{Relation}
 use Rattle.star_query.specs.declared.token.Relation.TheVariants as sign
 use Rattle.star_plan.specs.declared.tree.Join.{Join}
-use Rattle.star_plan.specs.Meaning.{Condition, or, and, not, compare, between, Expression, column, constant, add, sub, mul}
+use Rattle.star_query.specs.Tree.{Expression, column, constant, add, sub, mul}
+use Rattle.star_plan.specs.Meaning.{Condition, or, and, not, compare, between}
 use Rattle.star_plan.specs.Names.{same_kind}
 use Rattle.star_plan.specs.Sound.{in_scope, condition_is_sound, expression_is_sound}
 use Rattle.star_plan.specs.Spelled.{value_is_spelled, condition_is_spelled}
@@ -418,14 +419,14 @@ module _ (turn : Turn) where
         })
         room)
 
-    abbrev JudgesRange : Expression → Type 0
+    abbrev JudgesRange : Expression ColumnId → Type 0
     JudgesRange a =
         (p : Point) (k : Rest)
         → Judges (nodes_fit turn.world.bounds a) (Ranged (range_of turn.world.bounds a)) k p
         (expression_code js a p.env k)
 
     -- an operator after its two parts
-    two_judged : (a b : Expression) (o : Operator) (z : ℤ → ℤ → ℤ) → Computes o z → JudgesRange a
+    two_judged : (a b : Expression ColumnId) (o : Operator) (z : ℤ → ℤ → ℤ) → Computes o z → JudgesRange a
         → JudgesRange b → (p : Point) (k : Rest)
         → Judges
         (nodes_fit turn.world.bounds a && (nodes_fit turn.world.bounds b
@@ -449,7 +450,7 @@ module _ (turn : Turn) where
         operator_judged o z is x.out y.out q r y.after k
         (ranged q x.says.1.0 x.says.1.1 y.after x.out at_x) y.says y.room))
 
-    pub expression_judged : (a : Expression) → expression_is_sound js a ≡ true → JudgesRange a
+    pub expression_judged : (a : Expression ColumnId) → expression_is_sound js a ≡ true → JudgesRange a
     expression_judged (column c) sound p k room =
         let parts = and_parts (in_scope js (table_of c)) (same_kind (kind_of c) kind.Number)
         sound in

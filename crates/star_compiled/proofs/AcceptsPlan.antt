@@ -12,7 +12,8 @@ use Rattle.star_schema.specs.Schema.{kind_of, table_of}
 use Rattle.star_schema.proofs.Same.{column_itself}
 use Rattle.star_interval.specs.Range.{Range, fits_i64}
 use Rattle.star_interval.proofs.Ranges.{fits_i64_fits}
-use Rattle.star_plan.specs.Meaning.{Condition, Measure, counted, summed, least, greatest, aggregate_of, Plan, Expression}
+use Rattle.star_query.specs.Tree.{Expression}
+use Rattle.star_plan.specs.Meaning.{Condition, Measure, counted, summed, least, greatest, aggregate_of, Plan}
 use Rattle.star_plan.specs.Sound.{in_scope, condition_is_sound, expression_is_sound, measure_is_sound, IsSoundPlan}
 use Rattle.star_plan.specs.Spelled.{condition_is_spelled}
 use Rattle.star_plan.specs.Fits.{range_of, nodes_fit, measure_fits, sum_fits}
@@ -231,7 +232,7 @@ module _ (w : World) (p : Plan) (sound : IsSoundPlan p) (n : ℕ) (pending : ℕ
       (values_code p.joins ms q.env k)
 
   -- one value and those of the aggregates after it
-  value_judged : (a : Expression) (ms : List Measure) → expression_is_sound p.joins a ≡ true
+  value_judged : (a : Expression ColumnId) (ms : List Measure) → expression_is_sound p.joins a ≡ true
       → JudgesValues ms → (q : Point) (k : Env → List ℕ → Code)
       → Judges (nodes_fit w.bounds a && list_all (measure_fits w.bounds) ms)
       (RangesStand (range_of w.bounds a ∷ ranges_of w ms)) k q

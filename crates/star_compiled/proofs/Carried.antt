@@ -9,7 +9,8 @@ use Rattle.star_schema.specs.Tables.{Value, Number, Text}
 use Rattle.star_query.specs.declared.token.Relation.{Relation}
 use Rattle.star_query.specs.declared.token.Relation.TheVariants as sign
 use Rattle.star_plan.specs.declared.tree.Join.{Join}
-use Rattle.star_plan.specs.Meaning.{Condition, or, and, not, compare, between, Expression, column, constant, add, sub, mul, Measure, counted, summed, least, greatest, Plan}
+use Rattle.star_query.specs.Tree.{Expression, column, constant, add, sub, mul}
+use Rattle.star_plan.specs.Meaning.{Condition, or, and, not, compare, between, Measure, counted, summed, least, greatest, Plan}
 use Rattle.star_program.specs.declared.op.Edge.TheVariants.{High}
 use Rattle.star_program.specs.declared.op.Op.TheVariants.{Assign, Keep, Put}
 use Rattle.star_program.specs.declared.op.Operation.{Operation}
@@ -174,7 +175,7 @@ module _ (js : List Join) (Fact : Env → Code → Type 0) (Unseen : Env → Col
   of_condition (between c a b) env k h =
       of_column c env (λ e x. between_code c x a b e k) (λ e x. of_between c x a b e k h)
 
-  of_expression : (a : Expression) → Carries (expression_code js a)
+  of_expression : (a : Expression ColumnId) → Carries (expression_code js a)
   of_expression (column c) env k h = of_column c env k h
   of_expression (constant z) env k h = of_write (Const z) refl env k h
   of_expression (add a b) env k h =

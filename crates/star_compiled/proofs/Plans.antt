@@ -11,7 +11,8 @@ use Rattle.star_schema.specs.declared.group.SortKey.{SortKey}
 use Rattle.star_schema.specs.Tables.{Value, Number, Text}
 use Rattle.star_query.specs.declared.token.Relation.TheVariants.{Equal, Unequal, Less, AtMost, Greater, AtLeast}
 use Rattle.star_plan.specs.declared.tree.Join.{Join}
-use Rattle.star_plan.specs.Meaning.{Condition, Plan, compare, between, or, and, not, column, constant, add, sub, mul, summed, least, greatest, counted}
+use Rattle.star_query.specs.Tree.{column, constant, add, sub, mul}
+use Rattle.star_plan.specs.Meaning.{Condition, Plan, compare, between, or, and, not, summed, least, greatest, counted}
 
 abbrev number : ℕ → Value
 number n = Number (pos n)

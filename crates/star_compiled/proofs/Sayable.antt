@@ -15,7 +15,8 @@ use Rattle.star_query.specs.declared.token.Relation.{Relation}
 use Rattle.star_query.specs.declared.token.Relation.TheVariants as sign
 use Rattle.star_query.specs.Spelled.{is_number, is_text}
 use Rattle.star_plan.specs.declared.tree.Join.{Join}
-use Rattle.star_plan.specs.Meaning.{Condition, or, and, not, compare, between, Expression, column, constant, add, sub, mul, Measure, counted, summed, least, greatest, Plan}
+use Rattle.star_query.specs.Tree.{Expression, column, constant, add, sub, mul}
+use Rattle.star_plan.specs.Meaning.{Condition, or, and, not, compare, between, Measure, counted, summed, least, greatest, Plan}
 use Rattle.star_plan.specs.Spelled.{value_is_spelled, condition_is_spelled, expression_is_spelled, measure_is_spelled}
 use Rattle.star_program.specs.declared.op.Operation.{Operation}
 use Rattle.star_program.specs.declared.op.Edge.TheVariants.{High}
@@ -257,7 +258,7 @@ module _ (js : List Join) where
       of_column c env (λ e x. between_code c x a b e k) g room
       (λ e x g sx room. of_between c x a b parts.0 parts.1 sx e k g room h)
 
-  of_expression : (a : Expression) → expression_is_spelled a ≡ true
+  of_expression : (a : Expression ColumnId) → expression_is_spelled a ≡ true
       → Says IsShort (expression_code js a)
   of_expression (column c) said env k g room h = of_column c env k g room h
   of_expression (constant z) said env k g room h =

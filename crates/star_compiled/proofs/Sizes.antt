@@ -11,8 +11,10 @@ use Rattle.star_schema.specs.Tables.{Value, Number, Text}
 use Rattle.star_query.specs.declared.token.Relation.{Relation}
 use Rattle.star_query.specs.declared.token.Relation.TheVariants as sign
 use Rattle.star_plan.specs.declared.tree.Join.{Join}
-use Rattle.star_plan.specs.Meaning.{Condition, or, and, not, compare, between, Expression, column, constant, add, sub, mul, Measure, counted, summed, least, greatest, Plan}
-use Rattle.star_plan.specs.Limits.{comparisons_of, operands_of, measure_operands}
+use Rattle.star_query.specs.Tree.{Expression, column, constant, add, sub, mul}
+use Rattle.star_plan.specs.Meaning.{Condition, or, and, not, compare, between, Measure, counted, summed, least, greatest, Plan}
+use Rattle.star_query.specs.Limits.{operands_of}
+use Rattle.star_plan.specs.Limits.{comparisons_of, measure_operands}
 use Rattle.star_program.specs.declared.op.Op.TheVariants.{Keep}
 use Rattle.star_program.specs.declared.op.Edge.TheVariants.{High}
 use Rattle.star_program.specs.declared.op.Operation.{Operation}
@@ -222,7 +224,7 @@ module _ (js : List Join) where
       )
 
   -- two for each operand: itself, and an operator or what is put
-  of_expression : (a : Expression) → AddsLess (2 * operands_of a) (expression_code js a)
+  of_expression : (a : Expression ColumnId) → AddsLess (2 * operands_of a) (expression_code js a)
   of_expression (column c) env k m h = omega (arith, of_column c env k m h)
   of_expression (constant z) env k m h = omega (arith, of_one (Const z) env k m h)
   of_expression (add a b) env k m h =
@@ -259,10 +261,10 @@ module _ (js : List Join) where
             (of_keys cs) env k m h,
       )
 
-  of_value : (a : Expression) → Adds (2 * operands_of a) (expression_code js a)
+  of_value : (a : Expression ColumnId) → Adds (2 * operands_of a) (expression_code js a)
   of_value a env k m h = omega (arith, of_expression a env k m h)
 
-  of_measure : (x : Measure) (a : Expression) (ms : List Measure)
+  of_measure : (x : Measure) (a : Expression ColumnId) (ms : List Measure)
       → measure_operands x ≡ operands_of a
       → Adds (2 * sum_by measure_operands ms) (values_code js ms)
       → Adds (2 * sum_by measure_operands (x ∷ ms)) (before (expression_code js a) (values_code js ms))

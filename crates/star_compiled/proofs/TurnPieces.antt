@@ -13,7 +13,8 @@ use Rattle.star_schema.specs.Tables as held
 use Rattle.star_schema.specs.Tables.{kind_of_value}
 use Rattle.star_schema.proofs.Same.{table_same, column_same}
 use Rattle.star_plan.specs.declared.tree.Join.{Join}
-use Rattle.star_plan.specs.Meaning.{Joined, value_of, Condition, or, and, not, compare, between, holds, Expression, column, constant, add, sub, mul, expression_number, number_of}
+use Rattle.star_query.specs.Tree.{Expression, column, constant, add, sub, mul}
+use Rattle.star_plan.specs.Meaning.{Joined, value_of, Condition, or, and, not, compare, between, holds, expression_number, number_of}
 use Rattle.star_plan.specs.Names.{same_kind}
 use Rattle.star_plan.specs.Sound.{joins_table, in_scope, condition_is_sound, expression_is_sound}
 use Rattle.star_program.specs.declared.op.Op.TheVariants.{Assign}
@@ -249,7 +250,7 @@ module _ (w : World) (f : Parts) (may : ℕ → Bool) (at : TableId → ℕ) whe
         let a : true ≡ false = sym shows.0 ∙ p in absurd (cc)
     shown_number c i v true p q shows = absurd (cc)
 
-    pub expression_runs : (a : Expression) → expression_is_sound js a ≡ true
+    pub expression_runs : (a : Expression ColumnId) → expression_is_sound js a ≡ true
         → Runs w f may at (At w f may at (Number (expression_number a row))) (expression_code js a)
     expression_runs (column c) ok =
         let oks = and_parts (in_scope js (table_of c)) (same_kind (kind_of c) kind.Number) ok in

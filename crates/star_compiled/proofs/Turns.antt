@@ -9,7 +9,8 @@ use Rattle.star_schema.specs.declared.table.TableId.TheVariants.{Lineorder}
 use Rattle.star_schema.specs.declared.column.ColumnId.{ColumnId}
 use Rattle.star_schema.specs.Schema.{table_of}
 use Rattle.star_schema.specs.Tables as held
-use Rattle.star_plan.specs.Meaning.{Joined, value_of, Condition, holds, all_hold, Expression, expression_number, Measure, counted, summed, least, greatest, measured, aggregate_of, Plan}
+use Rattle.star_query.specs.Tree.{Expression}
+use Rattle.star_plan.specs.Meaning.{Joined, value_of, Condition, holds, all_hold, expression_number, Measure, counted, summed, least, greatest, measured, aggregate_of, Plan}
 use Rattle.star_plan.specs.Sound.{in_scope, condition_is_sound, expression_is_sound, measure_is_sound, IsSoundPlan}
 use Rattle.star_program.specs.declared.key.KeyValue.TheVariants as key
 use Rattle.star_program.specs.declared.op.Op.TheVariants.{Keep, Put}
@@ -149,7 +150,7 @@ module _ (w : World) (f : Parts) (may : ℕ → Bool) (at : TableId → ℕ) (p 
   values_of (least a ∷ ms) = Number (expression_number a row) ∷ values_of ms
   values_of (greatest a ∷ ms) = Number (expression_number a row) ∷ values_of ms
 
-  value_runs : (a : Expression) (ms : List Measure) → expression_is_sound p.joins a ≡ true
+  value_runs : (a : Expression ColumnId) (ms : List Measure) → expression_is_sound p.joins a ≡ true
       → Runs w f may at (Stand (values_of ms)) (values_code p.joins ms)
       → Runs w f may at (Stand (Number (expression_number a row) ∷ values_of ms))
       (before (expression_code p.joins a) (values_code p.joins ms))

@@ -14,7 +14,8 @@ use Rattle.star_schema.specs.Tables.{Value, Number, Text}
 use Rattle.star_schema.specs.Texts.{texts_at}
 use Rattle.star_interval.specs.Range.{is_i64}
 use Rattle.star_query.specs.declared.token.Relation.TheVariants.{AtMost, Less}
-use Rattle.star_plan.specs.Meaning.{Plan, column, compare, counted, plan_rows, summed}
+use Rattle.star_query.specs.Tree.{column}
+use Rattle.star_plan.specs.Meaning.{Plan, compare, counted, plan_rows, summed}
 use Rattle.star_program.specs.declared.key.KeyValue.TheVariants.{Code}
 use Rattle.star_program.specs.Puts.{Update}
 use Rattle.star_program.specs.Run.{End, Ended, run_of}

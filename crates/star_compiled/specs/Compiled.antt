@@ -10,7 +10,8 @@ use Rattle.star_schema.specs.Tables.{Value, Number, Text}
 use Rattle.star_query.specs.declared.token.Relation.{Relation}
 use Rattle.star_query.specs.declared.token.Relation.TheVariants as sign
 use Rattle.star_plan.specs.declared.tree.Join.{Join}
-use Rattle.star_plan.specs.Meaning.{Condition, or, and, not, compare, between, Expression, column, constant, add, sub, mul, Measure, counted, summed, least, greatest, aggregate_of, Plan}
+use Rattle.star_query.specs.Tree.{Expression, column, constant, add, sub, mul}
+use Rattle.star_plan.specs.Meaning.{Condition, or, and, not, compare, between, Measure, counted, summed, least, greatest, aggregate_of, Plan}
 use Rattle.star_program.specs.declared.group.GroupDecl.{GroupDecl}
 use Rattle.star_program.specs.declared.group.GroupKey.{GroupKey}
 use Rattle.star_program.specs.declared.group.GroupKey.TheVariants as key
@@ -180,7 +181,7 @@ conjuncts_code js (c ∷ cs) env k = conjunct_code js c env (λ e. conjuncts_cod
 
 -- ---- what is put
 
-abbrev pub expression_code : List Join → Expression → Env → Rest → Code
+abbrev pub expression_code : List Join → Expression ColumnId → Env → Rest → Code
 expression_code js (column c) env k = column_code js c env k
 expression_code js (constant z) env k = write (Const z) env k
 expression_code js (add a b) env k =

@@ -6,20 +6,22 @@ use Rattle.std.specs.Option.{option_or}
 use Rattle.std.proofs.lemmas.Bool.{and_from, lt-ltb}
 use Rattle.std.proofs.lemmas.List.Quantifiers.{position-Some}
 use Rattle.std.proofs.lemmas.List.Sums.{sum_by-append, sum_by-cons}
+use Rattle.star_schema.specs.declared.column.ColumnId.{ColumnId}
 use Rattle.star_schema.specs.declared.group.GroupColumn.{GroupColumn}
 use Rattle.star_schema.specs.declared.group.GroupColumn.TheVariants as group
 use Rattle.star_schema.specs.declared.group.SortKey as sorted
 use Rattle.star_query.specs.declared.token.Fold.{Fold}
 use Rattle.star_query.specs.declared.token.Fold.TheVariants as fold
 use Rattle.star_query.specs.Tree as tree
-use Rattle.star_query.specs.Tree.{Item, Name, SortKey}
+use Rattle.star_query.specs.Tree.{Item, Name, SortKey, Expression, column, constant, add, sub, mul}
 use Rattle.star_query.specs.Limits as asked
-use Rattle.star_plan.specs.Meaning.{Condition, or, and, not, compare, between, Expression, column, constant, add, sub, mul, Measure, counted}
+use Rattle.star_plan.specs.Meaning.{Condition, or, and, not, compare, between, Measure, counted}
 use Rattle.star_plan.specs.Names.{column_at, literal_value}
 use Rattle.star_plan.specs.Naming.{names_from}
 use Rattle.star_plan.specs.Shown.{folded}
 use Rattle.star_plan.specs.Resolved.{aggregate_column, conjuncts_of, item_column, items_from, key_column, measures_of, option_all, resolved_condition, resolved_expression, resolved_key, resolved_measure, where_conjuncts}
-use Rattle.star_plan.specs.Limits.{comparisons_of, measure_operands, operands_of}
+use Rattle.star_query.specs.Limits.{operands_of}
+use Rattle.star_plan.specs.Limits.{comparisons_of, measure_operands}
 use Rattle.star_plan.specs.Sound.{is_group_column}
 use Rattle.star_plan.proofs.Options.{both_gave, first_or_second, mapped_gave}
 
@@ -28,7 +30,7 @@ sorted_by c k = record { column = c; direction = k.direction }
 
 -- ---- expressions and conditions
 
-expression_operands : (e : tree.Expression) (x : Expression) → resolved_expression e ≡ Some x → operands_of x ≡ asked.operands_of e
+expression_operands : (e : Expression Name) (x : Expression ColumnId) → resolved_expression e ≡ Some x → operands_of x ≡ asked.operands_of e
 expression_operands (tree.column n) x e = let g = mapped_gave column (column_at n) x e in ap operands_of (sym g.2)
 expression_operands (tree.constant z) x e = let same : constant z ≡ x = cc in ap operands_of (sym same)
 expression_operands (tree.add a b) x e =
@@ -41,7 +43,7 @@ expression_operands (tree.mul a b) x e =
     let g = both_gave mul (resolved_expression a) (resolved_expression b) x e in
     ap operands_of (sym g.made) ∙ omega (arith, expression_operands a g.left g.first, expression_operands b g.right g.second)
 
-folded_operands : (f : Fold) (x : Expression) → measure_operands (folded f x) ≡ operands_of x
+folded_operands : (f : Fold) (x : Expression ColumnId) → measure_operands (folded f x) ≡ operands_of x
 folded_operands fold.Sum x = refl
 folded_operands fold.Min x = refl
 folded_operands fold.Max x = refl

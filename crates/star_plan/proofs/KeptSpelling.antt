@@ -7,14 +7,15 @@ use Rattle.std.proofs.lemmas.Fmt.{decimal_is_IsNumeral, length-decimal-le}
 use Rattle.std.proofs.lemmas.Str.Parse.{tells_digits}
 use Rattle.std.proofs.lemmas.Bool.{and_from, and_parts, le-leb, or_right}
 use Rattle.std.proofs.lemmas.List.Folds.{list_all-append}
+use Rattle.star_schema.specs.declared.column.ColumnId.{ColumnId}
 use Rattle.star_query.specs.declared.token.Fold.{Fold}
 use Rattle.star_query.specs.declared.token.Fold.TheVariants as fold
 use Rattle.star_query.specs.Tree as tree
-use Rattle.star_query.specs.Tree.{Aggregate, Item, Literal, Name}
+use Rattle.star_query.specs.Tree.{Aggregate, Item, Literal, Name, Expression, column, constant, add, sub, mul}
 use Rattle.star_query.specs.Cut.{begins_with_letter, is_letter, is_word_byte}
 use Rattle.star_query.specs.Spelled as asked
 use Rattle.star_query.specs.Spelled.{is_name}
-use Rattle.star_plan.specs.Meaning.{Condition, or, and, not, compare, between, Expression, column, constant, add, sub, mul, Measure, counted}
+use Rattle.star_plan.specs.Meaning.{Condition, or, and, not, compare, between, Measure, counted}
 use Rattle.star_plan.specs.Names.{column_at, literal_value}
 use Rattle.star_plan.specs.Naming.{aggregate_name, default_name, function_word, names_from}
 use Rattle.star_plan.specs.Shown.{folded}
@@ -28,7 +29,7 @@ value_spelled : (l : Literal) → asked.literal_is_spelled l ≡ true → value_
 value_spelled (tree.number z) e = e
 value_spelled (tree.text bytes) e = e
 
-expression_spelled : (e : tree.Expression) (x : Expression) → resolved_expression e ≡ Some x → asked.expression_is_spelled e ≡ true → expression_is_spelled x ≡ true
+expression_spelled : (e : Expression Name) (x : Expression ColumnId) → resolved_expression e ≡ Some x → asked.expression_is_spelled e ≡ true → expression_is_spelled x ≡ true
 expression_spelled (tree.column n) x e good = let g = mapped_gave column (column_at n) x e in ap expression_is_spelled (sym g.2)
 expression_spelled (tree.constant z) x e good = let same : constant z ≡ x = cc in ap expression_is_spelled (sym same) ∙ good
 expression_spelled (tree.add a b) x e good =
@@ -44,7 +45,7 @@ expression_spelled (tree.mul a b) x e good =
     let parts = and_parts (asked.expression_is_spelled a) (asked.expression_is_spelled b) good in
     ap expression_is_spelled (sym g.made) ∙ and_from _ _ (expression_spelled a g.left g.first parts.0) (expression_spelled b g.right g.second parts.1)
 
-folded_spelled : (f : Fold) (x : Expression) → measure_is_spelled (folded f x) ≡ expression_is_spelled x
+folded_spelled : (f : Fold) (x : Expression ColumnId) → measure_is_spelled (folded f x) ≡ expression_is_spelled x
 folded_spelled fold.Sum x = refl
 folded_spelled fold.Min x = refl
 folded_spelled fold.Max x = refl

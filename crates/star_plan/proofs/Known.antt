@@ -19,10 +19,10 @@ use Rattle.star_schema.proofs.NamesApart.{table_by_name}
 use Rattle.star_query.specs.declared.token.Fold.{Fold}
 use Rattle.star_query.specs.declared.token.Fold.TheVariants as fold
 use Rattle.star_query.specs.Tree as tree
-use Rattle.star_query.specs.Tree.{Item, Literal, Name, SortKey}
+use Rattle.star_query.specs.Tree.{Item, Literal, Name, SortKey, Expression, column, constant, add, sub, mul}
 use Rattle.star_plan.specs.declared.tree.Join.{Join}
 use Rattle.star_plan.specs.First.{first_after}
-use Rattle.star_plan.specs.Meaning.{Condition, or, and, not, Expression, column, constant, add, sub, mul, Measure, counted, compare, between}
+use Rattle.star_plan.specs.Meaning.{Condition, or, and, not, Measure, counted, compare, between}
 use Rattle.star_plan.specs.Names.{column_at, has_name, is_of, literal_value, same_kind, table_called}
 use Rattle.star_plan.specs.Uses.{Use, condition_uses, expression_uses, groups_uses, items_uses, kind_of_literal, measure_uses, where_uses}
 use Rattle.star_plan.specs.Joins.{Pair, is_joined, joins_of, pairs_of, where_pairs}
@@ -89,10 +89,10 @@ AreFit us = AllByRecursion (λ u. kind_fault u ≡ None) us
 abbrev pub Reaches : List Name → List Join → Type 0
 Reaches tables js = (c : ColumnId) → has_name tables (table_name (table_of c)) ≡ true → in_scope js (table_of c) ≡ true
 
-abbrev KnownExpression : List Join → tree.Expression → Type 0
-KnownExpression js e = (x : Expression) × (resolved_expression e ≡ Some x) × (expression_is_sound js x ≡ true)
+abbrev KnownExpression : List Join → Expression Name → Type 0
+KnownExpression js e = (x : Expression ColumnId) × (resolved_expression e ≡ Some x) × (expression_is_sound js x ≡ true)
 
-expression_known : (tables : List Name) (js : List Join) → Reaches tables js → (e : tree.Expression) → AreScoped tables (expression_uses e) → AreFit (expression_uses e) → KnownExpression js e
+expression_known : (tables : List Name) (js : List Join) → Reaches tables js → (e : Expression Name) → AreScoped tables (expression_uses e) → AreFit (expression_uses e) → KnownExpression js e
 expression_known tables js reach (tree.column n) scoped fit =
     let s = scope_known tables n.place (column_at n) scoped.0 in
     let k : is_of kind.Number (column_at n) ≡ true = kind_known (record { column = column_at n; fits = is_of kind.Number (column_at n); at = n.place }) fit.0 in
@@ -111,7 +111,7 @@ expression_known tables js reach (tree.mul a b) scoped fit =
     let r = expression_known tables js reach b (each_right _ (expression_uses a) (expression_uses b) scoped) (each_right _ (expression_uses a) (expression_uses b) fit) in
     (mul l.0 r.0, λ i. option_both mul (l.1 i) (r.1 i), and_from _ _ l.2 r.2)
 
-folded_sound : (js : List Join) (f : Fold) (x : Expression) → expression_is_sound js x ≡ true → measure_is_sound js (folded f x) ≡ true
+folded_sound : (js : List Join) (f : Fold) (x : Expression ColumnId) → expression_is_sound js x ≡ true → measure_is_sound js (folded f x) ≡ true
 folded_sound js fold.Sum x e = e
 folded_sound js fold.Min x e = e
 folded_sound js fold.Max x e = e

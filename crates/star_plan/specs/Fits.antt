@@ -3,10 +3,11 @@ use Rattle.std.specs.Prelude.{ℕ, ◌≤◌, pos, ◌+ℤ◌, ◌-ℤ◌, ◌*�
 use Rattle.std.specs.List.{list_all}
 use Rattle.star_schema.specs.declared.column.ColumnId.{ColumnId}
 use Rattle.star_interval.specs.Range.{Range, only, hull, corner_range, multiple_range, fits_i64}
-use Rattle.star_plan.specs.Meaning.{Expression, column, constant, add, sub, mul, Measure, counted, summed, least, greatest, Plan}
+use Rattle.star_query.specs.Tree.{Expression, column, constant, add, sub, mul}
+use Rattle.star_plan.specs.Meaning.{Measure, counted, summed, least, greatest, Plan}
 
 -- the range of an expression: the least and greatest result over the corners of its parts' ranges
-abbrev pub range_of : (ColumnId → Range) → Expression → Range
+abbrev pub range_of : (ColumnId → Range) → Expression ColumnId → Range
 range_of bounds (column c) = bounds c
 range_of bounds (constant z) = only z
 range_of bounds (add a b) = corner_range ◌+ℤ◌ (range_of bounds a) (range_of bounds b)
@@ -14,7 +15,7 @@ range_of bounds (sub a b) = corner_range ◌-ℤ◌ (range_of bounds a) (range_o
 range_of bounds (mul a b) = corner_range ◌*ℤ◌ (range_of bounds a) (range_of bounds b)
 
 -- each node of an expression has its range in 64 bits
-abbrev pub nodes_fit : (ColumnId → Range) → Expression → Bool
+abbrev pub nodes_fit : (ColumnId → Range) → Expression ColumnId → Bool
 nodes_fit bounds (column c) = fits_i64 (bounds c)
 nodes_fit bounds (constant z) = fits_i64 (only z)
 nodes_fit bounds (add a b) = nodes_fit bounds a && (nodes_fit bounds b && fits_i64 (range_of bounds (add a b)))

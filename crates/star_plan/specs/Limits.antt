@@ -1,8 +1,9 @@
 -- How much a plan holds at most: what the size of a compiled program follows from.
 use Rattle.std.specs.Prelude.{ℕ, ◌+◌, ◌≤◌, length}
 use Rattle.std.specs.List.{sum_by}
+use Rattle.star_query.specs.Limits.{operands_of}
 use Rattle.star_query.specs.Maxima.{most_aggregates, most_columns, most_comparisons, most_items, most_keys, most_operands}
-use Rattle.star_plan.specs.Meaning.{Condition, or, and, not, compare, between, Expression, column, constant, add, sub, mul, Measure, counted, summed, least, greatest, Plan}
+use Rattle.star_plan.specs.Meaning.{Condition, or, and, not, compare, between, Measure, counted, summed, least, greatest, Plan}
 
 -- the comparisons and negations of a condition
 abbrev pub comparisons_of : Condition → ℕ
@@ -11,14 +12,6 @@ comparisons_of (and a b) = comparisons_of a + comparisons_of b
 comparisons_of (not a) = comparisons_of a + 1
 comparisons_of (compare c s v) = 1
 comparisons_of (between c from upto) = 1
-
--- the columns and numbers of an expression
-abbrev pub operands_of : Expression → ℕ
-operands_of (column c) = 1
-operands_of (constant z) = 1
-operands_of (add a b) = operands_of a + operands_of b
-operands_of (sub a b) = operands_of a + operands_of b
-operands_of (mul a b) = operands_of a + operands_of b
 
 abbrev pub measure_operands : Measure → ℕ
 measure_operands counted = 0

@@ -17,6 +17,7 @@ use Rattle.star_schema.specs.Schema.{is_table, place_of, table_of}
 use Rattle.star_schema.specs.Tables.{Value, Number, Text}
 use Rattle.star_query.specs.declared.token.Relation.{Relation}
 use Rattle.star_query.specs.declared.token.Relation.TheVariants as sign
+use Rattle.star_query.specs.Tree.{Expression, column, constant, add, sub, mul}
 use Rattle.star_plan.specs.declared.tree.Join.{Join}
 
 -- ---- a query whose names are resolved
@@ -27,14 +28,9 @@ pub data Condition : Type 0 where
   compare : ColumnId → Relation → Value → Condition
   between : ColumnId → (from upto : Value) → Condition
 
-pub data Expression : Type 0 where
-  column : ColumnId → Expression
-  constant : ℤ → Expression
-  add sub mul : (a b : Expression) → Expression
-
 pub data Measure : Type 0 where
   counted : Measure
-  summed least greatest : Expression → Measure
+  summed least greatest : Expression ColumnId → Measure
 
 -- its joins, the other conjuncts of its condition, its groups, its aggregates with their names, what it selects and its order
 pub record Plan : Type 0 where
@@ -117,12 +113,16 @@ abbrev pub number_of : Value → ℤ
 number_of (Number x) = x
 number_of (Text bytes) = pos 0
 
-abbrev pub expression_number : Expression → Joined → ℤ
-expression_number (column c) row = number_of (value_of c row)
-expression_number (constant x) row = x
-expression_number (add a b) row = expression_number a row +ℤ expression_number b row
-expression_number (sub a b) row = expression_number a row -ℤ expression_number b row
-expression_number (mul a b) row = expression_number a row *ℤ expression_number b row
+-- the number of an expression whose columns have these values
+abbrev pub number_with : {C : Type 0} → (C → Value) → Expression C → ℤ
+number_with values (column c) = number_of (values c)
+number_with values (constant x) = x
+number_with values (add a b) = number_with values a +ℤ number_with values b
+number_with values (sub a b) = number_with values a -ℤ number_with values b
+number_with values (mul a b) = number_with values a *ℤ number_with values b
+
+abbrev pub expression_number : Expression ColumnId → Joined → ℤ
+expression_number e row = number_with (λ c. value_of c row) e
 
 -- 1 to a count
 abbrev pub measured : Measure → Joined → ℤ

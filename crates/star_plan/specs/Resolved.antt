@@ -3,13 +3,14 @@ use Rattle.std.specs.Prelude.{◌≡◌, ℕ, ◌+◌, List, [], ◌∷◌, ◌+
 use Rattle.std.specs.Cmp.Lexicographic.{pointwise}
 use Rattle.std.specs.List.{position}
 use Rattle.std.specs.Option.{option_or}
+use Rattle.star_schema.specs.declared.column.ColumnId.{ColumnId}
 use Rattle.star_schema.specs.declared.group.GroupColumn.{GroupColumn}
 use Rattle.star_schema.specs.declared.group.GroupColumn.TheVariants as group
 use Rattle.star_schema.specs.declared.group.SortKey.{SortKey}
 use Rattle.star_query.specs.Tree as tree
-use Rattle.star_query.specs.Tree.{Item, Literal, Name, Tree}
+use Rattle.star_query.specs.Tree.{Item, Literal, Name, Tree, Expression, column, constant, add, sub, mul}
 use Rattle.star_query.specs.declared.token.Relation.{Relation}
-use Rattle.star_plan.specs.Meaning.{Condition, or, and, not, compare, between, Expression, column, constant, add, sub, mul, Measure, counted, Plan}
+use Rattle.star_plan.specs.Meaning.{Condition, or, and, not, compare, between, Measure, counted, Plan}
 use Rattle.star_plan.specs.Names.{column_at, literal_value}
 use Rattle.star_plan.specs.Joins.{joins_of, where_pairs}
 use Rattle.star_plan.specs.Naming.{aggregate_names}
@@ -27,7 +28,7 @@ option_all f (x ∷ xs) = option_both (λ y ys. y ∷ ys) (f x) (option_all f xs
 
 -- ---- expressions and conditions
 
-abbrev pub resolved_expression : tree.Expression → Option Expression
+abbrev pub resolved_expression : Expression Name → Option (Expression ColumnId)
 resolved_expression (tree.column n) = option_map column (column_at n)
 resolved_expression (tree.constant z) = Some (constant z)
 resolved_expression (tree.add a b) = option_both add (resolved_expression a) (resolved_expression b)

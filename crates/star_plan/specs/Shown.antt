@@ -5,18 +5,18 @@ use Rattle.star_schema.specs.Tables.{Value}
 use Rattle.star_query.specs.declared.token.Fold.{Fold}
 use Rattle.star_query.specs.declared.token.Fold.TheVariants as fold
 use Rattle.star_query.specs.declared.tree.Literal.{Literal}
-use Rattle.star_query.specs.Views.{literal_view}
+use Rattle.star_query.specs.Views.{expression_by, literal_view}
 use Rattle.star_query.specs.declared.tree.Comparison.{Comparison}
 use Rattle.star_query.specs.declared.tree.Comparison.TheVariants as comparison
 use Rattle.star_query.specs.declared.tree.Condition as of_condition
 use Rattle.star_query.specs.declared.tree.Condition.TheVariants as condition
 use Rattle.star_query.specs.declared.tree.Expression as of_expression
-use Rattle.star_query.specs.declared.tree.Expression.TheVariants as expression
 use Rattle.star_query.specs.declared.tree.Measure as of_measure
 use Rattle.star_query.specs.declared.tree.Measure.TheVariants as measure
 use Rattle.star_plan.specs.declared.tree.Aggregate.{Aggregate}
 use Rattle.star_plan.specs.declared.tree.PlanTree.{PlanTree}
-use Rattle.star_plan.specs.Meaning.{Condition, or, and, not, compare, between, Expression, column, constant, add, sub, mul, Measure, counted, summed, least, greatest, Plan}
+use Rattle.star_query.specs.Tree.{Expression}
+use Rattle.star_plan.specs.Meaning.{Condition, or, and, not, compare, between, Measure, counted, summed, least, greatest, Plan}
 use Rattle.star_plan.specs.Names.{literal_value}
 
 -- the value that a literal stands for
@@ -33,14 +33,10 @@ condition_shown (condition.And' p a q b) = and (condition_shown a) (condition_sh
 condition_shown (condition.Not' p a) = not (condition_shown a)
 condition_shown (condition.Test t) = comparison_shown t
 
-abbrev pub expression_shown : of_expression.Expression ColumnId → Expression
-expression_shown (expression.Column c) = column c
-expression_shown (expression.Number z) = constant z
-expression_shown (expression.Add' p a q b) = add (expression_shown a) (expression_shown b)
-expression_shown (expression.Sub' p a q b) = sub (expression_shown a) (expression_shown b)
-expression_shown (expression.Mul' p a q b) = mul (expression_shown a) (expression_shown b)
+abbrev pub expression_shown : of_expression.Expression ColumnId → Expression ColumnId
+expression_shown e = expression_by (λ c. c) e
 
-abbrev pub folded : Fold → Expression → Measure
+abbrev pub folded : Fold → Expression ColumnId → Measure
 folded fold.Sum e = summed e
 folded fold.Min e = least e
 folded fold.Max e = greatest e

@@ -3,6 +3,7 @@ use Rattle.std.specs.Prelude.{◌≡◌, ℕ, ◌≤◌, nat_lt, Bool, true, ◌
 use Rattle.std.specs.List.{list_all, list_any}
 use Rattle.star_schema.specs.declared.table.TableId.{TableId}
 use Rattle.star_schema.specs.declared.table.TableId.TheVariants.{Lineorder}
+use Rattle.star_schema.specs.declared.column.ColumnId.{ColumnId}
 use Rattle.star_schema.specs.declared.column.Kind.TheVariants as kind
 use Rattle.star_schema.specs.declared.group.GroupColumn.{GroupColumn}
 use Rattle.star_schema.specs.declared.group.GroupColumn.TheVariants as group
@@ -10,7 +11,8 @@ use Rattle.star_schema.specs.Schema.{is_table, kind_of, table_of}
 use Rattle.star_schema.specs.Tables.{kind_of_value}
 use Rattle.star_plan.specs.declared.tree.Join.{Join}
 use Rattle.star_plan.specs.Joins.{is_foreign}
-use Rattle.star_plan.specs.Meaning.{Condition, or, and, not, compare, between, Expression, column, constant, add, sub, mul, Measure, counted, summed, least, greatest, Plan}
+use Rattle.star_query.specs.Tree.{Expression, column, constant, add, sub, mul}
+use Rattle.star_plan.specs.Meaning.{Condition, or, and, not, compare, between, Measure, counted, summed, least, greatest, Plan}
 use Rattle.star_plan.specs.Names.{same_kind}
 
 abbrev pub joins_table : List Join → TableId → Bool
@@ -30,7 +32,7 @@ condition_is_sound js (between c from upto) =
     in_scope js (table_of c) && (same_kind (kind_of c) (kind_of_value from) && same_kind (kind_of c) (kind_of_value upto))
 
 -- the columns of an expression are in scope, and numbers
-abbrev pub expression_is_sound : List Join → Expression → Bool
+abbrev pub expression_is_sound : List Join → Expression ColumnId → Bool
 expression_is_sound js (column c) = in_scope js (table_of c) && same_kind (kind_of c) kind.Number
 expression_is_sound js (constant z) = true
 expression_is_sound js (add a b) = expression_is_sound js a && expression_is_sound js b

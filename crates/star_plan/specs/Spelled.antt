@@ -1,9 +1,11 @@
 -- How the names, numbers and texts of a plan are spelled.
 use Rattle.std.specs.Prelude.{◌≡◌, Bool, true, ◌&&◌}
 use Rattle.std.specs.List.{list_all}
+use Rattle.star_schema.specs.declared.column.ColumnId.{ColumnId}
 use Rattle.star_schema.specs.Tables.{Value, Number, Text}
 use Rattle.star_query.specs.Spelled.{is_name, is_number, is_text}
-use Rattle.star_plan.specs.Meaning.{Condition, or, and, not, compare, between, Expression, column, constant, add, sub, mul, Measure, counted, summed, least, greatest, Plan}
+use Rattle.star_query.specs.Tree.{Expression, column, constant, add, sub, mul}
+use Rattle.star_plan.specs.Meaning.{Condition, or, and, not, compare, between, Measure, counted, summed, least, greatest, Plan}
 
 abbrev pub value_is_spelled : Value → Bool
 value_is_spelled (Number z) = is_number z
@@ -16,7 +18,7 @@ condition_is_spelled (not a) = condition_is_spelled a
 condition_is_spelled (compare c s v) = value_is_spelled v
 condition_is_spelled (between c from upto) = value_is_spelled from && value_is_spelled upto
 
-abbrev pub expression_is_spelled : Expression → Bool
+abbrev pub expression_is_spelled : Expression ColumnId → Bool
 expression_is_spelled (column c) = true
 expression_is_spelled (constant z) = is_number z
 expression_is_spelled (add a b) = expression_is_spelled a && expression_is_spelled b

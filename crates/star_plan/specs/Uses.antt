@@ -29,7 +29,7 @@ abbrev pub use_between : Literal → Literal → Name → Use
 use_between a b n = record { column = column_at n; fits = is_of (kind_of_literal a) (column_at n) && is_of (kind_of_literal b) (column_at n); at = n.place }
 
 -- inside an aggregate stand numbers alone
-abbrev pub expression_uses : Expression → List Use
+abbrev pub expression_uses : Expression Name → List Use
 expression_uses (column n) = use_as kind.Number n ∷ []
 expression_uses (constant z) = []
 expression_uses (add a b) = expression_uses a ++ expression_uses b

@@ -44,7 +44,7 @@ negative_good (suc n) e = e
 
 -- ---- expressions
 
-combined_good : (q : Additive) (a b : tree.Expression) → expression_is_spelled a ≡ true → expression_is_spelled b ≡ true → expression_is_spelled (combined q a b) ≡ true
+combined_good : (q : Additive) (a b : tree.Expression tree.Name) → expression_is_spelled a ≡ true → expression_is_spelled b ≡ true → expression_is_spelled (combined q a b) ≡ true
 combined_good Plus a b e f = and_from _ _ e f
 combined_good Minus a b e f = and_from _ _ e f
 

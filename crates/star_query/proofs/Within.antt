@@ -65,7 +65,7 @@ agg_grows (counted place) p rest = omega arith
 
 -- ---- what is counted of a phrase, beside what comes behind it
 
-combined_operands : (q : Additive) (a b : tree.Expression) → operands_of (combined q a b) ≡ operands_of a + operands_of b
+combined_operands : (q : Additive) (a b : tree.Expression tree.Name) → operands_of (combined q a b) ≡ operands_of a + operands_of b
 combined_operands Plus a b = refl
 combined_operands Minus a b = refl
 

@@ -193,21 +193,21 @@ abbrev pub query_marks : Query → List Mark
 query_marks q =
     at 0 (keyword k.Select) ∷ several_marks item_marks q.items (at 0 (keyword k.From) ∷ several_marks table_marks q.tables (where_marks q.condition (groups_marks q.groups (keys_marks q.keys (end_marks q.semicolon)))))
 
-abbrev pub combined : Additive → tree.Expression → tree.Expression → tree.Expression
+abbrev pub combined : Additive → tree.Expression tree.Name → tree.Expression tree.Name → tree.Expression tree.Name
 combined Plus a b = tree.add a b
 combined Minus a b = tree.sub a b
 
 -- what a phrase means: parentheses leave no trace
 abbrev mutual
-  pub expr_tree : Expr → tree.Expression
+  pub expr_tree : Expr → tree.Expression tree.Name
   expr_tree (lone_term t) = term_tree t
   expr_tree (joined e q t) = combined q (expr_tree e) (term_tree t)
 
-  pub term_tree : Term → tree.Expression
+  pub term_tree : Term → tree.Expression tree.Name
   term_tree (lone_factor f) = factor_tree f
   term_tree (times t f) = tree.mul (term_tree t) (factor_tree f)
 
-  pub factor_tree : Factor → tree.Expression
+  pub factor_tree : Factor → tree.Expression tree.Name
   factor_tree (column i) = tree.column i
   factor_tree (constant n) = tree.constant (pos n)
   factor_tree (negative n) = tree.constant (neg_ℤ (pos n))

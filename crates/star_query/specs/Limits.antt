@@ -5,8 +5,8 @@ use Rattle.star_query.specs.Maxima.{most_aggregates, most_columns, most_comparis
 use Rattle.star_query.specs.Tree.{Expression, column, constant, add, sub, mul, Condition, or, and, not, pair, compare, between, Measure, fold, count, Item, plain, aggregate, Tree}
 
 -- the columns and numbers of an expression
-abbrev pub operands_of : Expression → ℕ
-operands_of (column n) = 1
+abbrev pub operands_of : {C : Type 0} → Expression C → ℕ
+operands_of (column c) = 1
 operands_of (constant z) = 1
 operands_of (add a b) = operands_of a + operands_of b
 operands_of (sub a b) = operands_of a + operands_of b

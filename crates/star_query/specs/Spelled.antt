@@ -22,7 +22,7 @@ abbrev pub literal_is_spelled : Literal → Bool
 literal_is_spelled (number z) = is_number z
 literal_is_spelled (text bytes) = is_text bytes
 
-abbrev pub expression_is_spelled : Expression → Bool
+abbrev pub expression_is_spelled : Expression Name → Bool
 expression_is_spelled (column n) = is_name n.text
 expression_is_spelled (constant z) = is_number z
 expression_is_spelled (add a b) = expression_is_spelled a && expression_is_spelled b

@@ -13,10 +13,11 @@ pub data Literal : Type 0 where
   number : ℤ → Literal
   text : List ℕ → Literal
 
-pub data Expression : Type 0 where
-  column : Name → Expression
-  constant : ℤ → Expression
-  add sub mul : Expression → Expression → Expression
+-- over columns, by their names or by what they are
+pub data Expression (C : Type 0) : Type 0 where
+  column : C → Expression C
+  constant : ℤ → Expression C
+  add sub mul : Expression C → Expression C → Expression C
 
 pub data Condition : Type 0 where
   or and : Condition → Condition → Condition
@@ -26,7 +27,7 @@ pub data Condition : Type 0 where
   between : Name → Literal → Literal → Condition
 
 pub data Measure : Type 0 where
-  fold : Fold → Expression → Measure
+  fold : Fold → Expression Name → Measure
   count : Measure
 
 pub record Aggregate : Type 0 where

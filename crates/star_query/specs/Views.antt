@@ -28,12 +28,16 @@ abbrev pub literal_view : Literal → tree.Literal
 literal_view (literals.Number x) = tree.number x
 literal_view (literals.Text t) = tree.text t.items
 
-abbrev pub expression_view : Expression Name → tree.Expression
-expression_view (Column n) = tree.column (name_view n)
-expression_view (Number x) = tree.constant x
-expression_view (Add' p a q b) = tree.add (expression_view a) (expression_view b)
-expression_view (Sub' p a q b) = tree.sub (expression_view a) (expression_view b)
-expression_view (Mul' p a q b) = tree.mul (expression_view a) (expression_view b)
+-- an expression whose columns are seen so
+abbrev pub expression_by : {C D : Type 0} → (C → D) → Expression C → tree.Expression D
+expression_by seen (Column c) = tree.column (seen c)
+expression_by seen (Number x) = tree.constant x
+expression_by seen (Add' p a q b) = tree.add (expression_by seen a) (expression_by seen b)
+expression_by seen (Sub' p a q b) = tree.sub (expression_by seen a) (expression_by seen b)
+expression_by seen (Mul' p a q b) = tree.mul (expression_by seen a) (expression_by seen b)
+
+abbrev pub expression_view : Expression Name → tree.Expression tree.Name
+expression_view e = expression_by name_view e
 
 abbrev pub comparison_view : Comparison Name → tree.Condition
 comparison_view (Compare n q l) = tree.compare (name_view n) q (literal_view l)

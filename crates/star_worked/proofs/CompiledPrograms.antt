@@ -10,7 +10,8 @@ use Rattle.star_schema.specs.declared.group.GroupColumn.TheVariants.{Key, Aggreg
 use Rattle.star_schema.specs.declared.group.Shape.TheVariants.{Plain}
 use Rattle.star_schema.specs.Schema.{column_of, table_name}
 use Rattle.star_query.specs.declared.token.Relation.TheVariants.{AtLeast, Equal, Greater, Unequal}
-use Rattle.star_plan.specs.Meaning.{Plan, add, between, and, column, compare, counted, or, greatest, mul, not, sub, summed}
+use Rattle.star_query.specs.Tree.{add, column, mul, sub}
+use Rattle.star_plan.specs.Meaning.{Plan, between, and, compare, counted, or, greatest, not, summed}
 use Rattle.star_program.specs.Text.Keywords.{shape_name, aggregate_name, mnemonic_name, direction_name}
 use Rattle.star_program.specs.Text.Statements.{lines_of_code}
 use Rattle.star_program.specs.Text.Written.{text_of, line_text, op_text, assigned_text, register_text, target_text, group_text, key_text, column_text, show_text, sort_text}

@@ -6,7 +6,8 @@ use Rattle.star_schema.specs.declared.column.ColumnId.TheVariants.{LoQuantity, L
 use Rattle.star_schema.specs.declared.group.Shape.TheVariants.{Plain}
 use Rattle.star_schema.specs.declared.group.GroupColumn.TheVariants.{Aggregate}
 use Rattle.star_interval.specs.Range.{Range, hull, is_i64, multiple_range, only}
-use Rattle.star_plan.specs.Meaning.{Plan, Expression, column, constant, add, sub, mul, Measure, summed, counted, least, greatest}
+use Rattle.star_query.specs.Tree.{Expression, column, constant, add, sub, mul}
+use Rattle.star_plan.specs.Meaning.{Plan, Measure, summed, counted, least, greatest}
 use Rattle.star_plan.specs.Fits.{Fits, range_of, nodes_fit, measure_fits, sum_fits, times_fits}
 use Rattle.star_worked.proofs.Sample.{revenue, cost, tax, discount}
 
@@ -21,7 +22,7 @@ bounds LoQuantity = only (pos (2 ^ 31))
 bounds LoExtendedprice = only (pos (2 ^ 32))
 bounds _ = only (pos 0)
 
-abbrev minus : ℕ → Expression
+abbrev minus : ℕ → Expression ColumnId
 minus n = constant (neg_ℤ (pos n))
 
 range_of_operands : map (range_of bounds) (revenue ∷ minus 7 ∷ []) ≡ record { low = pos 495; high = pos 3000 } ∷ record { low = neg_ℤ (pos 7); high = neg_ℤ (pos 7) } ∷ []
@@ -47,10 +48,10 @@ range_of_a_tree = refl
 -- ---- the nodes of an expression
 
 -- 2^63, a number too great
-abbrev product : Expression
+abbrev product : Expression ColumnId
 product = mul (column LoQuantity) (column LoExtendedprice)
 
-abbrev fit : List Expression → List Bool
+abbrev fit : List (Expression ColumnId) → List Bool
 fit es = map (nodes_fit bounds) es
 
 abbrev half : ℤ

@@ -10,14 +10,16 @@ use Rattle.star_schema.specs.Records.{pieces}
 use Rattle.star_schema.specs.Schema.{column_of, columns_of, place_of}
 use Rattle.star_interval.specs.Range.{hull, is_i64, multiple_range, only}
 use Rattle.star_plan.specs.Fits.{range_of}
-use Rattle.star_plan.specs.Meaning.{Expression, column, constant, mul, sub, Measure, greatest as greatest_of, summed, Plan}
+use Rattle.star_schema.specs.declared.column.ColumnId.{ColumnId}
+use Rattle.star_query.specs.Tree.{Expression, column, constant, mul, sub}
+use Rattle.star_plan.specs.Meaning.{Measure, greatest as greatest_of, summed, Plan}
 use Rattle.star_answers.specs.Fitting.{FitsTables, bounds_in}
 use Rattle.star_worked.proofs.Sample.{sample}
 
 abbrev asking : List Measure → Plan
 asking measures = record { joins = []; conjuncts = []; shape = Plain; keys = []; measures = measures; names = codes "n" ∷ codes "m" ∷ []; items = Aggregate 0 ∷ []; sorts = [] }
 
-abbrev profit : Expression
+abbrev profit : Expression ColumnId
 profit = sub (column LoRevenue) (column LoSupplycost)
 
 bounds_of_columns : map (bounds_in sample) (LoExtendedprice ∷ LoDiscount ∷ DYear ∷ PSize ∷ [])
@@ -43,7 +45,7 @@ profits_cost_too_much : FitsTables 4 sample (asking (summed profit ∷ [])) → 
 profits_cost_too_much fits = let few : 5 ≤ 4 = fits.visits in omega (arith, few)
 
 -- 3000 times this number leaves 64 bits, though no other price does
-abbrev steep : Expression
+abbrev steep : Expression ColumnId
 steep = mul (column LoExtendedprice) (constant (pos 3074457345618259))
 
 steep_unfit : FitsTables 5 sample (asking (greatest_of steep ∷ [])) → ⊥

@@ -10,7 +10,8 @@ use Rattle.star_schema.specs.Order.{value_cmp}
 use Rattle.star_schema.specs.Records.{pieces}
 use Rattle.star_schema.specs.Schema.{column_of, place_of, columns_of}
 use Rattle.star_schema.specs.Tables.{Value, row_of}
-use Rattle.star_plan.specs.Meaning.{Joined, constant, add, sub, mul, counted, summed, least, greatest, Plan, only_row, expression_number, measured, aggregate_of, entry_of, plan_rows}
+use Rattle.star_query.specs.Tree.{constant, add, sub, mul}
+use Rattle.star_plan.specs.Meaning.{Joined, counted, summed, least, greatest, Plan, only_row, expression_number, measured, aggregate_of, entry_of, plan_rows}
 use Rattle.star_worked.proofs.Sample.{number, sample, by_order, revenue, cost, discount}
 
 -- ---- expressions

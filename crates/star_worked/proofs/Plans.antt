@@ -7,11 +7,14 @@ use Rattle.star_schema.specs.declared.group.Shape.TheVariants.{Plain}
 use Rattle.star_schema.specs.declared.group.Direction.TheVariants.{Ascending}
 use Rattle.star_schema.specs.declared.group.GroupColumn.TheVariants.{Key, Aggregate}
 use Rattle.star_schema.specs.Schema.{column_of}
+use Rattle.star_schema.specs.declared.column.ColumnId.{ColumnId}
 use Rattle.star_query.specs.declared.token.Relation.TheVariants.{Equal}
 use Rattle.star_plan.specs.declared.tree.Join.{Join}
 use Rattle.star_plan.specs.Joins.{is_foreign}
-use Rattle.star_plan.specs.Limits.{IsPlanWithinLimits, comparisons_of, operands_of, measure_operands}
-use Rattle.star_plan.specs.Meaning.{Condition, or, and, not, compare, between, Expression, column, constant, add, sub, mul, counted, summed, least, greatest, Plan}
+use Rattle.star_query.specs.Limits.{operands_of}
+use Rattle.star_plan.specs.Limits.{IsPlanWithinLimits, comparisons_of, measure_operands}
+use Rattle.star_query.specs.Tree.{Expression, column, constant, add, sub, mul}
+use Rattle.star_plan.specs.Meaning.{Condition, or, and, not, compare, between, counted, summed, least, greatest, Plan}
 use Rattle.star_plan.specs.Sound.{IsSoundPlan, in_scope, condition_is_sound, expression_is_sound, measure_is_sound, are_distinct, is_group_column}
 use Rattle.star_worked.proofs.Sample.{number, text, by_order, by_commit, of_part, tax}
 
@@ -49,7 +52,7 @@ unfolding column_of
 conditions_sound = refl
 
 -- texts are no numbers, and part isn't joined
-abbrev mode : Expression
+abbrev mode : Expression ColumnId
 mode = column LoShipmode
 
 expressions_sound : map (expression_is_sound dated)
@@ -163,7 +166,7 @@ nine_measures : IsPlanWithinLimits (record largest { measures = replicate 9 coun
 nine_measures within = let many : 9 ≤ 8 = within.measures in omega (arith, many)
 
 -- a sum of one operand more than so many
-abbrev chain : ℕ → Expression
+abbrev chain : ℕ → Expression ColumnId
 chain zero = tax
 chain (suc n) = add (chain n) tax
 

@@ -12,9 +12,9 @@ use Rattle.star_query.specs.declared.token.Relation.TheVariants.{Equal, Unequal,
 use Rattle.star_query.specs.Symbols.{spelling, reserved_words}
 use Rattle.star_query.specs.Cut.{cut_from, reserved}
 use Rattle.star_query.specs.Derives.{Means}
-use Rattle.star_query.specs.Tree.{Tree}
+use Rattle.star_query.specs.Tree.{Tree, constant, add, sub, mul}
 use Rattle.star_query.proofs.Verdicts.{derives}
-use Rattle.star_plan.specs.Meaning.{or, and, not, compare, between, constant, add, sub, mul, counted, summed, least, greatest, Plan}
+use Rattle.star_plan.specs.Meaning.{or, and, not, compare, between, counted, summed, least, greatest, Plan}
 use Rattle.star_plan.specs.Names.{column_called, has_name, table_called}
 use Rattle.star_plan.specs.Naming.{function_word, has_text}
 use Rattle.star_plan.specs.Planned.{IsPlanned}

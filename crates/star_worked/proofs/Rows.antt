@@ -11,7 +11,8 @@ use Rattle.star_schema.specs.Schema.{column_of, place_of, columns_of}
 use Rattle.star_schema.specs.Tables.{Value, row_of}
 use Rattle.star_query.specs.declared.token.Relation.TheVariants.{Equal, Less}
 use Rattle.star_plan.specs.declared.tree.Join.{Join}
-use Rattle.star_plan.specs.Meaning.{Tables, Condition, compare, between, column, sub, mul, Measure, counted, summed, Plan, value_of, joined_rows, plan_rows, entry_of}
+use Rattle.star_query.specs.Tree.{column, sub, mul}
+use Rattle.star_plan.specs.Meaning.{Tables, Condition, compare, between, Measure, counted, summed, Plan, value_of, joined_rows, plan_rows, entry_of}
 use Rattle.star_worked.proofs.Sample.{number, text, lines, sample, by_order, by_commit, of_customer, of_part, of_supplier, revenue, cost}
 
 -- the values of some columns of each joined row

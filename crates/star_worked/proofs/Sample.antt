@@ -6,7 +6,9 @@ use Rattle.star_schema.specs.declared.table.TableId.TheVariants.{Date, Customer,
 use Rattle.star_schema.specs.declared.column.ColumnId.TheVariants.{DDatekey, CCustkey, SSuppkey, PPartkey, LoCustkey, LoPartkey, LoSuppkey, LoOrderdate, LoCommitdate, LoRevenue, LoSupplycost, LoTax, LoDiscount}
 use Rattle.star_schema.specs.Tables.{Value, Number, Text, row_of}
 use Rattle.star_plan.specs.declared.tree.Join.{Join}
-use Rattle.star_plan.specs.Meaning.{Row, Tables, Expression, column}
+use Rattle.star_schema.specs.declared.column.ColumnId.{ColumnId}
+use Rattle.star_query.specs.Tree.{Expression, column}
+use Rattle.star_plan.specs.Meaning.{Row, Tables}
 
 abbrev pub number : ℕ → Value
 number n = Number (pos n)
@@ -79,14 +81,14 @@ of_supplier = record { foreign = LoSuppkey; key = SSuppkey }
 
 -- ---- expressions
 
-abbrev pub revenue : Expression
+abbrev pub revenue : Expression ColumnId
 revenue = column LoRevenue
 
-abbrev pub cost : Expression
+abbrev pub cost : Expression ColumnId
 cost = column LoSupplycost
 
-abbrev pub tax : Expression
+abbrev pub tax : Expression ColumnId
 tax = column LoTax
 
-abbrev pub discount : Expression
+abbrev pub discount : Expression ColumnId
 discount = column LoDiscount

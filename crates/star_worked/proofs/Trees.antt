@@ -38,7 +38,7 @@ operands_counted : map operands_of (column a ∷ constant (pos 1) ∷ add (colum
 operands_counted = refl
 
 -- an expression of one operand more than so many, and a condition of one comparison more
-abbrev chain : ℕ → Expression
+abbrev chain : ℕ → Expression Name
 chain zero = column a
 chain (suc n) = add (chain n) (column a)
 
@@ -78,7 +78,7 @@ key_too_many within = let many : 17 ≤ 16 = within.keys in omega (arith, many)
 
 -- ---- spelled
 
-abbrev long : Expression
+abbrev long : Expression Name
 long = constant (pos 1000000000000000000)
 
 expressions_spelled : map expression_is_spelled (column a ∷ column hyphened ∷ long ∷ add (column a) long ∷ add long (column a) ∷ sub (column a) long ∷ sub long (column a) ∷ mul (column a) long ∷ mul long (column a) ∷ [])

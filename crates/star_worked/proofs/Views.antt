@@ -20,10 +20,10 @@ use Rattle.star_query.specs.declared.tree.Condition.TheVariants.{Or', And', Not'
 use Rattle.star_query.specs.declared.tree.Measure.TheVariants as measure
 use Rattle.star_query.specs.declared.tree.Item.TheVariants as item
 use Rattle.star_query.specs.Tree as tree
-use Rattle.star_query.specs.Tree.{Tree}
+use Rattle.star_query.specs.Tree.{Tree, column, constant, add, sub, mul}
 use Rattle.star_query.specs.Shown.{IsRead, query_shown}
 use Rattle.star_query.specs.Views.{literal_view, expression_view, test_view, condition_view, measure_view, item_view, name_view}
-use Rattle.star_plan.specs.Meaning.{or, and, not, compare, between, column, constant, add, sub, mul, counted, summed, least, greatest}
+use Rattle.star_plan.specs.Meaning.{or, and, not, compare, between, counted, summed, least, greatest}
 use Rattle.star_plan.specs.Shown.{condition_shown, expression_shown, measure_shown}
 
 abbrev value : ℕ → Value

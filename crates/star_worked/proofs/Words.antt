@@ -3,9 +3,11 @@ use Rattle.std.proofs.Common.{◌≡◌, true, false, [], ◌∷◌, refl}
 use Rattle.std.specs.Prelude.{pos, neg_ℤ, codes, map, replicate}
 use Rattle.star_schema.specs.declared.column.ColumnId.TheVariants.{LoTax, LoShipmode}
 use Rattle.star_schema.specs.declared.group.Shape.TheVariants.{Plain}
+use Rattle.star_schema.specs.declared.column.ColumnId.{ColumnId}
 use Rattle.star_query.specs.declared.token.Relation.TheVariants.{Equal}
 use Rattle.star_query.specs.Spelled.{is_name, is_number, is_text}
-use Rattle.star_plan.specs.Meaning.{Condition, or, and, not, compare, between, Expression, column, constant, add, sub, mul, counted, summed, least, greatest, Plan}
+use Rattle.star_query.specs.Tree.{Expression, column, constant, add, sub, mul}
+use Rattle.star_plan.specs.Meaning.{Condition, or, and, not, compare, between, counted, summed, least, greatest, Plan}
 use Rattle.star_plan.specs.Spelled.{IsSpelledPlan, condition_is_spelled, expression_is_spelled, measure_is_spelled}
 use Rattle.star_worked.proofs.Sample.{number, text}
 
@@ -47,10 +49,10 @@ betweens_spelled : map condition_is_spelled
 unfolding is_number is_text
 betweens_spelled = refl
 
-abbrev one : Expression
+abbrev one : Expression ColumnId
 one = constant (pos 1)
 
-abbrev long : Expression
+abbrev long : Expression ColumnId
 long = constant (pos 1000000000000000000)
 
 expressions_spelled : map expression_is_spelled

@@ -16,3 +16,12 @@ arithmetic-expression-requires-2 t c = (
       (expression_code c.args.joins.now (expression_shown c.args.right.now)) c.args.operator
       c.in_ok-left.left c.in_ok-left.ensures.written c.requires.room,
 )
+
+pub expression-returns-in-Add : goal.expression-returns-in-Add
+expression-returns-in-Add t c = record { written = rw c.in-Add.is (search rules) }
+
+pub expression-returns-in-Sub : goal.expression-returns-in-Sub
+expression-returns-in-Sub t c = record { written = rw c.in-Sub.is (search rules) }
+
+pub expression-returns-in-Mul : goal.expression-returns-in-Mul
+expression-returns-in-Mul t c = record { written = rw c.in-Mul.is (search rules) }

@@ -1,6 +1,6 @@
 -- The operands still to come, and the operator between two parts.
 use Rattle.std.proofs.Common.{◌+◌, ◌*◌}
-use Rattle.star_plan.specs.Limits.{operands_of}
+use Rattle.star_query.specs.Limits.{operands_of}
 use Rattle.star_plan.specs.Shown.{expression_shown}
 use Rattle.star_compile.proofs.emitter.Emitter.+expression.Given as goal
 
