@@ -1,8 +1,7 @@
 -- What is known before a run holds at every moment of it.
-use Rattle.std.proofs.Common.{◌≡◌, ℕ, zero, suc, ◌+◌, ◌*◌, ◌^◌, ◌≤◌, ◌<◌, Bool, true, false, List, [], ◌∷◌, refl, sym, subst, arith}
+use Rattle.std.proofs.Common.{◌≡◌, ℕ, zero, suc, ◌+◌, ◌*◌, ◌^◌, ◌≤◌, ◌<◌, Bool, true, false, List, [], ◌∷◌, refl, sym, subst, arith, le_trans}
 use Rattle.std.specs.Prelude.{ℤ, nat_lt, not}
 use Rattle.std.proofs.lemmas.Bool.{ltb-true, or_parts}
-use Rattle.std.proofs.Math.Nat.{mul-le-mul_right}
 use Rattle.star_schema.specs.Groups.{members, numbers_for}
 use Rattle.star_schema.specs.declared.group.Aggregate.TheVariants.{Count}
 use Rattle.std.specs.Prelude.{slice_index_or}
@@ -36,7 +35,7 @@ use Rattle.star_admission.specs.Fitting.{Agrees}
 use Rattle.star_admission.proofs.Instructions.{unmapped_none, agrees_entry, AreTallied, IsGood, act_good}
 use Rattle.star_admission.proofs.Gains.{op_gain, gain, whole_gain}
 use Rattle.star_admission.proofs.Turns.{Safe, all_tallied_more, safe_more, safe_turns, at_start}
-use Rattle.star_admission.proofs.Sound.{quoted_each, at_place_none, IsReady, ready_then, ready_in, ready_after, op_room}
+use Rattle.star_admission.proofs.Sound.{quoted_each, in_time, at_place_none, IsReady, ready_then, ready_in, ready_after, op_room}
 use Rattle.star_admission.proofs.Runs.{AllFit, sound, not_refused, ready_first, all_fit, few_puts, nothing_tallied}
 use Rattle.star_admission.proofs.Room.{has_room}
 
@@ -124,14 +123,6 @@ in_bound : (start visits inner j : ℕ) → visits ≤ start + j * (inner + 1) +
     → visits + inner ≤ start + (j + 1) * (inner + 1)
 in_bound start visits inner j h = omega arith
 
--- a turn ends within the visits of its scan
-in_room : (start visits inner later rows j v : ℕ) → j < rows
-    → visits ≤ start + j * (inner + 1) + 1 → start + (rows * (inner + 1) + later) ≤ v
-    → visits + inner ≤ v
-in_room start visits inner later rows j v lt b h =
-    let room : (j + 1) * (inner + 1) ≤ rows * (inner + 1) =
-    mul-le-mul_right (inner + 1) (omega arith) in omega arith
-
 module _ (w : World) (catalogue : IsLoaded w) (parts : Parts) (all : Shares)
     (fit : Fits parts (tallies_of all))
   where
@@ -205,7 +196,7 @@ module _ (w : World) (catalogue : IsLoaded w) (parts : Parts) (all : Shares)
                     (with_entry regs r (Row table j)) s'
                     (ready_in w parts (tallies_of all) pending x y at table r body rest ready j lt)
                     (entered j lt) q
-                    (in_room s.visits s'.visits met later rows j (quote w.size parts) lt b within),
+                    (le_trans (in_time s.visits s'.visits met later rows j lt b) within),
                 safe_turn j s' lt q,
               ))
               rows 0 (omega arith) s (at_start y add s tallied) (omega arith),

@@ -1,5 +1,5 @@
 -- No run makes more turns than are quoted, and one that may make so many is the run without a bound.
-use Rattle.std.proofs.Common.{◌≡◌, ℕ, zero, suc, ◌+◌, ◌*◌, ◌≤◌, ◌<◌, Bool, true, false, Option, Some, None, refl, sym, ap, subst, ◌∙◌, arith, zero-add}
+use Rattle.std.proofs.Common.{◌≡◌, ℕ, zero, suc, ◌+◌, ◌*◌, ◌≤◌, ◌<◌, Bool, true, false, Option, Some, None, refl, sym, ap, subst, ◌∙◌, arith, zero-add, le_trans}
 use Rattle.std.specs.Prelude.{nat_lt, if◌then◌else◌}
 use Rattle.std.proofs.lemmas.Bool.{lt-ltb}
 use Rattle.std.proofs.Math.Nat.{mul-le-mul_right}
@@ -16,7 +16,7 @@ use Rattle.star_program.specs.Effects.{Store, empty_store, Effect, GoesOn, EndsT
 use Rattle.star_program.specs.Run.{End, Ended, Trapped, Limited, follow, after, visited, begin, turns, scans, meaning, unless_unshown, run_of, bounded_run_of}
 use Rattle.star_program.specs.Shown.{shown_fault}
 use Rattle.star_admission.specs.Quote.{turns_met, quote}
-use Rattle.star_admission.proofs.Sound.{quoted_each}
+use Rattle.star_admission.proofs.Sound.{quoted_each, in_time}
 
 -- ---- an instruction begins no turn
 
@@ -151,7 +151,8 @@ module _ (w : World) (parts : Parts) (may : ℕ → Bool) where
       (same_turns s.visits met rows may _ _
       (λ k b. allowed k (omega (arith, b, h, whole)))
       (λ j s' lt b. same_meaning body (at + 1) true (with_entry regs r (Row table j)) s' v
-      (in_time s.visits s'.visits met later rows j v lt b (omega (arith, h, whole))) allowed)
+      (le_trans (in_time s.visits s'.visits met later rows j lt b) (omega (arith, h, whole)))
+      allowed)
       rows 0 (omega arith) s (omega arith))
       (λ s' b. wider (s'.visits + later) (s.visits + turns_met w.size 1 (Each table r body rest))
       (meaning w parts may rest (at + 1 + code_size body) inside regs s')
@@ -159,13 +160,6 @@ module _ (w : World) (parts : Parts) (may : ℕ → Bool) where
       (omega (arith, b, whole))
       (same_meaning rest (at + 1 + code_size body) inside regs s' v
       (omega (arith, b, h, whole)) allowed)))
-    where
-      in_time : (start visits inner later rows j v : ℕ) → j < rows
-          → visits ≤ start + j * (inner + 1) + 1 → start + (rows * (inner + 1) + later) ≤ v
-          → visits + inner ≤ v
-      in_time start visits inner later rows j v lt b h =
-          let room : (j + 1) * (inner + 1) ≤ rows * (inner + 1) =
-          mul-le-mul_right (inner + 1) (omega arith) in omega arith
 
 -- ---- a whole program
 

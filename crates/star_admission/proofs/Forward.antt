@@ -3,7 +3,7 @@ use Rattle.std.proofs.Common.{◌≡◌, ℕ, ◌+◌, ◌≤◌, Bool, true, fa
 use Rattle.std.specs.Prelude.{◌&&◌, ◌||◌, nat_lt}
 use Rattle.std.specs.List.{list_any}
 use Rattle.std.specs.Option.{option_or}
-use Rattle.std.proofs.lemmas.Bool.{eq-eqb, lt-ltb, le-ltb}
+use Rattle.std.proofs.lemmas.Bool.{eq-eqb, lt-ltb, le-ltb, or_right, and_right}
 use Rattle.std.proofs.lemmas.List.Folds.{list_any-append}
 use Rattle.std.proofs.Math.Bool.{or-false}
 use Rattle.star_schema.specs.declared.table.TableId.{TableId}
@@ -17,8 +17,8 @@ use Rattle.star_admission.specs.Refusals.{op_reason, scan_reason}
 use Rattle.star_admission.specs.Private.Forward.{code_puts_to, open_with, none_open, first_reason}
 use Rattle.star_admission.specs.Standing.{Enclosing, Item, Act, Scan, End, Standing, standing, instructions_of, op_puts_to, puts_to, is_open, at_place, reason_among, reason_of, has_scan, in_one_of}
 use Rattle.star_admission.specs.Told.{item_scope, scope_of}
-use Rattle.star_admission.proofs.Scopes.{or_true, and_false, AreBelow, any_with, any_has, EachOf, each_both, each_so, same_any, stand_in}
-use Rattle.star_admission.proofs.Told.{Tells, tells_then, tells_in, tells_after, tells_end, nothing_told}
+use Rattle.star_admission.proofs.Scopes.{AreBelow, any_with, any_has, EachOf, each_both, each_so, same_any, stand_in}
+use Rattle.star_admission.proofs.Told.{Tells, tells_then, tells_in, tells_after, tells_through, nothing_told}
 
 -- ---- the groups that some code puts to
 
@@ -66,7 +66,7 @@ Opens g round pending is later =
 
 with_one : (p q some all : Bool) → (some || all) ≡ all
     → (((p && q) || some) || (p || all)) ≡ (p || all)
-with_one true q some all h = or_true (q || some) true refl
+with_one true q some all h = or_right (q || some) true refl
 with_one false q some all h = h
 
 some_of_all : (p q : Standing → Bool) (is : List Standing)
@@ -103,9 +103,9 @@ open_merged false false false false false h = refl
 scan_merged : (e b r later pb pr : Bool) → (b || pb) ≡ pb → (r || pr) ≡ pr
     → (((e || (b || r)) || later) || (pb || pr)) ≡ (((e || false) || pb) || (pr || later))
 scan_merged true b r later pb pr h k = refl
-scan_merged false b r later true pr h k = or_true ((b || r) || later) true refl
+scan_merged false b r later true pr h k = or_right ((b || r) || later) true refl
 scan_merged false true r later false pr h k = absurd (cc)
-scan_merged false false r later false true h k = or_true (r || later) true refl
+scan_merged false false r later false true h k = or_right (r || later) true refl
 scan_merged false false true later false false h k = absurd (cc)
 scan_merged false false false later false false h k = or-false later
 
@@ -290,8 +290,8 @@ module _ (w : World) (parts : Parts) (all : List Standing) where
       let behind = standing w parts round next (at + 1 + code_size body) rest in
       let so_far = earlier ++ scan ∷ [] in
       let begun = tells_in w parts round x at earlier table r h.told in
-      let ended = tells_end w parts body (new ∷ round) inner (at + 1) (at + 1 + code_size body)
-      so_far refl begun in
+      let ended = (tells_through w parts body (new ∷ round) inner (at + 1) (at + 1 + code_size body)
+      so_far refl begun).1 in
       let split : all ≡ so_far ++ (inside ++ (behind ++ later)) =
       h.split ∙ ap (λ js. earlier ++ scan ∷ js) (append_assoc inside behind later)
       ∙ sym (append_assoc earlier (scan ∷ []) (inside ++ (behind ++ later))) in
@@ -333,7 +333,7 @@ no_scans : (g : ℕ) (is : List Standing) → list_any (λ j. puts_to g j && in_
 no_scans g [] = refl
 no_scans g (i ∷ is) =
     ap (λ b. b || list_any (λ j. puts_to g j && in_one_of [] j) is)
-    (and_false (puts_to g i) (in_one_of [] i) (in_none i.round))
+    (and_right (puts_to g i) (in_one_of [] i) (in_none i.round))
     ∙ no_scans g is
 
 pub first_standing : (w : World) (parts : Parts)

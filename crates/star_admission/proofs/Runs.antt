@@ -1,5 +1,5 @@
 -- The run of an admissible program: it ends with no trap, within its quote.
-use Rattle.std.proofs.Common.{◌≡◌, ℕ, ◌+◌, ◌*◌, ◌^◌, ◌≤◌, ◌<◌, Bool, true, Option, Some, None, refl, sym, subst, arith, zero-add, ◌∙◌}
+use Rattle.std.proofs.Common.{◌≡◌, ℕ, ◌+◌, ◌*◌, ◌^◌, ◌≤◌, ◌<◌, Bool, true, Option, Some, None, refl, sym, subst, arith, zero-add, le_refl, lt_of_lt_of_le, ◌∙◌}
 use Rattle.std.specs.Prelude.{nat_lt, not}
 use Rattle.std.proofs.Math.Nat.{mul-le-mul_right, mul-le-mul_left}
 use Rattle.std.proofs.lemmas.Bool.{or_parts}
@@ -16,7 +16,7 @@ use Rattle.star_program.specs.Shown.{shown_fault}
 use Rattle.star_program.proofs.Unless.{unless_none}
 use Rattle.star_admission.specs.Laws.{IsAccepted}
 use Rattle.star_admission.specs.Ranges.{KnownRow}
-use Rattle.star_admission.proofs.Tally.{Tally, no_tally, plus, times, Tallies, no_tallies, plus_all, times_all, tally_of}
+use Rattle.star_admission.proofs.Tally.{no_tally, plus, times, Tallies, no_tallies, plus_all, times_all, tally_of}
 use Rattle.star_admission.specs.Contexts.{Context, at_first, after_op, in_scan, after_scan, at_end}
 use Rattle.star_admission.specs.declared.reason.Reason.TheVariants.{Faulty}
 use Rattle.star_admission.specs.Refusals.{op_reason, scan_reason}
@@ -24,7 +24,7 @@ use Rattle.star_admission.specs.Private.Forward.{code_puts_to, open_with, none_o
 use Rattle.star_admission.specs.Standing.{instructions_of, reason_of, at_place}
 use Rattle.star_admission.specs.Quote.{turns_met, quote}
 use Rattle.star_common.proofs.Firsts.{first_answer_none, or_none}
-use Rattle.star_admission.proofs.TallyOrder.{AtMost, lies_in_refl, at_most_refl, at_most_trans, at_most_plus, at_most_assoc, at_most_both}
+use Rattle.star_admission.proofs.TallyOrder.{AtMost, at_most_refl, at_most_trans, at_most_plus, at_most_assoc, at_most_both, at_most_once}
 use Rattle.star_admission.proofs.Gains.{op_gain, op_counted, gain, gained, whole_gain}
 use Rattle.star_admission.proofs.Forward.{first_standing}
 use Rattle.star_admission.proofs.Tallied.{tallies_fit, tallies_fit_few, nothing_fits}
@@ -104,8 +104,8 @@ module _ (w : World) (catalogue : IsLoaded w) (parts : Parts) (may : ℕ → Boo
       (ready_in w parts m pending x y at table r body rest ready j lt)
       (agrees_entry w x.known regs r (KnownRow table) (Row table j) agrees (refl, lt)) q
       (λ k h. allowed' k
-      (in_time s.visits s'.visits (turns_met w.size 1 body)
-      (turns_met w.size 1 rest) rows j k lt b h)))
+      (lt_of_lt_of_le h (in_time s.visits s'.visits (turns_met w.size 1 body)
+      (turns_met w.size 1 rest) rows j lt b))))
       (λ s' q b. sound rest (at + 1 + code_size body) pending later
       (plus_all y (times_all rows add)) regs s'
       (ready_after w parts m pending x y at table r body rest ready) agrees q
@@ -154,17 +154,11 @@ few_enough size q m h k b = let a : size * (1 + q) ≤ 4096 * (1 + q) =
 all_gained : (w : World) (parts : Parts) (g a : ℕ)
     → AtMost (plus no_tally (gain w parts at_first parts.body g a)) (whole_gain w parts g a)
 all_gained w parts g a =
-    at_most_trans _ _ _ (once_more (gain w parts at_first parts.body g a))
+    let t = gain w parts at_first parts.body g a in
+    at_most_trans _ _ _
+    (at_most_both no_tally no_tally t (times 1 t) (at_most_refl no_tally)
+    (at_most_once 1 t (le_refl 1)))
     (gained w parts at_first parts.body g a)
-  where
-    once_more : (t : Tally) → AtMost (plus no_tally t) (plus no_tally (times 1 t))
-    once_more t =
-        record {
-          above = omega arith;
-          below = omega arith;
-          many = omega arith;
-          each = lies_in_refl t.each;
-        }
 
 -- no instruction is refused
 pub not_refused : (w : World) (parts : Parts) → IsAccepted w parts

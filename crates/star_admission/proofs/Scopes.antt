@@ -1,25 +1,16 @@
 -- Which scans stand round which instructions, by their numbers.
-use Rattle.std.proofs.Common.{◌≡◌, ℕ, ◌+◌, ◌≤◌, ◌<◌, Bool, true, false, List, [], ◌∷◌, ◌++◌, Option, Some, None, refl, sym, ap, ◌∙◌, arith, append-nil}
+use Rattle.std.proofs.Common.{◌≡◌, ℕ, ◌+◌, ◌≤◌, ◌<◌, Bool, true, false, List, [], ◌∷◌, ◌++◌, length, get_or, Option, Some, None, refl, ap, ◌∙◌, arith, append-nil}
 use Rattle.std.specs.Prelude.{◌&&◌, ◌||◌, nat_eq, filter, if◌then◌else◌}
 use Rattle.std.specs.List.{AllByRecursion, last_or, list_all, list_any}
-use Rattle.std.proofs.lemmas.Bool.{eqb-true, eq-eqb, ne_eqb}
+use Rattle.std.proofs.lemmas.Bool.{eqb-true, eq-eqb, ne_eqb, or_right, and_right}
 use Rattle.std.proofs.lemmas.List.Elements.{filter-append}
+use Rattle.std.proofs.lemmas.List.Folds.{Any-from_list_any, list_all_at, list_any_at}
 use Rattle.star_program.specs.declared.program.Parts.{Parts}
 use Rattle.star_program.specs.Code.{Code, Stop, Then, Each, code_size}
 use Rattle.star_program.specs.World.{World}
 use Rattle.star_admission.specs.Contexts.{Context, after_op, in_scan, after_scan, at_end}
 use Rattle.star_admission.specs.Standing.{Item, Scan, Act, End, Enclosing, Standing, standing, has_scan}
 use Rattle.star_admission.specs.Told.{writes_to, item_scope, scope_of, in_scope, last_writer}
-
--- ---- tests that are true or false
-
-pub or_true : (a b : Bool) → b ≡ true → (a || b) ≡ true
-or_true true b e = refl
-or_true false b e = e
-
-pub and_false : (a b : Bool) → b ≡ false → (a && b) ≡ false
-and_false true b e = e
-and_false false b e = refl
 
 -- ---- scans by their numbers
 
@@ -71,43 +62,38 @@ all_in scans [] among = refl
 all_in scans (s ∷ ss) among =
     ap (λ b. b && list_all (λ t. has_scan scans t.number) ss)
     (among s.number (ap (λ b. b || has_scan ss s.number) (eq-eqb s.number s.number refl)))
-    ∙ all_in scans ss (λ n h. among n (or_true (nat_eq s.number n) (has_scan ss n) h))
+    ∙ all_in scans ss (λ n h. among n (or_right (nat_eq s.number n) (has_scan ss n) h))
 
 -- all scans are among themselves
 pub all_there : (scans : List Enclosing) → list_all (λ s. has_scan scans s.number) scans ≡ true
 all_there scans = all_in scans scans (λ n h. h)
 
+-- one of some scans has the number, and is among others exactly where the number is
+has_one : (scans ss : List Enclosing) (n : ℕ) → has_scan ss n ≡ true
+    → (k : ℕ) × (s : Enclosing) × (k < length ss)
+    × (has_scan scans (get_or ss k s).number ≡ has_scan scans n)
+has_one scans ss n has =
+    let one = Any-from_list_any (λ s. nat_eq s.number n) ss has in (
+      one.0,
+      one.1,
+      one.2,
+      ap (λ s. has_scan scans s.number) one.3
+          ∙ ap (has_scan scans) (eqb-true one.1.number n one.4),
+    )
+
 -- one of them is missing
 pub not_all : (scans ss : List Enclosing) (n : ℕ) → has_scan scans n ≡ false → has_scan ss n ≡ true
     → list_all (λ s. has_scan scans s.number) ss ≡ false
-not_all scans [] n none has = absurd (cc)
-not_all scans (s ∷ ss) n none has = go (nat_eq s.number n) refl (λ h. not_all scans ss n none h)
-  where
-    go : (b : Bool) → nat_eq s.number n ≡ b
-        → (has_scan ss n ≡ true → list_all (λ t. has_scan scans t.number) ss ≡ false)
-        → list_all (λ t. has_scan scans t.number) (s ∷ ss) ≡ false
-    go true e rest =
-        ap (λ b. b && list_all (λ t. has_scan scans t.number) ss)
-        (ap (has_scan scans) (eqb-true s.number n e) ∙ none)
-    go false e rest =
-        and_false (has_scan scans s.number) (list_all (λ t. has_scan scans t.number) ss)
-        (rest (ap (λ b. b || has_scan ss n) (sym e) ∙ has))
+not_all scans ss n none has =
+    let one = has_one scans ss n has in
+    list_all_at (λ s. has_scan scans s.number) ss one.0 one.1 one.2 (one.3 ∙ none)
 
 -- one of them is there
 pub any_has : (scans ss : List Enclosing) (n : ℕ) → has_scan scans n ≡ true → has_scan ss n ≡ true
     → list_any (λ s. has_scan scans s.number) ss ≡ true
-any_has scans [] n there has = absurd (cc)
-any_has scans (s ∷ ss) n there has = go (nat_eq s.number n) refl (λ h. any_has scans ss n there h)
-  where
-    go : (b : Bool) → nat_eq s.number n ≡ b
-        → (has_scan ss n ≡ true → list_any (λ t. has_scan scans t.number) ss ≡ true)
-        → list_any (λ t. has_scan scans t.number) (s ∷ ss) ≡ true
-    go true e rest =
-        ap (λ b. b || list_any (λ t. has_scan scans t.number) ss)
-        (ap (has_scan scans) (eqb-true s.number n e) ∙ there)
-    go false e rest =
-        or_true (has_scan scans s.number) (list_any (λ t. has_scan scans t.number) ss)
-        (rest (ap (λ b. b || has_scan ss n) (sym e) ∙ has))
+any_has scans ss n there has =
+    let one = has_one scans ss n has in
+    list_any_at (λ s. has_scan scans s.number) ss one.0 one.1 one.2 (one.3 ∙ there)
 
 -- ---- each of some instructions
 
@@ -152,7 +138,7 @@ stand_in w parts (Each table r body rest) round x at n h =
       h,
       each_both _ (standing w parts (new ∷ round) inner (at + 1) body) _
           (stand_in w parts body (new ∷ round) inner (at + 1) n
-          (or_true (nat_eq at n) (has_scan round n) h))
+          (or_right (nat_eq at n) (has_scan round n) h))
           (stand_in w parts rest round
           (after_scan x (at_end w parts inner body))
           (at + 1 + code_size body) n h),
@@ -168,7 +154,7 @@ scoped_in w parts c round x at n h =
   where
     by : (at : ℕ) (round : List Enclosing) (i : Item) → has_scan round n ≡ true
         → has_scan (item_scope at round i) n ≡ true
-    by at round (Scan table r) h = or_true (nat_eq at n) (has_scan round n) h
+    by at round (Scan table r) h = or_right (nat_eq at n) (has_scan round n) h
     by at round (Act op) h = h
     by at round End h = h
 
@@ -233,7 +219,7 @@ no_writer scans r (i ∷ is) h =
     ap (λ b. if b
     then i ∷ filter (λ j. writes_to r j && in_scope scans j) is
     else filter (λ j. writes_to r j && in_scope scans j) is)
-    (and_false (writes_to r i) (in_scope scans i) h.0)
+    (and_right (writes_to r i) (in_scope scans i) h.0)
     ∙ no_writer scans r is h.1
 
 -- what is out of scope changes nothing

@@ -1,7 +1,7 @@
 -- Ranges whose ends are no larger than a number.
 use Rattle.std.proofs.Common.{◌≡◌, ℕ, ◌+◌, ◌*◌, ◌^◌, ◌≤◌, ◌<◌, Bool, true, false, cond, arith, int_lt}
 use Rattle.std.specs.Prelude.{ℤ, pos, negsuc, ◌≤ℤ◌, ◌+ℤ◌, ◌-ℤ◌, ◌*ℤ◌, unsigned_abs}
-use Rattle.std.specs.Int.{int_min, int_max, w128}
+use Rattle.std.specs.Int.{w128}
 use Rattle.std.proofs.lemmas.Bool.{ltb-true, and_parts}
 use Rattle.std.proofs.lemmas.Int.{ints, unsigned_abs-mul, fits_signed_from_abs}
 use Rattle.std.proofs.Math.Nat.{mul-le-mul_right, mul-le-mul_left}
@@ -73,25 +73,17 @@ small_fits n r h p = (
 pub only_small : (n : ℕ) (z : ℤ) → unsigned_abs z ≤ n → Small n (only z)
 only_small n z h = (h, h)
 
-least_small : (n : ℕ) (x y : ℤ) → unsigned_abs x ≤ n → unsigned_abs y ≤ n
-    → unsigned_abs (int_min x y) ≤ n
-least_small n x y p q = go (int_lt y x)
-  where
-    go : (b : Bool) → unsigned_abs (cond b y x) ≤ n
-    go true = q
-    go false = p
-
-greatest_small : (n : ℕ) (x y : ℤ) → unsigned_abs x ≤ n → unsigned_abs y ≤ n
-    → unsigned_abs (int_max x y) ≤ n
-greatest_small n x y p q = go (int_lt y x)
-  where
-    go : (b : Bool) → unsigned_abs (cond b x y) ≤ n
-    go true = p
-    go false = q
+-- one of two numbers
+either_small : (n : ℕ) (b : Bool) (x y : ℤ) → unsigned_abs x ≤ n → unsigned_abs y ≤ n
+    → unsigned_abs (cond b x y) ≤ n
+either_small n true x y p q = p
+either_small n false x y p q = q
 
 pub hull_small : (n : ℕ) (a b : Range) → Small n a → Small n b → Small n (hull a b)
-hull_small n a b p q =
-    (least_small n a.low b.low p.0 q.0, greatest_small n a.high b.high p.1 q.1)
+hull_small n a b p q = (
+  either_small n (int_lt b.low a.low) b.low a.low q.0 p.0,
+  either_small n (int_lt b.high a.high) a.high b.high p.1 q.1,
+)
 
 pub corner_small : (operation : ℤ → ℤ → ℤ) (n m k : ℕ)
     → ((x y : ℤ) → unsigned_abs x ≤ n → unsigned_abs y ≤ m → unsigned_abs (operation x y) ≤ k)

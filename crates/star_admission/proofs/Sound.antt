@@ -131,10 +131,10 @@ ends_fitting w parts pending x at (Each t r body rest) e fit =
 pub met_once : (n rows j : ℕ) → 1 ≤ n → j < rows → 1 ≤ n * rows
 met_once n rows j some lt = let h : 1 * rows ≤ n * rows = mul-le-mul_right rows some in omega arith
 
-pub in_time : (start visits inner later rows j k : ℕ) → j < rows
-    → visits ≤ start + j * (inner + 1) + 1 → k < visits + inner
-    → k < start + (rows * (inner + 1) + later)
-in_time start visits inner later rows j k lt b h =
+-- a turn ends within the visits of its scan
+pub in_time : (start visits inner later rows j : ℕ) → j < rows
+    → visits ≤ start + j * (inner + 1) + 1 → visits + inner ≤ start + (rows * (inner + 1) + later)
+in_time start visits inner later rows j lt b =
     let room : (j + 1) * (inner + 1) ≤ rows * (inner + 1) =
     mul-le-mul_right (inner + 1) (omega arith) in omega arith
 

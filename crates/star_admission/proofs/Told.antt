@@ -158,31 +158,6 @@ tells_stop w parts round x at earlier told = record {
     i : Standing
     i = record { number = at; round = round; context = x; item = End }
 
--- at the end of some code, its instructions and that end among the earlier ones
-pub tells_end : (w : World) (parts : Parts) (c : Code) (round : List Enclosing) (x : Context) (at end : ℕ) (earlier : List Standing) → at + code_size c ≡ end → Tells w parts round x at earlier
-    → Tells w parts round (at_end w parts x c) end (earlier ++ standing w parts round x at c)
-tells_end w parts Stop round x at end earlier e told =
-    let same : at ≡ end = omega (arith, e) in
-    subst (λ n. Tells w parts round x n (earlier ++ standing w parts round x at Stop)) same (tells_stop w parts round x at earlier told)
-tells_end w parts (Then op rest) round x at end earlier e told =
-    let i : Standing = record { number = at; round = round; context = x; item = Act op } in
-    let next = after_op w parts x op in
-    subst (Tells w parts round (at_end w parts next rest) end) (append_assoc earlier (i ∷ []) (standing w parts round next (at + 1) rest))
-    (tells_end w parts rest round next (at + 1) end (earlier ++ i ∷ []) (omega (arith, e)) (tells_then w parts round x at earlier op told))
-tells_end w parts (Each table r body rest) round x at end earlier e told =
-    let inner = in_scan w x table r in
-    let next = after_scan x (at_end w parts inner body) in
-    let new : Enclosing = record { number = at; table = table } in
-    let scan : Standing = record { number = at; round = round; context = x; item = Scan table r } in
-    let so_far = earlier ++ scan ∷ [] in
-    let inside = standing w parts (new ∷ round) inner (at + 1) body in
-    let behind = standing w parts round next (at + 1 + code_size body) rest in
-    subst (Tells w parts round (at_end w parts next rest) end)
-    (append_assoc so_far inside behind ∙ append_assoc earlier (scan ∷ []) (inside ++ behind))
-    (tells_end w parts rest round next (at + 1 + code_size body) end (so_far ++ inside) (omega (arith, e))
-    (tells_after w parts round x at earlier table r body told
-    (tells_end w parts body (new ∷ round) inner (at + 1) (at + 1 + code_size body) so_far refl (tells_in w parts round x at earlier table r told))))
-
 -- ---- each instruction
 
 -- each of some instructions is told by those before it, after some earlier ones
@@ -208,27 +183,36 @@ told_of w parts round x at earlier item told = record {
   so_far = told.so_far;
 }
 
-are_told : (w : World) (parts : Parts) (c : Code) (round : List Enclosing) (x : Context) (at : ℕ) (earlier : List Standing) → Tells w parts round x at earlier
+-- each instruction of some code is told, and so is what stands behind its end
+pub tells_through : (w : World) (parts : Parts) (c : Code) (round : List Enclosing) (x : Context) (at end : ℕ) (earlier : List Standing) → at + code_size c ≡ end → Tells w parts round x at earlier
     → TellEach w parts earlier (standing w parts round x at c)
-are_told w parts Stop round x at earlier told = (told_of w parts round x at earlier End told, tt)
-are_told w parts (Then op rest) round x at earlier told = (
-  told_of w parts round x at earlier (Act op) told,
-  are_told w parts rest round (after_op w parts x op) (at + 1) _ (tells_then w parts round x at earlier op told),
+    × Tells w parts round (at_end w parts x c) end (earlier ++ standing w parts round x at c)
+tells_through w parts Stop round x at end earlier e told = (
+  (told_of w parts round x at earlier End told, tt),
+  (let same : at ≡ end = omega (arith, e) in
+      subst (λ n. Tells w parts round x n (earlier ++ standing w parts round x at Stop)) same (tells_stop w parts round x at earlier told)),
 )
-are_told w parts (Each table r body rest) round x at earlier told =
+tells_through w parts (Then op rest) round x at end earlier e told =
+    let i : Standing = record { number = at; round = round; context = x; item = Act op } in
+    let next = after_op w parts x op in
+    let after = tells_through w parts rest round next (at + 1) end (earlier ++ i ∷ []) (omega (arith, e)) (tells_then w parts round x at earlier op told) in (
+      (told_of w parts round x at earlier (Act op) told, after.0),
+      subst (Tells w parts round (at_end w parts next rest) end) (append_assoc earlier (i ∷ []) (standing w parts round next (at + 1) rest)) after.1,
+    )
+tells_through w parts (Each table r body rest) round x at end earlier e told =
     let inner = in_scan w x table r in
     let next = after_scan x (at_end w parts inner body) in
     let new : Enclosing = record { number = at; table = table } in
     let scan : Standing = record { number = at; round = round; context = x; item = Scan table r } in
     let so_far = earlier ++ scan ∷ [] in
     let inside = standing w parts (new ∷ round) inner (at + 1) body in
-    let begun = tells_in w parts round x at earlier table r told in (
-      told_of w parts round x at earlier (Scan table r) told,
-      tell_both w parts so_far inside (standing w parts round next (at + 1 + code_size body) rest)
-          (are_told w parts body (new ∷ round) inner (at + 1) so_far begun)
-          (are_told w parts rest round next (at + 1 + code_size body) (so_far ++ inside)
-          (tells_after w parts round x at earlier table r body told
-          (tells_end w parts body (new ∷ round) inner (at + 1) (at + 1 + code_size body) so_far refl begun))),
+    let behind = standing w parts round next (at + 1 + code_size body) rest in
+    let ended = tells_through w parts body (new ∷ round) inner (at + 1) (at + 1 + code_size body) so_far refl (tells_in w parts round x at earlier table r told) in
+    let after = tells_through w parts rest round next (at + 1 + code_size body) end (so_far ++ inside) (omega (arith, e))
+    (tells_after w parts round x at earlier table r body told ended.1) in (
+      (told_of w parts round x at earlier (Scan table r) told, tell_both w parts so_far inside behind ended.0 after.0),
+      subst (Tells w parts round (at_end w parts next rest) end)
+          (append_assoc so_far inside behind ∙ append_assoc earlier (scan ∷ []) (inside ++ behind)) after.1,
     )
 
 told_at : (w : World) (parts : Parts) (is : List Standing) (i : Standing) (behind earlier : List Standing)
@@ -252,7 +236,7 @@ nothing_told w parts = record {
 pub all_told : (w : World) (parts : Parts) (earlier later : List Standing) (i : Standing) → instructions_of w parts ≡ earlier ++ i ∷ later → IsTold w parts earlier i
 all_told w parts earlier later i split =
     told_at w parts earlier i later []
-    (subst (TellEach w parts []) split (are_told w parts parts.body [] at_first 1 [] (nothing_told w parts)))
+    (subst (TellEach w parts []) split (tells_through w parts parts.body [] at_first 1 _ [] refl (nothing_told w parts)).0)
 
 -- the last of the contexts is that at the end of the code
 last_is : (w : World) (parts : Parts) (c : Code) (round : List Enclosing) (x : Context) (at : ℕ) (o : Option Standing)

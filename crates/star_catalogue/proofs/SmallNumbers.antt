@@ -1,5 +1,5 @@
 -- The bounds of the columns of tables lie in 64 bits: a cell's number has at most 18 digits.
-use Rattle.std.proofs.Common.{◌≡◌, ℕ, zero, suc, ◌<◌, ◌^◌, ℤ, Bool, true, false, ◌&&◌, List, [], ◌∷◌, map, Some, All, sym, ap, ◌∙◌, arith, ⊎_elim, refl}
+use Rattle.std.proofs.Common.{◌≡◌, ◌⊎◌, ℕ, zero, suc, ◌<◌, ◌^◌, ℤ, Bool, true, false, ◌&&◌, List, [], ◌∷◌, map, Some, All, sym, ap, ◌∙◌, arith, ⊎_elim, refl}
 use Rattle.std.specs.Prelude.{pos, neg_ℤ, slice_get, fold, Contains, if◌then◌else◌}
 use Rattle.std.specs.Int.{int_min, int_max}
 use Rattle.std.specs.List.{list_all}
@@ -76,33 +76,25 @@ each_small t place (line ∷ lines) h z has =
     (contains_cases (number_in (slice_get (row_of t line) place))
     (map (λ row. number_in (slice_get row place)) (map (row_of t) lines)) z has)
 
-least_small : (zs : List ℤ) → ((z : ℤ) → Contains zs z → is_i64 z ≡ true)
-    → is_i64 (least zs) ≡ true
-unfolding least
-least_small [] h = none_small
-least_small (x ∷ xs) h =
-    let r = fold int_min x xs in
+extremes_small : (zs : List ℤ) → ((z : ℤ) → Contains zs z → is_i64 z ≡ true)
+    → (is_i64 (least zs) && is_i64 (greatest zs)) ≡ true
+unfolding least greatest
+extremes_small [] h = and_from (is_i64 (pos 0)) (is_i64 (pos 0)) none_small none_small
+extremes_small (x ∷ xs) h =
+    let fits : (r : ℤ) → (r ≡ x) ⊎ Contains xs r → is_i64 r ≡ true = λ r one.
     ⊎_elim {C = is_i64 r ≡ true} (λ e. ap is_i64 e ∙ h x (contains_here x xs))
-    (λ has. h r (contains_later x xs r has)) (fold-int_min_reached x xs r refl)
-
-greatest_small : (zs : List ℤ) → ((z : ℤ) → Contains zs z → is_i64 z ≡ true)
-    → is_i64 (greatest zs) ≡ true
-unfolding greatest
-greatest_small [] h = none_small
-greatest_small (x ∷ xs) h =
-    let r = fold int_max x xs in
-    ⊎_elim {C = is_i64 r ≡ true} (λ e. ap is_i64 e ∙ h x (contains_here x xs))
-    (λ has. h r (contains_later x xs r has)) (fold-int_max_reached x xs r refl)
+    (λ has. h r (contains_later x xs r has)) one in
+    let low = fold int_min x xs in
+    let high = fold int_max x xs in
+    and_from (is_i64 low) (is_i64 high) (fits low (fold-int_min_reached x xs low refl))
+    (fits high (fold-int_max_reached x xs high refl))
 
 pub bounds_small : (most : ℕ) (texts : TableId → List ℕ) → AreTables most texts
     → HasI64Bounds (database_of texts)
 bounds_small most texts tables c number =
     let rows = rows_in (database_of texts) (table_of c) in
-    let zs = numbers_of c rows in
-    let each : (z : ℤ) → Contains zs z → is_i64 z ≡ true =
+    let each : (z : ℤ) → Contains (numbers_of c rows) z → is_i64 z ≡ true =
     rw (rows_in-database_of texts (table_of c))
     (each_small (table_of c) (place_of c) (records_of (texts (table_of c)))
     (tables (table_of c)).1) in
-    (fits_i64_fits (bounds_in (database_of texts) c)).0
-    (and_from (is_i64 (least zs)) (is_i64 (greatest zs)) (least_small zs each)
-    (greatest_small zs each))
+    (fits_i64_fits (bounds_in (database_of texts) c)).0 (extremes_small (numbers_of c rows) each)

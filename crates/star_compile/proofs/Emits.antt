@@ -18,7 +18,7 @@ use Rattle.star_program.specs.CodeOfSteps as step
 use Rattle.star_program.specs.Faults.{target_of}
 use Rattle.star_program.specs.declared.body.Step.{Step}
 use Rattle.star_program.specs.declared.body.Step.TheVariants.{Act}
-use Rattle.star_compiled.specs.Compiled.{Env, Rest, Rests, writes_one, register_count, column_code, expression_code, condition_code, conjunct_code, keys_code, values_code, binary_code, write, one_more}
+use Rattle.star_compiled.specs.Compiled.{Env, Rest, Rests, writes_one, register_count, column_code, expression_code, condition_code, conjunct_code, keys_code, values_code, before, binary_code, write, one_more}
 use Rattle.star_compile.specs.declared.emitter.Emitter.{Emitter}
 use Rattle.star_compile.specs.Private.Emitted.{Whole, steps_then, env_of, whole, Wrote, Writes, HasRoom, keys_after, value_after, values_after}
 
@@ -175,106 +175,87 @@ module _ (from upto made : Operation) (x : ℕ) where
 pub record Follows {K : Type 0} (old new : Emitter) (piece left : Env → K → Code) : Type 0 where
   pub same : (k : K) → whole new (left (env_of new) k) ≡ whole old (piece (env_of old) k)
 
-pub room_for_rest : {K : Type 0} (old new : Emitter) (piece left : Env → K → Code)
-    → Follows old new piece left → HasRoom old piece → HasRoom new left
-room_for_rest old new piece left follows room = record {
-  rest = room.rest;
-  fits = subst (λ w. w.registers ≤ 4096) (sym (follows.same room.rest)) room.fits;
-}
-
 -- ---- registers so far
 
+-- code that is behind some registers gives them before its own
+abbrev pub Behind : (List ℕ → Env → Rests → Code) → (Env → Rests → Code) → Type 0
+Behind after code =
+    (so_far : List ℕ) (env : Env) (k : Rests)
+    → after so_far env k ≡ code env (λ e xs. k e (so_far ++ xs))
+
+-- one register more, and those after it
+one_behind : (first : Env → Rest → Code) (after : List ℕ → Env → Rests → Code)
+    (code : Env → Rests → Code) → Behind after code
+    → Behind (λ so_far env k. first env (λ e x. after (so_far ++ x ∷ []) e k)) (before first code)
+one_behind first after code behind so_far env k =
+    λ i.
+    first env (λ e x.
+    (behind (so_far ++ x ∷ []) e k
+    ∙ (λ j. code e (λ e xs. k e (append_assoc so_far (x ∷ []) xs j)))) i)
+
+-- pieces in turn, of which those for `left` are still to be written
+module _ {X : Type 0} (after : List X → List ℕ → Env → Rests → Code)
+    (code : List X → Env → Rests → Code) (behind : (xs : List X) → Behind (after xs) (code xs))
+    (old new : Emitter) (xs left : List X) (so_far : List ℕ)
+    (follows : Follows old new (after xs []) (after left so_far)) where
+  room_for_left : (l : List X) → left ≡ l → HasRoom old (code xs) → HasRoom new (after l so_far)
+  room_for_left l same room =
+      subst (λ l. HasRoom new (after l so_far)) same record {
+        rest = room.rest;
+        fits =
+            subst (λ w. w.registers ≤ 4096)
+            (sym (follows.same room.rest ∙ ap (whole old) (behind xs [] (env_of old) room.rest)))
+            room.fits;
+      }
+
+  pub all_written : ((env : Env) (k : Rests) → after [] so_far env k ≡ k env so_far) → left ≡ []
+      → Writes old new (code xs) so_far
+  all_written ends none = record {
+    same = λ k.
+        ap (whole new) (sym (ends (env_of new) k))
+        ∙ ap (λ l. whole new (after l so_far (env_of new) k)) (sym none) ∙ follows.same k
+        ∙ ap (whole old) (behind xs [] (env_of old) k);
+  }
+
 module _ (js : List Join) where
-  keys_more : (cs : List ColumnId) (so_far : List ℕ) (env : Env) (k : Rests)
-      → keys_after js cs so_far env k ≡ keys_code js cs env (λ e xs. k e (so_far ++ xs))
-  keys_more [] so_far env k = ap (k env) (sym (append-nil so_far))
-  keys_more (c ∷ cs) so_far env k =
-      λ i.
-      column_code js c env (λ e x.
-      (keys_more cs (so_far ++ x ∷ []) e k
-      ∙ (λ j. keys_code js cs e (λ e xs. k e (append_assoc so_far (x ∷ []) xs j)))) i)
+  pub keys_behind : (cs : List ColumnId) → Behind (keys_after js cs) (keys_code js cs)
+  keys_behind [] so_far env k = ap (k env) (sym (append-nil so_far))
+  keys_behind (c ∷ cs) so_far env k =
+      one_behind (column_code js c) (keys_after js cs) (keys_code js cs) (keys_behind cs) so_far env
+      k
 
-  pub keys_are : (cs : List ColumnId) (env : Env) (k : Rests)
-      → keys_after js cs [] env k ≡ keys_code js cs env k
-  keys_are cs env k = keys_more cs [] env k
+  number_behind : (a : Expression ColumnId) (ms : List Measure)
+      → Behind (values_after js ms) (values_code js ms)
+      → Behind (values_after js (summed a ∷ ms)) (values_code js (summed a ∷ ms))
+  number_behind a ms = one_behind (expression_code js a) (values_after js ms) (values_code js ms)
 
-  -- a number, and those after it
-  number_more : (a : Expression ColumnId) (ms : List Measure) (so_far : List ℕ) (env : Env) (k : Rests)
-      → ((so_far : List ℕ) (env : Env)
-      → values_after js ms so_far env k ≡ values_code js ms env (λ e xs. k e (so_far ++ xs)))
-      → expression_code js a env (λ e x. values_after js ms (so_far ++ x ∷ []) e k)
-      ≡ expression_code js a env (λ e x. values_code js ms e (λ e xs. k e (so_far ++ x ∷ xs)))
-  number_more a ms so_far env k more =
-      λ i.
-      expression_code js a env (λ e x.
-      (more (so_far ++ x ∷ []) e
-      ∙ (λ j. values_code js ms e (λ e xs. k e (append_assoc so_far (x ∷ []) xs j)))) i)
+  pub values_behind : (ms : List Measure) → Behind (values_after js ms) (values_code js ms)
+  values_behind [] so_far env k = ap (k env) (sym (append-nil so_far))
+  values_behind (counted ∷ ms) so_far env k = values_behind ms so_far env k
+  values_behind (summed a ∷ ms) so_far env k = number_behind a ms (values_behind ms) so_far env k
+  values_behind (least a ∷ ms) so_far env k = number_behind a ms (values_behind ms) so_far env k
+  values_behind (greatest a ∷ ms) so_far env k = number_behind a ms (values_behind ms) so_far env k
 
-  values_more : (ms : List Measure) (so_far : List ℕ) (env : Env) (k : Rests)
-      → values_after js ms so_far env k ≡ values_code js ms env (λ e xs. k e (so_far ++ xs))
-  values_more [] so_far env k = ap (k env) (sym (append-nil so_far))
-  values_more (counted ∷ ms) so_far env k = values_more ms so_far env k
-  values_more (summed a ∷ ms) so_far env k =
-      number_more a ms so_far env k (λ so_far env. values_more ms so_far env k)
-  values_more (least a ∷ ms) so_far env k =
-      number_more a ms so_far env k (λ so_far env. values_more ms so_far env k)
-  values_more (greatest a ∷ ms) so_far env k =
-      number_more a ms so_far env k (λ so_far env. values_more ms so_far env k)
-
-  pub values_are : (ms : List Measure) (env : Env) (k : Rests)
-      → values_after js ms [] env k ≡ values_code js ms env k
-  values_are ms env k = values_more ms [] env k
-
-  -- the next key, and all of them
+  -- the next key
   pub room_for_key : (old new : Emitter) (cs left : List ColumnId) (c : ColumnId) (rest : List ColumnId)
       (so_far : List ℕ) → left ≡ c ∷ rest
       → Follows old new (keys_after js cs []) (keys_after js left so_far)
       → HasRoom old (keys_code js cs) → HasRoom new (column_code js c)
   room_for_key old new cs left c rest so_far same follows room =
       room_for_first new (column_code js c) (λ x. keys_after js rest (so_far ++ x ∷ []))
-      (subst (λ l. HasRoom new (keys_after js l so_far)) same
-      (room_for_rest old new (keys_after js cs []) (keys_after js left so_far) follows
-      record {
-        rest = room.rest;
-        fits =
-            subst (λ w. w.registers ≤ 4096) (ap (whole old) (sym (keys_are cs (env_of old) room.rest)))
-            room.fits;
-      }))
+      (room_for_left (keys_after js) (keys_code js) keys_behind old new cs left so_far follows
+      (c ∷ rest) same room)
 
-  pub keys_written : (old new : Emitter) (cs left : List ColumnId) (so_far : List ℕ) → left ≡ []
-      → Follows old new (keys_after js cs []) (keys_after js left so_far)
-      → Writes old new (keys_code js cs) so_far
-  keys_written old new cs left so_far none follows = record {
-    same = λ k.
-        ap (λ l. whole new (keys_after js l so_far (env_of new) k)) (sym none) ∙ follows.same k
-        ∙ ap (whole old) (keys_are cs (env_of old) k);
-  }
-
-  -- the next number, and all of them
+  -- the next number
   pub room_for_value : (old new : Emitter) (ms left : List Measure) (m : Measure)
       (rest : List Measure) (so_far : List ℕ) → left ≡ m ∷ rest
       → Follows old new (values_after js ms []) (values_after js left so_far)
       → HasRoom old (values_code js ms) → HasRoom new (value_after js m so_far)
   room_for_value old new ms left m rest so_far same follows room =
       let here =
-      subst (λ l. HasRoom new (values_after js l so_far)) same
-      (room_for_rest old new (values_after js ms []) (values_after js left so_far) follows
-      record {
-        rest = room.rest;
-        fits =
-            subst (λ w. w.registers ≤ 4096) (ap (whole old) (sym (values_are ms (env_of old) room.rest)))
-            room.fits;
-      }) in
+      room_for_left (values_after js) (values_code js) values_behind old new ms left so_far follows
+      (m ∷ rest) same room in
       record { rest = λ e rs. values_after js rest rs e here.rest; fits = here.fits }
-
-  pub values_written : (old new : Emitter) (ms left : List Measure) (so_far : List ℕ) → left ≡ []
-      → Follows old new (values_after js ms []) (values_after js left so_far)
-      → Writes old new (values_code js ms) so_far
-  values_written old new ms left so_far none follows = record {
-    same = λ k.
-        ap (λ l. whole new (values_after js l so_far (env_of new) k)) (sym none) ∙ follows.same k
-        ∙ ap (whole old) (values_are ms (env_of old) k);
-  }
 
 -- a condition, and a keep of it
 pub conjunct_written : (result : Result (Unit {0}) AllocError) (js : List Join) (c : Condition)

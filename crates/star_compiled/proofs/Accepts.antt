@@ -306,40 +306,37 @@ module _ (turn : Turn) where
 
     abbrev JudgesFlag : Condition → Type 0
     JudgesFlag c =
-        (p : Point) (k : Rest)
+        condition_is_sound js c ≡ true → (turn.Asked → condition_is_spelled c ≡ true)
+        → (p : Point) (k : Rest)
         → Judges true (At KnownFlag) k p (condition_code js c p.env k)
 
     -- and after its two parts
     conditions_judged : (a b : Condition) (o : Operator) → TakesFlags o → JudgesFlag a
-        → JudgesFlag b → (p : Point) (k : Rest)
+        → JudgesFlag b → (condition_is_sound js a && condition_is_sound js b) ≡ true
+        → (turn.Asked → (condition_is_spelled a && condition_is_spelled b) ≡ true)
+        → (p : Point) (k : Rest)
         → Judges true (At KnownFlag) k p
         (binary_code (condition_code js a) (condition_code js b) o p.env k)
-    conditions_judged a b o is first second p k room =
+    conditions_judged a b o is first second sound said p k room =
+        let parts = and_parts (condition_is_sound js a) (condition_is_sound js b) sound in
+        let says = λ (s : turn.Asked). and_parts (condition_is_spelled a) (condition_is_spelled b)
+        (said s) in
         let l : Rest = λ e x. condition_code js b e (λ e y. write (operation.Binary o x y) e k) in
         points.judged_then turn (At KnownFlag) (At KnownFlag) l k true true p _
-        (first p l room)
+        (first parts.0 (λ s. (says s).0) p l room)
         (λ x. let m : Rest = λ e y. write (operation.Binary o x.out y) e k in
         points.judged_then turn (At KnownFlag) (At KnownFlag) m k true true x.after _
-        (second x.after m x.room)
+        (second parts.1 (λ s. (says s).1) x.after m x.room)
         (λ y. flags_judged o is x.out y.out y.after k
         (columns.still turn (At KnownFlag) m x.after _ y KnownFlag x.out x.says) y.says y.room))
 
-    pub condition_judged : (c : Condition) → condition_is_sound js c ≡ true
-        → (turn.Asked → condition_is_spelled c ≡ true) → JudgesFlag c
+    pub condition_judged : (c : Condition) → JudgesFlag c
     condition_judged (or a b) sound said p k room =
-        let parts = and_parts (condition_is_sound js a) (condition_is_sound js b) sound in
-        let says = λ (s : turn.Asked). and_parts (condition_is_spelled a) (condition_is_spelled b)
-        (said s) in
-        conditions_judged a b operator.Or disjunction
-        (condition_judged a parts.0 (λ s. (says s).0))
-        (condition_judged b parts.1 (λ s. (says s).1)) p k room
+        conditions_judged a b operator.Or disjunction (condition_judged a) (condition_judged b)
+        sound said p k room
     condition_judged (and a b) sound said p k room =
-        let parts = and_parts (condition_is_sound js a) (condition_is_sound js b) sound in
-        let says = λ (s : turn.Asked). and_parts (condition_is_spelled a) (condition_is_spelled b)
-        (said s) in
-        conditions_judged a b operator.And conjunction
-        (condition_judged a parts.0 (λ s. (says s).0))
-        (condition_judged b parts.1 (λ s. (says s).1)) p k room
+        conditions_judged a b operator.And conjunction (condition_judged a) (condition_judged b)
+        sound said p k room
     condition_judged (not a) sound said p k room =
         let l : Rest = λ e x. write (operation.Not x) e k in
         points.judged_then turn (At KnownFlag) (At KnownFlag) l k true true p _
@@ -406,8 +403,8 @@ module _ (turn : Turn) where
         let v = KnownNumber b at_y.1.0 at_y.1.1 in
         let r = corner_range z a b in
         let reach = joined_reach at_x.1.0 at_y.1.0 in
-        points.weaker turn (At (KnownNumber r reach None)) (Ranged r) k (fits_i64 r) p _
-        (λ q t h. ranged r reach None q t h)
+        points.weaker turn (λ t. t) (At (KnownNumber r reach None)) (Ranged r) k (fits_i64 r) p _
+        (λ h. ranged r reach None h.after h.out h.says)
         (columns.written turn (operation.Binary o x y) (KnownNumber r reach None) p k
         (λ h. record {
           place = λ t. refl;
@@ -421,62 +418,60 @@ module _ (turn : Turn) where
 
     abbrev JudgesRange : Expression ColumnId → Type 0
     JudgesRange a =
-        (p : Point) (k : Rest)
+        expression_is_sound js a ≡ true → (p : Point) (k : Rest)
         → Judges (nodes_fit turn.world.bounds a) (Ranged (range_of turn.world.bounds a)) k p
         (expression_code js a p.env k)
 
     -- an operator after its two parts
     two_judged : (a b : Expression ColumnId) (o : Operator) (z : ℤ → ℤ → ℤ) → Computes o z → JudgesRange a
-        → JudgesRange b → (p : Point) (k : Rest)
+        → JudgesRange b → (expression_is_sound js a && expression_is_sound js b) ≡ true
+        → (p : Point) (k : Rest)
         → Judges
         (nodes_fit turn.world.bounds a && (nodes_fit turn.world.bounds b
         && fits_i64 (corner_range z (range_of turn.world.bounds a) (range_of turn.world.bounds b))))
         (Ranged (corner_range z (range_of turn.world.bounds a) (range_of turn.world.bounds b))) k p
         (binary_code (expression_code js a) (expression_code js b) o p.env k)
-    two_judged a b o z is first second p k room =
+    two_judged a b o z is first second sound p k room =
+        let parts = and_parts (expression_is_sound js a) (expression_is_sound js b) sound in
         let q = range_of turn.world.bounds a in
         let r = range_of turn.world.bounds b in
         let c = corner_range z q r in
         let l : Rest = λ e x. expression_code js b e (λ e y. write (operation.Binary o x y) e k) in
         points.judged_then turn (Ranged q) (Ranged c) l k (nodes_fit turn.world.bounds a)
         (nodes_fit turn.world.bounds b && fits_i64 c) p _
-        (first p l room)
+        (first parts.0 p l room)
         (λ x. let m : Rest = λ e y. write (operation.Binary o x.out y) e k in
         points.judged_then turn (Ranged r) (Ranged c) m k (nodes_fit turn.world.bounds b)
         (fits_i64 c) x.after _
-        (second x.after m x.room)
+        (second parts.1 x.after m x.room)
         (λ y. let v = KnownNumber q x.says.1.0 x.says.1.1 in
         let at_x = columns.still turn (Ranged r) m x.after _ y v x.out (number_at x.after x.out q x.says) in
         operator_judged o z is x.out y.out q r y.after k
         (ranged q x.says.1.0 x.says.1.1 y.after x.out at_x) y.says y.room))
 
-    pub expression_judged : (a : Expression ColumnId) → expression_is_sound js a ≡ true → JudgesRange a
+    pub expression_judged : (a : Expression ColumnId) → JudgesRange a
     expression_judged (column c) sound p k room =
         let parts = and_parts (in_scope js (table_of c)) (same_kind (kind_of c) kind.Number)
         sound in
         let is = number_known turn.world c (is_text c) (holds_numbers c parts.1) in
         let r = turn.world.bounds c in
-        points.weaker turn (At (KnownNumber r (is_column c) (Some c))) (Ranged r) k
-        (fits_i64 r) p _ (λ q t h. ranged r (is_column c) (Some c) q t h)
+        points.weaker turn (λ t. t) (At (KnownNumber r (is_column c) (Some c))) (Ranged r) k
+        (fits_i64 r) p _ (λ h. ranged r (is_column c) (Some c) h.after h.out h.says)
         (subst (λ v. points.Judged turn (known_fits v) (At v) k p
         (points.answer turn p (column_code js c p.env k))) is
         (columns.column_judged turn js foreign within c p k parts.0 room))
     expression_judged (constant z) sound p k room =
-        points.weaker turn (At (given (only z))) (Ranged (only z)) k (fits_i64 (only z))
-        p _
-        (λ q t h. ranged (only z) no_reach None q t h)
+        points.weaker turn (λ t. t) (At (given (only z))) (Ranged (only z)) k (fits_i64 (only z))
+        p _ (λ h. ranged (only z) no_reach None h.after h.out h.says)
         (columns.written turn (operation.Const z) (given (only z)) p k
         (λ h. record { place = λ t. refl; operands = refl; source = λ g t. refl; makes = refl })
         room)
     expression_judged (add a b) sound p k room =
-        let parts = and_parts (expression_is_sound js a) (expression_is_sound js b) sound in
-        two_judged a b operator.Add ◌+ℤ◌ adds (expression_judged a parts.0)
-        (expression_judged b parts.1) p k room
+        two_judged a b operator.Add ◌+ℤ◌ adds (expression_judged a) (expression_judged b)
+        sound p k room
     expression_judged (sub a b) sound p k room =
-        let parts = and_parts (expression_is_sound js a) (expression_is_sound js b) sound in
-        two_judged a b operator.Sub ◌-ℤ◌ subtracts (expression_judged a parts.0)
-        (expression_judged b parts.1) p k room
+        two_judged a b operator.Sub ◌-ℤ◌ subtracts (expression_judged a) (expression_judged b)
+        sound p k room
     expression_judged (mul a b) sound p k room =
-        let parts = and_parts (expression_is_sound js a) (expression_is_sound js b) sound in
-        two_judged a b operator.Mul ◌*ℤ◌ multiplies (expression_judged a parts.0)
-        (expression_judged b parts.1) p k room
+        two_judged a b operator.Mul ◌*ℤ◌ multiplies (expression_judged a) (expression_judged b)
+        sound p k room

@@ -1,6 +1,6 @@
 -- Nothing but a range that leaves 64 bits refuses what loads a column or finds a row in a compiled
 -- program.
-use Rattle.std.proofs.Common.{◌≡◌, ◌⊎◌, inl, inr, ℕ, ◌+◌, ◌≤◌, ◌<◌, Bool, true, false, List, Option, Some, None, refl, sym, ap, subst, ◌∙◌, arith}
+use Rattle.std.proofs.Common.{◌≡◌, inl, ℕ, ◌≤◌, Bool, true, false, List, Option, Some, None, refl, sym, ap, ◌∙◌, arith}
 use Rattle.std.specs.Prelude.{◌||◌, not}
 use Rattle.std.specs.Option.{option_map}
 use Rattle.std.proofs.lemmas.Bool.{lt-ltb}
@@ -25,8 +25,8 @@ use Rattle.star_admission.specs.declared.reason.Reason.TheVariants.{NotAForeignK
 use Rattle.star_admission.specs.Refusals.{refuses, is_some_table, refers_to}
 use Rattle.star_compiled.specs.Compiled.{Env, Rest, loaded_in, found_in, one_more, with_loaded, with_found, write, load_code, find_code, foreign_of, fact_code, row_code, place_code, column_from, column_code}
 use Rattle.star_compiled.proofs.ForeignKeys.{AreForeign}
-use Rattle.star_compiled.proofs.Entries.{loaded_split, found_split}
-use Rattle.star_compiled.proofs.Points.{Turn, both_none, known_fits, entry_same, entry_other}
+use Rattle.star_compiled.proofs.Entries.{entry_known}
+use Rattle.star_compiled.proofs.Points.{Turn, both_none, known_fits}
 use Rattle.star_compiled.proofs.Points as points
 
 pub number_known : (w : World) (c : ColumnId) (b : Bool) → b ≡ false
@@ -128,32 +128,15 @@ module _ (turn : Turn) where
       record {
         fact = more.fact;
         some = more.some;
-        columns = λ d r e. by d r (loaded_split p.env.loaded c p.env.next d r e);
+        columns = λ d r e.
+            let h = entry_known is_column column_same
+                (λ d o. (o ≡ Some (column_known d)) × (known_fits (column_known d) ≡ true))
+                p.env.loaded p.known p.env.next c (column_known c) (refl, fits) d r
+                (λ e. let h = p.knows.columns d r e in (h.0, (h.1, h.2))) e in
+            (h.0, h.1.0, h.1.1);
         rows = more.rows;
         fresh = more.fresh;
       }
-    where
-      by : (d : ColumnId) (r : ℕ)
-          → (loaded_in p.env.loaded d ≡ Some r) ⊎ ((is_column d c ≡ true) × (p.env.next ≡ r))
-          → (r < p.env.next + 1)
-          × (points.known_after turn p (column_known c) r ≡ Some (column_known d))
-          × (known_fits (column_known d) ≡ true)
-      by d r (inl e) =
-          let h = p.knows.columns d r e in (
-            omega (arith, h.0),
-            entry_other p.known p.env.next r (column_known c) h.0 ∙ h.1,
-            h.2,
-          )
-      by d r (inr e) =
-          let here : p.env.next ≡ r = e.1 in
-          let same : c ≡ d = sym (column_same d c e.0) in (
-            omega arith,
-            subst (λ q. points.known_after turn p (column_known c) q
-                ≡ Some (column_known d)) here
-                (entry_same p.known p.env.next (column_known c)
-                ∙ ap (λ x. Some (column_known x)) same),
-            ap (λ x. known_fits (column_known x)) (sym same) ∙ fits,
-          )
 
   found_knows : (t : TableId) (p : Point)
       → points.Knows turn (with_found p.env t)
@@ -164,25 +147,10 @@ module _ (turn : Turn) where
         fact = more.fact;
         some = more.some;
         columns = more.columns;
-        rows = λ q r e. by q r (found_split p.env.found t p.env.next q r e);
+        rows = λ q r. entry_known is_table table_same (λ q o. o ≡ Some (KnownRow q)) p.env.found
+            p.known p.env.next t (KnownRow t) refl q r (p.knows.rows q r);
         fresh = more.fresh;
       }
-    where
-      by : (q : TableId) (r : ℕ)
-          → (found_in p.env.found q ≡ Some r) ⊎ ((is_table q t ≡ true) × (p.env.next ≡ r))
-          → (r < p.env.next + 1)
-          × (points.known_after turn p (KnownRow t) r ≡ Some (KnownRow q))
-      by q r (inl e) =
-          let h = p.knows.rows q r e in
-          (omega (arith, h.0), entry_other p.known p.env.next r (KnownRow t) h.0 ∙ h.1)
-      by q r (inr e) =
-          let here : p.env.next ≡ r = e.1 in (
-            omega arith,
-            subst
-                (λ x. points.known_after turn p (KnownRow t) x ≡ Some (KnownRow q)) here
-                (entry_same p.known p.env.next (KnownRow t)
-                ∙ ap (λ x. Some (KnownRow x)) (sym (table_same q t e.0))),
-          )
 
   load_judged : (c : ColumnId) (row : ℕ) (p : Point) (k : Rest) → At (KnownRow (table_of c)) p row
       → Judges (known_fits (column_known c)) (At (column_known c)) k p (load_code c row p.env k)

@@ -1,6 +1,6 @@
 -- What refuses the instructions of a compiled program: a range that leaves 64 bits, or nothing.
 use Rattle.std.proofs.Common.{◌≡◌, ◌⊎◌, inl, inr, ℕ, suc, ◌+◌, ◌*◌, ◌≤◌, ◌<◌, Bool, true, false, List, [], ◌∷◌, length, map, Option, None, refl, sym, ap, subst, ◌∙◌, arith}
-use Rattle.std.proofs.lemmas.Bool.{eq-eqb, ne_eqb, and_parts}
+use Rattle.std.proofs.lemmas.Bool.{eq-eqb, ne_eqb, and_parts, or_from}
 use Rattle.std.specs.Prelude.{◌&&◌, ◌||◌, nat_eq, nat_lt, if◌then◌else◌}
 use Rattle.std.specs.List.{list_all}
 use Rattle.std.specs.Option.{option_map, option_or}
@@ -37,7 +37,7 @@ use Rattle.star_compiled.specs.Compiled.{Env, Rest, env_first, conjuncts_code, k
 use Rattle.star_compiled.specs.Judged.{AreBoundsI64}
 use Rattle.star_compiled.proofs.ForeignKeys.{AreForeign, are_foreign}
 use Rattle.star_compiled.proofs.Joins.{of_text}
-use Rattle.star_compiled.proofs.Points.{Turn, both_none, both_false, or_none_right, Overflows, in_turn}
+use Rattle.star_compiled.proofs.Points.{Turn, both_none, or_none_right, Overflows, in_turn}
 use Rattle.star_compiled.proofs.Points as points
 use Rattle.star_compiled.proofs.PutSums.{AreNumbers, SumsIf, one, ranges_of, shares_at, totals_judged}
 use Rattle.star_compiled.proofs.Accepts as pieces
@@ -127,17 +127,26 @@ module _ (w : World) (p : Plan) (sound : IsSoundPlan p) (n : ℕ) (pending : ℕ
       some = q.knows.some;
       columns = q.knows.columns;
       rows = q.knows.rows;
-      fresh = λ r h. both_false (q.written r) false (q.knows.fresh r h) refl;
+      fresh = λ r h. or_from (q.written r) false (q.knows.fresh r h) refl;
     };
   }
 
-  keep_goes : (q : Point) (x : ℕ) (rest : Code) → q.env.next ≤ f.registers → At KnownFlag q x
-      → answer q (Then (Keep x) rest) ≡ answer (after_keep q) rest
-  keep_goes q x rest room at =
+  keep_passes : (q : Point) (x : ℕ) (k : Env → Code) → At KnownFlag q x
+      → points.Room turn q (Then (Keep x) (k q.env))
+      → Passed Nothing (λ e u. k e) q (answer q (Then (Keep x) (k q.env)))
+  keep_passes q x k at room =
       let fault : operand_fault f.registers (kinds_known q.known) is_flag x ≡ None =
-      columns.operand turn q is_flag x KnownFlag room at refl in
-      λ i. option_or (at_place q.at (option_or (option_map Faulty (fault i)) None))
-      (answer (after_keep q) rest)
+      columns.operand turn q is_flag x KnownFlag (omega (arith, room)) at refl in
+      record {
+        after = after_keep q;
+        out = tt;
+        onward = omega arith;
+        kept = λ r h. refl;
+        says = tt;
+        room = omega (arith, room);
+        goes = λ i. option_or (at_place q.at (option_or (option_map Faulty (fault i)) None))
+            (answer (after_keep q) (k q.env));
+      }
 
   conjuncts_judged : (cs : List Condition) → list_all (condition_is_sound p.joins) cs ≡ true
       → (S → list_all condition_is_spelled cs ≡ true) → (q : Point) (k : Env → Code)
@@ -153,50 +162,12 @@ module _ (w : World) (p : Plan) (sound : IsSoundPlan p) (n : ℕ) (pending : ℕ
       points.judged_then turn (At KnownFlag) Nothing l (λ e u. k e) true true q _
       (pieces.condition_judged turn p.joins foreign within c hs.0 (λ s. (says s).0) q l
       room)
-      (λ x. let space = x.room in
-      subst (Judged true Nothing (λ e u. k e) x.after)
-      (sym (keep_goes x.after x.out (conjuncts_code p.joins cs x.after.env k)
-      (omega (arith, space)) x.says))
-      (moved x.after (conjuncts_code p.joins cs x.after.env k) k
-      (conjuncts_judged cs hs.1 (λ s. (says s).1) (after_keep x.after) k (omega (arith, space)))))
-    where
-      moved : (a : Point) (rest : Code) (k : Env → Code)
-          → Judged true Nothing (λ e u. k e) (after_keep a) (answer (after_keep a) rest)
-          → Judged true Nothing (λ e u. k e) a (answer (after_keep a) rest)
-      moved a rest k (inl h) = let b = h.0 in inl (
-        record {
-          after = b.after;
-          out = b.out;
-          onward = b.onward;
-          kept = b.kept;
-          says = b.says;
-          room = b.room;
-          goes = b.goes;
-        },
-        refl,
-      )
-      moved a rest k (inr h) = inr h
+      (λ x. points.judged_then turn Nothing Nothing (λ e u. conjuncts_code p.joins cs e k)
+      (λ e u. k e) true true x.after _
+      (inl (keep_passes x.after x.out (λ e. conjuncts_code p.joins cs e k) x.says x.room, refl))
+      (λ y. conjuncts_judged cs hs.1 (λ s. (says s).1) y.after k y.room))
 
   -- ---- keys and values
-
-  -- with one register before those that a piece gives
-  with_one : (b : Bool) (P Q : Point → List ℕ → Type 0) (x : ℕ) (k : Env → List ℕ → Code)
-      (q : Point) (o : Option (ℕ × Reason))
-      → ((a : Passed P (λ e xs. k e (x ∷ xs)) q o) → Q a.after (x ∷ a.out))
-      → Judged b P (λ e xs. k e (x ∷ xs)) q o → Judged b Q k q o
-  with_one b P Q x k q o says (inl h) = let a = h.0 in inl (
-    record {
-      after = a.after;
-      out = x ∷ a.out;
-      onward = a.onward;
-      kept = a.kept;
-      says = says a;
-      room = a.room;
-      goes = a.goes;
-    },
-    h.1,
-  )
-  with_one b P Q x k q o says (inr h) = inr h
 
   abbrev KeysStand : List ColumnId → Point → List ℕ → Type 0
   KeysStand [] q [] = Unit {0}
@@ -215,7 +186,8 @@ module _ (w : World) (p : Plan) (sound : IsSoundPlan p) (n : ℕ) (pending : ℕ
       points.judged_then turn (At (column_known c)) (KeysStand (c ∷ cs)) l k true true
       q _
       (columns.column_passes turn p.joins foreign within c q l hs.0 room)
-      (λ x. with_one true (KeysStand cs) (KeysStand (c ∷ cs)) x.out k x.after _
+      (λ x. points.weaker turn (λ xs. x.out ∷ xs) (KeysStand cs) (KeysStand (c ∷ cs)) k true
+      x.after _
       (λ a. let below = x.says.0 in let onward = a.onward in
       ((omega arith, a.kept x.out x.says.0 ∙ x.says.1), a.says))
       (keys_judged cs hs.1 x.after (λ e xs. k e (x.out ∷ xs)) x.room))
@@ -243,8 +215,8 @@ module _ (w : World) (p : Plan) (sound : IsSoundPlan p) (n : ℕ) (pending : ℕ
       points.judged_then turn (Ranged r) (RangesStand (r ∷ ranges_of w ms)) l k
       (nodes_fit w.bounds a) (list_all (measure_fits w.bounds) ms) q _
       (pieces.expression_judged turn p.joins foreign within a h q l room)
-      (λ x. with_one (list_all (measure_fits w.bounds) ms) (RangesStand (ranges_of w ms))
-      (RangesStand (r ∷ ranges_of w ms)) x.out k x.after _
+      (λ x. points.weaker turn (λ xs. x.out ∷ xs) (RangesStand (ranges_of w ms))
+      (RangesStand (r ∷ ranges_of w ms)) k (list_all (measure_fits w.bounds) ms) x.after _
       (λ y. let below = x.says.0 in let onward = y.onward in
       ((omega arith, (x.says.1.0, x.says.1.1, y.kept x.out x.says.0 ∙ x.says.1.2)), y.says))
       (later x.after (λ e xs. k e (x.out ∷ xs)) x.room))

@@ -1,24 +1,34 @@
--- What is known of a column or a row after one more is.
-use Rattle.std.proofs.Common.{◌≡◌, ◌⊎◌, inl, inr, ℕ, ◌+◌, ◌≤◌, Bool, true, false, List, [], ◌∷◌, ◌++◌, Option, Some, None, refl, sym, ap, ◌∙◌, arith}
-use Rattle.std.specs.Prelude.{if◌then◌else◌}
+-- What is known of a key, a column or a table, after one more entry.
+use Rattle.std.proofs.Common.{◌≡◌, ◌⊎◌, inl, inr, ℕ, ◌+◌, ◌≤◌, ◌<◌, Bool, true, false, List, [], ◌∷◌, ◌++◌, Option, Some, None, refl, sym, ap, subst, ◌∙◌, arith}
+use Rattle.std.specs.Prelude.{nat_eq, if◌then◌else◌}
 use Rattle.std.specs.Option.{option_or}
+use Rattle.std.proofs.lemmas.Bool.{cond-true, cond-false, eq-eqb, ne_eqb}
 use Rattle.std.proofs.lemmas.Option.{same_Some}
-use Rattle.star_schema.specs.declared.table.TableId.{TableId}
-use Rattle.star_schema.specs.declared.column.ColumnId.{ColumnId}
-use Rattle.star_schema.specs.Schema.{is_table}
-use Rattle.star_schema.proofs.Same.{column_same, table_same}
-use Rattle.star_program.specs.World.{is_column}
-use Rattle.star_compiled.specs.Compiled.{loaded_in, found_in}
+use Rattle.star_program.specs.Values.{with_entry}
 use Rattle.star_compiled.specs.Looks.{one_if}
+
+-- ---- registers
+
+-- a new entry is found, and hides none of a register below it
+pub entry_same : {V : Type 0} (entries : ℕ → Option V) (r : ℕ) (v : V)
+    → with_entry entries r v r ≡ Some v
+entry_same entries r v = cond-true (nat_eq r r) (Some v) (entries r) (eq-eqb r r refl)
+
+pub entry_other : {V : Type 0} (entries : ℕ → Option V) (r q : ℕ) (v : V) → q < r
+    → with_entry entries r v q ≡ entries q
+entry_other entries r q v h =
+    cond-false (nat_eq q r) (Some v) (entries q) (ne_eqb q r (omega arith))
+
+-- ---- keys
 
 -- the register that some entries give a key, as `loaded_in` gives one to a column and `found_in` to
 -- a table
-abbrev entry_of : {K : Type 0} → (K → K → Bool) → List (K × ℕ) → K → Option ℕ
+abbrev pub entry_of : {K : Type 0} → (K → K → Bool) → List (K × ℕ) → K → Option ℕ
 entry_of same [] k = None
 entry_of same (e ∷ es) k = if same k e.0 then Some e.1 else entry_of same es k
 
 -- what it was before, or else the new one
-entry_after : {K : Type 0} (same : K → K → Bool) (es : List (K × ℕ)) (k : K) (n : ℕ) (q : K)
+pub entry_after : {K : Type 0} (same : K → K → Bool) (es : List (K × ℕ)) (k : K) (n : ℕ) (q : K)
     → entry_of same (es ++ (k, n) ∷ []) q
     ≡ option_or (entry_of same es q) (if same q k then Some n else None)
 entry_after same [] k n q = refl
@@ -31,35 +41,40 @@ entry_after same (x ∷ es) k n q =
     by true o p r e = refl
     by false o p r e = e
 
-pub loaded_after : (es : List (ColumnId × ℕ)) (c : ColumnId) (n : ℕ) (d : ColumnId)
-    → loaded_in (es ++ (c, n) ∷ []) d
-    ≡ option_or (loaded_in es d) (if is_column d c then Some n else None)
-loaded_after = entry_after is_column
-
-found_after : (es : List (TableId × ℕ)) (t : TableId) (n : ℕ) (q : TableId)
-    → found_in (es ++ (t, n) ∷ []) q
-    ≡ option_or (found_in es q) (if is_table q t then Some n else None)
-found_after = entry_after is_table
-
--- a column that is loaded was loaded before, or is the one that was loaded last
+-- a key that has a register had it before, or is the one that got the last
 old_or_new : (o : Option ℕ) (b : Bool) (n r : ℕ)
     → option_or o (if b then Some n else None) ≡ Some r → (o ≡ Some r) ⊎ ((b ≡ true) × (n ≡ r))
 old_or_new None true n r e = inr (refl, same_Some n r e)
 old_or_new None false n r e = absurd (cc)
 old_or_new (Some q) b n r e = inl e
 
-pub loaded_split : (es : List (ColumnId × ℕ)) (c : ColumnId) (n : ℕ) (d : ColumnId) (r : ℕ)
-    → loaded_in (es ++ (c, n) ∷ []) d ≡ Some r
-    → (loaded_in es d ≡ Some r) ⊎ ((is_column d c ≡ true) × (n ≡ r))
-loaded_split es c n d r e =
-    old_or_new (loaded_in es d) (is_column d c) n r (sym (loaded_after es c n d) ∙ e)
+pub entry_split : {K : Type 0} (same : K → K → Bool) (es : List (K × ℕ)) (k : K) (n : ℕ) (q : K)
+    (r : ℕ) → entry_of same (es ++ (k, n) ∷ []) q ≡ Some r
+    → (entry_of same es q ≡ Some r) ⊎ ((same q k ≡ true) × (n ≡ r))
+entry_split same es k n q r e =
+    old_or_new (entry_of same es q) (same q k) n r (sym (entry_after same es k n q) ∙ e)
 
--- and so is a row that is found
-pub found_split : (es : List (TableId × ℕ)) (t : TableId) (n : ℕ) (q : TableId) (r : ℕ)
-    → found_in (es ++ (t, n) ∷ []) q ≡ Some r
-    → (found_in es q ≡ Some r) ⊎ ((is_table q t ≡ true) × (n ≡ r))
-found_split es t n q r e =
-    old_or_new (found_in es q) (is_table q t) n r (sym (found_after es t n q) ∙ e)
+-- registers that say something of each key's value do so with the new key's value in the next one
+pub entry_known : {K V : Type 0} (same : K → K → Bool) (is : (q k : K) → same q k ≡ true → q ≡ k)
+    (Says : K → Option V → Type 0) (es : List (K × ℕ)) (values : ℕ → Option V) (n : ℕ) (k : K)
+    (v : V) → Says k (Some v) → (q : K) (r : ℕ)
+    → (entry_of same es q ≡ Some r → (r < n) × Says q (values r))
+    → entry_of same (es ++ (k, n) ∷ []) q ≡ Some r
+    → (r < n + 1) × Says q (with_entry values n v r)
+entry_known same is Says es values n k v new q r old e = by (entry_split same es k n q r e)
+  where
+    by : (entry_of same es q ≡ Some r) ⊎ ((same q k ≡ true) × (n ≡ r))
+        → (r < n + 1) × Says q (with_entry values n v r)
+    by (inl e) =
+        let h = old e in
+        (omega (arith, h.0), subst (Says q) (sym (entry_other values n r v h.0)) h.1)
+    by (inr e) =
+        let here : n ≡ r = e.1 in (
+          omega arith,
+          subst (λ x. Says q (with_entry values n v x)) here
+              (subst (Says q) (sym (entry_same values n v))
+              (subst (λ x. Says x (Some v)) (sym (is q k e.0)) new)),
+        )
 
 -- ---- how often something may still be looked for
 
@@ -76,20 +91,12 @@ falls false n None h = omega arith
 falls false n (Some r) h = omega arith
 
 -- once less after a first time, and no more often otherwise
-pub unloaded_falls : (es : List (ColumnId × ℕ)) (c : ColumnId) (n : ℕ) → loaded_in es c ≡ None
-    → (d : ColumnId)
-    → one_if (is_column d c) + missing (loaded_in (es ++ (c, n) ∷ []) d) ≤ missing (loaded_in es d)
-unloaded_falls es c n none d =
-    let after = ap missing (loaded_after es c n d) in
+pub entry_falls : {K : Type 0} (same : K → K → Bool) (is : (q k : K) → same q k ≡ true → q ≡ k)
+    (es : List (K × ℕ)) (k : K) (n : ℕ) → entry_of same es k ≡ None → (q : K)
+    → one_if (same q k) + missing (entry_of same (es ++ (k, n) ∷ []) q)
+    ≤ missing (entry_of same es q)
+entry_falls same is es k n none q =
+    let after = ap missing (entry_after same es k n q) in
     let less =
-    falls (is_column d c) n (loaded_in es d) (λ e. ap (loaded_in es) (column_same d c e) ∙ none) in
-    omega arith
-
-pub unfound_falls : (es : List (TableId × ℕ)) (t : TableId) (n : ℕ) → found_in es t ≡ None
-    → (q : TableId)
-    → one_if (is_table q t) + missing (found_in (es ++ (t, n) ∷ []) q) ≤ missing (found_in es q)
-unfound_falls es t n none q =
-    let after = ap missing (found_after es t n q) in
-    let less =
-    falls (is_table q t) n (found_in es q) (λ e. ap (found_in es) (table_same q t e) ∙ none) in
+    falls (same q k) n (entry_of same es q) (λ e. ap (entry_of same es) (is q k e) ∙ none) in
     omega arith

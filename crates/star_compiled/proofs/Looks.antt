@@ -9,7 +9,7 @@ use Rattle.star_schema.specs.declared.table.TableId.TheVariants.{Lineorder}
 use Rattle.star_schema.specs.declared.column.ColumnId.{ColumnId}
 use Rattle.star_schema.specs.Schema.{column_of, is_table, key_of, references, table_of}
 use Rattle.star_schema.proofs.KeyColumns.{foreign_key}
-use Rattle.star_schema.proofs.Same.{column_same}
+use Rattle.star_schema.proofs.Same.{column_same, table_same}
 use Rattle.star_plan.specs.declared.tree.Join.{Join}
 use Rattle.star_plan.specs.Joins.{is_foreign, is_lone_key, refers}
 use Rattle.star_plan.specs.Meaning.{Plan}
@@ -20,7 +20,7 @@ use Rattle.star_program.specs.World.{is_column}
 use Rattle.star_compiled.specs.Compiled.{Env, compiled, env_first, foreign_of, found_in, loaded_in, one_more, turn_code, with_found, with_loaded}
 use Rattle.star_compiled.specs.Looks.{finds, loads, one_if, times}
 use Rattle.star_compiled.proofs.Carried.{is_plain, turn_carries}
-use Rattle.star_compiled.proofs.Entries.{loaded_after, missing, unloaded_falls, unfound_falls}
+use Rattle.star_compiled.proofs.Entries.{entry_after, missing, entry_falls}
 
 -- what passes a test is paid for: the price falls where a column is loaded or a row found for the
 -- first time, and nothing else passes
@@ -50,7 +50,7 @@ loads_paid : (c : ColumnId) → IsPrice (loads c) (loads_left c)
 loads_paid c = record {
   plain = no_load c;
   more = λ env. omega arith;
-  loaded = λ env d row none. unloaded_falls env.loaded d env.next none c;
+  loaded = λ env d row none. entry_falls is_column column_same env.loaded d env.next none c;
   found = λ env t key none. omega arith;
 }
 
@@ -59,7 +59,7 @@ finds_paid t = record {
   plain = no_find t;
   more = λ env. omega arith;
   loaded = λ env c row none. omega arith;
-  found = λ env s key none. unfound_falls env.found s env.next none t;
+  found = λ env s key none. entry_falls is_table table_same env.found s env.next none t;
 }
 
 -- ---- the foreign keys of a plan are columns of the fact
@@ -125,7 +125,7 @@ turn_pays test price paid p sound =
       unseen = λ env c none. none;
       still = λ env c away none.
           let f = foreign_of p.joins (table_of c) in
-          loaded_after env.loaded f env.next c
+          entry_after is_column env.loaded f env.next c
           ∙ still_none (is_column c f) env.next (loaded_in env.loaded c)
           (apart_from p.joins sound.joins c away) none;
       found = λ env t c none. none;

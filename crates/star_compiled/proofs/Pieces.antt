@@ -1,7 +1,6 @@
 -- What the pieces of a compiled program do, from their ends: instructions, operators and tests.
 use Rattle.std.proofs.Common.{◌≡◌, ℕ, ◌+◌, ◌≤◌, ◌<◌, Bool, true, false, List, Option, Some, None, refl, sym, ap, subst, ◌∙◌, arith}
-use Rattle.std.proofs.lemmas.Bool.{eqb-true, eq-eqb}
-use Rattle.std.specs.Prelude.{ℤ, pos, ◌+ℤ◌, ◌&&◌, not, nat_eq, nat_lt, if◌then◌else◌}
+use Rattle.std.specs.Prelude.{ℤ, pos, ◌+ℤ◌, ◌&&◌, not, nat_lt}
 use Rattle.std.specs.Option.{option_map, option_or}
 use Rattle.std.specs.Ordering.{int_cmp, nat_cmp, is_eq, is_lt, is_le}
 use Rattle.std.specs.Cmp.Lexicographic.{slice_cmp, nat_list_cmp_total}
@@ -36,6 +35,7 @@ use Rattle.star_program.specs.Effects.{Store, Effect, answer_of, loaded, fits_re
 use Rattle.star_program.specs.Private.Doing.{sets, assigns}
 use Rattle.star_program.specs.Run.{End, Ended, follow, meaning}
 use Rattle.star_compiled.specs.Compiled.{Env, Rest, binary_code, loaded_in, found_in, one_more, write, test_code, between_code}
+use Rattle.star_compiled.proofs.Entries.{entry_same, entry_other}
 use Rattle.star_compiled.proofs.TurnRows.{Shows}
 use Rattle.star_compiled.proofs.Joins.{holds_numbers, holds_texts}
 use Rattle.star_compiled.proofs.Comparisons.{number_gt, number_ge, number_upto, place_lt, place_le, gt_not_le, ge_not_lt, le_not_lt, eq_both, ne_is}
@@ -55,22 +55,6 @@ no_trap : (b : Bool) (kind : TrapKind) (x : Effect) (n : ℕ) (next : Registers 
     → follow n x next ≡ Ended e
 no_trap true kind x n next e h = h
 no_trap false kind x n next e h = absurd (cc)
-
-pub entry_same : (regs : Registers) (t : ℕ) (v : Value) → with_entry regs t v t ≡ Some v
-entry_same regs t v = ap (λ b. if b then Some v else regs t) (eq-eqb t t refl)
-
-if_other : {A : Type 0} (b : Bool) (x y : A) → b ≡ false → (if b then x else y) ≡ y
-if_other true x y e = absurd (cc)
-if_other false x y e = refl
-
-not_true : (b : Bool) → (b ≡ true → ⊥) → b ≡ false
-not_true true f = absurd (f refl)
-not_true false f = refl
-
-pub entry_other : (regs : Registers) (t q : ℕ) (v : Value) → q < t → with_entry regs t v q ≡ regs q
-entry_other regs t q v h =
-    if_other (nat_eq q t) (Some v) (regs q)
-    (not_true (nat_eq q t) (λ e. let p = eqb-true q t e in absurd (omega arith)))
 
 module _ (w : World) (f : Parts) (may : ℕ → Bool) (at : TableId → ℕ) where
   -- the registers hold what is known of the turn's rows
@@ -101,22 +85,32 @@ module _ (w : World) (f : Parts) (may : ℕ → Bool) (at : TableId → ℕ) whe
   abbrev pub At : Value → ℕ → Registers → ℕ → Type 0
   At v next regs r = (r < next) × (regs r ≡ Some v)
 
-  pub chained : {A B : Type 0} {P : ℕ → Registers → A → Type 0} {Q : ℕ → Registers → B → Type 0}
-      {k : Env → A → Code} {l : Env → B → Code} {env : Env} {regs : Registers} {s e : Store}
-      (p : Reached P k env regs s e) → Reached Q l p.env' p.regs' p.s' e → Reached Q l env regs s e
-  chained p q = record {
+  -- a piece and another behind it, with a result of both
+  pub chained_as : {A B C : Type 0} {P : ℕ → Registers → A → Type 0}
+      {Q : ℕ → Registers → B → Type 0} {S : ℕ → Registers → C → Type 0} {k : Env → A → Code}
+      {l : Env → B → Code} {m : Env → C → Code} {env : Env} {regs : Registers} {s e : Store}
+      (p : Reached P k env regs s e) (q : Reached Q l p.env' p.regs' p.s' e) (out : C)
+      → S q.env'.next q.regs' out
+      → meaning w f may (m q.env' out) q.n true q.regs' q.s' ≡ Ended e
+      → Reached S m env regs s e
+  chained_as p q out says goes = record {
     env' = q.env';
-    out = q.out;
+    out = out;
     n = q.n;
     regs' = q.regs';
     s' = q.s';
     knows = q.knows;
     onward = (let a = p.onward in let b = q.onward in omega arith);
     kept = λ r h. q.kept r (let a = p.onward in omega arith) ∙ p.kept r h;
-    says = q.says;
+    says = says;
     same = q.same ∙ p.same;
-    goes = q.goes;
+    goes = goes;
   }
+
+  pub chained : {A B : Type 0} {P : ℕ → Registers → A → Type 0} {Q : ℕ → Registers → B → Type 0}
+      {k : Env → A → Code} {l : Env → B → Code} {env : Env} {regs : Registers} {s e : Store}
+      (p : Reached P k env regs s e) → Reached Q l p.env' p.regs' p.s' e → Reached Q l env regs s e
+  chained p q = chained_as p q q.out q.says q.goes
 
   -- nothing was done
   pub reached : {A : Type 0} (P : ℕ → Registers → A → Type 0) (k : Env → A → Code) (env : Env)

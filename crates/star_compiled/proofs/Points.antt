@@ -1,9 +1,9 @@
 -- A turn of a compiled program, instruction by instruction: what is known at a point of it, and how
 -- an instruction is judged there.
 use Rattle.std.proofs.Common.{◌≡◌, ◌⊎◌, inl, inr, ℕ, ◌+◌, ◌≤◌, ◌<◌, Bool, true, false, List, Option, Some, None, refl, sym, ap, ◌∙◌, arith}
-use Rattle.std.specs.Prelude.{◌&&◌, ◌||◌, not, nat_eq, if◌then◌else◌}
+use Rattle.std.specs.Prelude.{◌&&◌, ◌||◌, not, nat_eq}
 use Rattle.std.specs.Option.{option_map, option_or}
-use Rattle.std.proofs.lemmas.Bool.{and_from, eq-eqb, ne_eqb, lt-ltb}
+use Rattle.std.proofs.lemmas.Bool.{and_from, and_left, and_right, or_from, ne_eqb, lt-ltb}
 use Rattle.star_schema.specs.declared.table.TableId.{TableId}
 use Rattle.star_schema.specs.declared.table.TableId.TheVariants.{Lineorder}
 use Rattle.star_schema.specs.declared.column.ColumnId.{ColumnId}
@@ -27,27 +27,13 @@ use Rattle.star_admission.specs.Tallies.{no_shares}
 use Rattle.star_admission.specs.Private.Forward.{first_reason, open_with}
 pub use Rattle.star_admission.proofs.Instructions.{both_none}
 use Rattle.star_compiled.specs.Compiled.{Env, loaded_in, found_in, register_count}
+use Rattle.star_compiled.proofs.Entries.{entry_same, entry_other}
 
--- ---- tests and options
+-- ---- options
 
 pub or_none_right : {A : Type 0} (o : Option A) → option_or o None ≡ o
 or_none_right None = refl
 or_none_right (Some x) = refl
-
-pub both_false : (a b : Bool) → a ≡ false → b ≡ false → (a || b) ≡ false
-both_false true b p q = absurd (cc)
-both_false false b p q = q
-
-if_other : {A : Type 0} (b : Bool) (x y : A) → b ≡ false → (if b then x else y) ≡ y
-if_other true x y e = absurd (cc)
-if_other false x y e = refl
-
-pub entry_same : (known : Table) (t : ℕ) (k : Known) → with_entry known t k t ≡ Some k
-entry_same known t k = ap (λ b. if b then Some k else known t) (eq-eqb t t refl)
-
-pub entry_other : (known : Table) (t q : ℕ) (k : Known) → q < t
-    → with_entry known t k q ≡ known q
-entry_other known t q k h = if_other (nat_eq q t) (Some k) (known q) (ne_eqb q t (omega arith))
 
 -- ---- ranges
 
@@ -181,14 +167,6 @@ module _ (turn : Turn) where
     goes = a.goes ∙ b.goes;
   }
 
-  second_false : (x y : Bool) → y ≡ false → (x && y) ≡ false
-  second_false true y e = e
-  second_false false y e = refl
-
-  first_false : (x y : Bool) → x ≡ false → (x && y) ≡ false
-  first_false true y e = absurd (cc)
-  first_false false y e = refl
-
   pub judged_then : {A B : Type 0} (P : Point → A → Type 0) (Q : Point → B → Type 0)
       (l : Env → A → Code) (k : Env → B → Code) (x y : Bool) (p : Point) (o : Option (ℕ × Reason))
       → Judged x P l p o
@@ -201,8 +179,8 @@ module _ (turn : Turn) where
       by (inl b) = inl (chained a.0 b.0, and_from x y a.1 b.1)
       by (inr b) =
           let over = b.0 in
-          inr ((over.0, over.1, over.2, a.0.goes ∙ over.3), λ s. second_false x y (b.1 s))
-  judged_then P Q l k x y p o (inr a) g = inr (a.0, λ s. first_false x y (a.1 s))
+          inr ((over.0, over.1, over.2, a.0.goes ∙ over.3), λ s. and_right x y (b.1 s))
+  judged_then P Q l k x y p o (inr a) g = inr (a.0, λ s. and_left x y (a.1 s))
 
   -- where the ranges fit for sure
   pub surely : {A : Type 0} (P : Point → A → Type 0) (k : Env → A → Code) (b : Bool) (p : Point)
@@ -210,23 +188,24 @@ module _ (turn : Turn) where
   surely P k b p o sure (inl a) = inl (a.0, refl)
   surely P k b p o sure (inr a) = inr (a.0, λ s. sym (sure s) ∙ a.1 s)
 
-  -- what is said of the result may say less
-  pub weaker : {A : Type 0} (P Q : Point → A → Type 0) (k : Env → A → Code) (b : Bool) (p : Point)
-      (o : Option (ℕ × Reason)) → ((q : Point) (x : A) → P q x → Q q x) → Judged b P k p o
-      → Judged b Q k p o
-  weaker P Q k b p o g (inl a) = inl (
+  -- what is said of the result may say less, and what follows may take it as f makes it
+  pub weaker : {A B : Type 0} (f : A → B) (P : Point → A → Type 0) (Q : Point → B → Type 0)
+      (k : Env → B → Code) (b : Bool) (p : Point) (o : Option (ℕ × Reason))
+      → ((a : Passed P (λ e x. k e (f x)) p o) → Q a.after (f a.out))
+      → Judged b P (λ e x. k e (f x)) p o → Judged b Q k p o
+  weaker f P Q k b p o says (inl a) = inl (
     record {
       after = a.0.after;
-      out = a.0.out;
+      out = f a.0.out;
       onward = a.0.onward;
       kept = a.0.kept;
-      says = g a.0.after a.0.out a.0.says;
+      says = says a.0;
       room = a.0.room;
       goes = a.0.goes;
     },
     a.1,
   )
-  weaker P Q k b p o g (inr a) = inr a
+  weaker f P Q k b p o says (inr a) = inr a
 
   -- ---- an assignment
 
@@ -273,7 +252,7 @@ module _ (turn : Turn) where
         (omega (arith, h.0), entry_other p.known p.env.next r v h.0 ∙ h.1, h.2);
     rows = λ t r e. let h = p.knows.rows t r (ap (λ es. found_in es t) (sym found) ∙ e) in
         (omega (arith, h.0), entry_other p.known p.env.next r v h.0 ∙ h.1);
-    fresh = λ q h. both_false (p.written q) (nat_eq p.env.next q) (p.knows.fresh q (omega arith))
+    fresh = λ q h. or_from (p.written q) (nat_eq p.env.next q) (p.knows.fresh q (omega arith))
         (ne_eqb p.env.next q (omega arith));
   }
 

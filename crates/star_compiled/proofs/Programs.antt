@@ -4,7 +4,7 @@ use Rattle.std.proofs.Common.{◌≡◌, ℕ, zero, suc, ◌+◌, ◌≤◌, ◌
 use Rattle.std.specs.Prelude.{nat_lt, nat_le, slice_index_or, if◌then◌else◌}
 use Rattle.std.specs.Int.{is_in_range}
 use Rattle.std.specs.List.{list_all}
-use Rattle.std.proofs.lemmas.Bool.{and_parts, and_from, lt-ltb, ltb-true, le-leb}
+use Rattle.std.proofs.lemmas.Bool.{and_parts, and_from, or_right, lt-ltb, ltb-true, le-leb}
 use Rattle.std.proofs.lemmas.List.{length-map}
 use Rattle.std.proofs.lemmas.List.Elements.{All-nil, All-cons, All-append, All-map}
 use Rattle.std.proofs.lemmas.List.Folds.{list_all-append}
@@ -121,11 +121,7 @@ shows_what_is_there p sound =
 
 turned : (a b c d : Bool) → (((b || c) || d) || a) ≡ true → (((a || b) || c) || d) ≡ true
 turned true b c d h = refl
-turned false b c true h = or_true (false || b || c)
-  where
-    or_true : (x : Bool) → (x || true) ≡ true
-    or_true true = refl
-    or_true false = refl
+turned false b c true h = or_right (false || b || c) true refl
 turned false true c false h = refl
 turned false false true false h = refl
 turned false false false false h = h

@@ -1,7 +1,7 @@
 -- The joined rows are the fact's rows, each with the rows that are found for it.
 use Rattle.std.proofs.Common.{◌≡◌, ℕ, zero, suc, ◌+◌, ◌<◌, Bool, true, false, List, [], ◌∷◌, ◌++◌, length, Option, Some, None, refl, sym, ap, subst, ◌∙◌, arith, append-nil, cond}
 use mathlib.Core.List.{reverse_aux, map-map}
-use Rattle.std.proofs.lemmas.Bool.{and_parts}
+use Rattle.std.proofs.lemmas.Bool.{and_parts, cond-true, cond-false, false_from_ne_true, not-true, or_right}
 use Rattle.std.specs.Prelude.{ℤ, ◌||◌, not, map, filter, if◌then◌else◌, unwrap_or}
 use Rattle.std.specs.List.{flat_map, AllByRecursion, list_all}
 use Rattle.std.specs.declared.cmp.Ordering.{Ordering}
@@ -27,6 +27,7 @@ use Rattle.star_program.specs.Values.{no_registers}
 use Rattle.star_program.specs.Effects.{Store, empty_store}
 use Rattle.star_program.specs.Shown.{shown_fault}
 use Rattle.star_program.specs.Run.{End, Ended, unless_unshown, meaning_of}
+use Rattle.star_answers.proofs.Choices.{table_turned}
 use Rattle.star_compiled.specs.Compiled.{foreign_of, compiled}
 use Rattle.star_compiled.specs.Answers.{PutsTheRows, update_of_row}
 use Rattle.star_compiled.proofs.TurnRows.{Sees, Shows, IsTurn, row_at, numbers, place_in}
@@ -49,16 +50,12 @@ IsDistinct [] = Unit {0}
 IsDistinct (j ∷ js) =
     AllByRecursion (λ q. is_table (table_of q.key) (table_of j.key) ≡ false) js × IsDistinct js
 
-denied : (b : Bool) → not b ≡ true → b ≡ false
-denied true e = absurd (cc)
-denied false e = refl
-
 all_denied : {A : Type 0} (test : A → Bool) (xs : List A) → list_all (λ x. not (test x)) xs ≡ true
     → AllByRecursion (λ x. test x ≡ false) xs
 all_denied test [] h = tt
 all_denied test (x ∷ xs) h =
     let hs = and_parts (not (test x)) (list_all (λ x. not (test x)) xs) h in
-    (denied (test x) hs.0, all_denied test xs hs.1)
+    (not-true (test x) hs.0, all_denied test xs hs.1)
 
 told_apart : (js : List Join) → are_distinct js ≡ true → IsDistinct js
 told_apart [] h = tt
@@ -103,23 +100,13 @@ are_joins ts w seen (j ∷ js) h =
     (is_join ts w seen j hs.0, are_joins ts w seen js hs.1)
 
 -- ---- lists
-if_true : {A : Type 0} (b : Bool) (x y : A) → b ≡ true → (if b then x else y) ≡ x
-if_true true x y e = refl
-if_true false x y e = absurd (cc)
-
-if_false : {A : Type 0} (b : Bool) (x y : A) → b ≡ false → (if b then x else y) ≡ y
-if_false true x y e = absurd (cc)
-if_false false x y e = refl
-
-not_true : (b : Bool) → (b ≡ true → ⊥) → b ≡ false
-not_true true f = absurd (f refl)
-not_true false f = refl
 
 filter_none : (p : Row → Bool) (xs : List Row)
     → ((m : ℕ) → m < length xs → p (row_at xs m) ≡ true → ⊥) → filter p xs ≡ []
 filter_none p [] h = refl
 filter_none p (x ∷ xs) h =
-    if_false (p x) (x ∷ filter p xs) (filter p xs) (not_true (p x) (h 0 (omega arith)))
+    cond-false (p x) (x ∷ filter p xs) (filter p xs)
+    (false_from_ne_true (p x) (h 0 (omega arith)))
     ∙ filter_none p xs (λ m b e. h (suc m) (omega arith) e)
 
 -- one alone passes
@@ -127,12 +114,13 @@ pub filter_one : (p : Row → Bool) (xs : List Row) (n : ℕ) → n < length xs 
     → ((m : ℕ) → m < length xs → p (row_at xs m) ≡ true → m ≡ n) → filter p xs ≡ row_at xs n ∷ []
 filter_one p [] n b e h = absurd (omega arith)
 filter_one p (x ∷ xs) zero b e h =
-    if_true (p x) (x ∷ filter p xs) (filter p xs) e
+    cond-true (p x) (x ∷ filter p xs) (filter p xs) e
     ∙ ap (λ l. x ∷ l) (filter_none p xs
     (λ m c q. let r : suc m ≡ 0 = h (suc m) (omega arith) q in absurd (omega arith)))
 filter_one p (x ∷ xs) (suc n) b e h =
-    if_false (p x) (x ∷ filter p xs) (filter p xs)
-    (not_true (p x) (λ q. let r : 0 ≡ suc n = h 0 (omega arith) q in absurd (omega arith)))
+    cond-false (p x) (x ∷ filter p xs) (filter p xs)
+    (false_from_ne_true (p x)
+    (λ q. let r : 0 ≡ suc n = h 0 (omega arith) q in absurd (omega arith)))
     ∙ filter_one p xs n (omega arith) e
     (λ m c q. let r : suc m ≡ suc n = h (suc m) (omega arith) q in omega arith)
 
@@ -232,7 +220,7 @@ module _ (ts : Tables) (w : World) (seen : Sees ts w) (i : ℕ)
       (partner at j base ok.0 fact)
       ∙ append-nil (partners ts js (with_row base (table_of j.key) d))
       ∙ partners_are js at (with_row base (table_of j.key) d) ok.1
-      (if_false (is_table Lineorder (table_of j.key)) d (base Lineorder) ok.0.0.dimension ∙ fact)
+      (cond-false (is_table Lineorder (table_of j.key)) d (base Lineorder) ok.0.0.dimension ∙ fact)
       ∙ λ k. (λ t. with_one js at base (table_of j.key) t (joins_table js t)
       (is_table t (table_of j.key)) refl refl k) ∷ []
 
@@ -248,7 +236,7 @@ foreign_same : (js : List Join) → IsDistinct js
     → AllByRecursion (λ j. foreign_of js (table_of j.key) ≡ j.foreign) js
 foreign_same [] h = tt
 foreign_same (j ∷ js) h = (
-  if_true (is_table (table_of j.key) (table_of j.key)) j.foreign (foreign_of js (table_of j.key))
+  cond-true (is_table (table_of j.key) (table_of j.key)) j.foreign (foreign_of js (table_of j.key))
       (table_itself (table_of j.key)),
   later js h.0 (foreign_same js h.1),
 )
@@ -258,7 +246,7 @@ foreign_same (j ∷ js) h = (
         → AllByRecursion (λ q. foreign_of (j ∷ js) (table_of q.key) ≡ q.foreign) qs
     later [] a b = tt
     later (q ∷ qs) a b = (
-      if_false (is_table (table_of q.key) (table_of j.key)) j.foreign
+      cond-false (is_table (table_of q.key) (table_of j.key)) j.foreign
           (foreign_of js (table_of q.key)) a.0 ∙ b.0,
       later qs a.1 b.1,
     )
@@ -317,20 +305,15 @@ module _ (ts : Tables) (w : World) (seen : Sees ts w) (p : Plan) (sound : IsSoun
         lone = h.lone;
       }) joins)
 
-  turned : (s t : TableId) → is_table s t ≡ false → is_table t s ≡ false
-  turned s t e =
-      not_true (is_table t s) (λ q. let r : is_table s t ≡ true = ap (is_table s) (table_same t s q)
-      ∙ table_itself s in let z : true ≡ false = sym r ∙ e in cc)
-
   -- a dimension's row is found at its place
   found_at : (i : ℕ) → i < length (ts Lineorder) → (t : TableId) → joins_table p.joins t ≡ true
       → w.find t (w.number (foreign_of p.joins t) i) ≡ Some (place_in w p.joins i t)
   found_at i below t j =
       let k = joins_at i below t j in
       found_some w t (w.find t (w.number (foreign_of p.joins t) i)) k.found
-      ∙ ap Some (sym (if_false (is_table t Lineorder) i
+      ∙ ap Some (sym (cond-false (is_table t Lineorder) i
       (unwrap_or (w.find t (w.number (foreign_of p.joins t) i)) 0)
-      (turned Lineorder t k.dimension)))
+      (table_turned Lineorder t k.dimension)))
 
   row_there : (i : ℕ) → i < length (ts Lineorder) → (t : TableId) (a b : Bool)
       → is_table t Lineorder ≡ a → joins_table p.joins t ≡ b → (a || b) ≡ true
@@ -349,7 +332,7 @@ module _ (ts : Tables) (w : World) (seen : Sees ts w) (p : Plan) (sound : IsSoun
       let here : t ≡ Lineorder = table_same t Lineorder e in
       let there : place_in w p.joins i t ≡ i = ap (place_in w p.joins i) here in (
         subst (λ x. place_in w p.joins i x < length (ts x)) (sym here) below,
-        if_true (is_table t Lineorder) (row_at (ts Lineorder) i) [] e
+        cond-true (is_table t Lineorder) (row_at (ts Lineorder) i) [] e
             ∙ λ k. row_at (ts (sym here k)) (sym there k),
       )
   row_there i below t false false e j q = absurd (cc)
@@ -390,10 +373,6 @@ module _ (ts : Tables) (w : World) (seen : Sees ts w) (p : Plan) (sound : IsSoun
         ),
         go js a.1 b.1 f (λ t e. g t (or_right (is_table t (table_of j.key)) (joins_table js t) e)),
       )
-        where
-          or_right : (x y : Bool) → y ≡ true → (x || y) ≡ true
-          or_right true y e = refl
-          or_right false y e = e
 
   -- one joined row for each row of the fact, in order
   pub joined_are : joined_rows ts p.joins ≡ map row_of_fact (numbers (length (ts Lineorder)) 0)

@@ -25,9 +25,10 @@ use Rattle.star_program.specs.declared.op.Operation.TheVariants.{Const, Edge, Bi
 use Rattle.star_program.specs.declared.op.Operator.{Operator}
 use Rattle.star_program.specs.declared.op.Operator.TheVariants as operator
 use Rattle.star_program.specs.Code.{Code, Stop, Then, Each}
+use Rattle.star_program.specs.World.{is_column}
 use Rattle.star_program.specs.Text.Spellable.{IsShort, IsConstant, IsPrinted, IsSpellableOp, IsSpellableOperation}
 use Rattle.star_compiled.specs.Compiled.{Env, Rests, before, binary_code, column_code, beside, start_of, end_of, Rest, equal_code, find_code, env_first, loaded_in, found_in, one_more, with_loaded, with_found, foreign_of, fact_code, row_code, place_code, column_from, test_code, between_code, condition_code, expression_code, conjuncts_code, keys_code, values_code, put_code, turn_code, write, load_code, register_count}
-use Rattle.star_compiled.proofs.Entries.{loaded_split, found_split}
+use Rattle.star_compiled.proofs.Entries.{entry_split}
 
 -- ---- what a plan's numbers and texts are
 
@@ -78,7 +79,7 @@ good_loaded env c short g = record {
   columns =
       λ d r e.
       known_or_next env.next r (loaded_in env.loaded d ≡ Some r) short (g.columns d r)
-      (loaded_split env.loaded c env.next d r e);
+      (entry_split is_column env.loaded c env.next d r e);
   rows = g.rows;
 }
 
@@ -88,7 +89,7 @@ good_found env t short g = record {
   rows =
       λ q r e.
       known_or_next env.next r (found_in env.found q ≡ Some r) short (g.rows q r)
-      (found_split env.found t env.next q r e);
+      (entry_split is_table env.found t env.next q r e);
 }
 
 good_first : Good env_first

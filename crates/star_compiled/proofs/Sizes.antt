@@ -7,6 +7,7 @@ use Rattle.star_schema.specs.declared.table.TableId.{TableId}
 use Rattle.star_schema.specs.declared.table.TableId.TheVariants.{Date, Customer, Supplier, Part, Lineorder}
 use Rattle.star_schema.specs.declared.column.ColumnId.{ColumnId}
 use Rattle.star_schema.specs.Schema.{is_table, table_of}
+use Rattle.star_schema.proofs.Same.{table_same}
 use Rattle.star_schema.specs.Tables.{Value, Number, Text}
 use Rattle.star_query.specs.declared.token.Relation.{Relation}
 use Rattle.star_query.specs.declared.token.Relation.TheVariants as sign
@@ -25,7 +26,7 @@ use Rattle.star_program.specs.Code.{Code, Stop, Then, Each, code_size}
 use Rattle.star_program.specs.Faults.{target_of}
 use Rattle.star_compiled.specs.Compiled.{Env, Rest, Rests, before, beside, binary_code, column_code, start_of, end_of, equal_code, find_code, env_first, loaded_in, found_in, one_more, with_loaded, with_found, foreign_of, fact_code, row_code, place_code, column_from, test_code, between_code, condition_code, expression_code, conjuncts_code, keys_code, values_code, put_code, body_code, write, load_code, writes_one, register_count}
 use Rattle.star_compiled.specs.Looks.{one_if}
-use Rattle.star_compiled.proofs.Entries.{missing, unfound_falls}
+use Rattle.star_compiled.proofs.Entries.{missing, entry_falls}
 
 -- ---- tables whose rows are not found
 
@@ -62,7 +63,7 @@ pub found_once : (es : List (TableId × ℕ)) (t : TableId) (n : ℕ) → found_
 unfolding unfound
 found_once es t n h =
     falls (λ s. missing (found_in (es ++ (t, n) ∷ []) s)) (λ s. missing (found_in es s)) t
-    (unfound_falls es t n h)
+    (entry_falls is_table table_same es t n h)
 
 -- ---- pieces
 

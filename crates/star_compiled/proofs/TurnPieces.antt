@@ -1,8 +1,7 @@
 -- What the pieces that read the rows of a turn do: columns, conditions and expressions.
-use Rattle.std.proofs.Common.{◌≡◌, ℕ, ◌+◌, ◌<◌, Bool, true, false, List, Option, Some, None, refl, sym, ap, subst, ◌∙◌, arith}
+use Rattle.std.proofs.Common.{◌≡◌, ℕ, ◌+◌, Bool, true, false, List, Option, Some, None, refl, sym, ap, subst, ◌∙◌, arith}
 use Rattle.std.proofs.lemmas.Bool.{and_parts}
 use Rattle.std.proofs.lemmas.Option.{same_Some}
-use mathlib.Core.Logic.{inl, inr, ◌⊎◌}
 use Rattle.std.specs.Prelude.{◌&&◌, ◌||◌}
 use Rattle.star_schema.specs.declared.table.TableId.{TableId}
 use Rattle.star_schema.specs.declared.table.TableId.TheVariants.{Lineorder}
@@ -31,56 +30,25 @@ use Rattle.star_program.specs.Private.Doing.{sets_found}
 use Rattle.star_program.specs.Run.{End, Ended, follow, meaning}
 use Rattle.star_compiled.specs.Compiled.{Env, Rest, loaded_in, found_in, with_loaded, with_found, write, load_code, find_code, foreign_of, fact_code, row_code, place_code, column_from, column_code, test_code, between_code, condition_code, expression_code}
 use Rattle.star_compiled.proofs.TurnRows.{Shows, IsTurn}
-use Rattle.star_compiled.proofs.Entries.{loaded_split, found_split}
+use Rattle.star_compiled.proofs.Entries.{entry_same, entry_other, entry_known}
 use Rattle.star_compiled.proofs.Joins.{holds_numbers}
-use Rattle.star_compiled.proofs.Pieces.{no_fault, entry_same, entry_other, Knows, Reached, At, chained, reached, knows_more, Runs, wrote, binary_runs, number_rank, with_not, test_runs, between_runs}
+use Rattle.star_compiled.proofs.Pieces.{no_fault, Knows, Reached, At, chained, reached, knows_more, Runs, wrote, binary_runs, number_rank, with_not, test_runs, between_runs}
 
 module _ (w : World) (f : Parts) (may : ℕ → Bool) (at : TableId → ℕ) where
   -- ---- columns and rows
 
-  loaded_entry : (env : Env) (regs : Registers) (c d : ColumnId) (v : Value) (r : ℕ)
-      → v ≡ loaded w c (at (table_of c)) (is_text c)
-      → ((r : ℕ) → loaded_in env.loaded d ≡ Some r → (r < env.next)
-      × (regs r ≡ Some (loaded w d (at (table_of d)) (is_text d))))
-      → (loaded_in env.loaded d ≡ Some r) ⊎ ((is_column d c ≡ true) × (env.next ≡ r))
-      → (r < env.next + 1)
-      × (with_entry regs env.next v r ≡ Some (loaded w d (at (table_of d)) (is_text d)))
-  loaded_entry env regs c d v r q old (inr e) =
-      let here : env.next ≡ r = e.1 in
-      let p = e.0 in (
-        omega arith,
-        subst (λ x. with_entry regs env.next v x ≡ Some (loaded w d (at (table_of d)) (is_text d)))
-            here
-            (entry_same regs env.next v ∙ ap Some q
-            ∙ ap (λ x. Some (loaded w x (at (table_of x)) (is_text x))) (sym (column_same d c p))),
-      )
-  loaded_entry env regs c d v r q old (inl e) =
-      let o = old r e in (omega (arith, o.0), entry_other regs env.next r v o.0 ∙ o.1)
+  -- the number or code of a column
+  abbrev pub here : ColumnId → Value
+  here c = loaded w c (at (table_of c)) (is_text c)
 
-  found_entry : (env : Env) (regs : Registers) (t q : TableId) (r : ℕ)
-      → ((r : ℕ) → found_in env.found q ≡ Some r → (r < env.next) × (regs r ≡ Some (Row q (at q))))
-      → (found_in env.found q ≡ Some r) ⊎ ((is_table q t ≡ true) × (env.next ≡ r))
-      → (r < env.next + 1) × (with_entry regs env.next (Row t (at t)) r ≡ Some (Row q (at q)))
-  found_entry env regs t q r old (inr e) =
-      let here : env.next ≡ r = e.1 in
-      let p = e.0 in (
-        omega arith,
-        subst (λ x. with_entry regs env.next (Row t (at t)) x ≡ Some (Row q (at q))) here
-            (entry_same regs env.next (Row t (at t))
-            ∙ ap (λ x. Some (Row x (at x))) (sym (table_same q t p))),
-      )
-  found_entry env regs t q r old (inl e) =
-      let o = old r e in (omega (arith, o.0), entry_other regs env.next r (Row t (at t)) o.0 ∙ o.1)
-
-  knows_loaded : (env : Env) (regs : Registers) (c : ColumnId) (v : Value)
-      → v ≡ loaded w c (at (table_of c)) (is_text c) → Knows w f may at env regs
+  knows_loaded : (env : Env) (regs : Registers) (c : ColumnId) (v : Value) → v ≡ here c
+      → Knows w f may at env regs
       → Knows w f may at (with_loaded env c) (with_entry regs env.next v)
   knows_loaded env regs c v q k = let m = knows_more w f may at env regs v k in record {
     fact = m.fact;
     some = m.some;
-    columns =
-        λ d r e. loaded_entry env regs c d v r q (k.columns d)
-        (loaded_split env.loaded c env.next d r e);
+    columns = λ d r. entry_known is_column column_same (λ d o. o ≡ Some (here d)) env.loaded regs
+        env.next c v (ap Some q) d r (k.columns d r);
     rows = m.rows;
   }
 
@@ -90,12 +58,9 @@ module _ (w : World) (f : Parts) (may : ℕ → Bool) (at : TableId → ℕ) whe
     fact = m.fact;
     some = m.some;
     columns = m.columns;
-    rows = λ q r e. found_entry env regs t q r (k.rows q) (found_split env.found t env.next q r e);
+    rows = λ q r. entry_known is_table table_same (λ q o. o ≡ Some (Row q (at q))) env.found regs
+        env.next t (Row t (at t)) refl q r (k.rows q r);
   }
-
-  -- the number or code of a column
-  abbrev pub here : ColumnId → Value
-  here c = loaded w c (at (table_of c)) (is_text c)
 
   load_runs : (c : ColumnId) (row : ℕ) (k : Rest) (env : Env) (n : ℕ) (regs : Registers)
       (s e : Store) → Knows w f may at env regs → row_in (regs row) ≡ at (table_of c)

@@ -28,7 +28,7 @@ use Rattle.star_program.specs.Run.{End, Ended, Trapped, Limited, follow, after, 
 use Rattle.star_compiled.specs.Compiled.{Env, Rest, Rests, before, column_code, conjuncts_code, env_first, expression_code, keys_code, values_code, put_code, turn_code, body_code}
 use Rattle.star_compiled.specs.Answers.{coded, update_of_row}
 use Rattle.star_compiled.proofs.TurnRows.{Shows, IsTurn, numbers}
-use Rattle.star_compiled.proofs.Pieces.{no_fault, Knows, Reached, Runs, At, chained, reached}
+use Rattle.star_compiled.proofs.Pieces.{no_fault, Knows, Reached, Runs, At, chained, chained_as, reached}
 use Rattle.star_compiled.proofs.TurnPieces.{here, column_runs, condition_runs, expression_runs}
 
 -- the updates of each group, with that of the row where it is selected
@@ -95,23 +95,10 @@ module _ (w : World) (f : Parts) (may : ℕ → Bool) (at : TableId → ℕ) (p 
       (regs : Registers) (s e : Store) (q : Reached w f may at (At w f may at v) l env regs s e)
       → Reached w f may at (Stand vs) (λ e xs. k e (q.out ∷ xs)) q.env' q.regs' q.s' e
       → Reached w f may at (Stand (v ∷ vs)) k env regs s e
-  consed v vs k l env regs s e q r = record {
-    env' = r.env';
-    out = q.out ∷ r.out;
-    n = r.n;
-    regs' = r.regs';
-    s' = r.s';
-    knows = r.knows;
-    onward = (let a = q.onward in let b = r.onward in omega arith);
-    kept = λ x h. r.kept x (let a = q.onward in omega arith) ∙ q.kept x h;
-    says = (
-      (let a = q.says.0 in let b = r.onward in omega arith),
-      r.kept q.out q.says.0 ∙ q.says.1,
-      r.says,
-    );
-    same = r.same ∙ q.same;
-    goes = r.goes;
-  }
+  consed v vs k l env regs s e q r =
+      let a = q.says.0 in let b = r.onward in
+      chained_as w f may at q r (q.out ∷ r.out)
+      (omega arith, r.kept q.out q.says.0 ∙ q.says.1, r.says) r.goes
 
   stand_kept : (vs : List Value) (rs : List ℕ) (next next' : ℕ) (regs regs' : Registers)
       → next ≤ next' → ((q : ℕ) → q < next → regs' q ≡ regs q) → Stand vs next regs rs

@@ -1,15 +1,20 @@
 -- From the rows of a map to the content of a store.
-use Rattle.std.proofs.Common.{◌≡◌, ℕ, zero, suc, ◌+◌, ◌<◌, ◌≤◌, Bool, true, false, ◌||◌, ℤ, List, [], ◌∷◌, Option, Some, None, Result, Ok, Err, OnOk, IfErr, IfOk, length, get_or, ap, sym, ◌∙◌, subst, refl, cond, arith}
+use Rattle.std.proofs.Common.{◌≡◌, ℕ, zero, suc, ◌+◌, ◌<◌, ◌≤◌, Bool, true, false, ◌||◌, ℤ, List, [], ◌∷◌, Option, Some, None, Result, Ok, Err, OnOk, IfErr, IfOk, length, get_or, ap, sym, ◌∙◌, subst, refl, cond, arith, inl, inr}
 use Rattle.std.specs.List.{AllByRecursion}
+use Rattle.star_common.specs.Memory.{UnlessMemory}
 use Rattle.star_schema.specs.declared.group.Aggregate.{Aggregate}
 use Rattle.star_schema.specs.declared.group.Aggregate.TheVariants.{Count}
+use Rattle.star_schema.specs.declared.group.Shape.{Shape}
 use Rattle.star_schema.specs.Groups.{aggregate, members, numbers_for}
 use Rattle.star_program.specs.declared.key.KeyValue.{KeyValue}
 use Rattle.star_program.specs.Keys.{key_value_cmp}
 use Rattle.star_program.specs.Puts.{own_groups, some_leaves, leaves}
 use Rattle.star_group.specs.Cells.{held}
 use Rattle.star_group.specs.Base.{key_of, row_at}
+use Rattle.star_group.specs.declared.eager.EagerStore.{EagerStore}
 use Rattle.star_group.specs.declared.keyed.key.KeyPart.{KeyPart}
+use Rattle.star_group.specs.Eager.{group_of, look, look_in, Has}
+use Rattle.star_group.specs.Entries.{entries_of}
 use Rattle.star_group.specs.Keyed.{all_hidden}
 use Rattle.star_group.specs.OwnKeys.{key_eq, padded, own_keys}
 use Rattle.star_group.specs.Private.Merged.{IsRowOf, IsWithRow}
@@ -31,10 +36,6 @@ on_ok P Q (Err e) f h = tt
 pub if_ok : {T E : Type 0} (P Q : T → Type 0) (r : Result T E) → ((x : T) → P x → Q x) → IfOk r P → IfOk r Q
 if_ok P Q (Ok x) f h = f x h
 if_ok P Q (Err e) f h = tt
-
-pub if_err : {T E : Type 0} (P Q : E → Type 0) (r : Result T E) → ((e : E) → P e → Q e) → IfErr r P → IfErr r Q
-if_err P Q (Ok x) f h = tt
-if_err P Q (Err e) f h = f e h
 
 -- ---- which aggregates leave 64 bits
 
@@ -90,23 +91,36 @@ module _ (d : Group) (us : List Put) (u : Put) (few : d.count ≤ 6) (fits : len
       (one_leaves d.aggregates 0 (members key_value_cmp at.keys (u ∷ us)) l.place l.declared
       (let zeros : 0 + l.place ≡ l.place = omega arith in rw zeros (ap (leaves (aggregate_at d l.place)) is ∙ l.over)))
 
-module _ (d : Group) (u : Put) (own : List (List (Option KeyValue))) (gs : List Aggregate) (row : List (Option ℤ)) (old new : List (Option KeyValue) → Option (List (Option ℤ)))
-    (is_own : own ≡ own_keys d.shape (length u.keys) (padded 6 u.keys)) (is_gs : gs ≡ d.aggregates) (is_row : IsRowOf gs u.values row) (few : d.count ≤ 6) (fits : length u.keys ≡ d.count) where
-  one : IsRowOf d.aggregates u.values row
+-- ---- one more put into an eager store, whose shape is known
+
+abbrev PutsIn : EagerStore → Put → Shape → List Aggregate → List (Option ℤ) → List (List KeyPart × List (Option ℤ)) → List (Option ℤ) → Type 0
+PutsIn s u shape gs row es total = PutsRows (own_keys shape (length u.keys) (padded 6 u.keys)) gs row (look_in shape (entries_of s.rows) s.total) (look_in shape es total)
+
+abbrev LeavesIn : EagerStore → Put → Shape → List Aggregate → List (Option ℤ) → Type 0
+LeavesIn s u shape gs row = SomeLeaves (look_in shape (entries_of s.rows) s.total) (own_keys shape (length u.keys) (padded 6 u.keys)) gs row
+
+module _ (s : EagerStore) (u : Put) (shape : Shape) (gs : List Aggregate) (row : List (Option ℤ))
+    (is : s.shape ≡ shape) (is_gs : gs ≡ s.aggregates.items) (is_row : IsRowOf gs u.values row) (fits : length u.keys ≡ s.count) where
+  one : IsRowOf s.aggregates.items u.values row
   one = subst (λ g. IsRowOf g u.values row) is_gs is_row
 
-  puts_here : PutsRows own gs row old new → PutsRows (own_keys d.shape (length u.keys) (padded 6 u.keys)) d.aggregates row old new
-  puts_here h = subst (λ o. PutsRows o d.aggregates row old new) is_own (subst (λ g. PutsRows own g row old new) is_gs h)
+  module _ (es : List (List KeyPart × List (Option ℤ))) (total : List (Option ℤ)) where
+    puts_here : PutsIn s u shape gs row es total → PutsIn s u s.shape s.aggregates.items row es total
+    puts_here h = subst (λ a. PutsIn s u a s.aggregates.items row es total) (sym is) (subst (λ g. PutsIn s u shape g row es total) is_gs h)
 
-  pub put_holds : PutsRows own gs row old new → (us : List Put) → Holds d old us → Holds d new (u ∷ us)
-  put_holds h us holds = holds_more d us u row one old new holds fits (puts_here h).merges
+    pub put_holds : {T E : Type 0} (r : Result T E) → OnOk r (PutsIn s u shape gs row es total) → OnOk r ((us : List Put) → Has s us → Holds (group_of s) (look_in s.shape es total) (u ∷ us))
+    put_holds r = on_ok _ _ r (λ h us holds. holds_more (group_of s) us u row one (look s) (look_in s.shape es total) holds fits (puts_here h).merges)
 
-  pub put_stays : PutsRows own gs row old new → (us : List Put) → Holds d old us → overflows d us u ≡ false
-  put_stays h us holds = stays_all d us u few fits holds.fit (stays_more d us u row one old new holds (puts_here h).stay)
+    pub put_stays : {T E : Type 0} (r : Result T E) → OnOk r (PutsIn s u shape gs row es total) → OnOk r ((us : List Put) → Has s us → overflows (group_of s) us u ≡ false)
+    put_stays r = on_ok _ _ r (λ h us holds. stays_all (group_of s) us u s.few_keys fits holds.fit (stays_more (group_of s) us u row one (look s) (look_in s.shape es total) holds (puts_here h).stay))
 
-  pub put_leaves : SomeLeaves old own gs row → (us : List Put) → Holds d old us → overflows d us u ≡ true
-  put_leaves h us holds = overflows_some d us u few fits holds.fit (leaves_more d us u row one old new holds
-      (subst (λ o. SomeLeaves old o d.aggregates row) is_own (subst (λ g. SomeLeaves old own g row) is_gs h)))
+  leaves_here : LeavesIn s u shape gs row → LeavesIn s u s.shape s.aggregates.items row
+  leaves_here h = subst (λ a. LeavesIn s u a s.aggregates.items row) (sym is) (subst (λ g. LeavesIn s u shape g row) is_gs h)
+
+  pub put_leaves : {T E : Type 0} (memory : E) (r : Result T E) → IfErr r (λ e. UnlessMemory memory e (LeavesIn s u shape gs row)) → IfErr r (λ e. UnlessMemory memory e ((us : List Put) → Has s us → overflows (group_of s) us u ≡ true))
+  put_leaves memory (Ok x) h = tt
+  put_leaves memory (Err e) (inl none) = inl none
+  put_leaves memory (Err e) (inr some) = inr (λ us holds. overflows_some (group_of s) us u s.few_keys fits holds.fit (leaves_more (group_of s) us u row one (look s) (look s) holds (leaves_here some)))
 
 -- the rows of no puts: the row of all of them
 pub holds_looked : (d : Group) (look : List (Option KeyValue) → Option (List (Option ℤ))) (row : List (Option ℤ)) → IsBlank row → ((q : List (Option KeyValue)) → look q ≡ cond (key_eq q (padded 6 [])) (Some row) None) → Holds d look []

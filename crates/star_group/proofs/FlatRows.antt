@@ -16,19 +16,14 @@ unfolding rows_of
 rows_length k a zero keys numbers = refl
 rows_length k a (suc n) keys numbers = ap suc (rows_length k a n (drop k keys) (drop a numbers))
 
-pub keys_read : (k a n : ℕ) (keys : List (Option KeyValue)) (numbers : List (Option ℤ)) (number : ℕ)
-    → slice_index_or (cut k n keys) number [] ≡ (row_at (rows_of k a n keys numbers) number).keys
+-- the keys and the aggregates
+pub parts_read : (k a n : ℕ) (keys : List (Option KeyValue)) (numbers : List (Option ℤ)) (number : ℕ)
+    → (slice_index_or (cut k n keys) number [] ≡ (row_at (rows_of k a n keys numbers) number).keys)
+    × (slice_index_or (cut a n numbers) number [] ≡ (row_at (rows_of k a n keys numbers) number).aggregates)
 unfolding cut rows_of
-keys_read k a zero keys numbers number = refl
-keys_read k a (suc n) keys numbers zero = refl
-keys_read k a (suc n) keys numbers (suc number) = keys_read k a n (drop k keys) (drop a numbers) number
-
-pub aggregates_read : (k a n : ℕ) (keys : List (Option KeyValue)) (numbers : List (Option ℤ)) (number : ℕ)
-    → slice_index_or (cut a n numbers) number [] ≡ (row_at (rows_of k a n keys numbers) number).aggregates
-unfolding cut rows_of
-aggregates_read k a zero keys numbers number = refl
-aggregates_read k a (suc n) keys numbers zero = refl
-aggregates_read k a (suc n) keys numbers (suc number) = aggregates_read k a n (drop k keys) (drop a numbers) number
+parts_read k a zero keys numbers number = (refl, refl)
+parts_read k a (suc n) keys numbers zero = (refl, refl)
+parts_read k a (suc n) keys numbers (suc number) = parts_read k a n (drop k keys) (drop a numbers) number
 
 -- ---- gathered
 
@@ -57,16 +52,12 @@ rows_again k a (row ∷ rows) fit =
 pub gathered_rows : (k a n : ℕ) (keys : List (Option KeyValue)) (numbers : List (Option ℤ)) (rows : List GroupRow) → AreParts k a n keys numbers rows → rows_of k a n keys numbers ≡ rows
 gathered_rows k a n keys numbers rows are = (λ i. rows_of k a (are.many i) (are.key_parts i) (are.aggregate_parts i)) ∙ rows_again k a rows are.fit
 
-keys_long : (k a : ℕ) (rows : List GroupRow) → AllByRecursion (Fits k a) rows → length (flat_map (λ row. row.keys) rows) ≡ length rows * k
-keys_long k a [] fit = sym (zero-mul k)
-keys_long k a (row ∷ rows) fit = length-append row.keys (flat_map (λ (r : GroupRow). r.keys) rows) ∙ (λ i. fit.0.keys i + keys_long k a rows fit.1 i) ∙ add_comm k (length rows * k) ∙ sym (suc-mul (length rows) k)
-
-aggregates_long : (k a : ℕ) (rows : List GroupRow) → AllByRecursion (Fits k a) rows → length (flat_map (λ row. row.aggregates) rows) ≡ length rows * a
-aggregates_long k a [] fit = sym (zero-mul a)
-aggregates_long k a (row ∷ rows) fit = length-append row.aggregates (flat_map (λ (r : GroupRow). r.aggregates) rows) ∙ (λ i. fit.0.aggregates i + aggregates_long k a rows fit.1 i) ∙ add_comm a (length rows * a) ∙ sym (suc-mul (length rows) a)
+parts_long : {X : Type 0} (k a w : ℕ) (part : GroupRow → List X) → ((row : GroupRow) → Fits k a row → length (part row) ≡ w) → (rows : List GroupRow) → AllByRecursion (Fits k a) rows → length (flat_map part rows) ≡ length rows * w
+parts_long k a w part each [] fit = sym (zero-mul w)
+parts_long k a w part each (row ∷ rows) fit = length-append (part row) (flat_map part rows) ∙ (λ i. each row fit.0 i + parts_long k a w part each rows fit.1 i) ∙ add_comm w (length rows * w) ∙ sym (suc-mul (length rows) w)
 
 pub keys_gathered : (k a n : ℕ) (keys : List (Option KeyValue)) (numbers : List (Option ℤ)) (rows : List GroupRow) → AreParts k a n keys numbers rows → length keys ≡ n * k
-keys_gathered k a n keys numbers rows are = ap length are.key_parts ∙ keys_long k a rows are.fit ∙ ap (λ m. m * k) (sym are.many)
+keys_gathered k a n keys numbers rows are = ap length are.key_parts ∙ parts_long k a k (λ row. row.keys) (λ row fits. fits.keys) rows are.fit ∙ ap (λ m. m * k) (sym are.many)
 
 pub aggregates_gathered : (k a n : ℕ) (keys : List (Option KeyValue)) (numbers : List (Option ℤ)) (rows : List GroupRow) → AreParts k a n keys numbers rows → length numbers ≡ n * a
-aggregates_gathered k a n keys numbers rows are = ap length are.aggregate_parts ∙ aggregates_long k a rows are.fit ∙ ap (λ m. m * a) (sym are.many)
+aggregates_gathered k a n keys numbers rows are = ap length are.aggregate_parts ∙ parts_long k a a (λ row. row.aggregates) (λ row fits. fits.aggregates) rows are.fit ∙ ap (λ m. m * a) (sym are.many)

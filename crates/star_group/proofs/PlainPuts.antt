@@ -127,16 +127,6 @@ module _ (gs : List Aggregate) (more total : List (Option ℤ)) where
     puts_row es es' (k ∷ ks) key is some row_stays at = subst (λ q. PutsRows (q ∷ padded 6 [] ∷ []) gs more (look_in Plain es total) (look_in Plain es' total')) is
         (row_and_total key es es' row_stays at (ap (λ q. key_eq q (padded 6 [])) is ∙ some_key k ks))
 
--- ---- a put of a shape that is known
-
-pub puts_in_shape : (shape known : Shape) → shape ≡ known → (keys : List KeyValue) (gs : List Aggregate) (more total total' : List (Option ℤ)) (es es' : List (List KeyPart × List (Option ℤ)))
-    → PutsRows (own_keys known (length keys) (padded 6 keys)) gs more (look_in known es total) (look_in known es' total') → PutsRows (own_keys shape (length keys) (padded 6 keys)) gs more (look_in shape es total) (look_in shape es' total')
-puts_in_shape shape known is keys gs more total total' es es' h = subst (λ s. PutsRows (own_keys s (length keys) (padded 6 keys)) gs more (look_in s es total) (look_in s es' total')) (sym is) h
-
-pub leaves_in_shape : (shape known : Shape) → shape ≡ known → (keys : List KeyValue) (gs : List Aggregate) (more total : List (Option ℤ)) (es : List (List KeyPart × List (Option ℤ)))
-    → SomeLeaves (look_in known es total) (own_keys known (length keys) (padded 6 keys)) gs more → SomeLeaves (look_in shape es total) (own_keys shape (length keys) (padded 6 keys)) gs more
-leaves_in_shape shape known is keys gs more total es h = subst (λ s. SomeLeaves (look_in s es total) (own_keys s (length keys) (padded 6 keys)) gs more) (sym is) h
-
 -- ---- the rows of no puts, and those in the end
 
 pub holds_first : (d : Group) (shape : Shape) (es : List (List KeyPart × List (Option ℤ))) (blank : List (Option ℤ)) → IsBlank blank → AreFirst shape es → Holds d (look_in shape es blank) []

@@ -90,23 +90,18 @@ below_sum (negsuc a) (pos b) (negsuc c) e = omega (arith, ints, e)
 below_sum (negsuc a) (negsuc b) (negsuc c) e = omega (arith, ints, e)
 below_sum x y (pos c) e = omega arith
 
-above_is : (place : ℕ) (us : List Put) → above_zero (numbers_for place us) ≡ weight above (number_at place) (λ u. true) us
-unfolding above_zero
-above_is place [] = refl
-above_is place (u ∷ us) = by (number_at place u) (above_is place us)
-  where
-    by : (z : ℤ) → above_zero (numbers_for place us) ≡ weight above (number_at place) (λ w. true) us → above_zero (z ∷ numbers_for place us) ≡ above z + weight above (number_at place) (λ w. true) us
-    by (pos n) e = ap (λ m. n + m) e
-    by (negsuc n) e = omega (arith, e)
+abbrev AreSides : List ℤ → ℕ → ℕ → Type 0
+AreSides zs up down = (above_zero zs ≡ up) × (below_zero zs ≡ down)
 
-below_is : (place : ℕ) (us : List Put) → below_zero (numbers_for place us) ≡ weight below (number_at place) (λ u. true) us
-unfolding below_zero
-below_is place [] = refl
-below_is place (u ∷ us) = by (number_at place u) (below_is place us)
-  where
-    by : (z : ℤ) → below_zero (numbers_for place us) ≡ weight below (number_at place) (λ w. true) us → below_zero (z ∷ numbers_for place us) ≡ below z + weight below (number_at place) (λ w. true) us
-    by (pos n) e = omega (arith, e)
-    by (negsuc n) e = omega (arith, e)
+one_more : (z : ℤ) (zs : List ℤ) (up down : ℕ) → AreSides zs up down → AreSides (z ∷ zs) (above z + up) (below z + down)
+unfolding above_zero below_zero
+one_more (pos n) zs up down e = (ap (λ m. n + m) e.0, omega (arith, e.1))
+one_more (negsuc n) zs up down e = (omega (arith, e.0), omega (arith, e.1))
+
+sides : (place : ℕ) (us : List Put) → AreSides (numbers_for place us) (weight above (number_at place) (λ u. true) us) (weight below (number_at place) (λ u. true) us)
+unfolding above_zero below_zero
+sides place [] = (refl, refl)
+sides place (u ∷ us) = one_more (number_at place u) (numbers_for place us) _ _ (sides place us)
 
 pub small_room : (d : Group) (us : List Put) → ((place : ℕ) → place < length d.aggregates → aggregate_at d place ≡ Sum → AddUp (numbers_for place us)) → length us < 2 ^ 63 → HasRoom d us
 small_room d us small few = record { sums = sums; counts = λ place h same. few }
@@ -116,6 +111,6 @@ small_room d us small few = record { sums = sums; counts = λ place h same. few 
         let each = told d us es is place h Sum same in
         let up = small place h same in
         record {
-          above = omega (arith, above_is place es, above_is place us, up.above, entries_less above (λ x y. above_sum x y (x +ℤ y) refl) (number_at place) us es is.once each);
-          below = omega (arith, below_is place es, below_is place us, up.below, entries_less below (λ x y. below_sum x y (x +ℤ y) refl) (number_at place) us es is.once each);
+          above = omega (arith, (sides place es).0, (sides place us).0, up.above, entries_less above (λ x y. above_sum x y (x +ℤ y) refl) (number_at place) us es is.once each);
+          below = omega (arith, (sides place es).1, (sides place us).1, up.below, entries_less below (λ x y. below_sum x y (x +ℤ y) refl) (number_at place) us es is.once each);
         }

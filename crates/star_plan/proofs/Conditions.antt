@@ -17,11 +17,11 @@ use Rattle.star_plan.specs.Names.{has_name, table_at}
 use Rattle.star_plan.specs.Uses.{uses_of}
 use Rattle.star_plan.specs.Joins.{Pair, is_joined, joins, joins_of, where_pairs}
 use Rattle.star_plan.specs.Naming.{aggregate_name, aggregate_names, has_text, names_from}
-use Rattle.star_plan.specs.Faults.{aggregates_fault, fact_fault, from_fault, group_fault, grouping_fault, item_fault, item_fault_after, join_fault, key_fault, kind_fault, missing_fault, naming_fault, of_column, of_missing, of_pair, of_table, order_fault, pair_fault, plan_fault, scope_fault, select_fault, table_fault}
+use Rattle.star_plan.specs.Faults.{aggregates_fault, fact_fault, group_fault, item_fault, item_fault_after, key_fault, kind_fault, missing_fault, of_column, of_missing, of_pair, of_table, order_fault, pair_fault, plan_fault, scope_fault, table_fault}
 use Rattle.star_plan.specs.Sound.{are_distinct}
 use Rattle.star_plan.specs.WellNamed.{IsThere, IsWellNamed, is_grouped, is_in_from, is_reached, same_name, same_text}
-use Rattle.star_plan.proofs.Known.{each_none, joined_each, or_none}
-use Rattle.star_plan.proofs.KeptJoins.{distinct}
+use Rattle.star_plan.proofs.Known.{each_none, or_none}
+use Rattle.star_plan.proofs.Whole.{parts}
 
 -- ---- faults by a test
 
@@ -334,38 +334,27 @@ some_none (n ∷ ns) e = refl
 
 pub well_named : (t : Tree) → plan_fault t ≡ None → IsWellNamed t
 well_named t none =
-    let tables = t.tables in
+    let p = parts t none in
     let groups = t.grouping.columns in
-    let items = t.items in
-    let keys = t.keys in
     let uses = uses_of t in
     let ps = where_pairs t.condition in
-    let halves = or_none (naming_fault tables uses ps) (grouping_fault groups items keys) none in
-    let from = or_none (from_fault tables) (option_or (first_answer (scope_fault tables) uses) (option_or (join_fault tables ps) (first_answer kind_fault uses))) halves.0 in
-    let named = or_none (first_beside table_fault tables) (fact_fault tables) from.0 in
-    let columns = or_none (first_answer (scope_fault tables) uses) (option_or (join_fault tables ps) (first_answer kind_fault uses)) from.1 in
-    let rest = or_none (join_fault tables ps) (first_answer kind_fault uses) columns.1 in
-    let joined = or_none (first_beside pair_fault ps) (first_answer (missing_fault ps) tables) rest.0 in
-    let grouping = or_none (first_beside group_fault groups) (option_or (select_fault groups items) (order_fault groups items keys)) halves.1 in
-    let select = or_none (select_fault groups items) (order_fault groups items keys) grouping.1 in
-    let shown = or_none (first_beside (item_fault groups) items) (aggregates_fault (aggregate_names items)) select.0 in
-    let are_shown = items_to groups [] items (sym (same_faults groups [] items) ∙ shown.0) in
+    let are_shown = items_to groups [] t.items (sym (same_faults groups [] t.items) ∙ p.shown) in
     record {
-      tables = each_after table_fault (λ n. IsThere (table_at n)) table_there [] tables named.0;
-      tables_once = (apart_to table_fault same_name table_fresh [] tables named.0).apart;
-      fact = none_to (has_name tables (table_name Lineorder)) _ named.1;
-      columns = each (λ u. scope_fault tables u ≡ None) (λ u. IsThere u.column) (λ u e. of_column_there tables u.at u.column e) uses (each_none (scope_fault tables) uses columns.0);
-      scope = each (λ u. scope_fault tables u ≡ None) (λ u. is_in_from tables u.column ≡ true) (λ u e. of_column_in tables u.at u.column e) uses (each_none (scope_fault tables) uses columns.0);
-      kinds = each (λ u. kind_fault u ≡ None) (λ u. u.fits ≡ true) (λ u e. none_to u.fits _ e) uses (each_none kind_fault uses rest.1);
-      joins = joined_each [] ps joined.0;
-      joined_once = distinct [] ps joined.0;
-      joined = each (λ n. missing_fault ps n ≡ None) (λ n. is_reached ps (table_at n) ≡ true) (λ n e. of_missing_reached ps n.place (table_at n) e) tables (each_none (missing_fault ps) tables joined.1);
-      groups_once = (apart_to group_fault same_name group_fresh [] groups grouping.0).apart;
+      tables = each_after table_fault (λ n. IsThere (table_at n)) table_there [] t.tables p.tables;
+      tables_once = (apart_to table_fault same_name table_fresh [] t.tables p.tables).apart;
+      fact = none_to (has_name t.tables (table_name Lineorder)) _ p.fact;
+      columns = each (λ u. scope_fault t.tables u ≡ None) (λ u. IsThere u.column) (λ u e. of_column_there t.tables u.at u.column e) uses p.scoped;
+      scope = each (λ u. scope_fault t.tables u ≡ None) (λ u. is_in_from t.tables u.column ≡ true) (λ u e. of_column_in t.tables u.at u.column e) uses p.scoped;
+      kinds = each (λ u. kind_fault u ≡ None) (λ u. u.fits ≡ true) (λ u e. none_to u.fits _ e) uses p.fit;
+      joins = p.pairs;
+      joined_once = p.apart;
+      joined = each (λ n. missing_fault ps n ≡ None) (λ n. is_reached ps (table_at n) ≡ true) (λ n e. of_missing_reached ps n.place (table_at n) e) t.tables (each_none (missing_fault ps) t.tables p.joined);
+      groups_once = (apart_to group_fault same_name group_fresh [] groups p.groups).apart;
       grouped = are_shown.grouped;
-      aggregates = some_there (aggregate_names items) shown.1;
+      aggregates = some_there (aggregate_names t.items) p.some;
       names_once = are_shown.apart;
       names_free = are_shown.free;
-      order = each (λ k. key_fault groups (aggregate_names items) k ≡ None) (λ k. has_name groups k.name.text || has_text (aggregate_names items) k.name.text ≡ true) (λ k e. none_to _ _ e) keys (each_none (key_fault groups (aggregate_names items)) keys select.1);
+      order = each (λ k. key_fault groups (aggregate_names t.items) k ≡ None) (λ k. has_name groups k.name.text || has_text (aggregate_names t.items) k.name.text ≡ true) (λ k e. none_to _ _ e) t.keys p.order;
     }
 
 pub no_fault : (t : Tree) → IsWellNamed t → plan_fault t ≡ None
@@ -373,7 +362,6 @@ no_fault t w =
     let tables = t.tables in
     let groups = t.grouping.columns in
     let items = t.items in
-    let keys = t.keys in
     let uses = uses_of t in
     let ps = where_pairs t.condition in
     let named : first_beside table_fault tables ≡ None = apart_from table_fault same_name (λ n. IsThere (table_at n)) table_none [] tables (fresh_first same_name tables) w.tables_once w.tables in
@@ -387,9 +375,9 @@ no_fault t w =
     let once : first_beside group_fault groups ≡ None = apart_from group_fault same_name (λ n. Unit {0}) group_none [] groups (fresh_first same_name groups) w.groups_once (each_unit groups) in
     let shown : first_beside (item_fault groups) items ≡ None =
     same_faults groups [] items ∙ items_none groups [] items (record { grouped = w.grouped; free = w.names_free; fresh = fresh_first same_text (aggregate_names items); apart = w.names_once }) in
-    let order : order_fault groups items keys ≡ None =
-    none_each (key_fault groups (aggregate_names items)) keys
-    (each (λ k. has_name groups k.name.text || has_text (aggregate_names items) k.name.text ≡ true) (λ k. key_fault groups (aggregate_names items) k ≡ None) (λ k e. none_from _ _ e) keys w.order) in
+    let order : order_fault groups items t.keys ≡ None =
+    none_each (key_fault groups (aggregate_names items)) t.keys
+    (each (λ k. has_name groups k.name.text || has_text (aggregate_names items) k.name.text ≡ true) (λ k. key_fault groups (aggregate_names items) k ≡ None) (λ k e. none_from _ _ e) t.keys w.order) in
     none_or _ _
     (none_or _ _ (none_or _ _ named fact) (none_or _ _ columns (none_or _ _ (none_or _ _ pairs missing) kinds)))
     (none_or _ _ once (none_or _ _ (none_or _ _ shown (some_none (aggregate_names items) w.aggregates)) order))

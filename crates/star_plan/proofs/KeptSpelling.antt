@@ -1,5 +1,5 @@
 -- The names, numbers and texts of a plan are those of its query, or names made of a function's word and a number.
-use Rattle.std.proofs.Common.{◌≡◌, ◌∙◌, sym, ap, ℕ, ◌+◌, ◌<◌, ◌≤◌, ◌^◌, true, ◌&&◌, List, [], ◌∷◌, ◌++◌, Option, Some, None, length, option_map, arith, refl, length-append}
+use Rattle.std.proofs.Common.{◌≡◌, ◌∙◌, sym, ap, ℕ, ◌+◌, ◌<◌, ◌≤◌, ◌^◌, Bool, true, ◌&&◌, List, [], ◌∷◌, ◌++◌, Option, Some, None, length, option_map, arith, refl, length-append}
 use Rattle.std.specs.Prelude.{decimal}
 use Rattle.std.specs.List.{list_all}
 use Rattle.std.specs.Str.Parse.{AllDigits}
@@ -19,7 +19,7 @@ use Rattle.star_plan.specs.Meaning.{Condition, or, and, not, compare, between, M
 use Rattle.star_plan.specs.Names.{column_at, literal_value}
 use Rattle.star_plan.specs.Naming.{aggregate_name, default_name, function_word, names_from}
 use Rattle.star_plan.specs.Shown.{folded}
-use Rattle.star_plan.specs.Resolved.{conjuncts_of, measures_of, resolved_condition, resolved_expression, resolved_measure, where_conjuncts}
+use Rattle.star_plan.specs.Resolved.{conjuncts_of, measures_of, option_both, resolved_condition, resolved_expression, resolved_measure, where_conjuncts}
 use Rattle.star_plan.specs.Spelled.{condition_is_spelled, expression_is_spelled, measure_is_spelled, value_is_spelled}
 use Rattle.star_plan.proofs.Options.{both_gave, mapped_gave}
 
@@ -29,21 +29,24 @@ value_spelled : (l : Literal) → asked.literal_is_spelled l ≡ true → value_
 value_spelled (tree.number z) e = e
 value_spelled (tree.text bytes) e = e
 
+-- a whole of two parts
+both_spelled : {S T : Type 0} (asks : S → Bool) (test : T → Bool) (f : S → Option T) (make : T → T → T) → ((y z : T) → test (make y z) ≡ (test y && test z))
+    → (a b : S) (x : T) → option_both make (f a) (f b) ≡ Some x → (asks a && asks b) ≡ true
+    → ((y : T) → f a ≡ Some y → asks a ≡ true → test y ≡ true) → ((z : T) → f b ≡ Some z → asks b ≡ true → test z ≡ true) → test x ≡ true
+both_spelled asks test f make splits a b x e good left right =
+    let g = both_gave make (f a) (f b) x e in
+    let parts = and_parts (asks a) (asks b) good in
+    ap test (sym g.made) ∙ splits g.left g.right ∙ and_from _ _ (left g.left g.first parts.0) (right g.right g.second parts.1)
+
 expression_spelled : (e : Expression Name) (x : Expression ColumnId) → resolved_expression e ≡ Some x → asked.expression_is_spelled e ≡ true → expression_is_spelled x ≡ true
 expression_spelled (tree.column n) x e good = let g = mapped_gave column (column_at n) x e in ap expression_is_spelled (sym g.2)
 expression_spelled (tree.constant z) x e good = let same : constant z ≡ x = cc in ap expression_is_spelled (sym same) ∙ good
 expression_spelled (tree.add a b) x e good =
-    let g = both_gave add (resolved_expression a) (resolved_expression b) x e in
-    let parts = and_parts (asked.expression_is_spelled a) (asked.expression_is_spelled b) good in
-    ap expression_is_spelled (sym g.made) ∙ and_from _ _ (expression_spelled a g.left g.first parts.0) (expression_spelled b g.right g.second parts.1)
+    both_spelled asked.expression_is_spelled expression_is_spelled resolved_expression add (λ y z. refl) a b x e good (expression_spelled a) (expression_spelled b)
 expression_spelled (tree.sub a b) x e good =
-    let g = both_gave sub (resolved_expression a) (resolved_expression b) x e in
-    let parts = and_parts (asked.expression_is_spelled a) (asked.expression_is_spelled b) good in
-    ap expression_is_spelled (sym g.made) ∙ and_from _ _ (expression_spelled a g.left g.first parts.0) (expression_spelled b g.right g.second parts.1)
+    both_spelled asked.expression_is_spelled expression_is_spelled resolved_expression sub (λ y z. refl) a b x e good (expression_spelled a) (expression_spelled b)
 expression_spelled (tree.mul a b) x e good =
-    let g = both_gave mul (resolved_expression a) (resolved_expression b) x e in
-    let parts = and_parts (asked.expression_is_spelled a) (asked.expression_is_spelled b) good in
-    ap expression_is_spelled (sym g.made) ∙ and_from _ _ (expression_spelled a g.left g.first parts.0) (expression_spelled b g.right g.second parts.1)
+    both_spelled asked.expression_is_spelled expression_is_spelled resolved_expression mul (λ y z. refl) a b x e good (expression_spelled a) (expression_spelled b)
 
 folded_spelled : (f : Fold) (x : Expression ColumnId) → measure_is_spelled (folded f x) ≡ expression_is_spelled x
 folded_spelled fold.Sum x = refl
@@ -68,13 +71,9 @@ measures_spelled (tree.aggregate a ∷ is') ms e good =
 
 condition_spelled : (q : tree.Condition) (x : Condition) → resolved_condition q ≡ Some x → asked.condition_is_spelled q ≡ true → condition_is_spelled x ≡ true
 condition_spelled (tree.or a b) x e good =
-    let g = both_gave or (resolved_condition a) (resolved_condition b) x e in
-    let parts = and_parts (asked.condition_is_spelled a) (asked.condition_is_spelled b) good in
-    ap condition_is_spelled (sym g.made) ∙ and_from _ _ (condition_spelled a g.left g.first parts.0) (condition_spelled b g.right g.second parts.1)
+    both_spelled asked.condition_is_spelled condition_is_spelled resolved_condition or (λ y z. refl) a b x e good (condition_spelled a) (condition_spelled b)
 condition_spelled (tree.and a b) x e good =
-    let g = both_gave and (resolved_condition a) (resolved_condition b) x e in
-    let parts = and_parts (asked.condition_is_spelled a) (asked.condition_is_spelled b) good in
-    ap condition_is_spelled (sym g.made) ∙ and_from _ _ (condition_spelled a g.left g.first parts.0) (condition_spelled b g.right g.second parts.1)
+    both_spelled asked.condition_is_spelled condition_is_spelled resolved_condition and (λ y z. refl) a b x e good (condition_spelled a) (condition_spelled b)
 condition_spelled (tree.not a) x e good =
     let g = mapped_gave not (resolved_condition a) x e in ap condition_is_spelled (sym g.2) ∙ condition_spelled a g.0 g.1 good
 condition_spelled (tree.pair m n) x e good = absurd (cc)
@@ -96,10 +95,7 @@ lone_spelled q xs e good =
 
 conjuncts_spelled : (q : tree.Condition) (xs : List Condition) → conjuncts_of q ≡ Some xs → asked.condition_is_spelled q ≡ true → list_all condition_is_spelled xs ≡ true
 conjuncts_spelled (tree.and a b) xs e good =
-    let g = both_gave (λ ys zs. ys ++ zs) (conjuncts_of a) (conjuncts_of b) xs e in
-    let parts = and_parts (asked.condition_is_spelled a) (asked.condition_is_spelled b) good in
-    ap (list_all condition_is_spelled) (sym g.made) ∙ list_all-append condition_is_spelled g.left g.right
-    ∙ and_from _ _ (conjuncts_spelled a g.left g.first parts.0) (conjuncts_spelled b g.right g.second parts.1)
+    both_spelled asked.condition_is_spelled (list_all condition_is_spelled) conjuncts_of (λ ys zs. ys ++ zs) (list_all-append condition_is_spelled) a b xs e good (conjuncts_spelled a) (conjuncts_spelled b)
 conjuncts_spelled (tree.pair m n) xs e good = let none : [] ≡ xs = cc in ap (list_all condition_is_spelled) (sym none)
 conjuncts_spelled (tree.or a b) xs e good = lone_spelled (tree.or a b) xs e good
 conjuncts_spelled (tree.not a) xs e good = lone_spelled (tree.not a) xs e good

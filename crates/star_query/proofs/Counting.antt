@@ -78,11 +78,7 @@ long_word word e = let same : length (lowered word) ≡ length word = length-map
 
 number-bump-self : (p : Part) (n : Counts) → number_of (bump p n) p ≡ number_of n p + 1
 number-bump-self Item n = refl
-number-bump-self Aggregate n = refl
-number-bump-self GroupColumn n = refl
-number-bump-self SortKey n = refl
-number-bump-self Comparison n = refl
-number-bump-self Operand n = refl
+number-bump-self _ n = refl
 
 pub one_too_many : (p : Part) (n : Counts) → limit p ≤ number_of n p → is_over (plus n (p ∷ [])) (p ∷ []) ≡ true
 one_too_many p n e =

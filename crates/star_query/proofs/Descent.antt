@@ -2,6 +2,7 @@
 use Rattle.std.proofs.Common.{◌≡◌, ◌∙◌, ℕ, pos, ◌+◌, ◌<◌, ◌≤◌, Bool, true, false, List, [], ◌∷◌, Some, None, Result, Ok, Err, refl, sym, ap, subst, arith}
 use Rattle.std.specs.Prelude.{nat_lt, neg_ℤ}
 use Rattle.star_query.specs.declared.token.Sign.TheVariants as s
+use Rattle.star_query.specs.declared.token.Digits.{Digits}
 use Rattle.star_query.specs.declared.token.Additive.{Additive}
 use Rattle.star_query.specs.declared.token.Additive.TheVariants.{Minus}
 use Rattle.star_query.specs.declared.counts.Part.{Part}
@@ -18,7 +19,7 @@ use Rattle.star_query.specs.Tree as tree
 use Rattle.star_query.specs.Grammar.{Expr, joined, Term, times, column, constant, negative, parens, first, ident, combined, expr_tree, term_tree, factor_tree}
 use Rattle.star_query.specs.Private.Machine.{ExprHole, in_parens, TermHole, first_term, next_term, FactorHole, first_factor, next_factor, expr_depth, term_depth, factor_depth, State, factor_wanted, factor_negative, term_had, expr_had, give_factor, to, step, at_end, Verdict, Bad, plus, checked, after, ends, run}
 use Rattle.star_query.specs.Views.{name_view, expression_view}
-use Rattle.star_query.specs.Private.Reads.{Spot, head_of, No, verdict, EndsBad, Takes, NoName, NoNumber, IsName, IsNumber, IsBeyond, ReadsName, ReadsNumber, Nests, ReadsPhrase, ReadsOperand, ReadsFactor, ReadsTerm, ReadsExpr}
+use Rattle.star_query.specs.Private.Reads.{Spot, head_of, No, verdict, EndsBad, Takes, NoName, NoNumber, IsName, IsNumber, IsBeyond, ReadsToken, ReadsName, ReadsNumber, Nests, ReadsPhrase, ReadsOperand, ReadsFactor, ReadsTerm, ReadsExpr}
 use Rattle.star_query.proofs.Counting.{not_below}
 use Rattle.star_query.proofs.Accepting.{expr_joins, parens_close}
 use Rattle.star_query.proofs.Tokens.{no_name_there}
@@ -71,51 +72,45 @@ pub bad_here : (f : Fault) (old new : Spot) (v : Verdict) → new.left ≡ old.l
 bad_here f old new v same b = b ∙ ap (Bad f) (sym same)
 
 pub head_no_name : (left : List Symbol) (x : Symbol) → head_of left ≡ Some x → NoName left → NoName (x ∷ [])
-head_no_name [] x e none = cc
-head_no_name (y ∷ ys) x e none =
-    let same : y ≡ x = cc in subst (λ z. NoName (z ∷ [])) same (one_only y ys none)
+head_no_name left x e none = let l = head_is left x e in one_only x l.0 (subst NoName l.1 none)
   where
     one_only : (y : Symbol) (ys : List Symbol) → NoName (y ∷ ys) → NoName (y ∷ [])
     one_only (name t p) ys none = none
     one_only _ ys none = tt
 
 pub head_no_number : (left : List Symbol) (x : Symbol) → head_of left ≡ Some x → NoNumber left → NoNumber (x ∷ [])
-head_no_number [] x e none = cc
-head_no_number (y ∷ ys) x e none =
-    let same : y ≡ x = cc in subst (λ z. NoNumber (z ∷ [])) same (one_only y ys none)
+head_no_number left x e none = let l = head_is left x e in one_only x l.0 (subst NoNumber l.1 none)
   where
     one_only : (y : Symbol) (ys : List Symbol) → NoNumber (y ∷ ys) → NoNumber (y ∷ [])
     one_only (number n) ys none = none
     one_only _ ys none = tt
 
--- a name that can't be read
-pub bad_name : (ps : List Part) (d : ℕ) (from : State) (old new : Spot) (e : ParseError) → d ≤ 32 → ((t : List ℕ) (p : ℕ) → (next : State) × (step from (name t p) ≡ to next (first ps d (name t p)))) → (NoName old.left → verdict old from ≡ Bad Unexpected old.left) → ReadsName ps old new (Err e) → EndsBad e new (verdict old from)
-bad_name ps d from old new errors.OutOfMemory deep names others b = tt
-bad_name ps d from old new (errors.Fault Unexpected) deep names others b =
+-- a token of a kind that can't be read
+bad_token : {A : Type 0} (symbol : A → Symbol) (NoMemory : Type 0) (Is IsNo : List Symbol → Type 0) (ps : List Part) (d : ℕ) (from : State) (old new : Spot) (e : ParseError) → d ≤ 32
+    → ((x : Symbol) (rest : List Symbol) → Is (x ∷ rest) → (next : State) × (step from x ≡ to next (first ps d x)))
+    → (IsNo old.left → verdict old from ≡ Bad Unexpected old.left) → ReadsToken symbol NoMemory Is IsNo ps old new (Err e) → EndsBad e new (verdict old from)
+bad_token symbol NoMemory Is IsNo ps d from old new errors.OutOfMemory deep goes others b = tt
+bad_token symbol NoMemory Is IsNo ps d from old new (errors.Fault Unexpected) deep goes others b =
     bad_here Unexpected old new _ (ap (λ s. s.left) b.1) (others b.0)
-bad_name ps d from old new (errors.Fault TooDeep) deep names others b = absurd b
-bad_name ps d from old new (errors.Fault TooMany) deep names others b =
-    bad_here TooMany old new _ b.1 (too_many old ps d from b.0 deep (λ x h. step_at old.left b.2 x h))
+bad_token symbol NoMemory Is IsNo ps d from old new (errors.Fault TooDeep) deep goes others b = absurd b
+bad_token symbol NoMemory Is IsNo ps d from old new (errors.Fault TooMany) deep goes others b =
+    bad_here TooMany old new _ b.1 (too_many old ps d from b.0 deep (λ x h. let l = head_is old.left x h in goes x l.0 (subst Is l.1 b.2)))
+
+pub bad_name : (ps : List Part) (d : ℕ) (from : State) (old new : Spot) (e : ParseError) → d ≤ 32 → ((t : List ℕ) (p : ℕ) → (next : State) × (step from (name t p) ≡ to next (first ps d (name t p)))) → (NoName old.left → verdict old from ≡ Bad Unexpected old.left) → ReadsName ps old new (Err e) → EndsBad e new (verdict old from)
+bad_name ps d from old new e deep names others b =
+    bad_token (λ (n : Name). ident (name_view n)) (Unit {0}) IsName NoName ps d from old new e deep goes others b
   where
-    step_at : (left : List Symbol) → IsName left → (x : Symbol) → head_of left ≡ Some x → (next : State) × (step from x ≡ to next (first ps d x))
-    step_at [] is x h = absurd is
-    step_at (name t p ∷ xs) is x h =
-        let same : name t p ≡ x = cc in subst (λ y. (next : State) × (step from y ≡ to next (first ps d y))) same (names t p)
-    step_at (_ ∷ xs) is x h = absurd is
+    goes : (x : Symbol) (rest : List Symbol) → IsName (x ∷ rest) → (next : State) × (step from x ≡ to next (first ps d x))
+    goes (name t p) rest is = names t p
+    goes _ rest is = absurd is
 
 pub bad_number : (ps : List Part) (d : ℕ) (from : State) (old new : Spot) (e : ParseError) → d ≤ 32 → ((n : ℕ) → (next : State) × (step from (number n) ≡ to next (first ps d (number n)))) → (NoNumber old.left → verdict old from ≡ Bad Unexpected old.left) → ReadsNumber ps old new (Err e) → EndsBad e new (verdict old from)
-bad_number ps d from old new errors.OutOfMemory deep numbers others b = tt
-bad_number ps d from old new (errors.Fault Unexpected) deep numbers others b =
-    bad_here Unexpected old new _ (ap (λ s. s.left) b.1) (others b.0)
-bad_number ps d from old new (errors.Fault TooDeep) deep numbers others b = absurd b
-bad_number ps d from old new (errors.Fault TooMany) deep numbers others b =
-    bad_here TooMany old new _ b.1 (too_many old ps d from b.0 deep (λ x h. step_at old.left b.2 x h))
+bad_number ps d from old new e deep numbers others b =
+    bad_token (λ (digits : Digits). number digits.value) ⊥ IsNumber NoNumber ps d from old new e deep goes others b
   where
-    step_at : (left : List Symbol) → IsNumber left → (x : Symbol) → head_of left ≡ Some x → (next : State) × (step from x ≡ to next (first ps d x))
-    step_at [] is x h = absurd is
-    step_at (number n ∷ xs) is x h =
-        let same : number n ≡ x = cc in subst (λ y. (next : State) × (step from y ≡ to next (first ps d y))) same (numbers n)
-    step_at (_ ∷ xs) is x h = absurd is
+    goes : (x : Symbol) (rest : List Symbol) → IsNumber (x ∷ rest) → (next : State) × (step from x ≡ to next (first ps d x))
+    goes (number n) rest is = numbers n
+    goes _ rest is = absurd is
 
 -- what was refused, by another name of the answer
 pub refused : {A T P H : Type 0} (view : A → T) (tree : P → T) (IsHole : H → Type 0) (wanted : H → State) (given : P → H → State) (old new : Spot) (r : Result A ParseError) (e : ParseError) → r ≡ Err e → ((h : H) → IsHole h → EndsBad e new (verdict old (wanted h))) → ReadsPhrase view tree IsHole wanted given old new r

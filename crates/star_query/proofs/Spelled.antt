@@ -1,5 +1,5 @@
 -- The tree of a phrase of well spelled tokens, with names of at most 64 bytes, is well spelled.
-use Rattle.std.proofs.Common.{◌≡◌, ◌∙◌, sym, ap, subst, refl, ℕ, zero, suc, ◌+◌, ◌^◌, Bool, true, List, [], ◌∷◌, length, Option, Some, None}
+use Rattle.std.proofs.Common.{◌≡◌, ◌∙◌, sym, ap, subst, refl, ℕ, zero, suc, ◌+◌, ◌^◌, Bool, true, ◌&&◌, List, [], ◌∷◌, length, Option, Some, None}
 use Rattle.std.specs.Prelude.{pos, neg_ℤ, nat_lt, option_map}
 use Rattle.std.specs.List.{AllByRecursion, list_all}
 use Rattle.std.proofs.lemmas.Bool.{and_from, and_parts, le-leb}
@@ -27,6 +27,10 @@ each_good : (ms : List Mark) → list_all token_is_spelled (symbols_at ms) ≡ t
 each_good [] spelled short = tt
 each_good (m ∷ ms) spelled short =
     let both = and_parts (token_is_spelled m.symbol) (list_all token_is_spelled (symbols_at ms)) spelled in ((both.0, short.0), each_good ms both.1 short.1)
+
+-- two phrases with a symbol between them
+and_good : {a b : Bool} (m : Mark) (behind rest : List Mark) → (a ≡ true) × Good (m ∷ behind) → (Good behind → (b ≡ true) × Good rest) → ((a && b) ≡ true) × Good rest
+and_good m behind rest left right = let r = right left.1.1 in (and_from _ _ left.0 r.0, r.1)
 
 name_good : (i : Name) → IsGood (at 0 (ident i)) → is_name i.text ≡ true
 unfolding is_name
@@ -59,9 +63,7 @@ mutual
   term_good : (d : ℕ) (t : Term) (rest : List Mark) → Good (term_marks d t rest) → (expression_is_spelled (term_tree t) ≡ true) × Good rest
   term_good d (lone_factor f) rest all = factor_good d f rest all
   term_good d (times t f) rest all =
-      let left = term_good d t (at d (sign s.Star) ∷ factor_marks d f rest) all in
-      let right = factor_good d f rest left.1.1 in
-      (and_from _ _ left.0 right.0, right.1)
+      and_good (at d (sign s.Star)) _ _ (term_good d t (at d (sign s.Star) ∷ factor_marks d f rest) all) (factor_good d f rest)
 
   factor_good : (d : ℕ) (f : Factor) (rest : List Mark) → Good (factor_marks d f rest) → (expression_is_spelled (factor_tree f) ≡ true) × Good rest
   factor_good d (column i) rest all = (name_good i all.0, all.1)
@@ -81,16 +83,12 @@ mutual
   cond_good : (d : ℕ) (a : Cond) (rest : List Mark) → Good (cond_marks d a rest) → (condition_is_spelled (cond_tree a) ≡ true) × Good rest
   cond_good d (lone_conj c) rest all = conj_good d c rest all
   cond_good d (or_conj a c) rest all =
-      let left = cond_good d a (at d (keyword k.Or) ∷ conj_marks d c rest) all in
-      let right = conj_good d c rest left.1.1 in
-      (and_from _ _ left.0 right.0, right.1)
+      and_good (at d (keyword k.Or)) _ _ (cond_good d a (at d (keyword k.Or) ∷ conj_marks d c rest) all) (conj_good d c rest)
 
   conj_good : (d : ℕ) (c : Conj) (rest : List Mark) → Good (conj_marks d c rest) → (condition_is_spelled (conj_tree c) ≡ true) × Good rest
   conj_good d (lone_unit u) rest all = unit_good d u rest all
   conj_good d (and_unit c u) rest all =
-      let left = conj_good d c (at d (keyword k.And) ∷ unit_marks d u rest) all in
-      let right = unit_good d u rest left.1.1 in
-      (and_from _ _ left.0 right.0, right.1)
+      and_good (at d (keyword k.And)) _ _ (conj_good d c (at d (keyword k.And) ∷ unit_marks d u rest) all) (unit_good d u rest)
 
   unit_good : (d : ℕ) (u : Unary) (rest : List Mark) → Good (unit_marks d u rest) → (condition_is_spelled (unit_tree u) ≡ true) × Good rest
   unit_good d (not_unit u) rest all = unit_good (d + 1) u rest all.1
@@ -99,9 +97,8 @@ mutual
   unit_good d (compare a q l) rest all =
       let literal = lit_good d l rest all.1.1 in (and_from _ _ (name_good a all.0) literal.0, literal.1)
   unit_good d (between a l h) rest all =
-      let low = lit_good d l (at d (keyword k.And) ∷ lit_marks d h rest) all.1.1 in
-      let high = lit_good d h rest low.1.1 in
-      (and_from _ _ (name_good a all.0) (and_from _ _ low.0 high.0), high.1)
+      let ends = and_good (at d (keyword k.And)) _ _ (lit_good d l (at d (keyword k.And) ∷ lit_marks d h rest) all.1.1) (lit_good d h rest) in
+      (and_from _ _ (name_good a all.0) ends.0, ends.1)
 
 -- ---- lists
 

@@ -9,21 +9,15 @@ use Rattle.star_query.specs.declared.counts.Counts.{Counts}
 use Rattle.star_query.specs.declared.fault.ParseError.{ParseError}
 use Rattle.star_query.specs.declared.fault.ParseError.TheVariants as errors
 use Rattle.star_query.specs.declared.fault.Fault.TheVariants.{Unexpected, TooDeep, TooMany}
-use Rattle.star_query.specs.declared.token.Digits.{Digits}
-use Rattle.star_query.specs.declared.tree.Name.{Name}
 use Rattle.star_query.specs.Symbols.{Symbol, name, number, unquoted, unquoted_after}
 use Rattle.star_query.specs.Maxima.{limit}
 use Rattle.star_query.specs.Private.Machine.{number_of, bump}
-use Rattle.star_query.specs.Private.Reads.{Spot, spot_of, Takes, IsName, IsNumber, NoName, NoNumber, IsBeyond, ReadsName, ReadsNumber}
+use Rattle.star_query.specs.Private.Reads.{Spot, spot_of, Takes, IsName, IsNumber, NoName, NoNumber, IsBeyond, ReadsToken}
 use Rattle.star_query.proofs.Counting.{one_too_many, one_allowed}
 
-pub beyond_name : (p : Part) (n : Counts) (left : List Symbol) → IsName left → limit p ≤ number_of n p → IsBeyond (p ∷ []) n left
-beyond_name p n [] is e = is
-beyond_name p n (x ∷ xs) is e = rw (one_too_many p n e) refl
-
-pub beyond_number : (p : Part) (n : Counts) (left : List Symbol) → IsNumber left → limit p ≤ number_of n p → IsBeyond (p ∷ []) n left
-beyond_number p n [] is e = is
-beyond_number p n (x ∷ xs) is e = rw (one_too_many p n e) refl
+beyond_token : (Is : List Symbol → Type 0) → (Is [] → ⊥) → (p : Part) (n : Counts) (left : List Symbol) → Is left → limit p ≤ number_of n p → IsBeyond (p ∷ []) n left
+beyond_token Is there p n [] is e = there is
+beyond_token Is there p n (x ∷ xs) is e = rw (one_too_many p n e) refl
 
 -- a doubled quote, or another byte of a text
 pub unquoted_doubled : (inside so_far after : List ℕ) (i : ℕ) (q p : Bool) → i < length inside → q ≡ true → after ≡ so_far → p ≡ false → unquoted inside ≡ so_far ++ unquoted_after q (drop i inside) → unquoted inside ≡ after ++ unquoted_after p (drop (i + 1) inside)
@@ -65,31 +59,21 @@ counted_beyond p old mid c b = beyond_at old.left (subst (λ left. IsBeyond [] m
     beyond_at [] b = b
     beyond_at (x ∷ xs) b = rw (one_allowed p old.counts c.0) b
 
-pub name_counted : (p : Part) (old mid new : Spot) (r : Result Name ParseError) → IsName old.left → HasCounted p old mid → ReadsName [] mid new r → ReadsName (p ∷ []) old new r
-name_counted p old mid new (Ok n) is c t = counted_takes p old mid new _ c t
-name_counted p old mid new (Err errors.OutOfMemory) is c t = tt
-name_counted p old mid new (Err (errors.Fault Unexpected)) is c t =
-    absurd (no_name_there old.left is (subst NoName (ap (λ s. s.left) c.1) t.0))
-name_counted p old mid new (Err (errors.Fault TooDeep)) is c t = t
-name_counted p old mid new (Err (errors.Fault TooMany)) is c t =
+-- where a part begins with a token of a kind
+pub token_counted : {A : Type 0} (symbol : A → Symbol) (NoMemory : Type 0) (Is IsNo : List Symbol → Type 0) → ((left : List Symbol) → Is left → IsNo left → ⊥)
+    → (p : Part) (old mid new : Spot) (r : Result A ParseError) → Is old.left → HasCounted p old mid → ReadsToken symbol NoMemory Is IsNo [] mid new r → ReadsToken symbol NoMemory Is IsNo (p ∷ []) old new r
+token_counted symbol NoMemory Is IsNo apart p old mid new (Ok x) is c t = counted_takes p old mid new _ c t
+token_counted symbol NoMemory Is IsNo apart p old mid new (Err errors.OutOfMemory) is c t = t
+token_counted symbol NoMemory Is IsNo apart p old mid new (Err (errors.Fault Unexpected)) is c t =
+    absurd (apart old.left is (subst IsNo (ap (λ s. s.left) c.1) t.0))
+token_counted symbol NoMemory Is IsNo apart p old mid new (Err (errors.Fault TooDeep)) is c t = t
+token_counted symbol NoMemory Is IsNo apart p old mid new (Err (errors.Fault TooMany)) is c t =
     (counted_beyond p old mid c t.0, t.1 ∙ ap (λ s. s.left) c.1, is)
 
-pub number_counted : (p : Part) (old mid new : Spot) (r : Result Digits ParseError) → IsNumber old.left → HasCounted p old mid → ReadsNumber [] mid new r → ReadsNumber (p ∷ []) old new r
-number_counted p old mid new (Ok x) is c t = counted_takes p old mid new _ c t
-number_counted p old mid new (Err errors.OutOfMemory) is c t = t
-number_counted p old mid new (Err (errors.Fault Unexpected)) is c t =
-    absurd (no_number_there old.left is (subst NoNumber (ap (λ s. s.left) c.1) t.0))
-number_counted p old mid new (Err (errors.Fault TooDeep)) is c t = t
-number_counted p old mid new (Err (errors.Fault TooMany)) is c t =
-    (counted_beyond p old mid c t.0, t.1 ∙ ap (λ s. s.left) c.1, is)
-
-pub name_not_counted : (p : Part) (old new : Spot) (r : Result Name ParseError) (e : ParseError) → r ≡ Err e → IsName old.left → (e ≡ errors.Fault TooMany) × (limit p ≤ number_of old.counts p) × (new ≡ old) → ReadsName (p ∷ []) old new r
-name_not_counted p old new r e same is c =
-    subst (ReadsName (p ∷ []) old new) (sym (same ∙ ap Err c.0)) (beyond_name p old.counts old.left is c.1, ap (λ s. s.left) c.2, is)
-
-pub number_not_counted : (p : Part) (old new : Spot) (r : Result Digits ParseError) (e : ParseError) → r ≡ Err e → IsNumber old.left → (e ≡ errors.Fault TooMany) × (limit p ≤ number_of old.counts p) × (new ≡ old) → ReadsNumber (p ∷ []) old new r
-number_not_counted p old new r e same is c =
-    subst (ReadsNumber (p ∷ []) old new) (sym (same ∙ ap Err c.0)) (beyond_number p old.counts old.left is c.1, ap (λ s. s.left) c.2, is)
+pub token_not_counted : {A : Type 0} (symbol : A → Symbol) (NoMemory : Type 0) (Is IsNo : List Symbol → Type 0) → (Is [] → ⊥)
+    → (p : Part) (old new : Spot) (r : Result A ParseError) (e : ParseError) → r ≡ Err e → Is old.left → (e ≡ errors.Fault TooMany) × (limit p ≤ number_of old.counts p) × (new ≡ old) → ReadsToken symbol NoMemory Is IsNo (p ∷ []) old new r
+token_not_counted symbol NoMemory Is IsNo there p old new r e same is c =
+    subst (ReadsToken symbol NoMemory Is IsNo (p ∷ []) old new) (sym (same ∙ ap Err c.0)) (beyond_token Is there p old.counts old.left is c.1, ap (λ s. s.left) c.2, is)
 
 f_length : {A B : Type 0} (f : A → B) (old new : List A) (x : B) → map f old ≡ x ∷ map f new → length new ≤ length old
 f_length f old new x e = omega (arith, ap length e, length-map old f, length-map new f)

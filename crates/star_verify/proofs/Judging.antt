@@ -1,5 +1,5 @@
 -- What an instruction is answered, and what a put leaves.
-use Rattle.std.proofs.Common.{◌≡◌, ◌+◌, ◌*◌, ◌<◌, ◌≤◌, ◌⊎◌, ℕ, Bool, true, false, List, [], ◌∷◌, ◌++◌, length, Option, Some, None, inl, inr, ⊎_elim, arith, refl, ap, sym, subst}
+use Rattle.std.proofs.Common.{◌≡◌, ◌+◌, ◌*◌, ◌<◌, ◌≤◌, ◌⊎◌, ℕ, Bool, true, false, List, [], ◌∷◌, ◌++◌, length, Option, Some, None, inl, inr, ⊎_elim, arith, refl, ap, sym, subst, ◌∙◌}
 use Rattle.std.proofs.lemmas.Bool.{ltb-false, ltb-true}
 use Rattle.std.proofs.lemmas.Bool.Decides.{eqb_tells}
 use Rattle.std.proofs.lemmas.List.Elements.{All-get_or}
@@ -15,6 +15,7 @@ use Rattle.star_program.specs.World.{World}
 use Rattle.star_admission.specs.Contexts.{Context, after_op, known_share, put_share}
 use Rattle.star_admission.specs.Ranges as ranges
 use Rattle.star_admission.specs.declared.reason.Reason.{Reason}
+use Rattle.star_admission.specs.Refusals.{sums_overflow}
 use Rattle.star_admission.specs.Standing.{at_place}
 use Rattle.star_admission.specs.Tallies.{Share}
 use Rattle.star_verify.specs.declared.tally.Tally.{Tally}
@@ -80,11 +81,15 @@ module _ (w : World) (parts : Parts) (x : Context) (old new : List Tally) (g met
       (subst (λ tally. IsTally tally (x.so_far h a)) (sym kept) (had h lt a below t)))
       (eqb_tells h g)
 
--- the tallies of a group, from its first aggregate on
-pub from_first : (tallies : List Tally) (first : ℕ) (gs hs : List Aggregate)
-    (shares : ℕ → List Share) → gs ≡ hs → AreTallies tallies first hs shares
-    → AreTallies tallies first gs (λ a. shares (0 + a))
-from_first tallies first gs hs shares is h a lt =
-    let same : a ≡ 0 + a = omega arith in
+-- what is found of the SUMs of a group, from its first aggregate on
+pub found_from_first : (w : World) (tallies : List Tally) (first : ℕ) (gs hs : List Aggregate)
+    (shares : ℕ → List Share) (found : Option Reason) → gs ≡ hs
+    → AreTallies tallies first hs shares
+    → ((ss : ℕ → List Share) (from : ℕ) → AreTallies tallies first gs (λ a. ss (from + a))
+    → sums_overflow w gs from ss ≡ found)
+    → sums_overflow w hs 0 shares ≡ found
+found_from_first w tallies first gs hs shares found is h finds =
+    ap (λ ls. sums_overflow w ls 0 shares) (sym is)
+    ∙ finds shares 0 (λ a lt. let same : a ≡ 0 + a = omega arith in
     subst (λ n. IsTallyAt tallies (first + a) (shares n)) same
-    (h a (subst (λ l. a < length l) is lt))
+    (h a (subst (λ l. a < length l) is lt)))

@@ -1,5 +1,5 @@
 -- What refuses a program first.
-use Rattle.std.proofs.Common.{◌≡◌, ◌<◌, ◌≤◌, ℕ, Option, Some, inl, inr, ap, refl, sym, ◌∙◌}
+use Rattle.std.proofs.Common.{◌≡◌, ◌<◌, ◌≤◌, ℕ, Option, Some, inl, inr, ap, refl, sym, subst, ◌∙◌}
 use Rattle.std.specs.Option.{option_map, option_or}
 use Rattle.std.proofs.lemmas.Bool.{le-leb, lt-leb}
 use Rattle.star_common.specs.First.{first_answer}
@@ -28,34 +28,38 @@ pub same_quote : (w : World) (facts : Facts) → AreFacts w facts → (parts : P
 same_quote w facts are parts visits e =
     e ∙ ap (λ size. quote size parts) (λ i t. are.sizes t i)
 
-module _ (w : World) (most : ℕ) (parts : Parts) where
-  abbrev visits : ℕ
-  visits = quote w.size parts
-
+-- of a program that so many visits are quoted of, and whose parts a check holds
+module _ (w : World) (most : ℕ) (parts : Parts) (facts : Facts) (are : AreFacts w facts)
+    (visits : ℕ) (quoted : visits ≡ quote (size_of facts.sizes) parts) where
   abbrev later : Option (ℕ × Reason) → Option ℕ → Option admissible.Refusal
   later reason line = option_or (option_map admissible.Refused reason) (option_map admissible.BadShow line)
 
   pub too_costly : most < visits → first_refusal w most parts ≡ Some (admissible.TooCostly visits)
   too_costly over =
-      ap (λ cheap. option_or (cost_refusal visits cheap) (later (first_answer (reason_of w parts) (instructions_of w parts)) (shown_fault parts)))
-      (lt-leb visits most over)
+      let same = same_quote w facts are parts visits quoted in
+      subst (λ n. first_refusal w most parts ≡ Some (admissible.TooCostly n)) (sym same)
+      (ap (λ cheap. option_or (cost_refusal (quote w.size parts) cheap) (later (first_answer (reason_of w parts) (instructions_of w parts)) (shown_fault parts)))
+      (lt-leb (quote w.size parts) most (subst (λ n. most < n) same over)))
 
   -- within the limit, the instructions decide, and then the report
-  pub within : visits ≤ most → (reason : Option (ℕ × Reason)) (line : Option ℕ)
-      → first_reason w parts none_open at_first 1 parts.body ≡ reason → shown_fault parts ≡ line
+  pub within : (held : Parts) → held ≡ parts → visits ≤ most
+      → (reason : Option (ℕ × Reason)) (line : Option ℕ)
+      → first_reason w held none_open at_first 1 held.body ≡ reason → shown_fault held ≡ line
       → first_refusal w most parts ≡ later reason line
-  within cheap reason line first shown =
-      ap (λ b. option_or (cost_refusal visits b) (later (first_answer (reason_of w parts) (instructions_of w parts)) (shown_fault parts)))
-      (le-leb visits most cheap)
-      ∙ ap (λ r. later r (shown_fault parts)) (sym (first_standing w parts) ∙ first)
-      ∙ ap (later reason) shown
+  within held is cheap reason line first shown =
+      let same = same_quote w facts are parts visits quoted in
+      ap (λ b. option_or (cost_refusal (quote w.size parts) b) (later (first_answer (reason_of w parts) (instructions_of w parts)) (shown_fault parts)))
+      (le-leb (quote w.size parts) most (subst (λ n. n ≤ most) same cheap))
+      ∙ ap (λ r. later r (shown_fault parts)) (sym (first_standing w parts)
+      ∙ subst (λ p. first_reason w p none_open at_first 1 p.body ≡ reason) is first)
+      ∙ ap (later reason) (ap shown_fault (sym is) ∙ shown)
 
   -- what a check tells of the instructions
-  pub first_told : (refusal : Refusal) → visits ≤ most
-      → IsFirst refusal (first_reason w parts none_open at_first 1 parts.body)
+  pub first_told : (held : Parts) → held ≡ parts → visits ≤ most → (refusal : Refusal)
+      → IsFirst refusal (first_reason w held none_open at_first 1 held.body)
       → UnlessMemory told.OutOfMemory refusal (first_refusal w most parts ≡ refusal_shown refusal)
-  first_told told.OutOfMemory cheap is = inl refl
-  first_told (told.Refused at reason) cheap is =
-      inr (within cheap (Some (at, reason)) (shown_fault parts) is refl)
-  first_told (told.TooCostly n) cheap is = absurd is
-  first_told (told.BadShow place) cheap is = absurd is
+  first_told held is cheap told.OutOfMemory first = inl refl
+  first_told held is cheap (told.Refused at reason) first =
+      inr (within held is cheap (Some (at, reason)) (shown_fault held) first refl)
+  first_told held is cheap (told.TooCostly n) first = absurd first
+  first_told held is cheap (told.BadShow place) first = absurd first

@@ -94,19 +94,19 @@ abbrev pub IsBeyond : List Part → Counts → List Symbol → Type 0
 IsBeyond ps n [] = ⊥
 IsBeyond ps n (x ∷ xs) = is_over (plus n ps) ps || is_long x ≡ true
 
+-- a token of a kind that has to be next
+abbrev pub ReadsToken : {A : Type 0} → (A → Symbol) → (NoMemory : Type 0) → (Is IsNo : List Symbol → Type 0) → List Part → Spot → Spot → Result A ParseError → Type 0
+ReadsToken symbol NoMemory Is IsNo ps old new (Ok x) = Takes old new (symbol x) ps
+ReadsToken symbol NoMemory Is IsNo ps old new (Err errors.OutOfMemory) = NoMemory
+ReadsToken symbol NoMemory Is IsNo ps old new (Err (errors.Fault Unexpected)) = IsNo old.left × (new ≡ old)
+ReadsToken symbol NoMemory Is IsNo ps old new (Err (errors.Fault TooDeep)) = ⊥
+ReadsToken symbol NoMemory Is IsNo ps old new (Err (errors.Fault TooMany)) = IsBeyond ps old.counts old.left × (new.left ≡ old.left) × Is old.left
+
 abbrev pub ReadsName : List Part → Spot → Spot → Result Name ParseError → Type 0
-ReadsName ps old new (Ok n) = Takes old new (ident (name_view n)) ps
-ReadsName ps old new (Err errors.OutOfMemory) = Unit {0}
-ReadsName ps old new (Err (errors.Fault Unexpected)) = NoName old.left × (new ≡ old)
-ReadsName ps old new (Err (errors.Fault TooDeep)) = ⊥
-ReadsName ps old new (Err (errors.Fault TooMany)) = IsBeyond ps old.counts old.left × (new.left ≡ old.left) × IsName old.left
+ReadsName = ReadsToken (λ n. ident (name_view n)) (Unit {0}) IsName NoName
 
 abbrev pub ReadsNumber : List Part → Spot → Spot → Result Digits ParseError → Type 0
-ReadsNumber ps old new (Ok digits) = Takes old new (number digits.value) ps
-ReadsNumber ps old new (Err errors.OutOfMemory) = ⊥
-ReadsNumber ps old new (Err (errors.Fault Unexpected)) = NoNumber old.left × (new ≡ old)
-ReadsNumber ps old new (Err (errors.Fault TooDeep)) = ⊥
-ReadsNumber ps old new (Err (errors.Fault TooMany)) = IsBeyond ps old.counts old.left × (new.left ≡ old.left) × IsNumber old.left
+ReadsNumber = ReadsToken (λ digits. number digits.value) ⊥ IsNumber NoNumber
 
 abbrev pub ReadsText : Spot → Spot → Result (Vec ℕ Global) ParseError → Type 0
 ReadsText old new (Ok v) = Takes old new (text v.items) []

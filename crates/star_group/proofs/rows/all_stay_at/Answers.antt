@@ -1,8 +1,7 @@
-use Rattle.std.proofs.Common.{◌≡◌, [], MatchBool, false, get_or, length, map, rules, subst, true}
-use Rattle.std.specs.Option.{unwrap_or}
+use Rattle.std.proofs.Common.{◌≡◌, [], false, get_or, length, map, rules, true}
+use Rattle.std.proofs.lemmas.Bool.{MatchBool-at_false, MatchBool-at_true}
 use Rattle.star_group.specs.Base.{key_of, row_at}
 use Rattle.star_group.specs.Entries.{entries_of}
-use Rattle.star_group.specs.Private.Merged.{MergeLeaves, MergeStays}
 use Rattle.star_group.specs.declared.keyed.trie.Place.TheVariants.{Held}
 use Rattle.star_group.proofs.MergedRows.{key_here, key_within, leaves_now, narrow_at, place_in, stays_now}
 use Rattle.star_group.proofs.rows.all_stay_at.Goals as goal
@@ -14,30 +13,22 @@ stays_at-requires-clause-within c =
 
 pub returns-then-not-stays_at : goal.returns-then-not-stays_at
 returns-then-not-stays_at c =
-    let s = c.args.rows.now in
     let own = c.args.own.now in
-    let gs = c.args.aggregates.now in
-    let more = c.args.more.now in
     let i = c.loop-index.index in
+    let h = c.loop-index-test.true in
     let key = get_or own i [] in
     let six : length key ≡ 6 = search rules in
-    let h = c.loop-index-test.true in
-    let told = c.stays_at.ensures key six (narrow_at s.trie.width own i [] h c.requires.narrow) (c.requires.places.each i h) in
-    let held = unwrap_or (row_at (entries_of s) (key_of key)) [] in
     let no : c.stays_at.result ≡ false = search rules in
-    leaves_now (map key_of own) i (key_of key) (key_within own i h) (key_here own i h) gs more (row_at (entries_of s)) (subst (λ b. MatchBool b (MergeStays gs held more) (MergeLeaves gs held more)) no told)
+    leaves_now (map key_of own) i (key_of key) (key_within own i h) (key_here own i h) c.args.aggregates.now c.args.more.now (row_at (entries_of c.args.rows.now))
+    (MatchBool-at_false _ _ no (c.stays_at.ensures key six (narrow_at c.args.rows.now.trie.width own i [] h c.requires.narrow) (c.requires.places.each i h)))
 
 pub loop-index-preserved : goal.loop-index-preserved
 loop-index-preserved c =
-    let s = c.args.rows.now in
     let own = c.args.own.now in
-    let gs = c.args.aggregates.now in
-    let more = c.args.more.now in
     let i = c.loop-index.index in
+    let h = c.loop-index-test.true in
     let key = get_or own i [] in
     let six : length key ≡ 6 = search rules in
-    let h = c.loop-index-test.true in
-    let told = c.stays_at.ensures key six (narrow_at s.trie.width own i [] h c.requires.narrow) (c.requires.places.each i h) in
-    let held = unwrap_or (row_at (entries_of s) (key_of key)) [] in
     let yes : c.stays_at.result ≡ true = search rules in
-    stays_now (map key_of own) i (key_of key) (key_within own i h) (key_here own i h) gs more (row_at (entries_of s)) c.loop-index.invariant (subst (λ b. MatchBool b (MergeStays gs held more) (MergeLeaves gs held more)) yes told)
+    stays_now (map key_of own) i (key_of key) (key_within own i h) (key_here own i h) c.args.aggregates.now c.args.more.now (row_at (entries_of c.args.rows.now)) c.loop-index.invariant
+    (MatchBool-at_true _ _ yes (c.stays_at.ensures key six (narrow_at c.args.rows.now.trie.width own i [] h c.requires.narrow) (c.requires.places.each i h)))

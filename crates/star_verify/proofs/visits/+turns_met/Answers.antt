@@ -1,4 +1,4 @@
-use Rattle.std.proofs.Common.{◌≤◌, ◌<◌, ◌+◌, ◌*◌, ◌^◌, drop, sym, ap, subst, ◌∙◌, arith}
+use Rattle.std.proofs.Common.{◌≡◌, ◌≤◌, ◌<◌, ◌+◌, ◌*◌, ◌^◌, drop, sym, ap, subst, ◌∙◌, arith}
 use Rattle.star_schema.specs.Sizes.{size_of}
 use Rattle.star_program.specs.Code.{code_size, scan_depth}
 use Rattle.star_program.specs.CodeOfSteps.{code_of_steps}
@@ -6,48 +6,42 @@ use Rattle.star_admission.specs.Quote.{turns_met}
 use Rattle.star_program.proofs.Steps.{next_act, next_scan}
 use Rattle.star_verify.proofs.Turns.{inner, outer, often, scan_turns, scan_sum, scan_bound}
 use Rattle.star_verify.proofs.visits.+turns_met.Goals as goal
-use Rattle.star_verify.proofs.visits.+turns_met.Goals.{in-Act, in-Scan}
+use Rattle.star_verify.proofs.visits.+turns_met.Goals.{After-from, in-Act, in-Scan}
 
-pub overflow_mul-turns : goal.overflow_mul-turns
-overflow_mul-turns t c =
+-- what is left begins with the scan, whose body is met no more often than the bound allows
+at_scan : (t : _) (c : After-from t)
+    → (code_size (code_of_steps (drop c.loop-step.step-index c.as_slice-step-items.result.now))
+    ≡ 1 + code_size c.in-Scan.body + code_size (code_of_steps (drop (c.loop-step.step-index + 1) c.as_slice-step-items.result.now)))
+    × (c.args.times * c.from.result * (2 ^ 32) ^ scan_depth c.in-Scan.body ≤ 2 ^ 96)
+    × (c.args.times * c.from.result ≤ 2 ^ 96)
+at_scan t c =
     let code = next_scan c.as_slice-step-items.result.now c.loop-step.step-index c.step-item.result c.in-Scan.table c.in-Scan.target c.in-Scan.body c.loop-step-test.true c.step-item.is c.in-Scan.is in
     let small : c.from.result < 2 ^ 32 = omega (arith, c.from.ensures, c.of.type_inv) in
     let deep = inner c.args.times c.from.result c.in-Scan.table c.in-Scan.target c.in-Scan.body _ _ code small c.loop-step.invariant.deep in
-    let few : c.args.times * c.from.result ≤ 2 ^ 96 = often _ _ deep in
-    omega (arith, few)
+    (ap code_size code, deep, often _ _ deep)
+
+pub overflow_mul-turns : goal.overflow_mul-turns
+overflow_mul-turns t c = omega (arith, (at_scan t (goal.at.overflow_mul-turns t c).After-from).2)
 
 pub turns_met-requires : goal.turns_met-requires
 turns_met-requires t c =
-    let code = next_scan c.as_slice-step-items.result.now c.loop-step.step-index c.step-item.result c.in-Scan.table c.in-Scan.target c.in-Scan.body c.loop-step-test.true c.step-item.is c.in-Scan.is in
-    let left = ap code_size code in
-    let all = ap code_size c.as_slice-step-items.ensures in
-    let small : c.from.result < 2 ^ 32 = omega (arith, c.from.ensures, c.of.type_inv) in (
-      omega (arith, c.decreases, left, all, c.loop-step.invariant.size),
-      (
-        omega (arith, c.requires.few, left, all, c.loop-step.invariant.size),
-        inner c.args.times c.from.result c.in-Scan.table c.in-Scan.target c.in-Scan.body _ _ code small c.loop-step.invariant.deep,
-      ),
+    let scan = at_scan t (goal.at.turns_met-requires t c).After-from in
+    let all = ap code_size c.as_slice-step-items.ensures in (
+      omega (arith, c.decreases, scan.0, all, c.loop-step.invariant.size),
+      (omega (arith, c.requires.few, scan.0, all, c.loop-step.invariant.size), scan.1),
     )
 
 pub overflow_add-total : goal.overflow_add-total
 overflow_add-total t c =
-    let code = next_scan c.as_slice-step-items.result.now c.loop-step.step-index c.step-item.result c.in-Scan.table c.in-Scan.target c.in-Scan.body c.loop-step-test.true c.step-item.is c.in-Scan.is in
-    let left = ap code_size code in
+    let scan = at_scan t (goal.at.overflow_add-total t c).After-from in
     let all = ap code_size c.as_slice-step-items.ensures in
-    let small : c.from.result < 2 ^ 32 = omega (arith, c.from.ensures, c.of.type_inv) in
-    let deep = inner c.args.times c.from.result c.in-Scan.table c.in-Scan.target c.in-Scan.body _ _ code small c.loop-step.invariant.deep in
-    let few : c.args.times * c.from.result ≤ 2 ^ 96 = often _ _ deep in
-    omega (arith, few, c.turns_met.ensures.bound, c.requires.few, left, all, c.loop-step.invariant.size)
+    omega (arith, scan.2, c.turns_met.ensures.bound, c.requires.few, scan.0, all, c.loop-step.invariant.size)
 
 pub overflow_add-total-in-Scan : goal.overflow_add-total-in-Scan
 overflow_add-total-in-Scan t c =
-    let code = next_scan c.as_slice-step-items.result.now c.loop-step.step-index c.step-item.result c.in-Scan.table c.in-Scan.target c.in-Scan.body c.loop-step-test.true c.step-item.is c.in-Scan.is in
-    let left = ap code_size code in
+    let scan = at_scan t (goal.at.overflow_add-total-in-Scan t c).After-from in
     let all = ap code_size c.as_slice-step-items.ensures in
-    let small : c.from.result < 2 ^ 32 = omega (arith, c.from.ensures, c.of.type_inv) in
-    let deep = inner c.args.times c.from.result c.in-Scan.table c.in-Scan.target c.in-Scan.body _ _ code small c.loop-step.invariant.deep in
-    let few : c.args.times * c.from.result ≤ 2 ^ 96 = often _ _ deep in
-    omega (arith, few, c.turns_met.ensures.bound, c.requires.few, left, all, c.loop-step.invariant.bound)
+    omega (arith, scan.2, c.turns_met.ensures.bound, c.requires.few, scan.0, all, c.loop-step.invariant.bound)
 
 pub loop-step-preserved : goal.loop-step-preserved
 loop-step-preserved t c =

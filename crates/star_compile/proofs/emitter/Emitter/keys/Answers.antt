@@ -1,8 +1,10 @@
-use Rattle.std.proofs.Common.{arith, ◌+◌, drop, slice_index_or, drop_of_length-le}
+use Rattle.std.proofs.Common.{arith, ◌+◌, drop, refl, slice_index_or, drop_of_length-le}
 use Rattle.std.proofs.lemmas.Grind.{common_steps}
 use Rattle.std.proofs.lemmas.List.{drop_more}
 use Rattle.star_schema.specs.declared.column.ColumnId.TheVariants.{DDatekey}
-use Rattle.star_compile.proofs.Emits.{room_for_key, keys_written}
+use Rattle.star_compiled.specs.Compiled.{keys_code}
+use Rattle.star_compile.specs.Private.Emitted.{keys_after}
+use Rattle.star_compile.proofs.Emits.{keys_behind, room_for_key, all_written}
 use Rattle.star_compile.proofs.emitter.Emitter.keys.Goals as goal
 
 pub column-requires : goal.column-requires
@@ -19,13 +21,14 @@ column-requires c =
 
 pub returns : goal.returns
 returns c =
+    let joins = c.args.joins.now in
     let columns = c.args.columns.now in
     record {
       written =
-          keys_written c.args.joins.now c.args.self.now c.loop-column.self columns
-          (drop c.loop-column.column-index columns) c.loop-column.registers.items
-          (drop_of_length-le columns c.loop-column-test.false)
-          c.loop-column.invariant;
+          all_written (keys_after joins) (keys_code joins) (keys_behind joins) c.args.self.now
+          c.loop-column.self columns (drop c.loop-column.column-index columns)
+          c.loop-column.registers.items c.loop-column.invariant (λ env k. refl)
+          (drop_of_length-le columns c.loop-column-test.false);
     }
 
 pub loop-column-preserved : goal.loop-column-preserved

@@ -1,7 +1,9 @@
-use Rattle.std.proofs.Common.{◌+◌, drop, ◌∷◌, sym, ap, ◌∙◌, drop_of_length-le}
+use Rattle.std.proofs.Common.{◌+◌, drop, ◌∷◌, refl, sym, ap, ◌∙◌, drop_of_length-le}
 use Rattle.std.proofs.lemmas.List.{drop_more}
 use Rattle.star_plan.specs.Shown.{measure_shown, measures_shown}
-use Rattle.star_compile.proofs.Emits.{room_for_value, values_written}
+use Rattle.star_compiled.specs.Compiled.{values_code}
+use Rattle.star_compile.specs.Private.Emitted.{values_after}
+use Rattle.star_compile.proofs.Emits.{values_behind, room_for_value, all_written}
 use Rattle.star_compile.proofs.emitter.Emitter.values.Goals as goal
 
 pub value-requires : goal.value-requires
@@ -22,12 +24,13 @@ value-requires c =
 
 pub returns : goal.returns
 returns c =
+    let joins = c.args.joins.now in
     let aggregates = c.args.aggregates.now in
     record {
       written =
-          values_written c.args.joins.now c.args.self.now c.loop-aggregate.self
-          (measures_shown aggregates)
+          all_written (values_after joins) (values_code joins) (values_behind joins) c.args.self.now
+          c.loop-aggregate.self (measures_shown aggregates)
           (measures_shown (drop c.loop-aggregate.aggregate-index aggregates))
-          c.loop-aggregate.registers.items (ap measures_shown
-          (drop_of_length-le aggregates c.loop-aggregate-test.false)) c.loop-aggregate.invariant;
+          c.loop-aggregate.registers.items c.loop-aggregate.invariant (λ env k. refl)
+          (ap measures_shown (drop_of_length-le aggregates c.loop-aggregate-test.false));
     }
