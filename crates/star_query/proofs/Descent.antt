@@ -20,6 +20,7 @@ use Rattle.star_query.specs.Grammar.{Expr, joined, Term, times, column, constant
 use Rattle.star_query.specs.Private.Machine.{ExprHole, in_parens, TermHole, first_term, next_term, FactorHole, first_factor, next_factor, expr_depth, term_depth, factor_depth, State, factor_wanted, factor_negative, term_had, expr_had, give_factor, to, step, at_end, Verdict, Bad, plus, checked, after, ends, run}
 use Rattle.star_query.specs.Views.{name_view, expression_view}
 use Rattle.star_query.specs.Private.Reads.{Spot, head_of, No, verdict, EndsBad, Takes, NoName, NoNumber, IsName, IsNumber, IsBeyond, ReadsToken, ReadsName, ReadsNumber, Nests, ReadsPhrase, ReadsOperand, ReadsFactor, ReadsTerm, ReadsExpr}
+use Rattle.star_query.specs.Private.Lists.{bad_along}
 use Rattle.star_query.proofs.Counting.{not_below}
 use Rattle.star_query.proofs.Accepting.{expr_joins, parens_close}
 use Rattle.star_query.proofs.Tokens.{no_name_there}
@@ -64,10 +65,6 @@ too_many old ps d from beyond deep goes = by_left old.left beyond goes
         ap (λ o. after o old.counts (x ∷ xs) (run xs)) e.1 ∙ now
 
 -- an end that is reached later
-pub bad_along : (e : ParseError) (new : Spot) (v w : Verdict) → v ≡ w → EndsBad e new w → EndsBad e new v
-bad_along errors.OutOfMemory new v w same b = tt
-bad_along (errors.Fault f) new v w same b = same ∙ b
-
 pub bad_here : (f : Fault) (old new : Spot) (v : Verdict) → new.left ≡ old.left → v ≡ Bad f old.left → EndsBad (errors.Fault f) new v
 bad_here f old new v same b = b ∙ ap (Bad f) (sym same)
 

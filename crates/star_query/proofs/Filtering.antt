@@ -24,8 +24,9 @@ use Rattle.star_query.specs.Grammar.{whole, negated, quoted, Cond, or_conj, Conj
 use Rattle.star_query.specs.Private.Machine.{compared, low, high, UnitHole, first_unit, next_unit, under_not, ConjHole, first_conj, next_conj, CondHole, in_group, lit_depth, unit_depth, conj_depth, cond_depth, lit_wanted, lit_negative, low_had, unit_wanted, unit_named, equal_had, conj_had, cond_had, give_lit, give_unit, behind_relation, step, Verdict}
 use Rattle.star_query.specs.Views.{name_view, literal_view, condition_view}
 use Rattle.star_query.specs.Private.Reads.{Spot, No, verdict, Takes, NoName, ReadsName, ReadsLit, ReadsNamed, ReadsUnit, ReadsConj, ReadsCond}
+use Rattle.star_query.specs.Private.Lists.{bad_along}
 use Rattle.star_query.proofs.Accepting.{cond_joins, group_closes}
-use Rattle.star_query.proofs.Descent.{takes, stuck, bad_along, bad_name, refused, along, same_from, head_no_name}
+use Rattle.star_query.proofs.Descent.{takes, stuck, bad_name, refused, along, same_from, head_no_name}
 
 -- literals
 pub read_negated : (old mid new : Spot) (x : Literal) (n : ℕ) → literal_view x ≡ tree.number (neg_ℤ (pos n)) → Takes old mid (additive Minus) [] → Takes mid new (number n) [] → ReadsLit old new (Ok x)

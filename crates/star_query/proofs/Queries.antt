@@ -1,10 +1,9 @@
 -- The parser's functions on the clauses of a query go with the machine.
-use Rattle.std.proofs.Common.{◌≡◌, ◌∙◌, ℕ, ◌<◌, ◌≤◌, Bool, true, false, List, [], ◌∷◌, ◌++◌, map, length, Option, Some, None, Result, Ok, Err, refl, sym, ap, subst, arith}
+use Rattle.std.proofs.Common.{◌≡◌, ◌∙◌, ℕ, ◌<◌, ◌≤◌, Bool, true, false, List, [], ◌∷◌, map, length, Option, Some, None, Result, Ok, Err, refl, sym, ap, subst, arith}
 use Rattle.std.specs.Prelude.{option_map, OnOk, ◌==◌}
 use Rattle.std.specs.Bool.{OnTrue, OnFalse}
 use Rattle.std.specs.declared.alloc.Global.{Global}
 use Rattle.std.specs.declared.vec.Vec.{Vec}
-use Rattle.std.proofs.lemmas.List.{map-append}
 use Rattle.star_query.specs.declared.token.Fold.{Fold}
 use Rattle.star_query.specs.declared.token.Keyword.TheVariants as k
 use Rattle.star_query.specs.declared.token.Sign.TheVariants as s
@@ -35,14 +34,18 @@ use Rattle.star_query.specs.Tree as tree
 use Rattle.star_query.specs.Grammar as grammar
 use Rattle.star_query.specs.Grammar.{Several, one, more, Agg, folded, counted, Cond, lone_conj, or_conj, Key, unmarked, ascending, descending, grouped, cubed, Query, first, ident, cond_tree, agg_tree, item_tree, key_tree, listed, names, groups_tree}
 use Rattle.star_query.specs.Private.Machine.{extended, in_fold, in_where, first_factor, first_term, first_unit, first_conj, Filtered, Grouped, filtered_by, grouped_by, query_of, State, begin, item_wanted, fold_named, count_named, count_opened, count_starred, factor_wanted, expr_had, cond_had, agg_had, alias_wanted, items_had, table_wanted, tables_had, unit_wanted, filtered_had, by_had, cube_had, column_wanted, columns_had, grouped_had, order_had, key_wanted, key_named, keys_had, done, ended, to, step, at_end, Whole, Bad, after, ends, run}
-use Rattle.star_query.specs.Views.{name_view, condition_view, measure_view, aggregate_view, item_view, grouping_view, key_view}
+use Rattle.star_query.specs.Views.{name_view, condition_view, measure_view, aggregate_view, item_view, grouping_view}
 use Rattle.star_query.specs.Private.Reads.{Spot, spot_of, head_of, No, verdict, EndsBad, Takes, NoName, ReadsName, ReadsExpr, ReadsCond, NoLogic}
-use Rattle.star_query.specs.Private.Clauses.{function_symbol, function_named, function_parts, ReadsFolded, ReadsCounted, ReadsMeasure, ReadsAlias, ReadsAggregate, ReadsItem, NoComma, ReadsItems, ReadsTables, ReadsFilter, ReadsColumns, ReadsGroups, ReadsGrouping, ReadsKey, ReadsKeyList, ReadsKeys, ReadsEnd, ReadsQuery}
+use Rattle.star_query.specs.Private.Clauses.{function_symbol, function_named, function_parts, ReadsFolded, ReadsCounted, ReadsMeasure, ReadsAlias, ReadsAggregate, ReadsItem, NoComma, ReadsItems, ReadsTable, ReadsTables, ReadsFilter, ReadsColumn, ReadsColumns, ReadsGroups, ReadsGrouping, ReadsKey, ReadsKeyList, ReadsKeys, ReadsEnd, ReadsQuery}
+use Rattle.star_query.specs.Private.Lists.{PassesComma, bad_along}
 use Rattle.star_query.proofs.Accepting.{fold_closes}
-use Rattle.star_query.proofs.Descent.{takes, stuck, bad_along, bad_name, refused, same_from, head_no_name}
+use Rattle.star_query.proofs.Descent.{takes, stuck, bad_name, refused, same_from, head_no_name}
 
 zero_deep : 0 ≤ 32
 zero_deep = omega arith
+
+pub comma_passed : (here mid : Spot) → Takes here mid (sign s.Comma) [] → PassesComma here mid
+comma_passed here mid t = λ from next e. takes here mid _ [] 0 from next t zero_deep e
 
 -- what has to be next, and isn't
 pub not_next : (x : Symbol) (old new : Spot) (from : State) (e : ParseError) → at_end from ≡ None → ((y : Symbol) → head_of old.left ≡ Some y → (y ≡ x → ⊥) → step from y ≡ None) → (e ≡ errors.Fault Unexpected) × No x old × (new ≡ old) → EndsBad e new (verdict old from)
@@ -115,38 +118,20 @@ pub read_item_name : (old mid new : Spot) (n : Name) → mid ≡ old → Takes m
 read_item_name old mid new n same t =
     (grammar.plain (name_view n), refl, λ b u. ap (λ s. verdict s (item_wanted b)) (sym same) ∙ takes mid new _ (part.Item ∷ []) 0 (item_wanted b) (items_had (extended b (grammar.plain (name_view n)))) t zero_deep refl)
 
--- one more of a list
-one_listed : {A B C : Type 0} (f : A → B) (g : C → B) (x : A) (y : C) (v : List C) → v ≡ [] ++ y ∷ [] → f x ≡ g y → listed f (one x) ≡ map g v
-one_listed f g x y v e same = ap (λ z. z ∷ []) same ∙ ap (map g) (sym e)
-
-more_listed : {A B C : Type 0} (f : A → B) (g : C → B) (xs : Several A) (x : A) (y : C) (so_far v : List C) → v ≡ so_far ++ y ∷ [] → listed f xs ≡ map g so_far → f x ≡ g y → listed f (more xs x) ≡ map g v
-more_listed f g xs x y so_far v e before same =
-    ap (λ l. l ++ f x ∷ []) before ∙ ap (λ z. map g so_far ++ z ∷ []) same ∙ sym (map-append g so_far (y ∷ [])) ∙ ap (map g) (sym e)
-
 -- items
-pub first_item : (old mid : Spot) (i : Item) (v : List Item) → v ≡ [] ++ i ∷ [] → ReadsItem old mid (Ok i) → (is : Several grammar.Item) × (listed item_tree is ≡ map item_view v) × (verdict old (item_wanted None) ≡ verdict mid (items_had is))
-first_item old mid i v e reads = (one reads.0, one_listed item_tree item_view reads.0 i v e reads.1, reads.2 None tt)
-
-pub next_item : (old here mid new : Spot) (so_far v : List Item) (i : Item) → ((is : Several grammar.Item) × (listed item_tree is ≡ map item_view so_far) × (verdict old (item_wanted None) ≡ verdict here (items_had is))) → v ≡ so_far ++ i ∷ [] → Takes here mid (sign s.Comma) [] → ReadsItem mid new (Ok i) → (is : Several grammar.Item) × (listed item_tree is ≡ map item_view v) × (verdict old (item_wanted None) ≡ verdict new (items_had is))
-next_item old here mid new so_far v i before e t reads =
-    (more before.0 reads.0, more_listed item_tree item_view before.0 reads.0 i so_far v e before.1 reads.1, before.2 ∙ takes here mid _ [] 0 (items_had before.0) (item_wanted (Some before.0)) t zero_deep refl ∙ reads.2 (Some before.0) tt)
-
 -- tables
-pub first_table : (old mid : Spot) (n : Name) (v : List Name) → v ≡ [] ++ n ∷ [] → Takes old mid (ident (name_view n)) [] → (ts : Several tree.Name) × (names ts ≡ map name_view v) × ((is : Several grammar.Item) → verdict old (table_wanted is None) ≡ verdict mid (tables_had is ts))
-first_table old mid n v e t =
-    (one (name_view n), one_listed (λ i. i) name_view (name_view n) n v e refl, λ is. takes old mid _ [] 0 (table_wanted is None) (tables_had is (one (name_view n))) t zero_deep refl)
-
-pub next_table : (old here mid new : Spot) (so_far v : List Name) (n : Name) → ((ts : Several tree.Name) × (names ts ≡ map name_view so_far) × ((is : Several grammar.Item) → verdict old (table_wanted is None) ≡ verdict here (tables_had is ts))) → v ≡ so_far ++ n ∷ [] → Takes here mid (sign s.Comma) [] → Takes mid new (ident (name_view n)) [] → (ts : Several tree.Name) × (names ts ≡ map name_view v) × ((is : Several grammar.Item) → verdict old (table_wanted is None) ≡ verdict new (tables_had is ts))
-next_table old here mid new so_far v n before e comma t =
-    (more before.0 (name_view n), more_listed (λ i. i) name_view before.0 (name_view n) n so_far v e before.1 refl, λ is. before.2 is ∙ takes here mid _ [] 0 (tables_had is before.0) (table_wanted is (Some before.0)) comma zero_deep refl ∙ takes mid new _ [] 0 (table_wanted is (Some before.0)) (tables_had is (more before.0 (name_view n))) t zero_deep refl)
-
 only_table : (is : Several grammar.Item) (b : Option (Several tree.Name)) (x : Symbol) → NoName (x ∷ []) → step (table_wanted is b) x ≡ None
 only_table is b (name t p) none = absurd none
 only_table is b _ none = refl
 
-pub bad_table : (is : Several grammar.Item) (b : Option (Several tree.Name)) (old new : Spot) (e : ParseError) → ReadsName [] old new (Err e) → EndsBad e new (verdict old (table_wanted is b))
+bad_table : (is : Several grammar.Item) (b : Option (Several tree.Name)) (old new : Spot) (e : ParseError) → ReadsName [] old new (Err e) → EndsBad e new (verdict old (table_wanted is b))
 bad_table is b old new e reads =
     bad_name [] 0 (table_wanted is b) old new e zero_deep (λ t p. (tables_had is (extended b (record { text = t; place = p })), refl)) (λ none. stuck old (table_wanted is b) refl (λ x head. only_table is b x (head_no_name old.left x head none))) reads
+
+pub read_table : (old new : Spot) (r : Result Name ParseError) → ReadsName [] old new r → ReadsTable old new r
+read_table old new (Ok n) t =
+    (name_view n, refl, λ h u. takes old new _ [] 0 (table_wanted h.0 h.1) (tables_had h.0 (extended h.1 (name_view n))) t zero_deep refl)
+read_table old new (Err e) bad = λ h u. bad_table h.0 h.1 old new e bad
 
 -- the filter
 cond_acts_end : (a : Cond) (is : Several grammar.Item) (ts : Several tree.Name) → at_end (cond_had a (in_where is ts)) ≡ at_end (filtered_had (filtered_by is ts (Some a)))
@@ -179,21 +164,18 @@ read_no_filter old new no_comma no_where same =
     (None, refl, λ h u. same_from old (tables_had h.0 h.1) (filtered_had (filtered_by h.0 h.1 None)) refl (λ x head. tables_step h.0 h.1 x (λ q. no_comma (head ∙ ap Some q)) (λ q. no_where (head ∙ ap Some q))) ∙ ap (λ s. verdict s (filtered_had (filtered_by h.0 h.1 None))) (sym same))
 
 -- columns
-pub first_column : (old mid : Spot) (n : Name) (v : List Name) → v ≡ [] ++ n ∷ [] → Takes old mid (ident (name_view n)) (part.GroupColumn ∷ []) → (is : Several tree.Name) × (names is ≡ map name_view v) × ((h : Filtered × Bool) → verdict old (column_wanted h.0 h.1 None) ≡ verdict mid (columns_had h.0 h.1 is))
-first_column old mid n v e t =
-    (one (name_view n), one_listed (λ i. i) name_view (name_view n) n v e refl, λ h. takes old mid _ (part.GroupColumn ∷ []) 0 (column_wanted h.0 h.1 None) (columns_had h.0 h.1 (one (name_view n))) t zero_deep refl)
-
-pub next_column : (old here mid new : Spot) (so_far v : List Name) (n : Name) → ((is : Several tree.Name) × (names is ≡ map name_view so_far) × ((h : Filtered × Bool) → verdict old (column_wanted h.0 h.1 None) ≡ verdict here (columns_had h.0 h.1 is))) → v ≡ so_far ++ n ∷ [] → Takes here mid (sign s.Comma) [] → Takes mid new (ident (name_view n)) (part.GroupColumn ∷ []) → (is : Several tree.Name) × (names is ≡ map name_view v) × ((h : Filtered × Bool) → verdict old (column_wanted h.0 h.1 None) ≡ verdict new (columns_had h.0 h.1 is))
-next_column old here mid new so_far v n before e comma t =
-    (more before.0 (name_view n), more_listed (λ i. i) name_view before.0 (name_view n) n so_far v e before.1 refl, λ h. before.2 h ∙ takes here mid _ [] 0 (columns_had h.0 h.1 before.0) (column_wanted h.0 h.1 (Some before.0)) comma zero_deep refl ∙ takes mid new _ (part.GroupColumn ∷ []) 0 (column_wanted h.0 h.1 (Some before.0)) (columns_had h.0 h.1 (more before.0 (name_view n))) t zero_deep refl)
-
 only_column : (f : Filtered) (cube : Bool) (b : Option (Several tree.Name)) (x : Symbol) → NoName (x ∷ []) → step (column_wanted f cube b) x ≡ None
 only_column f cube b (name t p) none = absurd none
 only_column f cube b _ none = refl
 
-pub bad_column_name : (f : Filtered) (cube : Bool) (b : Option (Several tree.Name)) (old new : Spot) (e : ParseError) → ReadsName (part.GroupColumn ∷ []) old new (Err e) → EndsBad e new (verdict old (column_wanted f cube b))
+bad_column_name : (f : Filtered) (cube : Bool) (b : Option (Several tree.Name)) (old new : Spot) (e : ParseError) → ReadsName (part.GroupColumn ∷ []) old new (Err e) → EndsBad e new (verdict old (column_wanted f cube b))
 bad_column_name f cube b old new e reads =
     bad_name (part.GroupColumn ∷ []) 0 (column_wanted f cube b) old new e zero_deep (λ t p. (columns_had f cube (extended b (record { text = t; place = p })), refl)) (λ none. stuck old (column_wanted f cube b) refl (λ x head. only_column f cube b x (head_no_name old.left x head none))) reads
+
+pub read_column : (old new : Spot) (r : Result Name ParseError) → ReadsName (part.GroupColumn ∷ []) old new r → ReadsColumn old new r
+read_column old new (Ok n) t =
+    (name_view n, refl, λ h u. takes old new _ (part.GroupColumn ∷ []) 0 (column_wanted h.0.0 h.0.1 h.1) (columns_had h.0.0 h.0.1 (extended h.1 (name_view n))) t zero_deep refl)
+read_column old new (Err e) bad = λ h u. bad_column_name h.0.0 h.0.1 h.1 old new e bad
 
 -- groups
 cube_ends : (f : Filtered) (is : Several tree.Name) (x : Symbol) → (x ≡ sign s.Comma → ⊥) → (x ≡ sign s.Close → ⊥) → step (columns_had f true is) x ≡ None
@@ -255,13 +237,6 @@ only_key : (g : Grouped) (b : Option (Several Key)) (x : Symbol) → NoName (x �
 only_key g b (name t p) none = absurd none
 only_key g b _ none = refl
 
-pub first_key : (old mid : Spot) (i : SortKey) (v : List SortKey) → v ≡ [] ++ i ∷ [] → ReadsKey old mid (Ok i) → (ks : Several Key) × (listed key_tree ks ≡ map key_view v) × ((g : Grouped) → verdict old (key_wanted g None) ≡ verdict mid (keys_had g ks))
-first_key old mid i v e reads = (one reads.0, one_listed key_tree key_view reads.0 i v e reads.1, λ g. reads.2 (g, None) tt)
-
-pub next_key : (old here mid new : Spot) (so_far v : List SortKey) (i : SortKey) → ((ks : Several Key) × (listed key_tree ks ≡ map key_view so_far) × ((g : Grouped) → verdict old (key_wanted g None) ≡ verdict here (keys_had g ks))) → v ≡ so_far ++ i ∷ [] → Takes here mid (sign s.Comma) [] → ReadsKey mid new (Ok i) → (ks : Several Key) × (listed key_tree ks ≡ map key_view v) × ((g : Grouped) → verdict old (key_wanted g None) ≡ verdict new (keys_had g ks))
-next_key old here mid new so_far v i before e t reads =
-    (more before.0 reads.0, more_listed key_tree key_view before.0 reads.0 i so_far v e before.1 reads.1, λ g. before.2 g ∙ takes here mid _ [] 0 (keys_had g before.0) (key_wanted g (Some before.0)) t zero_deep refl ∙ reads.2 (g, Some before.0) tt)
-
 keys_step : (g : Grouped) (ks : Several Key) (x : Symbol) → (x ≡ sign s.Comma → ⊥) → step (keys_had g ks) x ≡ step (done g (Some ks)) x
 keys_step g ks (sign s.Comma) other = absurd (other refl)
 keys_step g ks _ other = refl
@@ -315,38 +290,6 @@ pub left_over : (parser : Parser) (b : Bool) → b ≡ (length parser.left.now =
 left_over parser b e none = some_left (λ t. symbol_of t.kind t.place) parser.left.now b e none
 
 -- what was refused in a list
-pub bad_first_item : (old new : Spot) (r : Result (Vec Item Global) ParseError) (e : ParseError) → r ≡ Err e → ReadsItem old new (Err e) → ReadsItems old new r
-bad_first_item old new r e is b =
-    refused (λ v. map item_view v.items) (listed item_tree) (λ h. Unit {0}) (λ (u : Unit {0}). item_wanted None) (λ is u. items_had is) old new r e is (λ u v. b None tt)
-
-pub bad_next_item : (old here mid new : Spot) (so_far : List Item) (r : Result (Vec Item Global) ParseError) (e : ParseError) → r ≡ Err e → ((is : Several grammar.Item) × (listed item_tree is ≡ map item_view so_far) × (verdict old (item_wanted None) ≡ verdict here (items_had is))) → Takes here mid (sign s.Comma) [] → ReadsItem mid new (Err e) → ReadsItems old new r
-bad_next_item old here mid new so_far r e is before t b =
-    refused (λ v. map item_view v.items) (listed item_tree) (λ h. Unit {0}) (λ (u : Unit {0}). item_wanted None) (λ is u. items_had is) old new r e is (λ u v. bad_along e new _ _ (before.2 ∙ takes here mid _ [] 0 (items_had before.0) (item_wanted (Some before.0)) t zero_deep refl) (b (Some before.0) tt))
-
-pub bad_first_table : (old new : Spot) (r : Result (Vec Name Global) ParseError) (e : ParseError) → r ≡ Err e → ReadsName [] old new (Err e) → ReadsTables old new r
-bad_first_table old new r e is b =
-    refused (λ v. map name_view v.items) names (λ h. Unit {0}) (λ is. table_wanted is None) (λ ts is. tables_had is ts) old new r e is (λ is u. bad_table is None old new e b)
-
-pub bad_next_table : (old here mid new : Spot) (so_far : List Name) (r : Result (Vec Name Global) ParseError) (e : ParseError) → r ≡ Err e → ((ts : Several tree.Name) × (names ts ≡ map name_view so_far) × ((is : Several grammar.Item) → verdict old (table_wanted is None) ≡ verdict here (tables_had is ts))) → Takes here mid (sign s.Comma) [] → ReadsName [] mid new (Err e) → ReadsTables old new r
-bad_next_table old here mid new so_far r e is before t b =
-    refused (λ v. map name_view v.items) names (λ h. Unit {0}) (λ is. table_wanted is None) (λ ts is. tables_had is ts) old new r e is (λ is u. bad_along e new _ _ (before.2 is ∙ takes here mid _ [] 0 (tables_had is before.0) (table_wanted is (Some before.0)) t zero_deep refl) (bad_table is (Some before.0) mid new e b))
-
-pub bad_first_column : (old new : Spot) (r : Result (Vec Name Global) ParseError) (e : ParseError) → r ≡ Err e → ReadsName (part.GroupColumn ∷ []) old new (Err e) → ReadsColumns old new r
-bad_first_column old new r e is b =
-    refused (λ v. map name_view v.items) names (λ h. Unit {0}) (λ (h : Filtered × Bool). column_wanted h.0 h.1 None) (λ is h. columns_had h.0 h.1 is) old new r e is (λ h u. bad_column_name h.0 h.1 None old new e b)
-
-pub bad_next_column : (old here mid new : Spot) (so_far : List Name) (r : Result (Vec Name Global) ParseError) (e : ParseError) → r ≡ Err e → ((is : Several tree.Name) × (names is ≡ map name_view so_far) × ((h : Filtered × Bool) → verdict old (column_wanted h.0 h.1 None) ≡ verdict here (columns_had h.0 h.1 is))) → Takes here mid (sign s.Comma) [] → ReadsName (part.GroupColumn ∷ []) mid new (Err e) → ReadsColumns old new r
-bad_next_column old here mid new so_far r e is before t b =
-    refused (λ v. map name_view v.items) names (λ h. Unit {0}) (λ (h : Filtered × Bool). column_wanted h.0 h.1 None) (λ is h. columns_had h.0 h.1 is) old new r e is (λ h u. bad_along e new _ _ (before.2 h ∙ takes here mid _ [] 0 (columns_had h.0 h.1 before.0) (column_wanted h.0 h.1 (Some before.0)) t zero_deep refl) (bad_column_name h.0 h.1 (Some before.0) mid new e b))
-
-pub bad_first_key : (old new : Spot) (r : Result (Vec SortKey Global) ParseError) (e : ParseError) → r ≡ Err e → ReadsKey old new (Err e) → ReadsKeyList old new r
-bad_first_key old new r e is b =
-    refused (λ v. map key_view v.items) (listed key_tree) (λ h. Unit {0}) (λ g. key_wanted g None) (λ ks g. keys_had g ks) old new r e is (λ g u. b (g, None) tt)
-
-pub bad_next_key : (old here mid new : Spot) (so_far : List SortKey) (r : Result (Vec SortKey Global) ParseError) (e : ParseError) → r ≡ Err e → ((ks : Several Key) × (listed key_tree ks ≡ map key_view so_far) × ((g : Grouped) → verdict old (key_wanted g None) ≡ verdict here (keys_had g ks))) → Takes here mid (sign s.Comma) [] → ReadsKey mid new (Err e) → ReadsKeyList old new r
-bad_next_key old here mid new so_far r e is before t b =
-    refused (λ v. map key_view v.items) (listed key_tree) (λ h. Unit {0}) (λ g. key_wanted g None) (λ ks g. keys_had g ks) old new r e is (λ g u. bad_along e new _ _ (before.2 g ∙ takes here mid _ [] 0 (keys_had g before.0) (key_wanted g (Some before.0)) t zero_deep refl) (b (g, Some before.0) tt))
-
 pub bad_aggregate : (f : Function) (old mid new : Spot) (m : Measure Name) (r : Result Aggregate ParseError) (e : ParseError) → r ≡ Err e → ReadsMeasure f old mid (Ok m) → ReadsAlias mid new (Err e) → ReadsAggregate f old new r
 bad_aggregate f old mid new m r e is measure b =
     refused (λ a. tree.aggregate (aggregate_view a)) item_tree (λ h. Unit {0}) (λ b. function_named b f) (λ i b. items_had (extended b i)) old new r e is (λ h u. bad_along e new _ _ (measure.2 h tt) (b (h, measure.0) tt))

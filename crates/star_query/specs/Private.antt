@@ -3,3 +3,4 @@ pub mod Machine
 pub mod Reads
 pub mod Clauses
 pub mod TokenFaults
+pub mod Lists

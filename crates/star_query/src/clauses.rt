@@ -2,10 +2,11 @@
 
 ghost use Rattle.std.specs.Prelude.{◌≡◌, ◌≤◌, Some, length, OnOk, IfSome, IfNone};
 ghost use Rattle.star_query.specs.Private.Reads.{spot_of, head_of};
-ghost use Rattle.star_query.specs.Private.Clauses.{function_symbol, NoFunction, ReadsFunction, ReadsFolded, ReadsCounted, ReadsMeasure, ReadsAlias, ReadsAggregate, ReadsItem, NoComma, ReadsItems, ReadsTables, ReadsFilter, ReadsColumns, ReadsGroups, ReadsGrouping, ReadsKey, ReadsKeyList, ReadsKeys, ReadsEnd, ReadsQuery};
+ghost use Rattle.star_query.specs.Private.Clauses.{function_symbol, NoFunction, ReadsFunction, ReadsFolded, ReadsCounted, ReadsMeasure, ReadsAlias, ReadsAggregate, ReadsItem, NoComma, ReadsFilter, ReadsGroups, ReadsGrouping, ReadsKey, ReadsKeys, ReadsEnd, ReadsQuery};
 
 use crate::counts::Part;
 use crate::fault::{Fault, ParseError};
+use crate::lists::{Columns, Items, Keys, Tables};
 use crate::parser::Parser;
 use crate::token::{Fold, Keyword, Kind, Sign};
 use crate::tree::{Aggregate, Condition, Grouping, Item, Measure, Name, SortKey, Test, Tree};
@@ -110,7 +111,7 @@ impl<'a> Parser<'a> {
     }
 
     // name | agg [as name]
-    fn item(&mut self) -> Result<Item, ParseError>
+    pub(crate) fn item(&mut self) -> Result<Item, ParseError>
         ensures reads { ReadsItem (spot_of self.old) (spot_of self.new) result }
         ensures shorter { length self.new.left.now ≤ length self.old.left.now }
     {
@@ -127,36 +128,6 @@ impl<'a> Parser<'a> {
         }
     }
 
-    // item {, item}
-    fn items(&mut self) -> Result<Vec<Item>, ParseError>
-        ensures reads { ReadsItems (spot_of self.old) (spot_of self.new) result }
-        ensures ends { OnOk result (NoComma (spot_of self.new)) }
-    {
-        let mut items = Vec::new(self.alloc);
-        let first = self.item()?;
-        items.push(first)?;
-        while self.take_sign(Sign::Comma) {
-            let next = self.item()?;
-            items.push(next)?;
-        }
-        Ok(items)
-    }
-
-    // name {, name}
-    fn tables(&mut self) -> Result<Vec<Name>, ParseError>
-        ensures reads { ReadsTables (spot_of self.old) (spot_of self.new) result }
-        ensures ends { OnOk result (NoComma (spot_of self.new)) }
-    {
-        let mut tables = Vec::new(self.alloc);
-        let first = self.name()?;
-        tables.push(first)?;
-        while self.take_sign(Sign::Comma) {
-            let next = self.name()?;
-            tables.push(next)?;
-        }
-        Ok(tables)
-    }
-
     // [where cond]
     fn filter(&mut self) -> Result<Option<Condition<Test>>, ParseError>
         requires { NoComma (spot_of self.old) }
@@ -169,35 +140,20 @@ impl<'a> Parser<'a> {
         Ok(None)
     }
 
-    // The columns of a group.
-    fn columns(&mut self) -> Result<Vec<Name>, ParseError>
-        ensures reads { ReadsColumns (spot_of self.old) (spot_of self.new) result }
-        ensures ends { OnOk result (NoComma (spot_of self.new)) }
-    {
-        let mut columns = Vec::new(self.alloc);
-        let first = self.counted_name(Part::GroupColumn)?;
-        columns.push(first)?;
-        while self.take_sign(Sign::Comma) {
-            let next = self.counted_name(Part::GroupColumn)?;
-            columns.push(next)?;
-        }
-        Ok(columns)
-    }
-
     // names | cube ( names ), behind `group by`
     fn groups(&mut self) -> Result<Grouping, ParseError>
         ensures { ReadsGroups (spot_of self.old) (spot_of self.new) result }
     {
         if self.take_keyword(Keyword::Cube) {
             self.expect_sign(Sign::Open)?;
-            let columns = self.columns()?;
+            let columns = self.several::<Columns>()?;
             self.expect_sign(Sign::Close)?;
             return Ok(Grouping {
                 shape: Shape::Cube,
                 columns,
             });
         }
-        let columns = self.columns()?;
+        let columns = self.several::<Columns>()?;
         Ok(Grouping {
             shape: Shape::Plain,
             columns,
@@ -219,7 +175,7 @@ impl<'a> Parser<'a> {
     }
 
     // name [asc | desc]
-    fn key(&mut self) -> Result<SortKey, ParseError>
+    pub(crate) fn key(&mut self) -> Result<SortKey, ParseError>
         ensures reads { ReadsKey (spot_of self.old) (spot_of self.new) result }
         ensures shorter { length self.new.left.now ≤ length self.old.left.now }
     {
@@ -242,28 +198,13 @@ impl<'a> Parser<'a> {
         })
     }
 
-    // key {, key}
-    fn key_list(&mut self) -> Result<Vec<SortKey>, ParseError>
-        ensures reads { ReadsKeyList (spot_of self.old) (spot_of self.new) result }
-        ensures ends { OnOk result (NoComma (spot_of self.new)) }
-    {
-        let mut keys = Vec::new(self.alloc);
-        let first = self.key()?;
-        keys.push(first)?;
-        while self.take_sign(Sign::Comma) {
-            let next = self.key()?;
-            keys.push(next)?;
-        }
-        Ok(keys)
-    }
-
     // [order by key {, key}]
     fn keys(&mut self) -> Result<Vec<SortKey>, ParseError>
         ensures { ReadsKeys (spot_of self.old) (spot_of self.new) result }
     {
         if self.take_keyword(Keyword::Order) {
             self.expect_keyword(Keyword::By)?;
-            return self.key_list();
+            return self.several::<Keys>();
         }
         Ok(Vec::new(self.alloc))
     }
@@ -284,9 +225,9 @@ impl<'a> Parser<'a> {
         ensures { ReadsQuery (spot_of self.old) (spot_of self.new) result }
     {
         self.expect_keyword(Keyword::Select)?;
-        let items = self.items()?;
+        let items = self.several::<Items>()?;
         self.expect_keyword(Keyword::From)?;
-        let tables = self.tables()?;
+        let tables = self.several::<Tables>()?;
         let condition = self.filter()?;
         let grouping = self.grouping()?;
         let keys = self.keys()?;

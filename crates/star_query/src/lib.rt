@@ -12,6 +12,7 @@ mod expressions;
 mod fault;
 pub mod law;
 mod lexer;
+mod lists;
 mod parser;
 mod printing;
 mod query;

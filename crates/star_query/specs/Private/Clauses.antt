@@ -98,6 +98,10 @@ abbrev pub ReadsItems : Spot → Spot → Result (Vec Item Global) ParseError �
 ReadsItems =
     ReadsPhrase {P = Several grammar.Item} {H = Unit {0}} (λ v. map item_view v.items) (listed item_tree) Anywhere (λ u. item_wanted None) (λ is u. items_had is)
 
+abbrev pub ReadsTable : Spot → Spot → Result Name ParseError → Type 0
+ReadsTable =
+    ReadsPhrase {P = tree.Name} {H = Several grammar.Item × Option (Several tree.Name)} name_view (λ n. n) Anywhere (λ h. table_wanted h.0 h.1) (λ n h. tables_had h.0 (extended h.1 n))
+
 abbrev pub ReadsTables : Spot → Spot → Result (Vec Name Global) ParseError → Type 0
 ReadsTables =
     ReadsPhrase {P = Several tree.Name} {H = Several grammar.Item} (λ v. map name_view v.items) names Anywhere (λ is. table_wanted is None) (λ ts is. tables_had is ts)
@@ -105,6 +109,10 @@ ReadsTables =
 abbrev pub ReadsFilter : Spot → Spot → Result (Option (Condition Test)) ParseError → Type 0
 ReadsFilter =
     ReadsPhrase {P = Option grammar.Cond} {H = Several grammar.Item × Several tree.Name} (option_map condition_view) (option_map cond_tree) Anywhere (λ h. tables_had h.0 h.1) (λ c h. filtered_had (filtered_by h.0 h.1 c))
+
+abbrev pub ReadsColumn : Spot → Spot → Result Name ParseError → Type 0
+ReadsColumn =
+    ReadsPhrase {P = tree.Name} {H = (Filtered × Bool) × Option (Several tree.Name)} name_view (λ n. n) Anywhere (λ h. column_wanted h.0.0 h.0.1 h.1) (λ n h. columns_had h.0.0 h.0.1 (extended h.1 n))
 
 abbrev pub ReadsColumns : Spot → Spot → Result (Vec Name Global) ParseError → Type 0
 ReadsColumns =
