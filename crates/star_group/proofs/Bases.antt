@@ -2,6 +2,7 @@
 use Rattle.std.proofs.Common.{◌≡◌, ℕ, Bool, true, false, ℤ, List, [], ◌∷◌, Option, Some, None, Result, Ok, Err, OnOk, OnErr, length, get_or, cond, ap, sym, ◌∙◌, refl, subst, true≢false, arith}
 use Rattle.std.specs.List.{filter, list_any}
 use Rattle.std.specs.Option.{unwrap_or}
+use Rattle.std.proofs.lemmas.Bool.{or_left}
 use Rattle.star_schema.specs.declared.group.Aggregate.{Aggregate}
 use Rattle.star_schema.specs.Groups.{numbers_for}
 use Rattle.star_program.specs.declared.key.KeyValue.{KeyValue}
@@ -16,7 +17,7 @@ use Rattle.star_group.specs.Private.Merged.{IsMerged, IsMergedAt, IsMergedInto, 
 use Rattle.star_group.specs.Stores.{Put, Group, HasRoom, aggregate_at, number_at}
 use Rattle.star_group.specs.Stores.{AddUp, IsContent, above_zero, below_zero, key_lists}
 use Rattle.star_program.specs.Keys.{same_keys}
-use Rattle.star_group.proofs.KeyLists.{keys_equiv, or_left}
+use Rattle.star_group.proofs.KeyLists.{keys_equiv}
 use Rattle.star_group.proofs.GroupKeys.{key_decides, key_equiv}
 use Rattle.star_group.proofs.Merging.{held_none, held_one, merged_comm, merged_more, no_puts, row_of_one}
 use Rattle.star_group.proofs.Rooms.{held_stays}

@@ -1,6 +1,7 @@
 -- From the rows of a map to the content of a store.
 use Rattle.std.proofs.Common.{◌≡◌, ℕ, zero, suc, ◌+◌, ◌<◌, ◌≤◌, Bool, true, false, ◌||◌, ℤ, List, [], ◌∷◌, Option, Some, None, Result, Ok, Err, OnOk, IfErr, IfOk, length, get_or, ap, sym, ◌∙◌, subst, refl, cond, arith, inl, inr}
 use Rattle.std.specs.List.{AllByRecursion}
+use Rattle.std.proofs.lemmas.Bool.{or_right}
 use Rattle.star_common.specs.Memory.{UnlessMemory}
 use Rattle.star_schema.specs.declared.group.Aggregate.{Aggregate}
 use Rattle.star_schema.specs.declared.group.Aggregate.TheVariants.{Count}
@@ -24,7 +25,6 @@ use Rattle.star_group.specs.Held.{changes, held_at, IsRow, Holds}
 use Rattle.star_group.proofs.OnePut.{PutStays, PutLeaves}
 use Rattle.star_group.proofs.OwnKeyLemmas.{all_padded}
 use Rattle.star_group.proofs.MergedPuts.{holds_more, leaves_more, stays_more}
-use Rattle.star_group.proofs.PutSteps.{or_right}
 use Rattle.star_group.proofs.GroupKeys.{IsOwn, in_places, own_mask, own_belongs, members_at, changes_belongs, own_at}
 use Rattle.star_group.proofs.OwnGroups.{any_false, all_more, groups_own, own_any}
 use Rattle.star_group.proofs.Totals.{some_aggregate}

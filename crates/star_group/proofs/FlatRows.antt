@@ -31,10 +31,6 @@ fit_more : (k a : ℕ) (rows : List GroupRow) (row : GroupRow) → AllByRecursio
 fit_more k a [] row all fits = (fits, tt)
 fit_more k a (r ∷ rows) row all fits = (all.0, fit_more k a rows row all.1 fits)
 
-append_nil : {A : Type 0} (xs : List A) → xs ++ [] ≡ xs
-append_nil [] = refl
-append_nil (x ∷ xs) = ap (λ ys. x ∷ ys) (append_nil xs)
-
 length_more : (rows : List GroupRow) (row : GroupRow) → length rows + 1 ≡ length (rows ++ row ∷ [])
 length_more [] row = refl
 length_more (r ∷ rows) row = let next = length_more rows row in omega (arith, next)

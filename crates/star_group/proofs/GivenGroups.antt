@@ -3,7 +3,7 @@ use Rattle.std.proofs.Common.{◌≡◌, ◌⊎◌, inl, inr, ⊎_elim, ℕ, zer
 use Rattle.std.specs.List.{filter, Contains, AllByRecursion, IsDistinct}
 use Rattle.std.specs.Map.{lookup, keys_of}
 use Rattle.std.specs.Option.{option_map}
-use Rattle.std.proofs.lemmas.Bool.{eqb-true}
+use Rattle.std.proofs.lemmas.Bool.{eqb-true, or_right}
 use Rattle.std.proofs.lemmas.Option.{slice_get-map, slice_get-get_or, slice_get_within}
 use Rattle.std.proofs.lemmas.Map.Entries.{lookup_from_place, place_from_lookup}
 use Rattle.std.proofs.lemmas.Map.Keys.{IsDistinct-head, IsDistinct-tail}
@@ -24,7 +24,7 @@ use Rattle.star_group.specs.Private.Given.{shown, is_given, shown_from, row_give
 use Rattle.star_group.specs.Shown.{row_shown, AreRows}
 use Rattle.star_group.proofs.OwnKeyLemmas.{all_padded}
 use Rattle.star_group.proofs.Totals.{shown_held}
-use Rattle.star_group.proofs.GroupKeys.{key_equiv, in_places, key_decides, IsMask, own_mask, own_belongs, masked_all, changes_belongs, members_at, own_at, in_all, length-all}
+use Rattle.star_group.proofs.GroupKeys.{key_equiv, in_places, key_decides, IsMask, own_mask, own_belongs, masked_all, changes_belongs, members_at, own_at, in_all, length-all, or_either}
 
 -- ---- lists
 
@@ -127,14 +127,6 @@ record GroupAt (d : Group) (us : List Put) (q : List (Option KeyValue)) : Type 0
   pub is : q ≡ in_places 6 keys
   pub mask : IsMask d.shape d.count keys
   pub group : IsGroup d.shape d.count us keys
-
-or_either : (a b : Bool) → (a || b) ≡ true → (a ≡ true) ⊎ (b ≡ true)
-or_either true b h = inl refl
-or_either false b h = inr h
-
-or_right : (a b : Bool) → b ≡ true → (a || b) ≡ true
-or_right true b h = refl
-or_right false b h = h
 
 first_put : (d : Group) (q : List (Option KeyValue)) (us : List Put) → has_puts (puts_at d q us) ≡ true → (u : Put) × (slice_get (puts_at d q us) 0 ≡ Some u)
 first_put d q us h = by (puts_at d q us) h

@@ -1,5 +1,5 @@
 -- The rows that a store gives, one after another.
-use Rattle.std.proofs.Common.{◌≡◌, ℕ, zero, suc, ◌+◌, ◌<◌, ◌≤◌, Bool, true, false, ℤ, List, [], ◌∷◌, ◌++◌, Option, Some, None, cond, length, get_or, slice_get, map, take, ap, sym, ◌∙◌, refl, arith}
+use Rattle.std.proofs.Common.{◌≡◌, ℕ, zero, suc, ◌+◌, ◌<◌, ◌≤◌, Bool, true, false, ℤ, List, [], ◌∷◌, ◌++◌, Option, Some, None, cond, length, get_or, slice_get, map, take, ap, sym, ◌∙◌, refl, arith, append-nil}
 use Rattle.std.specs.List.{filter}
 use Rattle.star_schema.specs.declared.group.Aggregate.{Aggregate}
 use Rattle.star_schema.specs.declared.group.Aggregate.TheVariants.{Count}
@@ -24,10 +24,6 @@ there : {A : Type 0} (es : List A) (place : ℕ) → place < length es → (e : 
 there [] place h = absurd (omega arith)
 there (e ∷ es) zero h = (e, refl)
 there (e ∷ es) (suc place) h = there es place (omega arith)
-
-append_nil : {A : Type 0} (xs : List A) → xs ++ [] ≡ xs
-append_nil [] = refl
-append_nil (x ∷ xs) = ap (λ ys. x ∷ ys) (append_nil xs)
 
 module _ (shape : Shape) (count : ℕ) (gs : List Aggregate) where
   pub given_more : (es : List (List (Option KeyValue) × List (Option ℤ))) (place : ℕ) (e : List (Option KeyValue) × List (Option ℤ)) → slice_get es place ≡ Some e
@@ -68,7 +64,7 @@ module _ (shape : Shape) (count : ℕ) (gs : List Aggregate) where
       → xs ≡ rows_given shape count gs (take (place + 1) es)
   none_given es place xs within so_far gives =
       let e = there es place within in
-      so_far ∙ sym (append_nil _) ∙ ap (λ t. rows_given shape count gs (take place es) ++ t) (by (is_given shape count e.0.0) (gives e.0 e.1)) ∙ sym (given_more es place e.0 e.1)
+      so_far ∙ sym (append-nil _) ∙ ap (λ t. rows_given shape count gs (take place es) ++ t) (by (is_given shape count e.0.0) (gives e.0 e.1)) ∙ sym (given_more es place e.0 e.1)
     where
       by : (b : Bool) → None ≡ cond b (Some (row_given count gs (there es place within).0)) None → [] ≡ cond b (row_given count gs (there es place within).0 ∷ []) []
       by true h = absurd (let no : ⊥ = cc h in no)

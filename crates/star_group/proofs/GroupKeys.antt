@@ -8,6 +8,7 @@ use Rattle.std.specs.Cmp.{IsEquivalence, signed_Decides, unsigned_Decides, unsig
 use Rattle.std.specs.Cmp.Lexicographic.{options_equiv, lists_equiv}
 use Rattle.std.proofs.lemmas.List.Folds.{list_any-append}
 use Rattle.std.proofs.lemmas.Slice.Eq.{slice_eq-Decides}
+use Rattle.std.proofs.lemmas.Bool.{and_parts}
 use Rattle.star_schema.specs.declared.group.Shape.{Shape}
 use Rattle.star_schema.specs.declared.group.Shape.TheVariants.{Plain, Cube}
 use Rattle.star_schema.specs.Groups.{IsMasked, belongs, members}
@@ -221,10 +222,6 @@ pub masked_itself : (ks : List KeyValue) → IsMasked Plain (map Some ks) ks
 masked_itself [] = tt
 masked_itself (k ∷ ks) = (refl, masked_itself ks)
 
-and_parts : (a b : Bool) → (a && b) ≡ true → (a ≡ true) × (b ≡ true)
-and_parts true b h = (refl, h)
-and_parts false b h = absurd (true≢false (sym h))
-
 among_vary : (n : ℕ) (ks : List KeyValue) (q : List (Option KeyValue)) → length ks ≤ n → list_any (key_eq q) (vary (length ks) (padded n ks)) ≡ true → MaskedAt n q ks
 unfolding vary padded in_places
 among_vary n [] q few h = record { keys = []; masked = tt; is = (key_decides q (padded n [])).0 (sym (or_false _) ∙ h) ∙ sym (in_padded n []) }
@@ -242,7 +239,7 @@ among_vary (suc n) (k ∷ ks) (Some x ∷ q) few h =
     let rest = among_vary n ks q (omega (arith, few)) both.1 in
     record { keys = Some x ∷ rest.keys; masked = ((value_decides x k).0 both.0, rest.masked); is = ap (λ s. Some x ∷ s) rest.is }
 
-or_either : (a b : Bool) → (a || b) ≡ true → (a ≡ true) ⊎ (b ≡ true)
+pub or_either : (a b : Bool) → (a || b) ≡ true → (a ≡ true) ⊎ (b ≡ true)
 or_either true b h = inl refl
 or_either false b h = inr h
 

@@ -5,22 +5,19 @@ use Rattle.std.specs.Cmp.{IsEquivalence}
 use Rattle.std.specs.Cmp.Lexicographic.{lists_equiv}
 use Rattle.std.specs.List.{list_any, AllByRecursion, Contains}
 use Rattle.std.proofs.lemmas.Slice.Eq.{slice_eq-Decides}
+use Rattle.std.proofs.lemmas.Bool.{or_right, or_left}
 use Rattle.star_program.specs.contracts.key.KeyValueEq.TheImpl.Laws.{laws-law}
 use Rattle.star_program.specs.declared.key.KeyValue.{KeyValue}
 use Rattle.star_program.specs.Keys.{same_keys}
 use Rattle.star_group.specs.Stores.{Put, key_lists, puts_of}
 use Rattle.star_group.proofs.GroupKeys.{value_decides}
 use Rattle.star_group.proofs.OwnGroups.{all_more}
-use Rattle.star_group.proofs.PutSteps.{or_right}
 
 pub keys_equiv : IsEquivalence same_keys
 keys_equiv = lists_equiv laws-law
 
 pub keys_decide : (ks ls : List KeyValue) → Decides (same_keys ks ls) (ks ≡ ls)
 keys_decide ks ls = slice_eq-Decides value_decides ks ls (same_keys ks ls) refl
-
-pub or_left : (a b : Bool) → a ≡ true → (a || b) ≡ true
-or_left a b h = ap (λ c. c || b) h
 
 -- each key list of a list is in it
 pub all_there : (kss : List (List KeyValue)) → AllByRecursion (λ k. list_any (same_keys k) kss ≡ true) kss

@@ -19,11 +19,12 @@ use Rattle.star_group.specs.Private.Merged.{IsMerged, IsMergedAt, IsWithRow, Mer
 use Rattle.star_schema.specs.declared.group.Aggregate.{Aggregate}
 use Rattle.std.specs.Option.{unwrap_or}
 use Rattle.std.specs.Vec.{with_items}
+use Rattle.std.proofs.lemmas.Bool.{false_from_ne_true}
 use Rattle.star_group.specs.Private.Tries.{IsHeld, IsMissing}
 use Rattle.star_program.proofs.Rows.{length-cut}
 use Rattle.star_group.proofs.CutRows.{cut_wide, dropped, taken}
 use Rattle.star_group.proofs.GroupKeys.{key_decides}
-use Rattle.star_group.proofs.Passes.{IsOnceAt, not_true}
+use Rattle.star_group.proofs.Passes.{IsOnceAt}
 use Rattle.star_group.proofs.Rolling.{row_there}
 
 -- ---- keys beside rows
@@ -184,7 +185,7 @@ distinct_once : (es : List (List KeyPart × List (Option ℤ))) → IsOnceAt es 
 unfolding IsDistinct
 distinct_once [] once = tt
 distinct_once (e ∷ es) once = (
-  all_apart (key_of e.0) es (λ i f at. not_true (key_eq (key_of e.0) (key_of f.0)) (λ h. omega (arith, once 0 (suc i) e f refl at ((key_decides (key_of e.0) (key_of f.0)).0 h)))),
+  all_apart (key_of e.0) es (λ i f at. false_from_ne_true (key_eq (key_of e.0) (key_of f.0)) (λ h. omega (arith, once 0 (suc i) e f refl at ((key_decides (key_of e.0) (key_of f.0)).0 h)))),
   distinct_once es (λ i j a b at_i at_j same. omega (arith, once (suc i) (suc j) a b at_i at_j same)),
 )
 

@@ -1,6 +1,7 @@
 -- One more put, merged into the rows of its keys.
 use Rattle.std.proofs.Common.{◌≡◌, ℕ, ◌<◌, Bool, true, false, ◌||◌, ℤ, List, [], ◌∷◌, Option, Some, None, length, ap, sym, ◌∙◌, subst, refl, true≢false}
 use Rattle.std.specs.Option.{unwrap_or}
+use Rattle.std.proofs.lemmas.Bool.{or_right}
 use Rattle.star_program.specs.declared.key.KeyValue.{KeyValue}
 use Rattle.star_program.specs.Puts.{leaves}
 use Rattle.star_schema.specs.Groups.{numbers_for}
@@ -12,7 +13,7 @@ use Rattle.star_group.specs.Private.Rows.{AllStay, MergesAll, SomeLeaves}
 use Rattle.star_group.specs.Stores.{Put, Group, aggregate_at, number_at}
 use Rattle.star_group.proofs.Merging.{held_none, held_one, merged_comm, no_puts}
 use Rattle.star_group.proofs.OnePut.{PutLeaves, PutStays}
-use Rattle.star_group.proofs.PutSteps.{no_more, one_more, or_right}
+use Rattle.star_group.proofs.PutSteps.{no_more, one_more}
 
 or_parts : (a b : Bool) → (a || b) ≡ false → b ≡ false
 or_parts true b h = absurd (true≢false h)

@@ -5,6 +5,7 @@ use Rattle.std.specs.Option.{unwrap_or}
 use Rattle.std.proofs.lemmas.List.{get_or-map, length-map}
 use Rattle.std.proofs.lemmas.List.Folds.{list_any_at, list_any_more}
 use Rattle.std.proofs.lemmas.Map.Keys.{apart_from_distinct, IsDistinct-tail}
+use Rattle.std.proofs.lemmas.Bool.{or_parts}
 use Rattle.star_schema.specs.declared.group.Aggregate.{Aggregate}
 use Rattle.star_program.specs.declared.key.KeyValue.{KeyValue}
 use Rattle.star_group.specs.declared.keyed.key.KeyPart.{KeyPart}
@@ -23,10 +24,6 @@ use Rattle.star_group.proofs.GroupKeys.{key_decides, key_equiv}
 use Rattle.star_group.proofs.KeyedRows.{row_count}
 
 -- ---- one more key of a list without repeats
-
-or_false : (a b : Bool) → (a || b) ≡ false → (a ≡ false) × (b ≡ false)
-or_false true b h = absurd (true≢false h)
-or_false false b h = (refl, h)
 
 -- an element is not among those before it
 fresh_at : (own : List (List (Option KeyValue))) (i : ℕ) (d : List (Option KeyValue)) → IsDistinct key_eq own → i < length own → list_any (key_eq (get_or own i d)) (take i own) ≡ false
@@ -60,7 +57,7 @@ module _ (own : List (List (Option KeyValue))) (i : ℕ) (key : List (Option Key
 
   not_among : (q : List (Option KeyValue)) → list_any (key_eq q) (take (i + 1) own) ≡ false → (list_any (key_eq q) (take i own) ≡ false) × (key_eq q key ≡ false)
   not_among q none =
-      let both = or_false _ _ (sym (list_any_more (key_eq q) own i key within) ∙ none) in
+      let both = or_parts _ _ (sym (list_any_more (key_eq q) own i key within) ∙ none) in
       (both.0, ap (key_eq q) (sym here) ∙ both.1)
 
   module _ (gs : List Aggregate) (more : List (Option ℤ)) where

@@ -2,13 +2,13 @@
 use Rattle.std.proofs.Common.{◌≡◌, ◌⊎◌, inl, inr, Bool, true, false, ◌||◌, List, [], ◌∷◌, ◌++◌, Option, Some, None, length, map, replicate, ap, sym, ◌∙◌, subst, refl}
 use Rattle.std.specs.List.{list_any, AllByRecursion}
 use Rattle.std.proofs.lemmas.List.Folds.{list_any-append}
+use Rattle.std.proofs.lemmas.Bool.{or_right}
 use Rattle.star_schema.specs.declared.group.Shape.{Shape}
 use Rattle.star_schema.specs.declared.group.Shape.TheVariants.{Plain, Cube}
 use Rattle.star_schema.specs.Groups.{IsMasked}
 use Rattle.star_program.specs.declared.key.KeyValue.{KeyValue}
 use Rattle.star_program.specs.Puts.{masks, own_groups}
 use Rattle.star_group.specs.Stores.{Put, Group}
-use Rattle.star_group.proofs.PutSteps.{or_right}
 use Rattle.star_group.proofs.GroupKeys.{IsOwn, masked_all, masked_itself}
 
 module _ {A : Type 0} where

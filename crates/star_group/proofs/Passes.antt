@@ -3,6 +3,7 @@ use Rattle.std.proofs.Common.{◌≡◌, ℕ, zero, suc, ◌+◌, ◌<◌, Bool,
 use Rattle.std.specs.List.{filter, list_any, Contains, AllByRecursion}
 use Rattle.std.proofs.lemmas.List.Folds.{list_any_more}
 use Rattle.std.proofs.lemmas.Option.{slice_get-get_or, slice_get_within}
+use Rattle.std.proofs.lemmas.Bool.{and_parts, false_from_ne_true}
 use Rattle.star_program.specs.declared.key.KeyValue.{KeyValue}
 use Rattle.star_group.specs.declared.keyed.key.KeyPart.{KeyPart}
 use Rattle.star_group.specs.Base.{IsRowOver, key_of, row_at}
@@ -50,14 +51,6 @@ module _ {A : Type 0} where
   slice_get_take [] (suc n) i x e = absurd (let no : ⊥ = cc e in no)
   slice_get_take (y ∷ xs) (suc n) zero x e = (omega arith, e)
   slice_get_take (y ∷ xs) (suc n) (suc i) x e = let f = slice_get_take xs n i x e in (omega (arith, f.0), f.1)
-
-pub and_parts : (a b : Bool) → (a && b) ≡ true → (a ≡ true) × (b ≡ true)
-and_parts true b h = (refl, h)
-and_parts false b h = absurd (true≢false (sym h))
-
-pub not_true : (b : Bool) → (b ≡ true → ⊥) → b ≡ false
-not_true true h = absurd (h refl)
-not_true false h = refl
 
 or_assoc : (a b c : Bool) → (a || (b || c)) ≡ ((a || b) || c)
 or_assoc true b c = refl
@@ -113,7 +106,7 @@ module _ (us : List Put) (T : List (Option KeyValue) → List KeyValue → Bool)
       by : (b : Bool) → T (key_of e.0) u.keys ≡ b → (so_far T coarser es j q u.keys && b) ≡ false
       by false is = and_no (so_far T coarser es j q u.keys)
       by true is = ap (λ b. b && true)
-          ((λ i. not_true (T q u.keys) (apart.new u c (key_of e.0) is) i || not_true (list_any (λ f. key_eq q (coarser (key_of f.0)) && T (key_of f.0) u.keys) (take j es)) (none_before is) i))
+          ((λ i. false_from_ne_true (T q u.keys) (apart.new u c (key_of e.0) is) i || false_from_ne_true (list_any (λ f. key_eq q (coarser (key_of f.0)) && T (key_of f.0) u.keys) (take j es)) (none_before is) i))
 
   one_more : (q : List (Option KeyValue)) (ks : List KeyValue) → so_far T coarser es (j + 1) q ks ≡ (so_far T coarser es j q ks || (key_eq q (coarser (key_of e.0)) && T (key_of e.0) ks))
   one_more q ks =

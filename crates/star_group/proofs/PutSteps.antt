@@ -16,10 +16,6 @@ blank_none (suc (suc (suc (suc (suc (suc zero)))))) = refl
 blank_none (suc (suc (suc (suc (suc (suc (suc zero))))))) = refl
 blank_none (suc (suc (suc (suc (suc (suc (suc (suc a)))))))) = refl
 
-pub or_right : (a b : Bool) → b ≡ true → (a || b) ≡ true
-or_right true b h = refl
-or_right false b h = h
-
 pub one_more : (d : Group) (us : List Put) (u : Put) (q : List (Option KeyValue)) → changes d q u ≡ true → puts_at d q (u ∷ us) ≡ u ∷ puts_at d q us
 one_more d us u q e = ap (λ b. cond b (u ∷ puts_at d q us) (puts_at d q us)) e
 

@@ -16,13 +16,14 @@ use Rattle.star_schema.specs.declared.group.Aggregate.{Aggregate}
 use Rattle.star_schema.specs.declared.group.Shape.{Shape}
 use Rattle.std.proofs.Math.Logic.{∥∥₁_elim, ∥∥₁_map}
 use Rattle.std.proofs.Math.Bool.{Bool-set}
+use Rattle.std.proofs.lemmas.Bool.{and_parts}
 use Rattle.star_group.specs.Stores.{Put, Group}
 use Rattle.star_group.proofs.GivenGroups.{all_at, mapped, place_of}
 use Rattle.star_group.proofs.GroupKeys.{key_decides, key_equiv}
 use Rattle.star_group.proofs.Merging.{any_filter}
 use Rattle.star_group.proofs.OwnGroups.{any_mapped}
 use Rattle.star_group.proofs.OwnKeyLemmas.{length-padded, one_more, set_there, vary-more}
-use Rattle.star_group.proofs.Passes.{IsOnceAt, AreApart, AreOver, and_parts, all_members, any_there, filter_same, merged_one, none_yet, so_far, some_at, stays_one}
+use Rattle.star_group.proofs.Passes.{IsOnceAt, AreApart, AreOver, all_members, any_there, filter_same, merged_one, none_yet, so_far, some_at, stays_one}
 
 -- an entry is found by its key
 pub row_there : (es : List (List KeyPart × List (Option ℤ))) → IsOnceAt es → (j : ℕ) (e : List KeyPart × List (Option ℤ)) → slice_get es j ≡ Some e → row_at es (key_of e.0) ≡ Some e.1

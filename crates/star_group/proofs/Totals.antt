@@ -7,6 +7,7 @@ use Rattle.star_schema.specs.declared.group.Aggregate.TheVariants.{Sum, Count, M
 use Rattle.star_schema.specs.declared.group.Shape.{Shape}
 use Rattle.star_schema.specs.declared.group.Shape.TheVariants.{Plain, Cube}
 use Rattle.std.specs.Int.{int_min, int_max}
+use Rattle.std.proofs.lemmas.Bool.{or_right}
 use Rattle.star_schema.specs.Groups.{aggregate, joined, numbers_for}
 use Rattle.star_program.specs.declared.key.KeyValue.{KeyValue}
 use Rattle.star_group.specs.Cells.{held, step}
@@ -15,7 +16,7 @@ use Rattle.star_group.specs.OwnKeys.{key_eq, padded, vary, own_keys}
 use Rattle.star_group.specs.Stores.{Put, Group, aggregate_at, total_of}
 use Rattle.star_group.specs.Held.{changes, puts_at, has_puts, IsRow, Holds}
 use Rattle.star_group.proofs.OwnKeyLemmas.{all_padded}
-use Rattle.star_group.proofs.PutSteps.{one_more, or_right}
+use Rattle.star_group.proofs.PutSteps.{one_more}
 use Rattle.star_group.proofs.GroupKeys.{key_equiv}
 
 pub joined_none : (f : ℤ → ℤ → ℤ) (v : ℤ) (vs : List ℤ) → joined f vs ≡ None → joined f (v ∷ vs) ≡ Some v

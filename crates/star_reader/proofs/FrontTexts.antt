@@ -95,7 +95,3 @@ above_tilde b high = elim (cases_Bool (is_printable b)) [
       absurd (omega (arith, high, most))
   | inr bad ↦ bad
 ]
-
-pub and_false : (a b : Bool) → b ≡ false → (a && b) ≡ false
-and_false true b h = h
-and_false false b h = refl

@@ -6,6 +6,7 @@ use Rattle.std.specs.Option.{option_or}
 use Rattle.std.proofs.lemmas.Bool.{and_from, and_parts, cases_Bool, eqb-true, eq-eqb, le-ltb, ltb-false, true≢false}
 use Rattle.std.proofs.lemmas.List.{length-map}
 use Rattle.std.proofs.lemmas.List.Elements.{All-cons, All-head, All-nil, All-tail}
+use Rattle.star_common.proofs.Firsts.{or_none}
 use Rattle.star_schema.specs.declared.table.TableId.{TableId}
 use Rattle.star_schema.specs.declared.column.Kind.{Kind}
 use Rattle.star_common.specs.First.{first_answer}
@@ -17,11 +18,6 @@ use Rattle.star_reader.specs.declared.fault.ReadFault.{ReadFault}
 use Rattle.star_reader.specs.declared.fault.ReadFault.TheVariants as fault
 use Rattle.star_reader.specs.Faults.{byte_order_mark, cell_fault, cells_fault, record_fault, records_fault, text_fault}
 use Rattle.star_reader.proofs.Counts.{right_count, wrong_count}
-
--- both have no fault
-or_none : {A : Type 0} (a b : Option A) → option_or a b ≡ None → (a ≡ None) × (b ≡ None)
-or_none None b e = (refl, e)
-or_none (Some f) b e = cc
 
 -- a cell has no fault exactly where it is one of its kind
 pub cell_sound : (at_row field : ℕ) (k : Kind) (cell : List ℕ) → cell_fault at_row field k cell ≡ None

@@ -1,8 +1,9 @@
 use Rattle.std.proofs.Common.{◌≡◌, ◌<◌, arith, get_or, length, inr, ℕ, true, false, rules}
+use Rattle.std.proofs.lemmas.Bool.{and_right}
 use Rattle.star_schema.specs.Tables.{is_printable}
 use Rattle.star_reader.specs.Private.Fronts.{is_plain}
 use Rattle.star_reader.proofs.Fronts.{one_more, other_plain}
-use Rattle.star_reader.proofs.FrontTexts.{above_tilde, and_false, bad_byte, below_space, printable_byte, short_front}
+use Rattle.star_reader.proofs.FrontTexts.{above_tilde, bad_byte, below_space, printable_byte, short_front}
 use Rattle.star_reader.proofs.front.text_front.Goals as goal
 use Rattle.star_reader.proofs.front.text_front.Goals.{then-byte-lt32-via-then-byte-lt32, then-byte-lt32-via-else-byte-lt32+then-byte-gt126}
 
@@ -44,7 +45,7 @@ returns-then-byte-lt32 c = λ n front.
       | then-byte-lt32-via-then-byte-lt32 w ↦ below_space b w.if-byte-lt32.true
       | then-byte-lt32-via-else-byte-lt32+then-byte-gt126 w ↦ above_tilde b w.if-byte-gt126.true
     ] in
-    and_false _ _ (bad_byte c.args.text.now c.loop-count.count n within
+    and_right _ _ (bad_byte c.args.text.now c.loop-count.count n within
     c.loop-count.invariant.plain c.if-byte-eq124.false bad front)
 
 pub returns : goal.returns
