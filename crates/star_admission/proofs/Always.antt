@@ -36,7 +36,7 @@ use Rattle.star_admission.proofs.Instructions.{unmapped_none, agrees_entry, AreT
 use Rattle.star_admission.proofs.Gains.{op_gain, gain, whole_gain}
 use Rattle.star_admission.proofs.Turns.{Safe, all_tallied_more, safe_more, safe_turns, at_start}
 use Rattle.star_admission.proofs.Sound.{quoted_each, in_time, at_place_none, IsReady, ready_then, ready_in, ready_after, op_room}
-use Rattle.star_admission.proofs.Runs.{AllFit, sound, not_refused, ready_first, all_fit, few_puts, nothing_tallied}
+use Rattle.star_admission.proofs.Runs.{AllFit, sound, not_refused, ready_first, all_fit, few_puts, nothing_tallied, safe_ends}
 use Rattle.star_admission.proofs.Room.{has_room}
 
 -- ---- one moment
@@ -85,12 +85,6 @@ moment w parts all known y regs s fit agrees tallied room quoted = record {
 
 -- ---- from moment to moment
 
-after_safe : (y : Tallies) (v : ℕ) (e : End) (Next : Store → Type 0) → Safe y v e
-    → ((s : Store) → AreTallied y s → s.visits ≤ v → Next s) → EndsWith e Next
-after_safe y v (Ended s) Next h go = go s h.0 h.1
-after_safe y v (Trapped at trap) Next h go = h
-after_safe y v Limited Next h go = h
-
 onward : (w : World) (known : Table) (y : Tallies) (visits : ℕ) (e : Effect)
     (Next : Registers → Store → Type 0) → IsGood w known y visits e
     → ((regs : Registers) (s : Store) → Agrees w known regs → AreTallied y s → s.visits ≡ visits
@@ -112,7 +106,7 @@ in_each_turn y add start inner rows turn Holding one zero j e s q b = tt
 in_each_turn y add start inner rows turn Holding one (suc k) j e s q b =
     let r = one j (visited s) (omega arith) q (omega arith) in (
       r.0,
-      after_safe (plus_all (plus_all y (times_all j add)) add) (s.visits + 1 + inner)
+      safe_ends (plus_all (plus_all y (times_all j add)) add) (s.visits + 1 + inner)
           (turn j (visited s)) (InEachTurn k (j + 1) turn Holding) r.1
           (λ s' q' b'. in_each_turn y add start inner rows turn Holding one k (j + 1) (omega arith)
           s' (all_tallied_more _ _ s' (λ g a. at_most_turn j (y g a) (add g a)) q')
@@ -200,7 +194,7 @@ module _ (w : World) (catalogue : IsLoaded w) (parts : Parts) (all : Shares)
                 safe_turn j s' lt q,
               ))
               rows 0 (omega arith) s (at_start y add s tallied) (omega arith),
-          after_safe (plus_all y (times_all rows add)) (s.visits + rows * (met + 1))
+          safe_ends (plus_all y (times_all rows add)) (s.visits + rows * (met + 1))
               (turns (λ visits. true) rows 0 turn s) _
               (safe_turns y add s.visits met rows (λ visits. true) turn (λ k h. refl)
               (λ j s' lt q b. safe_more (plus_all (plus_all y (times_all j add)) add)

@@ -16,7 +16,7 @@ mod Tallied
 mod Gains
 pub mod Instructions
 mod Turns
-mod Sound
+pub mod Sound
 mod Room
 mod Runs
 mod SumRanges

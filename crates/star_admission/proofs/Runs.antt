@@ -214,7 +214,7 @@ never_traps w parts may accepted allowed =
 
 -- ---- and its report
 
-safe_ends : (y : Tallies) (v : ℕ) (e : End) (Done : Store → Type 0) → Safe y v e
+pub safe_ends : (y : Tallies) (v : ℕ) (e : End) (Done : Store → Type 0) → Safe y v e
     → ((s : Store) → AreTallied y s → s.visits ≤ v → Done s) → EndsWith e Done
 safe_ends y v (Ended s) Done h done = done s h.0 h.1
 safe_ends y v (Trapped at trap) Done h done = h

@@ -5,6 +5,7 @@ use Rattle.std.specs.List.{list_any}
 use Rattle.std.specs.Int.{int_min, int_max}
 use Rattle.std.proofs.lemmas.Int.{ints, clamps}
 use Rattle.std.proofs.lemmas.Bool.{ltb-true, lt-ltb, leb-true, le-leb, and_parts, and_from, or_from}
+use Rattle.star_group.proofs.Rooms.{count_small}
 use borrow.Author.Differences.{up, down, sum_is_lem}
 use Rattle.star_schema.specs.declared.group.Aggregate.{Aggregate}
 use Rattle.star_schema.specs.declared.group.Aggregate.TheVariants.{Sum, Count, Min, Max}
@@ -215,16 +216,12 @@ sum_fits_64 t vs w e =
     let s = sum_between vs in
     fits_in (sum_of vs) (omega (arith, q.1, s.0, w.above)) (omega (arith, q.0, s.1, w.below))
 
-count_fits_64 : (n : ℕ) → n < 2 ^ 63 → is_i64 (pos n) ≡ true
-unfolding is_i64
-count_fits_64 n h = lt-ltb n (2 ^ 63) h
-
 stays : (g : Aggregate) (t : Tally) (vs : List ℤ) → IsTallied t vs → counted_fits g t ≡ true
     → leaves g (aggregate g vs) ≡ false
 stays Sum t [] w e = refl
 stays Sum t (v ∷ vs) w e = ap (leaves Sum) (joined_sum v vs) ∙ ap not (sum_fits_64 t (v ∷ vs) w e)
 stays Count t vs w e =
-    ap not (count_fits_64 (length vs) (omega (arith, w.many, ltb-true t.many (2 ^ 63) e)))
+    ap not (count_small (length vs) (omega (arith, w.many, ltb-true t.many (2 ^ 63) e)))
 stays Min t vs w e = refl
 stays Max t vs w e = refl
 

@@ -4,7 +4,7 @@ use Rattle.std.specs.Prelude.{filter}
 use Rattle.std.specs.List.{AllByRecursion, flat_map, list_all, list_any}
 use Rattle.std.specs.List.Sorted.{IsPermutation}
 use Rattle.std.specs.Ordering.{is_eq}
-use Rattle.std.proofs.lemmas.Bool.{and_parts}
+use Rattle.std.proofs.lemmas.Bool.{and_parts, or_parts, not-true}
 use Rattle.std.proofs.lemmas.List.Elements.{filter-append}
 use Rattle.std.proofs.lemmas.List.Sorted.{IsPermutation-refl, IsPermutation-trans}
 use Rattle.star_schema.specs.declared.table.TableId.{TableId}
@@ -39,10 +39,6 @@ is_among t tables = list_any (is_table t) tables
 abbrev pub AreApart : List TableId → Type 0
 AreApart [] = Unit {0}
 AreApart (t ∷ tables) = (is_among t tables ≡ false) × AreApart tables
-
-pub or_nor : (a b : Bool) → (a || b) ≡ false → (a ≡ false) × (b ≡ false)
-or_nor true b e = absurd (cc)
-or_nor false b e = (refl, e)
 
 -- ---- lists
 
@@ -142,7 +138,7 @@ module _ (ts : Tables) where
   choices_turned : (x y : TableId) (xs : List TableId) → SameChoices (x ∷ y ∷ xs) (y ∷ x ∷ xs)
   choices_turned x y xs = (
     λ t. ors_turned (is_table t x) (is_table t y) (is_among t xs),
-    λ apart. (let first = or_nor (is_table x y) (is_among x xs) apart.0 in (
+    λ apart. (let first = or_parts (is_table x y) (is_among x xs) apart.0 in (
       (λ i. (table_turned x y first.0 i || apart.1.0 i), (first.1, apart.1.1)),
       λ row. (let here : flat_map (λ b. flat_map (λ a. with_choices ts xs (with_row (with_row row x a) y b)) (ts x)) (ts y) ≡ with_choices ts (y ∷ x ∷ xs) row =
           given_same (λ b. flat_map (λ a. with_choices ts xs (with_row (with_row row x a) y b)) (ts x)) (λ b. flat_map (λ a. with_choices ts xs (with_row (with_row row y b) x a)) (ts x)) (ts y)
@@ -190,7 +186,7 @@ module _ (ts : Tables) where
   kept (t ∷ more) row =
       every_given (Keeps (t ∷ more) row) (λ chosen. with_choices ts more (with_row row t chosen)) (ts t)
       (λ chosen. every (Keeps more (with_row row t chosen)) (Keeps (t ∷ more) row)
-      (λ choice keeps u e. (let parts = or_nor (is_table u t) (is_among u more) e in keeps u parts.1 ∙ ap (λ b. if b then chosen else row u) parts.0))
+      (λ choice keeps u e. (let parts = or_parts (is_table u t) (is_among u more) e in keeps u parts.1 ∙ ap (λ b. if b then chosen else row u) parts.0))
       (with_choices ts more (with_row row t chosen)) (kept more (with_row row t chosen)))
 
   -- a join asks of each choice what it asks of the row and the dimension's row
@@ -226,7 +222,7 @@ module _ (ts : Tables) where
 
 -- ---- the joins of a sound plan
 
-refers_to : (o : Option TableId) (t : TableId) → refers o t ≡ true → o ≡ Some t
+pub refers_to : (o : Option TableId) (t : TableId) → refers o t ≡ true → o ≡ Some t
 refers_to None t e = absurd (cc)
 refers_to (Some s) t e = ap Some (table_same s t e)
 
@@ -241,15 +237,11 @@ no_key_of_fact j e = by (is_table Lineorder (table_of j.key)) refl
         let wrong : is_lone_key j.key (key_of Lineorder) ≡ true = subst (λ t. is_lone_key j.key (key_of t) ≡ true) (sym (table_same Lineorder (table_of j.key) h)) lone in
         absurd (cc)
 
-not_true : (b : Bool) → not b ≡ true → b ≡ false
-not_true true e = absurd (cc)
-not_true false e = refl
-
 apart_from : (t : TableId) (js : List Join) → list_all (λ q. not (is_table (table_of q.key) t)) js ≡ true → is_among t (dimensions_of js) ≡ false
 apart_from t [] e = refl
 apart_from t (j ∷ js) e =
     let parts = and_parts (not (is_table (table_of j.key) t)) (list_all (λ q. not (is_table (table_of q.key) t)) js) e in
-    λ i. table_turned (table_of j.key) t (not_true (is_table (table_of j.key) t) parts.0) i || apart_from t js parts.1 i
+    λ i. table_turned (table_of j.key) t (not-true (is_table (table_of j.key) t) parts.0) i || apart_from t js parts.1 i
 
 pub is_star : (js : List Join) → list_all (λ j. is_foreign j.foreign j.key) js ≡ true → are_distinct js ≡ true → IsStar js
 is_star [] foreign apart = tt

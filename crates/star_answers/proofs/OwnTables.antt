@@ -7,6 +7,7 @@ use Rattle.std.specs.Option.{option_to_list}
 use Rattle.std.proofs.lemmas.Grind.{flat_map-append}
 use Rattle.std.proofs.lemmas.List.Folds.{list_any-append}
 use Rattle.std.proofs.lemmas.List.Sorted.{IsPermutation-refl, IsPermutation-cons, IsPermutation-middle, IsPermutation-sym, IsPermutation-trans}
+use Rattle.std.proofs.lemmas.Bool.{or_parts}
 use Rattle.star_schema.specs.declared.table.TableId.{TableId}
 use Rattle.star_schema.specs.declared.table.TableId.TheVariants.{Date, Customer, Supplier, Part, Lineorder}
 use Rattle.star_schema.specs.declared.table.TheConstants.{TABLES}
@@ -25,7 +26,7 @@ use Rattle.star_plan.specs.WellNamed.{IsThere, is_in_from, same_name}
 use Rattle.star_plan.proofs.Known.{Reaches, each_left, each_right}
 use Rattle.star_plan.proofs.Options.{first_or_second}
 use Rattle.star_answers.specs.Rows.{tables_of}
-use Rattle.star_answers.proofs.Choices.{AreApart, dimensions_of, is_among, or_nor}
+use Rattle.star_answers.proofs.Choices.{AreApart, dimensions_of, is_among}
 use Rattle.star_schema.proofs.Same.{table_same, table_itself}
 use Rattle.star_answers.proofs.OwnConditions.{join_made}
 
@@ -55,8 +56,8 @@ middle_apart t [] back apart = apart
 middle_apart t (u ∷ front) back apart =
     let rest = middle_apart t front back apart.1 in
     let among : (is_among u front || (is_table u t || is_among u back)) ≡ false = sym (list_any-append (is_table u) front (t ∷ back)) ∙ apart.0 in
-    let first = or_nor (is_among u front) (is_table u t || is_among u back) among in
-    let second = or_nor (is_table u t) (is_among u back) first.1 in
+    let first = or_parts (is_among u front) (is_table u t || is_among u back) among in
+    let second = or_parts (is_table u t) (is_among u back) first.1 in
     let other : is_among u (front ++ back) ≡ false = list_any-append (is_table u) front back ∙ (λ i. first.0 i || second.1 i) in
     let turned : is_table t u ≡ false = by_test (is_table t u) refl (λ h. true≢false (sym (table_itself u) ∙ ap (is_table u) (sym (table_same t u h)) ∙ second.0)) in
     ((λ i. turned i || rest.0 i), (other, rest.1))

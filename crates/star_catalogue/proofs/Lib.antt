@@ -9,6 +9,5 @@ pub mod Placed
 pub mod Refers
 pub mod ReferredRows
 pub mod Loading
-pub mod Typed
 pub mod SmallNumbers
 mod WorkedBounds

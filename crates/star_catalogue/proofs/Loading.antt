@@ -6,6 +6,7 @@ use Rattle.star_schema.specs.Database.{AreTables, rows_in}
 use Rattle.star_common.specs.First.{first_answer}
 use Rattle.star_schema.specs.Loadable.{keys_of, HasDistinctKeys, IsLoadable, IsSound, database_of}
 use Rattle.star_schema.specs.Tables.{IsTable, rows_of}
+use Rattle.star_schema.proofs.Typed.{rows_in-database_of}
 use Rattle.star_reader.proofs.Law.{table_complete}
 use Rattle.star_catalogue.specs.declared.fault.LoadFault.{LoadFault}
 use Rattle.star_catalogue.specs.Load.{absent_fault, load_fault, table_fault, tables_fault}
@@ -22,14 +23,6 @@ pub table_none : (t : TableId) (most : ℕ) (text : List ℕ) → IsTable t most
     → HasDistinctKeys t (rows_of t text) → table_fault t most text ≡ None
 table_none t most text is_table distinct =
     rw (table_complete t most text is_table) (distinct_no_fault t (rows_of t text) distinct)
-
-pub rows_in-database_of : (texts : TableId → List ℕ) (t : TableId) → rows_in (database_of texts) t
-    ≡ rows_of t (texts t)
-rows_in-database_of texts Date = refl
-rows_in-database_of texts Customer = refl
-rows_in-database_of texts Supplier = refl
-rows_in-database_of texts Part = refl
-rows_in-database_of texts Lineorder = refl
 
 -- tables whose keys differ have no fault
 pub tables_none : (most : ℕ) (texts : TableId → List ℕ) → AreTables most texts

@@ -1,13 +1,11 @@
 -- The bounds of the columns of tables lie in 64 bits: a cell's number has at most 18 digits.
-use Rattle.std.proofs.Common.{◌≡◌, ◌⊎◌, ℕ, zero, suc, ◌<◌, ◌^◌, ℤ, Bool, true, false, ◌&&◌, List, [], ◌∷◌, map, Some, All, sym, ap, ◌∙◌, arith, ⊎_elim, refl}
-use Rattle.std.specs.Prelude.{pos, neg_ℤ, slice_get, fold, Contains, if◌then◌else◌}
-use Rattle.std.specs.Int.{int_min, int_max}
+use Rattle.std.proofs.Common.{◌≡◌, ℕ, zero, suc, ◌<◌, ◌^◌, ℤ, Bool, true, false, ◌&&◌, List, [], ◌∷◌, map, Some, All, sym, ap, ◌∙◌, arith, ⊎_elim, refl}
+use Rattle.std.specs.Prelude.{pos, neg_ℤ, slice_get, Contains, if◌then◌else◌}
 use Rattle.std.specs.List.{list_all}
 use Rattle.std.specs.Str.Parse.{digits_value, starts_with_minus}
 use Rattle.std.proofs.lemmas.Bool.{and_parts, and_from, lt-ltb}
-use Rattle.std.proofs.lemmas.Int.{fold-int_min_reached, fold-int_max_reached}
 use Rattle.star_common.specs.Numerals.{is_numeral}
-use Rattle.star_common.proofs.Members.{contains_cases, contains_here, contains_later, contains_none}
+use Rattle.star_common.proofs.Members.{contains_cases, contains_none}
 use Rattle.star_common.proofs.NumeralLemmas.{numeral_below}
 use Rattle.star_schema.specs.declared.table.TableId.{TableId}
 use Rattle.star_schema.specs.declared.column.Kind.{Kind}
@@ -21,7 +19,8 @@ use Rattle.star_schema.specs.Tables.{IsRecordOf, are_cells, cells_of, is_cell, i
 use Rattle.star_interval.specs.Range.{is_i64}
 use Rattle.star_interval.proofs.Ranges.{fits_i64_fits}
 use Rattle.star_catalogue.specs.ColumnBounds.{HasI64Bounds, bounds_in}
-use Rattle.star_catalogue.proofs.Loading.{rows_in-database_of}
+use Rattle.star_schema.proofs.Extremes.{greatest_there, least_there}
+use Rattle.star_schema.proofs.Typed.{rows_in-database_of}
 
 -- ---- numbers of at most 18 digits
 
@@ -81,13 +80,8 @@ extremes_small : (zs : List ℤ) → ((z : ℤ) → Contains zs z → is_i64 z �
 unfolding least greatest
 extremes_small [] h = and_from (is_i64 (pos 0)) (is_i64 (pos 0)) none_small none_small
 extremes_small (x ∷ xs) h =
-    let fits : (r : ℤ) → (r ≡ x) ⊎ Contains xs r → is_i64 r ≡ true = λ r one.
-    ⊎_elim {C = is_i64 r ≡ true} (λ e. ap is_i64 e ∙ h x (contains_here x xs))
-    (λ has. h r (contains_later x xs r has)) one in
-    let low = fold int_min x xs in
-    let high = fold int_max x xs in
-    and_from (is_i64 low) (is_i64 high) (fits low (fold-int_min_reached x xs low refl))
-    (fits high (fold-int_max_reached x xs high refl))
+    and_from (is_i64 (least (x ∷ xs))) (is_i64 (greatest (x ∷ xs))) (h _ (least_there x xs))
+    (h _ (greatest_there x xs))
 
 pub bounds_small : (most : ℕ) (texts : TableId → List ℕ) → AreTables most texts
     → HasI64Bounds (database_of texts)

@@ -1,6 +1,7 @@
 -- The foreign keys of a plan's joins, and what columns hold by their kinds.
 use Rattle.std.proofs.Common.{◌≡◌, Bool, true, false, Option, Some, None, refl, ap}
 use Rattle.std.proofs.lemmas.Bool.{and_parts}
+use Rattle.star_answers.proofs.Choices.{refers_to}
 use Rattle.star_schema.specs.declared.table.TableId.{TableId}
 use Rattle.star_schema.specs.declared.column.ColumnId.{ColumnId}
 use Rattle.star_schema.specs.declared.column.Kind.{Kind}
@@ -31,10 +32,6 @@ pub holds_texts : (c : ColumnId) → same_kind (kind_of c) kind.Text ≡ true �
 holds_texts c e = ap of_text (kind_same (kind_of c) kind.Text e)
 
 -- ---- joins
-
-refers_to : (o : Option TableId) (t : TableId) → refers o t ≡ true → o ≡ Some t
-refers_to None t e = absurd (cc)
-refers_to (Some s) t e = ap Some (table_same s t e)
 
 pub foreign_refers : (j : Join) → is_foreign j.foreign j.key ≡ true
     → references j.foreign ≡ Some (table_of j.key)

@@ -16,7 +16,6 @@ pub mod Rows
 pub mod Elements
 pub mod KeyCodes
 pub mod Answered
-pub mod HeldRows
 pub mod QueryAnswers
 mod Plans
 mod RevenueTexts

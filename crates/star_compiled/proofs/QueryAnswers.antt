@@ -18,7 +18,7 @@ use Rattle.star_world.specs.Shown.{IsWorldOf}
 use Rattle.star_world.specs.WorldOf.{world_of}
 use Rattle.star_compiled.specs.Answers.{AnswersTheQuery, ReportsTheQuery}
 use Rattle.star_compiled.proofs.Answered.{answers_the_plan}
-use Rattle.star_compiled.proofs.HeldRows.{rows_held}
+use Rattle.star_schema.proofs.Typed.{rows_typed}
 use Rattle.star_compiled.proofs.SeenRows.{sees}
 
 pub answers_the_query : (database : Database) (w : World) (query : Tree) (p : Plan)
@@ -47,7 +47,7 @@ reports_the_query shown most texts text query p loadable means named resolved ma
       rows = outcome.rows;
       answer =
           answers_the_query database (world_of database) query p
-          (rows_held most texts loadable.tables) (shown database loadable.sound) named resolved may
+          (rows_typed most texts loadable.tables) (shown database loadable.sound) named resolved may
           s outcome run told;
       printed = refl;
     }

@@ -3,6 +3,7 @@ use Rattle.std.proofs.Common.{◌≡◌, ◌<◌, ℕ, ℤ, true, false, List, [
 use Rattle.std.specs.Prelude.{pos, slice_get, All}
 use Rattle.std.specs.Option.{option_map}
 use Rattle.std.proofs.lemmas.Option.{same_Some, slice_get-map, slice_get-get_or, slice_get_within, get_or_from_slice_get}
+use Rattle.star_plan.proofs.Options.{mapped_gave}
 use Rattle.star_schema.specs.declared.table.TableId.{TableId}
 use Rattle.star_schema.specs.declared.table.Key.{Key}
 use Rattle.star_schema.specs.declared.table.Key.TheVariants.{One, Two}
@@ -23,11 +24,6 @@ use Rattle.star_world.proofs.Loaded.{numbers_len}
 use Rattle.star_compiled.proofs.Joins.{of_text}
 use Rattle.star_compiled.proofs.TurnRows.{Sees, Shows, row_at}
 
-option_gave : {A B : Type 0} (f : A → B) (o : Option A) (y : B) → option_map f o ≡ Some y → (x : A)
-    × (o ≡ Some x) × (f x ≡ y)
-option_gave f None y e = absurd (cc)
-option_gave f (Some x) y e = let is : f x ≡ y = cc in (x, refl, is)
-
 -- a row has a value for a column, of its kind
 record Holds (c : ColumnId) (row : Row) : Type 0 where
   value : Value
@@ -36,7 +32,7 @@ record Holds (c : ColumnId) (row : Row) : Type 0 where
 
 holds : (c : ColumnId) (row : Row) → IsRowOf (table_of c) row → Holds c row
 holds c row h =
-    let gave = option_gave kind_of_value (slice_get row (place_of c)) (kind_of c)
+    let gave = mapped_gave kind_of_value (slice_get row (place_of c)) (kind_of c)
     (sym (slice_get-map kind_of_value row (place_of c)) ∙ ap (λ ks. slice_get ks (place_of c)) h
     ∙ kind_at_place c) in
     record { value = gave.0; there = gave.1; of_kind = gave.2 }

@@ -77,7 +77,7 @@ fewer p (u ∷ us) = by (p u) (fewer p us)
     by true h = omega arith
     by false h = omega arith
 
-count_small : (n : ℕ) → n < 2 ^ 63 → is_i64 (pos n) ≡ true
+pub count_small : (n : ℕ) → n < 2 ^ 63 → is_i64 (pos n) ≡ true
 unfolding is_i64
 count_small n h = lt-ltb n (2 ^ 63) h
 

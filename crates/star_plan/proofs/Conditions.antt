@@ -2,8 +2,9 @@
 use Rattle.std.proofs.Common.{◌≡◌, ◌∙◌, sym, ap, subst, ℕ, suc, ◌+◌, ◌≤◌, Bool, true, false, ◌||◌, not, if◌then◌else◌, List, [], ◌∷◌, ◌++◌, Option, Some, None, length, append-nil, arith, refl}
 use Rattle.std.specs.List.{AllByRecursion, IsDistinct, list_all, list_any}
 use Rattle.std.specs.Option.{option_or}
-use Rattle.std.proofs.lemmas.Bool.{and_from, and_parts, or_parts}
+use Rattle.std.proofs.lemmas.Bool.{and_from, and_parts, or_parts, or_from}
 use Rattle.std.proofs.lemmas.List.Folds.{list_any-append}
+use Rattle.star_common.proofs.Firsts.{or_none}
 use Rattle.star_schema.specs.declared.table.TableId.{TableId}
 use Rattle.star_schema.specs.declared.table.TableId.TheVariants.{Lineorder}
 use Rattle.star_schema.specs.declared.column.ColumnId.{ColumnId}
@@ -20,14 +21,10 @@ use Rattle.star_plan.specs.Naming.{aggregate_name, aggregate_names, has_text, na
 use Rattle.star_plan.specs.Faults.{aggregates_fault, fact_fault, group_fault, item_fault, item_fault_after, key_fault, kind_fault, missing_fault, of_column, of_missing, of_pair, of_table, order_fault, pair_fault, plan_fault, scope_fault, table_fault}
 use Rattle.star_plan.specs.Sound.{are_distinct}
 use Rattle.star_plan.specs.WellNamed.{IsThere, IsWellNamed, is_grouped, is_in_from, is_reached, same_name, same_text}
-use Rattle.star_plan.proofs.Known.{each_none, or_none}
+use Rattle.star_plan.proofs.Known.{each_none, named_of}
 use Rattle.star_plan.proofs.Whole.{parts}
 
 -- ---- faults by a test
-
-none_to : {A : Type 0} (b : Bool) (x : A) → (if b then None else Some x) ≡ None → b ≡ true
-none_to true x e = refl
-none_to false x e = absurd (cc)
 
 none_from : {A : Type 0} (b : Bool) (x : A) → b ≡ true → (if b then None else Some x) ≡ None
 none_from true x e = refl
@@ -159,7 +156,7 @@ of_column_there tables at (Some c) e = (c, refl)
 
 of_column_in : (tables : List Name) (at : ℕ) (o : Option ColumnId) → of_column tables at o ≡ None → is_in_from tables o ≡ true
 of_column_in tables at None e = refl
-of_column_in tables at (Some c) e = none_to (has_name tables (table_name (table_of c))) _ e
+of_column_in tables at (Some c) e = named_of (has_name tables (table_name (table_of c))) _ e
 
 of_column_none : (tables : List Name) (at : ℕ) (o : Option ColumnId) → IsThere o → is_in_from tables o ≡ true → of_column tables at o ≡ None
 of_column_none tables at None there e = absurd (let wrong = there.1 in cc)
@@ -215,7 +212,7 @@ nothing_joined (j ∷ js) = nothing_joined js
 
 of_missing_reached : (ps : List Pair) (at : ℕ) (o : Option TableId) → of_missing ps at o ≡ None → is_reached ps o ≡ true
 of_missing_reached ps at None e = refl
-of_missing_reached ps at (Some t) e = none_to (is_table t Lineorder || is_joined ps t) _ e
+of_missing_reached ps at (Some t) e = named_of (is_table t Lineorder || is_joined ps t) _ e
 
 of_missing_none : (ps : List Pair) (at : ℕ) (o : Option TableId) → is_reached ps o ≡ true → of_missing ps at o ≡ None
 of_missing_none ps at None e = refl
@@ -290,7 +287,7 @@ items_to groups names [] e = record { grouped = tt; free = tt; fresh = tt; apart
 items_to groups names (plain n ∷ is') e =
     let parts = or_none (item_fault_after groups names (plain n)) (items_fault groups names is') e in
     let rest = items_to groups names is' parts.1 in
-    record { grouped = (none_to (has_name groups n.text) _ parts.0, rest.grouped); free = rest.free; fresh = rest.fresh; apart = rest.apart }
+    record { grouped = (named_of (has_name groups n.text) _ parts.0, rest.grouped); free = rest.free; fresh = rest.fresh; apart = rest.apart }
 items_to groups names (aggregate a ∷ is') e =
     let name = aggregate_name (length names + 1) a in
     let parts = or_none (item_fault_after groups names (aggregate a)) (items_fault groups (names ++ name ∷ []) is') e in
@@ -302,10 +299,6 @@ items_to groups names (aggregate a ∷ is') e =
       fresh = (text_fresh names name neither.0, fresh_before same_text names name (names_from (length names + 1 + 1) is') rest.fresh);
       apart = (fresh_apart same_text names name (names_from (length names + 1 + 1) is') rest.fresh, rest.apart);
     }
-
-neither_or : (a b : Bool) → a ≡ false → b ≡ false → (a || b) ≡ false
-neither_or true b e h = absurd (cc)
-neither_or false b e h = h
 
 items_none : (groups : List Name) (names : List (List ℕ)) (is' : List Item) → AreShown groups names (names_from (length names + 1) is') is' → items_fault groups names is' ≡ None
 unfolding IsDistinct
@@ -319,10 +312,10 @@ items_none groups names (aggregate a ∷ is') shown =
     let rest : AreShown groups (names ++ name ∷ []) own is' =
     record { grouped = shown.grouped.1; free = shown.free.1; fresh = fresh_after same_text names name own shown.fresh.1 shown.apart.0; apart = shown.apart.1 } in
     none_or (item_fault_after groups names (aggregate a)) (items_fault groups (names ++ name ∷ []) is')
-    (some_from (has_text names name || has_name groups name) _ (neither_or _ _ (fresh_text names name shown.fresh.0) shown.free.0))
+    (some_from (has_text names name || has_name groups name) _ (or_from _ _ (fresh_text names name shown.fresh.0) shown.free.0))
     (items_none groups (names ++ name ∷ []) is' (subst (λ k. AreShown groups (names ++ name ∷ []) (names_from (k + 1) is') is') (sym (one_longer names name)) rest))
 
-some_there : (names : List (List ℕ)) → aggregates_fault names ≡ None → 1 ≤ length names
+pub some_there : (names : List (List ℕ)) → aggregates_fault names ≡ None → 1 ≤ length names
 some_there [] e = absurd (cc)
 some_there (n ∷ ns) e = omega arith
 
@@ -342,10 +335,10 @@ well_named t none =
     record {
       tables = each_after table_fault (λ n. IsThere (table_at n)) table_there [] t.tables p.tables;
       tables_once = (apart_to table_fault same_name table_fresh [] t.tables p.tables).apart;
-      fact = none_to (has_name t.tables (table_name Lineorder)) _ p.fact;
+      fact = named_of (has_name t.tables (table_name Lineorder)) _ p.fact;
       columns = each (λ u. scope_fault t.tables u ≡ None) (λ u. IsThere u.column) (λ u e. of_column_there t.tables u.at u.column e) uses p.scoped;
       scope = each (λ u. scope_fault t.tables u ≡ None) (λ u. is_in_from t.tables u.column ≡ true) (λ u e. of_column_in t.tables u.at u.column e) uses p.scoped;
-      kinds = each (λ u. kind_fault u ≡ None) (λ u. u.fits ≡ true) (λ u e. none_to u.fits _ e) uses p.fit;
+      kinds = each (λ u. kind_fault u ≡ None) (λ u. u.fits ≡ true) (λ u e. named_of u.fits _ e) uses p.fit;
       joins = p.pairs;
       joined_once = p.apart;
       joined = each (λ n. missing_fault ps n ≡ None) (λ n. is_reached ps (table_at n) ≡ true) (λ n e. of_missing_reached ps n.place (table_at n) e) t.tables (each_none (missing_fault ps) t.tables p.joined);
@@ -354,7 +347,7 @@ well_named t none =
       aggregates = some_there (aggregate_names t.items) p.some;
       names_once = are_shown.apart;
       names_free = are_shown.free;
-      order = each (λ k. key_fault groups (aggregate_names t.items) k ≡ None) (λ k. has_name groups k.name.text || has_text (aggregate_names t.items) k.name.text ≡ true) (λ k e. none_to _ _ e) t.keys p.order;
+      order = each (λ k. key_fault groups (aggregate_names t.items) k ≡ None) (λ k. has_name groups k.name.text || has_text (aggregate_names t.items) k.name.text ≡ true) (λ k e. named_of _ _ e) t.keys p.order;
     }
 
 pub no_fault : (t : Tree) → IsWellNamed t → plan_fault t ≡ None

@@ -2,6 +2,7 @@
 use Rattle.std.proofs.Common.{◌≡◌, ◌∙◌, sym, ap, subst, ℕ, ◌+◌, ◌<◌, ◌≤◌, ◌^◌, true, List, [], ◌∷◌, Option, Some, None, length, arith}
 use Rattle.std.specs.List.{list_all, sum_by}
 use Rattle.std.proofs.lemmas.List.Sums.{sum_by-cons}
+use Rattle.star_plan.proofs.Conditions.{some_there}
 use Rattle.star_schema.specs.Schema.{table_of}
 use Rattle.star_query.specs.Tree as tree
 use Rattle.star_query.specs.Tree.{Tree}
@@ -22,12 +23,8 @@ use Rattle.star_plan.proofs.KeptJoins.{at_most_four, where_foreign}
 use Rattle.star_plan.proofs.KeptCounts.{all_counted, items_counted, items_there, measures_counted, names_counted, operands_counted, sorts_there, where_comparisons}
 use Rattle.star_plan.proofs.KeptSpelling.{measures_spelled, names_spelled, where_spelled}
 
-same_some : {A : Type 0} (o : Option A) (x y : A) → o ≡ Some x → o ≡ Some y → x ≡ y
+pub same_some : {A : Type 0} (o : Option A) (x y : A) → o ≡ Some x → o ≡ Some y → x ≡ y
 same_some o x y e f = cc
-
-some_named : (names : List (List ℕ)) → aggregates_fault names ≡ None → 1 ≤ length names
-some_named [] e = absurd (cc)
-some_named (n ∷ ns) e = omega arith
 
 -- each item has at most one aggregate
 few_aggregates : (is' : List tree.Item) → sum_by asked.aggregates_in is' ≤ length is'
@@ -82,7 +79,7 @@ kept_sound t p named resolved =
           subst (λ n. list_all (is_group_column n (length p.measures)) p.items ≡ true) (sym keys_many)
           (items_there t.grouping.columns 0 (length p.measures) t.items p.items (omega arith) resolved.items);
       shown =
-          omega (arith, some_named (aggregate_names t.items) there.some, few_aggregates t.items, items_counted t.grouping.columns 0 t.items p.items resolved.items);
+          omega (arith, some_there (aggregate_names t.items) there.some, few_aggregates t.items, items_counted t.grouping.columns 0 t.items p.items resolved.items);
       sorts =
           subst (λ n. list_all (λ s. is_group_column n (length p.measures) s.column) p.sorts ≡ true) (sym keys_many)
           (subst (λ n. list_all (λ s. is_group_column (length t.grouping.columns) n s.column) p.sorts ≡ true) names_same

@@ -3,6 +3,7 @@ use Rattle.std.proofs.Common.{◌≡◌, ◌∙◌, ap, subst, ℕ, ◌+◌, ◌
 use Rattle.std.specs.List.{AllByRecursion, list_all}
 use Rattle.std.proofs.lemmas.Bool.{and_from, and_parts, or_left, or_right}
 use Rattle.std.proofs.lemmas.List.Folds.{list_any-append}
+use Rattle.star_common.proofs.Firsts.{or_none}
 use Rattle.star_schema.specs.declared.table.TableId.{TableId}
 use Rattle.star_schema.specs.declared.table.TableId.TheVariants.{Date, Customer, Supplier, Part, Lineorder}
 use Rattle.star_schema.specs.declared.column.ColumnId.{ColumnId}
@@ -15,7 +16,6 @@ use Rattle.star_plan.specs.Names.{column_at}
 use Rattle.star_plan.specs.Joins.{Pair, is_foreign, is_joined, is_lone_key, join_by, join_of, joins, joins_of, pairs_of, refers, where_pairs}
 use Rattle.star_plan.specs.Faults.{of_pair, pair_fault}
 use Rattle.star_plan.specs.Sound.{are_distinct}
-use Rattle.star_plan.proofs.Known.{or_none}
 use Rattle.star_plan.proofs.Options.{first_or_second}
 
 -- ---- each by a foreign key

@@ -5,6 +5,7 @@ use Rattle.std.specs.List.{AllByRecursion, list_all, list_any, position, prefix_
 use Rattle.std.specs.Option.{option_or}
 use Rattle.std.proofs.lemmas.Bool.{and_from, and_parts, lt-ltb, or_cases}
 use Rattle.std.proofs.lemmas.List.Folds.{list_all-append}
+use Rattle.star_common.proofs.Firsts.{or_none}
 use Rattle.star_schema.specs.declared.table.TableId.{TableId}
 use Rattle.star_schema.specs.declared.table.TableId.TheVariants.{Lineorder}
 use Rattle.star_schema.specs.declared.column.ColumnId.{ColumnId}
@@ -38,10 +39,6 @@ unfolding table_called
 called t = table_by_name t
 
 -- ---- no fault at all is no fault of each
-
-pub or_none : {A : Type 0} (a b : Option A) → option_or a b ≡ None → (a ≡ None) × (b ≡ None)
-or_none None b e = (refl, e)
-or_none (Some x) b e = absurd (cc)
 
 pub each_none : {X A : Type 0} (f : X → Option A) (xs : List X) → first_answer f xs ≡ None → AllByRecursion (λ x. f x ≡ None) xs
 unfolding first_answer
@@ -233,7 +230,7 @@ abbrev pub IsGrouped : List Name → Item → Type 0
 IsGrouped groups (tree.plain n) = has_name groups n.text ≡ true
 IsGrouped groups (tree.aggregate a) = Unit {0}
 
-named_of : {A : Type 0} (b : Bool) (x : A) → (if b then None else Some x) ≡ None → b ≡ true
+pub named_of : {A : Type 0} (b : Bool) (x : A) → (if b then None else Some x) ≡ None → b ≡ true
 named_of true x e = refl
 named_of false x e = absurd (cc)
 

@@ -1,5 +1,6 @@
 -- A well named query has one plan, and so has a text.
 use Rattle.std.proofs.Common.{◌≡◌, ◌∙◌, sym, subst, refl, ℕ, List, Option, Some}
+use Rattle.star_plan.proofs.Kept.{same_some}
 use Rattle.star_query.specs.Derives.{Means}
 use Rattle.star_query.specs.Tree.{Tree}
 use Rattle.star_query.proofs.Verdicts.{one_meaning}
@@ -10,9 +11,6 @@ use Rattle.star_plan.specs.Resolved.{IsResolved}
 use Rattle.star_plan.specs.WellNamed.{IsWellNamed}
 use Rattle.star_plan.proofs.Conditions.{no_fault}
 use Rattle.star_plan.proofs.Whole.{conjuncts_there, items_there, keys_there, measures_there, order_there, parts}
-
-same_some : {A : Type 0} (o : Option A) (x y : A) → o ≡ Some x → o ≡ Some y → x ≡ y
-same_some o x y e f = cc
 
 pub one_plan : (t : Tree) (p q : Plan) → IsResolved t p → IsResolved t q → p ≡ q
 one_plan t p q a b = λ i. record {

@@ -3,6 +3,7 @@ use Rattle.std.proofs.Common.{◌≡◌, ◌∙◌, inl, inr, true, List, [], �
 use Rattle.std.specs.List.{AllByRecursion, list_all}
 use Rattle.std.specs.Option.{option_or}
 use Rattle.std.specs.Result.{IsErrAnd}
+use Rattle.star_common.proofs.Firsts.{or_none}
 use Rattle.star_schema.specs.declared.column.ColumnId.{ColumnId}
 use Rattle.star_schema.specs.declared.group.GroupColumn.{GroupColumn}
 use Rattle.star_schema.specs.declared.group.SortKey.{SortKey}
@@ -22,7 +23,7 @@ use Rattle.star_plan.specs.Naming.{aggregate_names}
 use Rattle.star_plan.specs.Faults.{aggregates_fault, fact_fault, from_fault, group_fault, grouping_fault, item_fault, join_fault, key_fault, kind_fault, missing_fault, naming_fault, order_fault, pair_fault, plan_fault, scope_fault, select_fault, table_fault}
 use Rattle.star_plan.specs.Resolved.{items_from, measures_of, option_all, resolved_key, where_conjuncts}
 use Rattle.star_plan.specs.Sound.{are_distinct, condition_is_sound, in_scope, measure_is_sound}
-use Rattle.star_plan.proofs.Known.{Reaches, each_left, each_none, each_right, groups_known, grouped, items_known, joined_each, measures_known, or_none, order_known, reaches, where_known, IsGrouped}
+use Rattle.star_plan.proofs.Known.{Reaches, each_left, each_none, each_right, groups_known, grouped, items_known, joined_each, measures_known, order_known, reaches, where_known, IsGrouped}
 use Rattle.star_plan.proofs.KeptJoins.{distinct}
 
 -- what well named says of each part

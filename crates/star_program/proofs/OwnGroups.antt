@@ -3,6 +3,7 @@ use Rattle.std.proofs.Common.{◌≡◌, ◌⊎◌, inl, inr, ⊎_elim, ℕ, zer
 use Rattle.std.specs.Prelude.{◌||◌, map, replicate, slice_index_or}
 use Rattle.std.specs.List.{list_any}
 use Rattle.std.proofs.lemmas.List.Folds.{list_any-append}
+use Rattle.std.proofs.lemmas.Bool.{or_left, or_right}
 use Rattle.star_schema.specs.declared.group.Shape.{Shape}
 use Rattle.star_schema.specs.declared.group.Shape.TheVariants.{Plain, Cube}
 use Rattle.star_schema.specs.declared.group.Aggregate.{Aggregate}
@@ -18,14 +19,6 @@ use Rattle.star_program.specs.Overflow.{IsOwn, LeavesSomewhere}
 one_of : (a b : Bool) → (a || b) ≡ true → (a ≡ true) ⊎ (b ≡ true)
 one_of true b e = inl refl
 one_of false b e = inr e
-
-of_left : (a b : Bool) → a ≡ true → (a || b) ≡ true
-of_left true b e = refl
-of_left false b e = absurd (cc)
-
-of_right : (a b : Bool) → b ≡ true → (a || b) ≡ true
-of_right true b e = refl
-of_right false b e = e
 
 -- ---- a test of some group
 
@@ -55,10 +48,10 @@ some_mask test (k ∷ ks) e = ⊎_elim
     (one_of _ _ (sym (masks_any test k ks) ∙ e))
 
 each_mask : {K : Type 0} (test : List (Option K) → Bool) (m : List (Option K)) (ks : List K) → IsMasked Cube m ks → test m ≡ true → list_any test (masks ks) ≡ true
-each_mask test [] [] h e = of_left (test []) false e
+each_mask test [] [] h e = or_left (test []) false e
 each_mask test (Some j ∷ m) (k ∷ ks) h e =
-    masks_any test k ks ∙ of_left _ _ (each_mask (λ n. test (Some k ∷ n)) m ks h.1 (subst (λ i. test (Some i ∷ m) ≡ true) h.0 e))
-each_mask test (None ∷ m) (k ∷ ks) h e = masks_any test k ks ∙ of_right _ _ (each_mask (λ n. test (None ∷ n)) m ks h e)
+    masks_any test k ks ∙ or_left _ _ (each_mask (λ n. test (Some k ∷ n)) m ks h.1 (subst (λ i. test (Some i ∷ m) ≡ true) h.0 e))
+each_mask test (None ∷ m) (k ∷ ks) h e = masks_any test k ks ∙ or_right _ _ (each_mask (λ n. test (None ∷ n)) m ks h e)
 each_mask test [] (k ∷ ks) h e = absurd h
 each_mask test (Some j ∷ m) [] h e = absurd h
 each_mask test (None ∷ m) [] h e = absurd h
@@ -102,8 +95,8 @@ own_passes Cube test ks e = let found = some_mask test ks e in record { group = 
 
 passes_own : {K : Type 0} (s : Shape) (test : List (Option K) → Bool) (ks : List K) (m : List (Option K)) → IsOwn s ks m → test m ≡ true → list_any test (own_groups s ks) ≡ true
 passes_own Plain test ks m own e = ⊎_elim
-    (λ h. of_left _ _ (subst (λ n. test n ≡ true) (masked_shown m ks h) e))
-    (λ h. of_right (test (map Some ks)) _ (of_left _ _ (subst (λ n. test n ≡ true) (h ∙ sym (hidden_is ks)) e)))
+    (λ h. or_left _ _ (subst (λ n. test n ≡ true) (masked_shown m ks h) e))
+    (λ h. or_right (test (map Some ks)) _ (or_left _ _ (subst (λ n. test n ≡ true) (h ∙ sym (hidden_is ks)) e)))
     own
 passes_own Cube test ks m own e = ⊎_elim
     (λ h. each_mask test m ks h e)
@@ -132,10 +125,10 @@ each_place : (gs : List Aggregate) (start place : ℕ) (updates : List Update) �
 each_place [] start place updates h e = absurd (omega (arith, h))
 each_place (g ∷ gs) start zero updates h e =
     let same : start + 0 ≡ start = omega arith in
-    of_left _ _ (subst (λ n. leaves g (aggregate g (numbers_for n updates)) ≡ true) same e)
+    or_left _ _ (subst (λ n. leaves g (aggregate g (numbers_for n updates)) ≡ true) same e)
 each_place (g ∷ gs) start (suc place) updates h e =
     let same : start + suc place ≡ suc start + place = omega arith in
-    of_right (leaves g (aggregate g (numbers_for start updates))) _
+    or_right (leaves g (aggregate g (numbers_for start updates))) _
     (each_place gs (suc start) place updates (omega (arith, h)) (subst (λ n. leaves (slice_index_or gs place Count) (aggregate (slice_index_or gs place Count) (numbers_for n updates)) ≡ true) same e))
 
 -- ---- both directions

@@ -2,6 +2,7 @@
 use Rattle.std.proofs.Common.{◌≡◌, ◌&&◌, ◌||◌, ℕ, zero, suc, All, Bool, true, false, IsTrue, List, [], ◌∷◌, filter, map, not, refl, take, if◌then◌else◌}
 use Rattle.std.specs.List.{AllByRecursion, list_all}
 use Rattle.std.proofs.lemmas.List.Elements.{All-from_recursion}
+use Rattle.std.proofs.lemmas.Bool.{and_from, not_from_false}
 use Rattle.star_schema.specs.declared.column.Kind.{Kind}
 use Rattle.star_schema.specs.declared.column.Kind.TheVariants as kind
 use Rattle.star_schema.specs.declared.table.TableId.{TableId}
@@ -43,18 +44,14 @@ each_all P (xs ∷ xss) h = (All-from_recursion P xs h.0, each_all P xss h.1)
 
 -- ---- pieces
 
-both_true : (p q : Bool) → p ≡ true → q ≡ true → (p && q) ≡ true
-both_true true q h k = k
-both_true false q h k = absurd cc
-
 -- all bytes of a piece pass a test
 abbrev Passes : (ℕ → Bool) → List ℕ → Type 0
 Passes r piece = IsTrue (list_all r piece)
 
 first_passes : (r : ℕ → Bool) (b : ℕ) (ps : List (List ℕ)) → r b ≡ true
     → AllByRecursion (Passes r) ps → AllByRecursion (Passes r) (with_first b ps)
-first_passes r b [] passes h = (both_true (r b) true passes refl, tt)
-first_passes r b (p ∷ ps) passes h = (both_true (r b) (list_all r p) passes h.0, h.1)
+first_passes r b [] passes h = (and_from (r b) true passes refl, tt)
+first_passes r b (p ∷ ps) passes h = (and_from (r b) (list_all r p) passes h.0, h.1)
 
 -- bytes that part the text are in no piece
 pieces_pass : (parts r : ℕ → Bool) (text : List ℕ)
@@ -69,10 +66,6 @@ pieces_pass parts r (b ∷ bs) h =
 
 -- ---- lines and fields
 
-negated : (b : Bool) → b ≡ false → not b ≡ true
-negated false h = refl
-negated true h = absurd cc
-
 neither : (x y : Bool) → not y ≡ true → x ≡ false → not (x || y) ≡ true
 neither false y h k = h
 neither true y h k = absurd cc
@@ -80,7 +73,7 @@ neither true y h k = absurd cc
 each_in_line : (text : List ℕ)
     → AllByRecursion (λ b. ends_line b ≡ false → not (ends_line b) ≡ true) text
 each_in_line [] = tt
-each_in_line (b ∷ bs) = (negated (ends_line b), each_in_line bs)
+each_in_line (b ∷ bs) = (not_from_false (ends_line b), each_in_line bs)
 
 conjuncts : (p q : Bool) → (p && q) ≡ true → (p ≡ true) × (q ≡ true)
 conjuncts true q h = (refl, h)

@@ -12,3 +12,4 @@ pub mod Extremes
 pub mod Fronts
 pub mod Same
 pub mod TextPlaces
+pub mod Typed

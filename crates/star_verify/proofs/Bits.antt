@@ -35,6 +35,3 @@ bit_alone k small =
     let one : 1 * 2 ^ k ≡ 2 ^ k = omega arith in
     ap (λ n. n % 2 ^ 64) one ∙ mod-eq_of_lt (omega (arith, most))
 
-pub index_small : (c : ColumnId) → index_of c < 58
-index_small DDatekey = lit< tt
-index_small _ = lit< tt

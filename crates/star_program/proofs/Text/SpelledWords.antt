@@ -37,7 +37,7 @@ use Rattle.star_program.specs.declared.op.Operator.TheVariants as operator
 use Rattle.star_program.specs.declared.spelling.keyword.Mnemonic.{Mnemonic}
 use Rattle.star_program.specs.declared.spelling.keyword.Mnemonic.TheVariants as mnemonic
 use Rattle.star_program.proofs.Text.Quotes.{plain_byte, two_quotes}
-use Rattle.star_program.proofs.Text.WordLemmas.{filtered_first, no_pieces, piece_ends, piece_on, piece_quoted, words_are}
+use Rattle.star_program.proofs.Text.WordLemmas.{filtered_first, no_pieces, piece_ends, piece_on, piece_quoted, words_are, filled_whole}
 
 -- ---- words
 
@@ -151,12 +151,8 @@ digits_word_bytes (d ∷ ds) h =
 decimal_digits : (n : ℕ) → n < 2 ^ 64 → list_all is_ascii_digit (decimal n) ≡ true
 decimal_digits n small = digits_all (decimal n) (decimal_is_IsNumeral n small).0.1
 
-filled_long : (w : List ℕ) → 0 < length w → is_filled w ≡ true
-filled_long [] h = absurd (omega arith)
-filled_long (b ∷ w) h = refl
-
 pub decimal_word : (n : ℕ) → n < 2 ^ 64 → is_word (decimal n) ≡ true
-decimal_word n small = rw (filled_long (decimal n) (decimal_is_IsNumeral n small).0.0, digits_word_bytes (decimal n) (decimal_digits n small)) refl
+decimal_word n small = rw (filled_whole (decimal n) (decimal_is_IsNumeral n small).0.0, digits_word_bytes (decimal n) (decimal_digits n small)) refl
 
 numeral_decimal : (places n : ℕ) → 0 < places → n < 10 ^ places → n < 2 ^ 64 → numeral_of places (decimal n) ≡ Some n
 numeral_decimal places n some short small =
@@ -326,7 +322,7 @@ unfolding is_name
 name_word w h =
     let all = and_parts (nat_le 1 (length w) && nat_le (length w) 64) (list_all is_name_byte w) h in
     let some = and_parts (nat_le 1 (length w)) (nat_le (length w) 64) all.0 in
-    rw (filled_long w (leb-true 1 (length w) some.0), name_bytes w all.1) refl
+    rw (filled_whole w (leb-true 1 (length w) some.0), name_bytes w all.1) refl
 
 -- ---- texts in quotes
 

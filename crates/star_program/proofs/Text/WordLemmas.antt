@@ -82,7 +82,7 @@ filled_front [] k some within = absurd (omega arith)
 filled_front (b ∷ line) zero some within = absurd (omega arith)
 filled_front (b ∷ line) (suc k) some within = refl
 
-filled_whole : (line : List ℕ) → 0 < length line → is_filled line ≡ true
+pub filled_whole : (line : List ℕ) → 0 < length line → is_filled line ≡ true
 filled_whole [] some = absurd (omega arith)
 filled_whole (b ∷ line) some = refl
 

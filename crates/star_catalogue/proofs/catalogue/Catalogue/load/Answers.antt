@@ -5,7 +5,7 @@ use Rattle.star_catalogue.specs.Load.{text_of}
 use Rattle.star_catalogue.specs.Private.Referred.{AreReferred}
 use Rattle.star_catalogue.proofs.Loading.{referred_sound, refused_key, refused_table}
 use Rattle.star_catalogue.proofs.SmallNumbers.{bounds_small}
-use Rattle.star_catalogue.proofs.Typed.{rows_typed}
+use Rattle.star_schema.proofs.Typed.{rows_typed}
 use Rattle.star_catalogue.proofs.catalogue.Catalogue.load.Goals as goal
 
 pub returns-in_err-loaded-clause-refused : goal.returns-in_err-loaded-clause-refused

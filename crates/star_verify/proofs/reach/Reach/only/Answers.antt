@@ -1,11 +1,12 @@
 use Rattle.std.proofs.Common.{ap, ◌∙◌}
 use Rattle.std.specs.Int.{bit_at}
 use Rattle.std.specs.Prelude.{nat_eq}
+use Rattle.star_schema.proofs.Same.{index_within}
 use Rattle.star_schema.specs.Schema.{index_of}
-use Rattle.star_verify.proofs.Bits.{bit_alone, bit_is, index_small}
+use Rattle.star_verify.proofs.Bits.{bit_alone, bit_is}
 use Rattle.star_verify.proofs.reach.Reach.only.Goals as goal
 
 pub returns : goal.returns
 returns c = λ i column.
-    (ap (λ n. nat_eq (bit_at n (index_of column)) 1) (bit_alone (index_of c.args.column) (index_small c.args.column))
+    (ap (λ n. nat_eq (bit_at n (index_of column)) 1) (bit_alone (index_of c.args.column) (index_within c.args.column))
     ∙ bit_is (index_of c.args.column) (index_of column)) i

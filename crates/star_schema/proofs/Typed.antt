@@ -3,14 +3,22 @@ use Rattle.std.proofs.Common.{◌≡◌, ◌∷◌, [], List, ℕ, All, true, fa
 use Rattle.std.proofs.lemmas.Bool.{and_parts}
 use Rattle.std.proofs.lemmas.List.Elements.{All-map}
 use Rattle.star_schema.specs.declared.table.TableId.{TableId}
+use Rattle.star_schema.specs.declared.table.TableId.TheVariants.{Date, Customer, Supplier, Part, Lineorder}
 use Rattle.star_schema.specs.declared.column.Kind.{Kind}
 use Rattle.star_schema.specs.declared.column.Kind.TheVariants.{Number, Text}
 use Rattle.star_schema.specs.Database.{AreTables, rows_in}
 use Rattle.star_schema.specs.Loadable.{database_of}
 use Rattle.star_schema.specs.Records.{records_of}
 use Rattle.star_schema.specs.Schema.{kinds_of}
-use Rattle.star_schema.specs.Tables.{IsRowOf, are_cells, is_cell, kind_of_value, row_of, value_of, values_of}
-use Rattle.star_catalogue.proofs.Loading.{rows_in-database_of}
+use Rattle.star_schema.specs.Tables.{IsRowOf, are_cells, is_cell, kind_of_value, row_of, rows_of, value_of, values_of}
+
+pub rows_in-database_of : (texts : TableId → List ℕ) (t : TableId) → rows_in (database_of texts) t
+    ≡ rows_of t (texts t)
+rows_in-database_of texts Date = refl
+rows_in-database_of texts Customer = refl
+rows_in-database_of texts Supplier = refl
+rows_in-database_of texts Part = refl
+rows_in-database_of texts Lineorder = refl
 
 value_typed : (k : Kind) (cell : List ℕ) → kind_of_value (value_of k cell) ≡ k
 value_typed Number cell = refl
