@@ -1,17 +1,27 @@
--- What is written of a name at its end.
-use Rattle.std.proofs.Common.{◌≡◌, ◌∙◌, ◌++◌, ℕ, List, [], ◌∷◌, length, chars, encode_utf8_all, flat_map, append-nil, ap, sym, arith}
-use Rattle.std.proofs.lemmas.Str.{chars-nil}
-use Rattle.star_cli.specs.Names.{shown_letter, shown_name}
+-- A text that is written letter by letter.
+use Rattle.std.proofs.Common.{◌≡◌, ◌∙◌, ◌++◌, ℕ, List, [], append-nil, append_assoc, ap, subst, sym}
+use Rattle.std.specs.Fmt.{HasWritten}
+use Rattle.std.specs.declared.fmt.Formatter.{Formatter}
+use Rattle.std.proofs.Output.{has_written_append}
 
-pub whole_escape : (done rest whole : List ℕ) → length rest ≡ 0
-    → done ++ encode_utf8_all rest ≡ encode_utf8_all whole → done ≡ encode_utf8_all whole
-whole_escape done [] whole e is = sym (append-nil done) ∙ is
-whole_escape done (x ∷ rest) whole e is = absurd (omega arith)
+-- what is written, followed by what is left, is the whole
+abbrev pub IsWrittenUpTo : {W : Type 0} → (W → List ℕ → W → Type 0) → (f g : Formatter W)
+    → (left whole : List ℕ) → Type 0
+IsWrittenUpTo took f g left whole =
+    (done : List ℕ) × HasWritten took f done g × (done ++ left ≡ whole)
 
-pub whole_name : (done rest name : List ℕ) → length rest ≡ 0
-    → done ++ flat_map shown_letter (chars rest) ≡ flat_map shown_letter (chars name)
-    → done ≡ shown_name name
-unfolding shown_name
-whole_name done [] name e is =
-    sym (append-nil done) ∙ ap (λ l. done ++ flat_map shown_letter l) (sym chars-nil) ∙ is
-whole_name done (x ∷ rest) name e is = absurd (omega arith)
+module _ {W : Type 0} (took : W → List ℕ → W → Type 0) (f g : Formatter W) where
+  pub one_more : (left letter rest whole : List ℕ) (h : Formatter W)
+      → IsWrittenUpTo took f g left whole → HasWritten took g letter h → left ≡ letter ++ rest
+      → IsWrittenUpTo took f h rest whole
+  one_more left letter rest whole h now wrote parts = (
+    now.0 ++ letter,
+    has_written_append took f now.0 g letter h now.1 wrote,
+    append_assoc now.0 letter rest ∙ ap (λ l. now.0 ++ l) (sym parts) ∙ now.2,
+  )
+
+  pub all_written : (left whole : List ℕ) → IsWrittenUpTo took f g left whole → left ≡ []
+      → HasWritten took f whole g
+  all_written left whole now none =
+      subst (λ text. HasWritten took f text g)
+      (sym (append-nil now.0) ∙ ap (λ l. now.0 ++ l) (sym none) ∙ now.2) now.1

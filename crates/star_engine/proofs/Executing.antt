@@ -1,5 +1,5 @@
 -- What is told of a program that is checked and then run.
-use Rattle.std.proofs.Common.{◌≡◌, ◌≤◌, ◌<◌, ℕ, List, Some, None, arith, inl, inr, length, refl, subst}
+use Rattle.std.proofs.Common.{◌≡◌, ◌≤◌, ◌<◌, ℕ, List, Some, None, arith, inl, inr, length, refl, subst, ◌∙◌}
 use Rattle.std.specs.Prelude.{◌↔◌, Result}
 use Rattle.star_common.specs.Memory.{UnlessMemory}
 use Rattle.star_schema.specs.declared.table.TableId.{TableId}
@@ -46,14 +46,20 @@ RefusedByNone database most program =
 
 refusal_of : (database : Database) (most : ℕ) (program : Parts) (refusal : Refusal)
     (shown : admissible.Refusal) → RefusedByNone database most program
-    → first_refusal (world_of database) most program ≡ Some shown
+    → (refusal ≡ why.OutOfMemory → ⊥) → UnlessMemory why.OutOfMemory refusal
+    (first_refusal (world_of database) most program ≡ refusal_shown refusal)
     → refusal_shown refusal ≡ Some shown → IsRefusal database most program refusal
-refusal_of database most program refusal shown none first told = record {
-  not_accepted = λ yes. let is = none.1 (yes.admissible, yes.cheap) in cc;
-  shown = shown;
-  first = first;
-  told = told;
-}
+refusal_of database most program refusal shown none other is told =
+    elim is [
+      | inl memory ↦ absurd (other memory)
+      | inr same ↦
+          (let first = same ∙ told in record {
+            not_accepted = λ yes. let is = none.1 (yes.admissible, yes.cheap) in cc;
+            shown = shown;
+            first = first;
+            told = told;
+          })
+    ]
 
 -- what the check tells is what refuses the program first
 pub refused : (database : Database) (most : ℕ) (program : Parts) (refusal : Refusal)
@@ -62,20 +68,11 @@ pub refused : (database : Database) (most : ℕ) (program : Parts) (refusal : Re
     → OrMemory (IsNotVerified database most program) (fault_of_refusal refusal)
 refused database most program why.OutOfMemory none is = tt
 refused database most program (why.TooCostly visits) none is =
-    elim is [
-      | inl memory ↦ absurd (cc)
-      | inr first ↦ refusal_of database most program (why.TooCostly visits) _ none first refl
-    ]
+    refusal_of database most program (why.TooCostly visits) _ none (λ memory. cc) is refl
 refused database most program (why.Refused at reason) none is =
-    elim is [
-      | inl memory ↦ absurd (cc)
-      | inr first ↦ refusal_of database most program (why.Refused at reason) _ none first refl
-    ]
+    refusal_of database most program (why.Refused at reason) _ none (λ memory. cc) is refl
 refused database most program (why.BadShow place) none is =
-    elim is [
-      | inl memory ↦ absurd (cc)
-      | inr first ↦ refusal_of database most program (why.BadShow place) _ none first refl
-    ]
+    refusal_of database most program (why.BadShow place) _ none (λ memory. cc) is refl
 
 -- what is told of a run
 pub told_run : (database : Database) (most : ℕ) (program : Parts) (outcome : Outcome)
@@ -96,26 +93,6 @@ told_run database most program outcome has_run = record {
 }
 
 -- ---- the program of a file, over the rows of five texts
-
-told_of_file : (most visits : ℕ) (texts : TableId → List ℕ) (file : List ℕ) (program : Parts)
-    (telling : Telling) → IsLoadable most texts → IsProgramOf file program
-    → IsProgramTold (database_of texts) visits program telling → IsToldOf most visits texts file telling
-told_of_file most visits texts file program telling loadable of_file told = record {
-  loadable = loadable;
-  program = program;
-  of_file = of_file;
-  told = told;
-}
-
-quote_of_file : (most : ℕ) (texts : TableId → List ℕ) (file : List ℕ) (program : Parts)
-    (note : List ℕ) → IsLoadable most texts → IsProgramOf file program
-    → IsQuote (database_of texts) program note → IsQuoteOf most texts file note
-quote_of_file most texts file program note loadable of_file quoted = record {
-  loadable = loadable;
-  program = program;
-  of_file = of_file;
-  quoted = quoted;
-}
 
 fault_of_file : (most visits : ℕ) (texts : TableId → List ℕ) (file : List ℕ) (program : Parts)
     (fault : EngineFault) → IsLoadable most texts → IsProgramOf file program
@@ -140,8 +117,18 @@ of_file out notes most visits texts file database program result same loadable s
     noted_as out notes (IsQuote (database_of texts) program) (IsQuoteOf most texts file)
     (IsProgramTold (database_of texts) visits program) (IsToldOf most visits texts file)
     (IsNotVerified (database_of texts) visits program) (IsUntold most visits texts file) result
-    (λ note quoted. quote_of_file most texts file program note loadable spelled quoted)
-    (λ telling told. told_of_file most visits texts file program telling loadable spelled told)
+    (λ note quoted. record {
+      loadable = loadable;
+      program = program;
+      of_file = spelled;
+      quoted = quoted;
+    })
+    (λ telling told. record {
+      loadable = loadable;
+      program = program;
+      of_file = spelled;
+      told = told;
+    })
     (λ fault refused. fault_of_file most visits texts file program fault loadable spelled refused)
     (subst (λ d. IsNoted out notes (IsQuote d program) (IsProgramTold d visits program)
     (IsNotVerified d visits program) result) same noted)
