@@ -1,9 +1,10 @@
 -- What a command asks for is there, where its words were parsed.
-use Rattle.std.proofs.Common.{◌≡◌, ◌∙◌, ◌<◌, zero, suc, ap, subst, sym, ℕ, List, [], ◌∷◌, length, true, slice_index, inl, inr, refl, arith, codes, is_some, Result, Ok, Err, IfOk}
+use Rattle.std.proofs.Common.{◌≡◌, ◌∙◌, ◌<◌, ◌++◌, zero, suc, ap, subst, sym, ℕ, List, [], ◌∷◌, length, true, slice_index, inl, inr, refl, arith, codes, is_some, Result, Ok, Err, IfOk}
+use Rattle.std.proofs.lemmas.List.{get_or_at}
 use Rattle.std.specs.List.{All, slice_index_or}
 use Rattle.std.proofs.lemmas.Slice.Eq.{bytes_eq-Decides}
 use Rattle.clap.proofs.CallerLemmas.{required_in_chain}
-use Rattle.clap.specs.Built.{AddsArg, FitsChain, HasDistinctIds, IsParsedFrom}
+use Rattle.clap.specs.Built.{AddsArg, AddsInTurn, FitsChain, HasDistinctIds, IsParsedFrom}
 use Rattle.clap.specs.Matches.{first_value, found_of}
 use Rattle.clap.specs.declared.builder.arg.Arg.{Arg}
 use Rattle.clap.specs.declared.builder.command.Command.{Command}
@@ -174,47 +175,47 @@ folder_file_and_limit =
 
 -- ---- what a command asks for
 
-pub asks_one : (start : Command) (name : List ℕ) (word : Arg) (result : Result Command AllocError)
-    → IsWordless start → IsWord name word → IfOk result (λ command. AddsArg start word command)
-    → IfOk result (Asks (name ∷ []))
-asks_one start name word (Ok command) wordless is added =
-    record {
-      start = start;
-      words = word ∷ [];
-      wordless = wordless;
-      named = (is, tt);
-      added = (command, added, refl);
-    }
-asks_one start name word (Err error) wordless is added = added
+are_more : (names : List (List ℕ)) (words : List Arg) {name : List ℕ} {word : Arg}
+    → AreWords names words → IsWord name word → AreWords (names ++ name ∷ []) (words ++ word ∷ [])
+are_more [] [] named is = (is, tt)
+are_more (first ∷ names) (one ∷ words) named is = (named.0, are_more names words named.1 is)
+are_more names words named is = absurd named
 
-pub asks_two : (start between : Command) (first second : List ℕ) (one two : Arg)
-    (result : Result Command AllocError) → IsWordless start → IsWord first one → IsWord second two
-    → AddsArg start one between → IfOk result (λ command. AddsArg between two command)
-    → IfOk result (Asks (first ∷ second ∷ []))
-asks_two start between first second one two (Ok command) wordless is_one is_two before added =
-    record {
-      start = start;
-      words = one ∷ two ∷ [];
-      wordless = wordless;
-      named = (is_one, (is_two, tt));
-      added = (between, before, (command, added, refl));
-    }
-asks_two start between first second one two (Err error) wordless is_one is_two before added = added
+added_more : (start after : Command) (words : List Arg) {before : Command} {word : Arg}
+    → AddsInTurn AddsArg start words before → AddsArg before word after
+    → AddsInTurn AddsArg start (words ++ word ∷ []) after
+added_more start after [] same added = (after, rw same added, refl)
+added_more start after (first ∷ words) rest added =
+    (rest.0, rest.1, added_more rest.0 after words rest.2 added)
 
-pub asks_for_limit : (start between before : Command) (folder file limit : Arg)
-    (result : Result Command AllocError) → IsWordless start → IsWord (codes "FOLDER") folder
-    → IsWord (codes "FILE") file → IsLimit (codes "LIMIT") limit → AddsArg start folder between
-    → AddsArg between file before → IfOk result (λ command. AddsArg before limit command)
-    → IfOk result AsksForLimit
-asks_for_limit start between before folder file limit (Ok command) wordless is_folder is_file is_limit one two added =
+-- at first it asks for nothing
+pub asks_none : {start : Command} → IsWordless start → Asks [] start
+asks_none {start} wordless =
+    record { start = start; words = []; wordless = wordless; named = tt; added = refl }
+
+-- with one argument more, it asks for that one, too
+pub asks_more : {names : List (List ℕ)} {name : List ℕ} {before : Command} {word : Arg}
+    (result : Result Command AllocError) → Asks names before → IsWord name word
+    → IfOk result (λ command. AddsArg before word command) → IfOk result (Asks (names ++ name ∷ []))
+asks_more {names = names} {word = word} (Ok command) asks is added =
     record {
-      asks = record {
-        start = start;
-        words = folder ∷ file ∷ limit ∷ [];
-        wordless = wordless;
-        named = (is_folder, (is_file, (is_limit.0, tt)));
-        added = (between, one, (before, two, (command, added, refl)));
-      };
-      number = λ word. is_limit.1;
+      start = asks.start;
+      words = asks.words ++ word ∷ [];
+      wordless = asks.wordless;
+      named = are_more names asks.words asks.named is;
+      added = added_more asks.start command asks.words asks.added added;
     }
-asks_for_limit start between before folder file limit (Err error) wordless is_folder is_file is_limit one two added = added
+asks_more (Err error) asks is added = added
+
+pub asks_for_limit : {before : Command} {limit : Arg} (result : Result Command AllocError)
+    → Asks (codes "FOLDER" ∷ codes "FILE" ∷ []) before → IsLimit (codes "LIMIT") limit
+    → IfOk result (λ command. AddsArg before limit command) → IfOk result AsksForLimit
+unfolding asks_more
+asks_for_limit (Ok command) asks is added =
+    record {
+      asks = asks_more (Ok command) asks is.0 added;
+      number = λ word.
+          let two = lengths (folder ∷ file ∷ []) asks.words asks.named in
+          ap (λ a. a.value_parser) (get_or_at asks.words _ [] word 2 two) ∙ is.1;
+    }
+asks_for_limit (Err error) asks is added = added

@@ -89,9 +89,7 @@ pub(crate) fn over_folder_and_file<'a>(
 ) -> Result<Command<'a>, AllocError>
     ensures { IfOk result (Asks (codes "FOLDER" ∷ codes "FILE" ∷ [])) }
 {
-    let start = wordless(alloc, help)?;
-    let over = start.arg(folder_word(alloc))?;
-    over.arg(file_word(alloc, file))
+    over_folder(alloc, help)?.arg(file_word(alloc, file))
 }
 
 /// A command that asks for a folder, a file and a limit on visits.
@@ -102,8 +100,5 @@ pub(crate) fn under_limit<'a>(
 ) -> Result<Command<'a>, AllocError>
     ensures { IfOk result AsksForLimit }
 {
-    let start = wordless(alloc, help)?;
-    let over = start.arg(folder_word(alloc))?;
-    let both = over.arg(file_word(alloc, file))?;
-    both.arg(limit_word(alloc))
+    over_folder_and_file(alloc, help, file)?.arg(limit_word(alloc))
 }

@@ -130,9 +130,9 @@ module _ (turn : Turn) where
         some = more.some;
         columns = λ d r e.
             let h = entry_known is_column column_same
-                (λ d o. (o ≡ Some (column_known d)) × (known_fits (column_known d) ≡ true))
-                p.env.loaded p.known p.env.next c (column_known c) (refl, fits) d r
-                (λ e. let h = p.knows.columns d r e in (h.0, (h.1, h.2))) e in
+            (λ d o. (o ≡ Some (column_known d)) × (known_fits (column_known d) ≡ true))
+            p.env.loaded p.known p.env.next c (column_known c) (refl, fits) d r
+            (λ e. let h = p.knows.columns d r e in (h.0, (h.1, h.2))) e in
             (h.0, h.1.0, h.1.1);
         rows = more.rows;
         fresh = more.fresh;

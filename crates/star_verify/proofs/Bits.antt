@@ -34,4 +34,3 @@ bit_alone k small =
     let most : 2 ^ k ≤ 2 ^ 63 = pow_mono {j = 63} (omega (arith, small)) in
     let one : 1 * 2 ^ k ≡ 2 ^ k = omega arith in
     ap (λ n. n % 2 ^ 64) one ∙ mod-eq_of_lt (omega (arith, most))
-

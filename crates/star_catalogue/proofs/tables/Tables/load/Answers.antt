@@ -40,7 +40,7 @@ module _ (most : ℕ) (texts : TableId → List ℕ) where
       (elim wrong [
         | inl memory ↦ inl memory
         | inr fault ↦ inr (before
-              ∙ first_answer_here (λ u. table_fault u most (texts u)) TABLES place t f at fault)
+            ∙ first_answer_here (λ u. table_fault u most (texts u)) TABLES place t f at fault)
       ])
 
 pub returns-in_err-date : goal.returns-in_err-date
