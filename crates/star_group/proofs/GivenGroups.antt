@@ -1,5 +1,5 @@
 -- The rows that a store gives are the groups of its puts.
-use Rattle.std.proofs.Common.{◌≡◌, ◌⊎◌, inl, inr, ⊎_elim, ℕ, zero, suc, ◌+◌, ◌<◌, ◌≤◌, Bool, true, false, not, ◌||◌, nat_eq, ℤ, List, [], ◌∷◌, Option, Some, None, cond, length, get_or, slice_get, map, take, replicate, ap, sym, ◌∙◌, subst, refl, true≢false, arith}
+use Rattle.std.proofs.Common.{◌≡◌, inl, inr, ⊎_elim, ℕ, zero, suc, ◌+◌, ◌<◌, ◌≤◌, Bool, true, false, not, ◌||◌, nat_eq, ℤ, List, [], ◌∷◌, Option, Some, None, cond, length, get_or, slice_get, map, take, replicate, ap, sym, ◌∙◌, subst, refl, true≢false, arith}
 use Rattle.std.specs.List.{filter, Contains, AllByRecursion, IsDistinct}
 use Rattle.std.specs.Map.{lookup, keys_of}
 use Rattle.std.specs.Option.{option_map}

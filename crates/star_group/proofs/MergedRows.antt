@@ -1,5 +1,5 @@
 -- One more row merged into those of some keys.
-use Rattle.std.proofs.Common.{◌≡◌, ◌⊎◌, inl, inr, ℕ, zero, suc, ◌+◌, ◌<◌, Bool, true, false, ◌||◌, ℤ, List, [], ◌∷◌, Option, Some, None, length, get_or, take, map, ap, sym, ◌∙◌, subst, refl, true≢false, arith}
+use Rattle.std.proofs.Common.{◌≡◌, ◌⊎◌, inl, inr, ℕ, zero, suc, ◌+◌, ◌<◌, Bool, true, false, ◌||◌, ℤ, List, [], ◌∷◌, Option, Some, None, length, get_or, take, map, MatchBool, ap, sym, ◌∙◌, subst, refl, true≢false, arith}
 use Rattle.std.specs.List.{list_any, IsDistinct}
 use Rattle.std.specs.Option.{unwrap_or}
 use Rattle.std.proofs.lemmas.List.{get_or-map, length-map}
@@ -61,15 +61,16 @@ module _ (own : List (List (Option KeyValue))) (i : ℕ) (key : List (Option Key
       (both.0, ap (key_eq q) (sym here) ∙ both.1)
 
   module _ (gs : List Aggregate) (more : List (Option ℤ)) where
-    pub stays_now : (look : List (Option KeyValue) → Option (List (Option ℤ))) → AllStay look (take i own) gs more → MergeStays gs (unwrap_or (look key) []) more → AllStay look (take (i + 1) own) gs more
-    stays_now look so_far now = record { stay = λ q e. by q (split q e) }
+    -- whether the row at i stays tells whether those of the first i + 1 keys do
+    pub told_more : (look : List (Option KeyValue) → Option (List (Option ℤ))) → AllStay look (take i own) gs more → (stays : Bool)
+        → MatchBool stays (MergeStays gs (unwrap_or (look key) []) more) (MergeLeaves gs (unwrap_or (look key) []) more)
+        → MatchBool stays (AllStay look (take (i + 1) own) gs more) (SomeLeaves look own gs more)
+    told_more look so_far false leaves = record { key = key; among = among_here; leaves = leaves }
+    told_more look so_far true now = record { stay = λ q e. by q (split q e) }
       where
         by : (q : List (Option KeyValue)) → (list_any (key_eq q) (take i own) ≡ true) ⊎ (q ≡ key) → MergeStays gs (unwrap_or (look q) []) more
         by q (inl earlier) = so_far.stay q earlier
         by q (inr same) = subst (λ k. MergeStays gs (unwrap_or (look k) []) more) (sym same) now
-
-    pub leaves_now : (look : List (Option KeyValue) → Option (List (Option ℤ))) → MergeLeaves gs (unwrap_or (look key) []) more → SomeLeaves look own gs more
-    leaves_now look l = record { key = key; among = among_here; leaves = l }
 
     stays_found : (found : Option (List (Option ℤ))) → MergeStays gs (unwrap_or found []) more → RowsStay gs found more
     stays_found None h = tt
@@ -129,18 +130,20 @@ module _ (rows : KeyedRows) where
 
 pub grown_more : (a b c : KeyedRows) → IsGrown a b → IsGrown b c → IsGrown a c
 grown_more a b c ab bc = record {
+  width = bc.width ∙ ab.width;
+  many = bc.many ∙ ab.many;
+  held = λ key number is. bc.held key number (ab.held key number is);
   more = omega (arith, ab.more, bc.more);
   keys = λ same. bc.keys (omega (arith, same, ab.more, bc.more)) ∙ ab.keys (omega (arith, same, ab.more, bc.more));
   links = λ same. bc.links (omega (arith, same, ab.more, bc.more)) ∙ ab.links (omega (arith, same, ab.more, bc.more));
 }
 
 -- a place is the same among rows that have grown, as long as there are no more
-pub place_among : (old new : KeyedRows) (count : ℕ) (key : List KeyPart) (place : Place) → IsGrown old new → old.trie.len ≡ count → new.trie.width ≡ old.trie.width
-    → ((other : List KeyPart) (number : ℕ) → IsHeld (keys_in old) other number → IsHeld (keys_in new) other number)
+pub place_among : (old new : KeyedRows) (count : ℕ) (key : List KeyPart) (place : Place) → IsGrown old new → old.trie.len ≡ count
     → IsPlace old key place → IsPlaceAmong new count key place
-place_among old new count key (Held number) grown all wide held is = subst (λ w. IsHeld (keys_in new) (take w key) number) (sym wide) (held (take old.trie.width key) number is)
-place_among old new count key (Missing node digit) grown all wide held is = λ same.
+place_among old new count key (Held number) grown all is = subst (λ w. IsHeld (keys_in new) (take w key) number) (sym grown.width) (grown.held (take old.trie.width key) number is)
+place_among old new count key (Missing node digit) grown all is = λ same.
     let all_same = same ∙ sym all in
-    subst (λ w. IsMissing w (keys_in new) new.trie.links.items (take w key) node digit) (sym wide)
+    subst (λ w. IsMissing w (keys_in new) new.trie.links.items (take w key) node digit) (sym grown.width)
     (subst (λ ks. IsMissing old.trie.width ks new.trie.links.items (take old.trie.width key) node digit) (sym (grown.keys all_same))
     (subst (λ ls. IsMissing old.trie.width (keys_in old) ls (take old.trie.width key) node digit) (sym (grown.links all_same)) is))

@@ -1,5 +1,5 @@
 -- The puts that change a row, with one put more.
-use Rattle.std.proofs.Common.{◌≡◌, zero, suc, Bool, true, false, ◌||◌, List, [], ◌∷◌, Option, None, ap, refl, cond}
+use Rattle.std.proofs.Common.{◌≡◌, zero, suc, true, false, List, [], ◌∷◌, Option, None, ap, refl, cond}
 use Rattle.star_program.specs.declared.key.KeyValue.{KeyValue}
 use Rattle.star_group.specs.Held.{changes, puts_at}
 use Rattle.star_group.specs.Private.Rows.{IsBlank}

@@ -3,7 +3,6 @@
 ghost use Rattle.std.specs.Prelude.{◌≡◌, ◌≤◌, take};
 
 use crate::KeyValue;
-use crate::cell::Row;
 use std::marker::Model;
 
 // A key of a row, in which nothing is ALL; past the group's keys there is nothing.
@@ -11,72 +10,44 @@ pub(crate) type Key = [Option<KeyValue>; 6];
 
 pub(crate) const ALL: Key = [None; 6];
 
-/// A row's keys, in order, in which `None` is ALL. A contract sees the list.
+/// The first items of an array. A contract sees the list of them.
 #[derive(Drop)]
-pub struct RowKeys {
-    places: Key,
+pub struct Prefix<T, const MOST: usize> {
+    array: [T; MOST],
     count: usize,
 }
 
-impl Model for RowKeys {
-    ghost use Rattle.std.specs.Prelude.{List, Option, take, ◌≤◌};
-    ghost use Rattle.star_program.specs.declared.key.KeyValue.{KeyValue};
+impl<T, const MOST: usize> Model for Prefix<T, MOST> {
+    ghost use Rattle.std.specs.Prelude.{List, take, ◌≤◌};
 
-    ghost Value = { List (Option KeyValue) };
+    ghost Value = { List T };
 
-    ghost view = { λ keys. take keys.count keys.places };
+    ghost view = { λ prefix. take prefix.count prefix.array };
 
-    ghost invariant = { λ keys. keys.count ≤ 6 };
+    ghost invariant = { λ prefix. prefix.count ≤ MOST };
 }
 
-impl RowKeys {
-    pub(crate) fn new(places: Key, count: usize) -> RowKeys
-        requires { count ≤ 6 }
-        ensures { result ≡ take count places }
+impl<T, const MOST: usize> Prefix<T, MOST> {
+    pub(crate) fn new(array: [T; MOST], count: usize) -> Prefix<T, MOST>
+        requires { count ≤ MOST }
+        ensures { result ≡ take count array }
     {
-        RowKeys { places, count }
+        Prefix { array, count }
     }
 
-    /// The keys, in order.
-    pub fn as_slice(&self) -> &[Option<KeyValue>]
+    /// The items, in order.
+    pub fn as_slice(&self) -> &[T]
         ensures { result.now ≡ self.now }
     {
-        &self.places[..self.count]
+        &self.array[..self.count]
     }
 }
 
-/// A row's aggregates, in order, in which `None` is NULL. A contract sees the list.
-#[derive(Drop)]
-pub struct RowAggregates {
-    numbers: Row,
-    count: usize,
-}
+/// A row's keys, in order, in which `None` is ALL.
+pub type RowKeys = Prefix<Option<KeyValue>, 6>;
 
-impl Model for RowAggregates {
-    ghost use Rattle.std.specs.Prelude.{List, Option, ℤ, take, ◌≤◌};
-
-    ghost Value = { List (Option ℤ) };
-
-    ghost view = { λ aggregates. take aggregates.count aggregates.numbers };
-
-    ghost invariant = { λ aggregates. aggregates.count ≤ 8 };
-}
-
-impl RowAggregates {
-    pub(crate) fn new(numbers: Row, count: usize) -> RowAggregates
-        requires { count ≤ 8 }
-        ensures { result ≡ take count numbers }
-    {
-        RowAggregates { numbers, count }
-    }
-
-    /// The aggregates, in order.
-    pub fn as_slice(&self) -> &[Option<i64>]
-        ensures { result.now ≡ self.now }
-    {
-        &self.numbers[..self.count]
-    }
-}
+/// A row's aggregates, in order, in which `None` is NULL.
+pub type RowAggregates = Prefix<Option<i64>, 8>;
 
 /// One row of a group: its keys and its aggregates.
 #[derive(Drop)]

@@ -21,7 +21,7 @@ mod store;
 
 pub use deferred::DeferredStore;
 pub use eager::EagerStore;
-pub use group_row::{GroupRow, RowAggregates, RowKeys};
+pub use group_row::{GroupRow, Prefix, RowAggregates, RowKeys};
 pub use group_rows::GroupRows;
 pub use rows::PutFault;
 pub use star_program::KeyValue;

@@ -1,11 +1,10 @@
 // The row of a key: where it is, and one more row merged into it.
 
-ghost use Rattle.std.specs.Prelude.{◌≡◌, ◌≤◌, drop, length, OnOk, OnErr};
+ghost use Rattle.std.specs.Prelude.{◌≡◌, ◌≤◌, length, OnOk, OnErr};
 ghost use Rattle.star_group.specs.Base.{key_of, row_at};
 ghost use Rattle.star_group.specs.Entries.{entries_of};
-ghost use Rattle.star_group.specs.Keyed.{all_hidden};
 ghost use Rattle.star_group.specs.Private.Merged.{IsMergedAt, RowsStay};
-ghost use Rattle.star_group.specs.Private.Numbers.{IsPlace};
+ghost use Rattle.star_group.specs.Private.Numbers.{IsGrown, IsNarrow, IsPlace};
 
 use crate::keyed::KeyedRows;
 use crate::keyed::key::OrderedKey;
@@ -33,7 +32,7 @@ pub(crate) fn merge(
     aggregates: &[Aggregate],
     more: &[Option<i64>],
 ) -> Result<(), AllocError>
-    requires narrow { drop rows.old.trie.width key.now ≡ drop rows.old.trie.width all_hidden }
+    requires narrow { IsNarrow rows.old.trie.width key.now }
     requires place { IsPlace rows.old key.now place }
     requires many { length aggregates.now ≡ rows.old.many }
     requires wide { rows.old.many ≤ length more.now }
@@ -42,8 +41,7 @@ pub(crate) fn merge(
     ensures ok { OnOk result (IsMergedAt aggregates.now (key_of key.now) more.now
         (entries_of rows.old) (entries_of rows.new)) }
     ensures refused { OnErr result (entries_of rows.new ≡ entries_of rows.old) }
-    ensures width { rows.new.trie.width ≡ rows.old.trie.width }
-    ensures many { rows.new.many ≡ rows.old.many }
+    ensures grown { IsGrown rows.old rows.new }
 {
     match place {
         Place::Held(number) => {

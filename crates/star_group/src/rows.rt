@@ -10,7 +10,7 @@ ghost use Rattle.star_group.specs.OwnKeys.{key_eq};
 ghost use Rattle.star_group.specs.Private.Merged.{IsMergedAt, MergeLeaves, MergeStays, RowsStay};
 ghost use Rattle.star_group.specs.Private.Numbers.{AreNarrow, ArePlaces, HasSpace, IsGrown, IsNarrow, IsPlace, IsPlaceAmong, IsWithin, keys_in};
 ghost use Rattle.star_group.specs.Private.Rows.{AllStay, MergesAll, PutsRows, SomeLeaves};
-ghost use Rattle.star_group.specs.Private.Tries.{IsHeld, is_missing};
+ghost use Rattle.star_group.specs.Private.Tries.{is_missing};
 ghost use Rattle.star_group.specs.declared.keyed.key.KeyPart.{KeyPart};
 ghost use Rattle.star_group.specs.declared.rows.PutFault.TheVariants.{OutOfMemory};
 
@@ -120,12 +120,8 @@ fn merge_at(
     requires space { is_missing place ≡ true → HasSpace rows.old 1 }
     ensures rows { IsMergedAt aggregates.now (key_of key.now) more.now
         (entries_of rows.old) (entries_of rows.new) }
-    ensures held { (other : List KeyPart) (number : ℕ) → IsHeld (keys_in rows.old) other number
-        → IsHeld (keys_in rows.new) other number }
     ensures space { (count : ℕ) → HasSpace rows.old (count + 1) → HasSpace rows.new count }
     ensures grown { IsGrown rows.old rows.new }
-    ensures width { rows.new.trie.width ≡ rows.old.trie.width }
-    ensures many { rows.new.many ≡ rows.old.many }
 {
     match place {
         Place::Held(number) => rows.merge_row(number, aggregates, more),

@@ -51,8 +51,11 @@ pub record ArePlaces (rows : KeyedRows) (keys : List (List KeyPart)) (places : L
   pub many : length places ≡ length keys
   pub each : (index : ℕ) → index < length keys → IsPlace rows (slice_index_or keys index []) (slice_index_or places index (Held 0))
 
--- the same rows, with no key's place changed as long as there are no more
+-- the same rows and maybe more, each with the number that it had, and no key's place changes as long as there are no more
 pub record IsGrown (old new : KeyedRows) : Type 0 where
+  pub width : new.trie.width ≡ old.trie.width
+  pub many : new.many ≡ old.many
+  pub held : (key : List KeyPart) (number : ℕ) → IsHeld (keys_in old) key number → IsHeld (keys_in new) key number
   pub more : old.trie.len ≤ new.trie.len
   pub keys : new.trie.len ≡ old.trie.len → keys_in new ≡ keys_in old
   pub links : new.trie.len ≡ old.trie.len → new.trie.links.items ≡ old.trie.links.items

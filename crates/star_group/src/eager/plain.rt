@@ -1,15 +1,15 @@
 // One more put of a plain group: the row of its keys, and the total.
 
-ghost use Rattle.std.specs.Prelude.{◌≡◌, ◌≤◌, [], drop, length, IfErr, OnErr, OnOk};
+ghost use Rattle.std.specs.Prelude.{◌≡◌, ◌≤◌, [], length, IfErr, OnErr, OnOk};
 ghost use Rattle.std.specs.Option.{unwrap_or};
 ghost use Rattle.star_common.specs.Memory.{UnlessMemory};
 ghost use Rattle.star_schema.specs.declared.group.Shape.TheVariants.{Plain};
 ghost use Rattle.star_group.specs.Base.{key_of, row_at};
 ghost use Rattle.star_group.specs.Eager.{look_in};
 ghost use Rattle.star_group.specs.Entries.{entries_of};
-ghost use Rattle.star_group.specs.Keyed.{all_hidden};
 ghost use Rattle.star_group.specs.OwnKeys.{own_keys, padded};
 ghost use Rattle.star_group.specs.Private.Merged.{IsMergedAt, MergeLeaves, MergeStays};
+ghost use Rattle.star_group.specs.Private.Numbers.{IsNarrow};
 ghost use Rattle.star_group.specs.Private.Rows.{PutsRows, SomeLeaves};
 
 use crate::KeyValue;
@@ -30,7 +30,7 @@ fn put_row(
     aggregates: &[Aggregate],
     more: &[Option<i64>],
 ) -> Result<(), PutFault>
-    requires narrow { drop rows.old.trie.width key.now ≡ drop rows.old.trie.width all_hidden }
+    requires narrow { IsNarrow rows.old.trie.width key.now }
     requires few { length aggregates.now ≤ 8 }
     requires many { length aggregates.now ≡ rows.old.many }
     requires wide { rows.old.many ≤ length more.now }

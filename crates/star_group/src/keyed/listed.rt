@@ -1,9 +1,9 @@
 // Rows with their keys, one after another, with nothing to find them by.
 
-ghost use Rattle.std.specs.Prelude.{◌≡◌, ◌<◌, [], drop, length, slice_index_or, IfOk};
+ghost use Rattle.std.specs.Prelude.{◌≡◌, ◌<◌, [], length, slice_index_or, IfOk};
 ghost use Rattle.star_group.specs.Entries.{entries_of};
 ghost use Rattle.star_group.specs.Private.Listed.{listed_entries};
-ghost use Rattle.star_group.specs.Keyed.{all_hidden};
+ghost use Rattle.star_group.specs.Private.Numbers.{IsNarrow};
 
 use super::key::{OrderedKey, in_six_places};
 use super::{KeyedRows, ListedRows};
@@ -55,7 +55,7 @@ impl ListedRows {
     pub(crate) fn key(&self, number: usize) -> OrderedKey
         requires { number < length (listed_entries self.now) }
         ensures key { result ≡ (slice_index_or (listed_entries self.now) number ([], [])).0 }
-        ensures narrow { drop self.now.width result ≡ drop self.now.width all_hidden }
+        ensures narrow { IsNarrow self.now.width result }
     {
         in_six_places(row_of(self.keys.as_slice(), self.width, self.len, number))
     }

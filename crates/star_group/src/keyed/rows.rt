@@ -1,13 +1,12 @@
 // Rows by their keys: making, reading and changing them.
 
-ghost use Rattle.std.specs.Prelude.{◌≡◌, ◌≤◌, ◌<◌, ◌+◌, ℕ, List, [], length, drop, slice_index_or, take, true, IfOk, IsOk, OnErr, OnOk};
+ghost use Rattle.std.specs.Prelude.{◌≡◌, ◌≤◌, ◌<◌, ◌+◌, ℕ, List, [], length, slice_index_or, take, true, IfOk, IsOk, OnErr, OnOk};
 ghost use Rattle.star_group.specs.Base.{key_of, row_at};
 ghost use Rattle.star_group.specs.Entries.{entries_of};
 ghost use Rattle.star_group.specs.declared.keyed.key.KeyPart.{KeyPart};
 ghost use Rattle.star_program.specs.Rows.{cut};
-ghost use Rattle.star_group.specs.Keyed.{all_hidden};
 ghost use Rattle.star_group.specs.Private.Merged.{IsMergedAt, IsWithRow, MergeStays, RowsStay};
-ghost use Rattle.star_group.specs.Private.Numbers.{HasSpace, IsGrown, IsNumber, IsPlace, IsPlaceAmong, keys_in};
+ghost use Rattle.star_group.specs.Private.Numbers.{HasSpace, IsGrown, IsNarrow, IsNumber, IsPlace, IsPlaceAmong, keys_in};
 ghost use Rattle.star_group.specs.declared.keyed.trie.Place.TheVariants.{Missing};
 ghost use Rattle.star_group.specs.Private.Tries.{IsHeld, IsMissing};
 
@@ -43,7 +42,7 @@ impl KeyedRows {
 
     // The number of this key's row, where there is one.
     pub(crate) fn find(&self, key: &OrderedKey) -> Option<usize>
-        requires { drop self.now.trie.width key.now ≡ drop self.now.trie.width all_hidden }
+        requires { IsNarrow self.now.trie.width key.now }
         ensures { IsNumber self.now key.now result }
     {
         match self.place(key) {
@@ -103,7 +102,7 @@ impl KeyedRows {
         key: &OrderedKey,
         row: &[Option<i64>],
     ) -> Result<(), AllocError>
-        requires narrow { drop self.old.trie.width key.now ≡ drop self.old.trie.width all_hidden }
+        requires narrow { IsNarrow self.old.trie.width key.now }
         requires wide { length row.now ≡ self.old.many }
         requires missing { IsMissing self.old.trie.width
             (cut self.old.trie.width self.old.trie.len self.old.trie.keys.items)
@@ -111,13 +110,9 @@ impl KeyedRows {
         ensures ok { OnOk result (IsWithRow (key_of key.now) row.now
             (entries_of self.old) (entries_of self.new)) }
         ensures refused { OnErr result (entries_of self.new ≡ entries_of self.old) }
-        ensures held { (other : List KeyPart) (number : ℕ) → IsHeld (keys_in self.old) other number
-            → IsHeld (keys_in self.new) other number }
         ensures space { (count : ℕ) → HasSpace self.old (count + 1)
             → IsOk result × HasSpace self.new count }
-        ensures grown { OnOk result (IsGrown self.old self.new) }
-        ensures width { self.new.trie.width ≡ self.old.trie.width }
-        ensures many { self.new.many ≡ self.old.many }
+        ensures grown { IsGrown self.old self.new }
     {
         let width = self.trie.width;
         let cells = self.cells.len();
@@ -142,7 +137,7 @@ impl KeyedRows {
         requires stays { MergeStays aggregates.now
             (slice_index_or (entries_of self.old) number ([], [])).1 more.now }
         ensures rows { (key : List KeyPart) → length key ≡ 6
-            → drop self.old.trie.width key ≡ drop self.old.trie.width all_hidden
+            → IsNarrow self.old.trie.width key
             → IsHeld (keys_in self.old) (take self.old.trie.width key) number
             → IsMergedAt aggregates.now (key_of key) more.now
             (entries_of self.old) (entries_of self.new) }
@@ -161,7 +156,7 @@ impl KeyedRows {
         aggregates: &[Aggregate],
         more: &[Option<i64>],
     ) -> Result<(), AllocError>
-        requires narrow { drop self.old.trie.width key.now ≡ drop self.old.trie.width all_hidden }
+        requires narrow { IsNarrow self.old.trie.width key.now }
         requires many { length aggregates.now ≡ self.old.many }
         requires wide { self.old.many ≤ length more.now }
         requires stays { RowsStay aggregates.now
@@ -169,13 +164,9 @@ impl KeyedRows {
         ensures ok { OnOk result (IsMergedAt aggregates.now (key_of key.now) more.now
             (entries_of self.old) (entries_of self.new)) }
         ensures refused { OnErr result (entries_of self.new ≡ entries_of self.old) }
-        ensures held { (other : List KeyPart) (number : ℕ) → IsHeld (keys_in self.old) other number
-            → IsHeld (keys_in self.new) other number }
         ensures space { (count : ℕ) → HasSpace self.old (count + 1)
             → IsOk result × HasSpace self.new count }
-        ensures grown { OnOk result (IsGrown self.old self.new) }
-        ensures width { self.new.trie.width ≡ self.old.trie.width }
-        ensures many { self.new.many ≡ self.old.many }
+        ensures grown { IsGrown self.old self.new }
     {
         let width = self.trie.width;
         match self.trie.find(&key[..width]) {
@@ -201,7 +192,7 @@ impl KeyedRows {
         aggregates: &[Aggregate],
         more: &[Option<i64>],
     ) -> Result<(), AllocError>
-        requires narrow { drop self.old.trie.width key.now ≡ drop self.old.trie.width all_hidden }
+        requires narrow { IsNarrow self.old.trie.width key.now }
         requires missing { IsPlaceAmong self.old count key.now
             (Missing node digit) }
         requires many { length aggregates.now ≡ self.old.many }
@@ -211,13 +202,9 @@ impl KeyedRows {
         ensures ok { OnOk result (IsMergedAt aggregates.now (key_of key.now) more.now
             (entries_of self.old) (entries_of self.new)) }
         ensures refused { OnErr result (entries_of self.new ≡ entries_of self.old) }
-        ensures held { (other : List KeyPart) (number : ℕ) → IsHeld (keys_in self.old) other number
-            → IsHeld (keys_in self.new) other number }
         ensures space { (count : ℕ) → HasSpace self.old (count + 1)
             → IsOk result × HasSpace self.new count }
-        ensures grown { OnOk result (IsGrown self.old self.new) }
-        ensures width { self.new.trie.width ≡ self.old.trie.width }
-        ensures many { self.new.many ≡ self.old.many }
+        ensures grown { IsGrown self.old self.new }
     {
         if self.trie.len == count {
             let many = self.many;
@@ -229,7 +216,7 @@ impl KeyedRows {
 
     // The row of this key, in place of one that is there.
     pub(crate) fn insert(&mut self, key: &OrderedKey, row: &[Option<i64>]) -> Result<(), AllocError>
-        requires narrow { drop self.old.trie.width key.now ≡ drop self.old.trie.width all_hidden }
+        requires narrow { IsNarrow self.old.trie.width key.now }
         requires wide { length row.now ≡ self.old.many }
         ensures ok { OnOk result (IsWithRow (key_of key.now) row.now
             (entries_of self.old) (entries_of self.new)) }

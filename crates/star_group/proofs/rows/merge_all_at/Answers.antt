@@ -12,7 +12,7 @@ merge_at-requires-clause-place c =
     let s = c.args.rows.now in
     let i = c.loop-index.index in
     let all : s.trie.len ≡ c.len-count.result = sym (row_count s) ∙ sym c.len-count.ensures in
-    place_among s c.loop-index.rows c.len-count.result (get_or c.args.own.now i []) (get_or c.args.places.now i (Held 0)) c.loop-index.invariant.grown all c.loop-index.invariant.width c.loop-index.invariant.held (c.requires.places.each i c.loop-index-test.true)
+    place_among s c.loop-index.rows c.len-count.result (get_or c.args.own.now i []) (get_or c.args.places.now i (Held 0)) c.loop-index.invariant.grown all (c.requires.places.each i c.loop-index-test.true)
 
 pub merge_at-requires-clause-stays : goal.merge_at-requires-clause-stays
 merge_at-requires-clause-stays c =
@@ -30,9 +30,6 @@ loop-index-preserved c =
     record {
       merges = merges_more (map key_of own) i (key_of (get_or own i [])) (key_within own i h) (key_here own i h) c.args.aggregates.now c.args.more.now c.requires.distinct (row_at (entries_of c.args.rows.now)) (entries_of c.loop-index.rows) c.loop-index.invariant.merges
           (entries_of c.merge_at.new.rows) c.merge_at.ensures.rows;
-      held = λ other place is. c.merge_at.ensures.held other place (c.loop-index.invariant.held other place is);
       space = λ some. c.merge_at.ensures.space (length own - (i + 1)) (subst (HasSpace c.loop-index.rows) left (c.loop-index.invariant.space some));
       grown = grown_more c.args.rows.now c.loop-index.rows c.merge_at.new.rows c.loop-index.invariant.grown c.merge_at.ensures.grown;
-      width = c.merge_at.ensures.width ∙ c.loop-index.invariant.width;
-      many = c.merge_at.ensures.many ∙ c.loop-index.invariant.many;
     }

@@ -1,19 +1,15 @@
-use Rattle.std.proofs.Common.{◌≡◌, ◌-◌, ℕ, List, length, map, take, true}
+use Rattle.std.proofs.Common.{◌≡◌, ◌-◌, length, map, take, true}
 use Rattle.std.specs.List.{list_any}
-use Rattle.star_group.specs.declared.keyed.key.KeyPart.{KeyPart}
 use Rattle.star_group.specs.Base.{key_of, row_at}
 use Rattle.star_group.specs.Entries.{entries_of}
-use Rattle.star_group.specs.Private.Numbers.{HasSpace, IsGrown, keys_in}
+use Rattle.star_group.specs.Private.Numbers.{HasSpace, IsGrown}
 use Rattle.star_group.specs.Private.Rows.{MergesAll}
-use Rattle.star_group.specs.Private.Tries.{IsHeld, is_missing}
+use Rattle.star_group.specs.Private.Tries.{is_missing}
 use Rattle.star_group.proofs.rows.merge_all_at.Given as goal
 
 abbrev pub invariant-loop-index : goal.invariant-loop-index
 invariant-loop-index l = record {
   merges : MergesAll (take l.index (map key_of l.own)) l.aggregates l.more (row_at (entries_of l.fn.rows)) (row_at (entries_of l.rows));
-  held : (other : List KeyPart) (place : ℕ) → IsHeld (keys_in l.fn.rows) other place → IsHeld (keys_in l.rows) other place;
   space : list_any is_missing l.places ≡ true → HasSpace l.rows (length l.own - l.index);
   grown : IsGrown l.fn.rows l.rows;
-  width : l.rows.trie.width ≡ l.fn.rows.trie.width;
-  many : l.rows.many ≡ l.fn.rows.many;
 }

@@ -40,6 +40,7 @@ impl Trie {
             ≡ cut self.old.width self.old.len self.old.keys.items ++ key.now ∷ []) }
         ensures len { OnOk result (self.new.len ≡ self.old.len + 1) }
         ensures refused { OnErr result (self.new.keys.items ≡ self.old.keys.items) }
+        ensures refused_links { OnErr result (self.new.links.items ≡ self.old.links.items) }
         ensures refused_len { OnErr result (self.new.len ≡ self.old.len) }
         ensures space { (count : ℕ) → HasTrieSpace self.old (count + 1)
             → IsOk result × HasTrieSpace self.new count }

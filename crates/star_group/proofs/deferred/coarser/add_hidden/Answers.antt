@@ -53,8 +53,8 @@ loop-index-preserved c =
     record {
       merged = turn_merges c.args.aggregates.now c.args.place es (once_finer c.in_ok-finer.finer c.args.rows.now c.in_ok-finer.ensures.rows) index e (slice_get-get_or es index ([], []) within) (entries_of c.loop-index.rows) c.hidden-key.result key c.loop-index.invariant.merged (entries_of c.merge.new.self)
           (subst (λ more. IsMergedAt c.args.aggregates.now (key_of c.hidden-key.result) more (entries_of c.loop-index.rows) (entries_of c.merge.new.self)) c.row.ensures.row c.in_ok-merge.ensures.ok);
-      width = c.merge.ensures.width ∙ c.loop-index.invariant.width;
-      many = c.merge.ensures.many ∙ c.loop-index.invariant.many;
+      width = c.merge.ensures.grown.width ∙ c.loop-index.invariant.width;
+      many = c.merge.ensures.grown.many ∙ c.loop-index.invariant.many;
     }
 
 pub returns-clause-rows : goal.returns-clause-rows

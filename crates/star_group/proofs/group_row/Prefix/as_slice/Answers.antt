@@ -1,5 +1,5 @@
 use Rattle.std.proofs.Common.{rules}
-use Rattle.star_group.proofs.group_row.RowAggregates.as_slice.Goals as goal
+use Rattle.star_group.proofs.group_row.Prefix.as_slice.Goals as goal
 
 pub returns : goal.returns
 returns c = search rules
