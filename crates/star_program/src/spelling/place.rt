@@ -1,6 +1,6 @@
 // Where a text stands, and what may follow there.
 
-ghost use Rattle.std.specs.Prelude.{◌≡◌, Ok, Err, None, Some, MatchResult};
+ghost use Rattle.std.specs.Prelude.{◌≡◌, Ok, Err, Some, MatchResult};
 ghost use Rattle.star_common.specs.Memory.{UnlessMemory};
 ghost use Rattle.star_program.specs.Private.Within.{IsWithin};
 ghost use Rattle.star_program.specs.Text.Lines.{words_of};
@@ -75,115 +75,50 @@ impl Place {
                 depth: self.depth + 1,
                 ..self
             }),
-            Statement::End => {
-                if self.depth == 0 {
-                    None
-                } else {
-                    Some(Place {
-                        depth: self.depth - 1,
-                        ..self
-                    })
-                }
-            }
-            Statement::Report(_) => {
-                if self.depth == 0 {
-                    Some(Place {
-                        stage: Stage::Shows,
-                        ..self
-                    })
-                } else {
-                    None
-                }
-            }
-            _ => None,
-        }
-    }
-
-    // The place after a line among the groups.
-    fn after_group(self, statement: &Statement) -> Option<Place>
-        requires { IsWithin self }
-        ensures { result ≡ spec.after_in Stage.Groups self statement.now }
-    {
-        match statement {
-            Statement::Group { place, .. } => {
-                if *place == self.groups {
-                    Some(Place {
-                        groups: self.groups + 1,
-                        ..self
-                    })
-                } else {
-                    None
-                }
-            }
-            _ => self.after_step(statement),
-        }
-    }
-
-    // The place after a line below the report.
-    fn after_show(self, statement: &Statement) -> Option<Place>
-        requires { IsWithin self }
-        ensures { result ≡ spec.after_in Stage.Shows self statement.now }
-    {
-        match statement {
-            Statement::Show(_) => Some(Place {
-                shows: self.shows + 1,
+            Statement::End if self.depth > 0 => Some(Place {
+                depth: self.depth - 1,
                 ..self
             }),
-            Statement::Sort(_) => Some(Place {
-                stage: Stage::Sorts,
-                sorts: 1,
+            Statement::Report(_) if self.depth == 0 => Some(Place {
+                stage: Stage::Shows,
                 ..self
             }),
             _ => None,
         }
     }
 
-    // The place after a line, if it may stand here.
+    // The place after a line, if it may stand here: groups are numbered in order.
     #[tactic(auto, unfolding(crate::specs::Text::Places::after))]
     fn after(self, statement: &Statement) -> Option<Place>
         requires { IsWithin self }
         ensures { result ≡ spec.after self statement.now }
     {
-        match self.stage {
-            Stage::Header => self.after_nothing(statement),
-            Stage::Registers => self.after_header(statement),
-            Stage::Groups => self.after_group(statement),
-            Stage::Body => self.after_step(statement),
-            Stage::Shows => self.after_show(statement),
-            Stage::Sorts => self.after_sort(statement),
-        }
-    }
-
-    fn after_nothing(self, statement: &Statement) -> Option<Place>
-        ensures { result ≡ spec.after_in Stage.Header self statement.now }
-    {
-        match statement {
-            Statement::Header => Some(Place {
+        match (self.stage, statement) {
+            (Stage::Header, Statement::Header) => Some(Place {
                 stage: Stage::Registers,
                 ..self
             }),
-            _ => None,
-        }
-    }
-
-    fn after_header(self, statement: &Statement) -> Option<Place>
-        ensures { result ≡ spec.after_in Stage.Registers self statement.now }
-    {
-        match statement {
-            Statement::Registers(_) => Some(Place {
+            (Stage::Registers, Statement::Registers(_)) => Some(Place {
                 stage: Stage::Groups,
                 ..self
             }),
-            _ => None,
-        }
-    }
-
-    fn after_sort(self, statement: &Statement) -> Option<Place>
-        requires { IsWithin self }
-        ensures { result ≡ spec.after_in Stage.Sorts self statement.now }
-    {
-        match statement {
-            Statement::Sort(_) => Some(Place {
+            (Stage::Groups, Statement::Group { place, .. }) if *place == self.groups => {
+                Some(Place {
+                    groups: self.groups + 1,
+                    ..self
+                })
+            }
+            (Stage::Groups | Stage::Body, _) => self.after_step(statement),
+            (Stage::Shows, Statement::Show(_)) => Some(Place {
+                shows: self.shows + 1,
+                ..self
+            }),
+            (Stage::Shows, Statement::Sort(_)) => Some(Place {
+                stage: Stage::Sorts,
+                sorts: 1,
+                ..self
+            }),
+            (Stage::Sorts, Statement::Sort(_)) => Some(Place {
                 sorts: self.sorts + 1,
                 ..self
             }),

@@ -11,7 +11,9 @@ use crate::group::GroupDecl;
 use crate::op::Op;
 use crate::program::{Parts, Show};
 use crate::spelling::body_lines::push_body;
-use crate::spelling::writing::{push_group, push_op, push_register, push_show, push_sort};
+use crate::spelling::writing::{
+    Written, push_each, push_group, push_op, push_register, push_show, push_sort,
+};
 use star_schema::{SortKey, TableId};
 use std::alloc::{AllocError, Global};
 
@@ -115,43 +117,28 @@ fn push_report(out: &mut Vec<u8>, group: u16) -> Result<(), AllocError>
     out.extend_from_slice(text.as_bytes())
 }
 
-#[tactic(auto, unfolding(crate::specs::Text::Written::line_text))]
-fn push_show_line(out: &mut Vec<u8>, show: &Show) -> Result<(), AllocError>
-    ensures { OnOk result (out.new.items ≡ out.old.items
-        ++ spec.line_text (lines.show_line show.now)) }
-{
-    push_show(out, show)?;
-    out.push(b'\n')?;
-    Ok(())
-}
+/// The line of a column that is shown.
+impl Written for Show {
+    ghost text = { λ show. spec.line_text (lines.show_line show) };
 
-fn push_shows(out: &mut Vec<u8>, shows: &[Show]) -> Result<(), AllocError>
-    ensures { OnOk result (out.new.items ≡ out.old.items
-        ++ flat_map (λ show. spec.line_text (lines.show_line show)) shows.now) }
-{
-    for show in shows {
-        push_show_line(out, show)?;
+    #[tactic(auto, unfolding(crate::specs::Text::Written::line_text))]
+    fn push(&self, out: &mut Vec<u8>) -> Result<(), AllocError> {
+        push_show(out, self)?;
+        out.push(b'\n')?;
+        Ok(())
     }
-    Ok(())
 }
 
-#[tactic(auto, unfolding(crate::specs::Text::Written::line_text))]
-fn push_sort_line(out: &mut Vec<u8>, key: SortKey) -> Result<(), AllocError>
-    ensures { OnOk result (out.new.items ≡ out.old.items ++ spec.line_text (lines.sort_line key)) }
-{
-    push_sort(out, key)?;
-    out.push(b'\n')?;
-    Ok(())
-}
+/// The line of a key that is sorted by.
+impl Written for SortKey {
+    ghost text = { λ key. spec.line_text (lines.sort_line key) };
 
-fn push_sorts(out: &mut Vec<u8>, sorts: &[SortKey]) -> Result<(), AllocError>
-    ensures { OnOk result (out.new.items ≡ out.old.items
-        ++ flat_map (λ key. spec.line_text (lines.sort_line key)) sorts.now) }
-{
-    for key in sorts {
-        push_sort_line(out, *key)?;
+    #[tactic(auto, unfolding(crate::specs::Text::Written::line_text))]
+    fn push(&self, out: &mut Vec<u8>) -> Result<(), AllocError> {
+        push_sort(out, *self)?;
+        out.push(b'\n')?;
+        Ok(())
     }
-    Ok(())
 }
 
 /// The text of a program's parts.
@@ -164,7 +151,7 @@ pub(crate) fn write_parts(alloc: Global, parts: &Parts) -> Result<Vec<u8>, Alloc
     push_groups(&mut out, parts.groups.as_slice())?;
     push_body(&mut out, 0, &parts.body)?;
     push_report(&mut out, parts.report)?;
-    push_shows(&mut out, parts.shows.as_slice())?;
-    push_sorts(&mut out, parts.sorts.as_slice())?;
+    push_each(&mut out, parts.shows.as_slice())?;
+    push_each(&mut out, parts.sorts.as_slice())?;
     Ok(out)
 }

@@ -1,8 +1,8 @@
 // What a line of a program says, read word by word.
 
-ghost use Rattle.std.specs.Prelude.{◌≡◌, ◌∷◌, [], None, Some, MatchResult, codes, if◌then◌else◌};
+ghost use Rattle.std.specs.Prelude.{◌≡◌, ◌≢◌, ◌∷◌, [], None, Some, MatchOption, MatchResult, length};
 ghost use Rattle.std.specs.List.{list_all};
-ghost use Rattle.std.specs.Option.{option_and_then, option_copied, option_map};
+ghost use Rattle.std.specs.Option.{option_copied, option_map};
 ghost use Rattle.star_schema.specs.Tables.{is_printable as printable};
 ghost use Rattle.star_program.specs.Private.Reading.{Reads};
 ghost use Rattle.star_program.specs.Text.Keywords as words;
@@ -14,7 +14,7 @@ ghost use Rattle.star_program.specs.declared.op.Operation.TheVariants as operati
 ghost use Rattle.star_program.specs.declared.spelling.statement.Statement.TheVariants as says;
 
 use crate::group::GroupDecl;
-use crate::op::{Edge, Op, Operation, Operator, Text};
+use crate::op::{Edge, Op, Operation, Operator};
 use crate::program::Show;
 use crate::spelling::fault::LineFault;
 use crate::spelling::keyword::{Keyword, Mnemonic, read_direction, read_shape};
@@ -23,12 +23,13 @@ use crate::spelling::listed::{read_column, read_lists, read_quoted, read_table};
 use crate::spelling::numerals::{is_name, read_constant, read_count, read_register};
 use crate::spelling::statement::Statement;
 use star_common::Items;
-use star_schema::{ColumnId, Direction, GroupColumn, Shape, SortKey, TableId};
+use star_schema::{GroupColumn, Shape, SortKey};
 use std::alloc::Global;
 
 // The only word of a line.
 fn only_word(line: &[u8]) -> Option<&[u8]>
-    ensures { option_copied result ≡ spec.only (words_of line.now) }
+    ensures { MatchOption result (length (words_of line.now) ≢ 1)
+        (λ word. words_of line.now ≡ word.now ∷ []) }
 {
     let (word, rest) = split_word(line)?;
     match split_word(rest) {
@@ -37,73 +38,30 @@ fn only_word(line: &[u8]) -> Option<&[u8]>
     }
 }
 
-fn one_register(line: &[u8]) -> Option<u16>
-    ensures { result ≡ spec.one numerals.register_of (words_of line.now) }
-{
-    read_register(only_word(line)?)
-}
-
-fn one_count(line: &[u8]) -> Option<u16>
-    ensures { result ≡ spec.one numerals.count_of (words_of line.now) }
-{
-    read_count(only_word(line)?)
-}
-
-fn one_constant(line: &[u8]) -> Option<i64>
-    ensures { result ≡ spec.one numerals.constant_of (words_of line.now) }
-{
-    read_constant(only_word(line)?)
-}
-
-fn two_registers(line: &[u8]) -> Option<(u16, u16)>
-    ensures { result ≡ spec.two numerals.register_of numerals.register_of (words_of line.now) }
+// The words of a line that has two.
+fn two_words(line: &[u8]) -> Option<(&[u8], &[u8])>
+    ensures { MatchOption result (length (words_of line.now) ≢ 2)
+        (λ words. words_of line.now ≡ words.0.now ∷ words.1.now ∷ []) }
 {
     let (first, rest) = split_word(line)?;
-    Some((read_register(first)?, one_register(rest)?))
+    Some((first, only_word(rest)?))
 }
 
-fn three_registers(line: &[u8]) -> Option<(u16, (u16, u16))>
-    ensures { result ≡ spec.three numerals.register_of numerals.register_of numerals.register_of
-        (words_of line.now) }
+// The words of a line that has three.
+fn three_words(line: &[u8]) -> Option<(&[u8], &[u8], &[u8])>
+    ensures { MatchOption result (length (words_of line.now) ≢ 3)
+        (λ words. words_of line.now ≡ words.0.now ∷ words.1.now ∷ words.2.now ∷ []) }
 {
     let (first, rest) = split_word(line)?;
-    Some((read_register(first)?, two_registers(rest)?))
-}
-
-fn column_and_register(line: &[u8]) -> Option<(ColumnId, u16)>
-    ensures { result ≡ spec.two words.column_of numerals.register_of (words_of line.now) }
-{
-    let (first, rest) = split_word(line)?;
-    Some((read_column(first)?, one_register(rest)?))
-}
-
-fn table_and_register(line: &[u8]) -> Option<(TableId, u16)>
-    ensures { result ≡ spec.two words.table_of numerals.register_of (words_of line.now) }
-{
-    let (first, rest) = split_word(line)?;
-    Some((read_table(first)?, one_register(rest)?))
-}
-
-fn count_and_constant(line: &[u8]) -> Option<(u16, i64)>
-    ensures { result ≡ spec.two numerals.count_of numerals.constant_of (words_of line.now) }
-{
-    let (first, rest) = split_word(line)?;
-    Some((read_count(first)?, one_constant(rest)?))
-}
-
-fn two_counts_and_constant(line: &[u8]) -> Option<(u16, (u16, i64))>
-    ensures { result ≡ spec.three numerals.count_of numerals.count_of numerals.constant_of
-        (words_of line.now) }
-{
-    let (first, rest) = split_word(line)?;
-    Some((read_count(first)?, count_and_constant(rest)?))
+    let (second, third) = two_words(rest)?;
+    Some((first, second, third))
 }
 
 fn constant(operands: &[u8]) -> Option<Operation>
     ensures { result ≡ option_map operation.Const
         (spec.one numerals.constant_of (words_of operands.now)) }
 {
-    let number = one_constant(operands)?;
+    let number = read_constant(only_word(operands)?)?;
     Some(Operation::Const { number })
 }
 
@@ -111,27 +69,33 @@ fn load(operands: &[u8]) -> Option<Operation>
     ensures { result ≡ option_map (λ (c, row). operation.Load c row)
         (spec.two words.column_of numerals.register_of (words_of operands.now)) }
 {
-    let (column, row) = column_and_register(operands)?;
-    Some(Operation::Load { column, row })
+    let (column, row) = two_words(operands)?;
+    Some(Operation::Load {
+        column: read_column(column)?,
+        row: read_register(row)?,
+    })
 }
 
 fn find(operands: &[u8]) -> Option<Operation>
     ensures { result ≡ option_map (λ (table, k). operation.Find table k)
         (spec.two words.table_of numerals.register_of (words_of operands.now)) }
 {
-    let (table, key) = table_and_register(operands)?;
-    Some(Operation::Find { table, key })
+    let (table, key) = two_words(operands)?;
+    Some(Operation::Find {
+        table: read_table(table)?,
+        key: read_register(key)?,
+    })
 }
 
 fn binary(operator: Operator, operands: &[u8]) -> Option<Operation>
     ensures { result ≡ option_map (λ (a, b). operation.Binary operator a b)
         (spec.two numerals.register_of numerals.register_of (words_of operands.now)) }
 {
-    let (left, right) = two_registers(operands)?;
+    let (left, right) = two_words(operands)?;
     Some(Operation::Binary {
         operator,
-        left,
-        right,
+        left: read_register(left)?,
+        right: read_register(right)?,
     })
 }
 
@@ -140,15 +104,19 @@ fn within(operands: &[u8]) -> Option<Operation>
         (spec.three numerals.register_of numerals.register_of numerals.register_of
         (words_of operands.now)) }
 {
-    let (value, (from, below)) = three_registers(operands)?;
-    Some(Operation::Within { value, from, below })
+    let (value, from, below) = three_words(operands)?;
+    Some(Operation::Within {
+        value: read_register(value)?,
+        from: read_register(from)?,
+        below: read_register(below)?,
+    })
 }
 
 fn not(operands: &[u8]) -> Option<Operation>
     ensures { result ≡ option_map operation.Not
         (spec.one numerals.register_of (words_of operands.now)) }
 {
-    let flag = one_register(operands)?;
+    let flag = read_register(only_word(operands)?)?;
     Some(Operation::Not { flag })
 }
 
@@ -157,11 +125,11 @@ fn read(operands: &[u8]) -> Option<Operation>
         (spec.three numerals.count_of numerals.count_of numerals.constant_of
         (words_of operands.now)) }
 {
-    let (group, (aggregate, default)) = two_counts_and_constant(operands)?;
+    let (group, aggregate, default) = three_words(operands)?;
     Some(Operation::Read {
-        group,
-        aggregate,
-        default,
+        group: read_count(group)?,
+        aggregate: read_count(aggregate)?,
+        default: read_constant(default)?,
     })
 }
 
@@ -185,21 +153,13 @@ fn read_first(line: &[u8]) -> Result<(&[u8], &[u8]), LineFault>
     }
 }
 
-fn column_and_text(alloc: Global, line: &[u8]) -> Result<(ColumnId, Text), LineFault>
-    ensures { Reads result (spec.two words.column_of spec.quoted_text_of (words_of line.now)) }
-{
-    let (first, rest) = read_first(line)?;
-    let column = readable(read_column(first))?;
-    let quoted = readable(only_word(rest))?;
-    let text = read_quoted(alloc, quoted)?;
-    Ok((column, text))
-}
-
 fn read_edge(alloc: Global, edge: Edge, operands: &[u8]) -> Result<Operation, LineFault>
     ensures { Reads result (option_map (λ (c, text). operation.Edge edge c text)
         (spec.two words.column_of spec.quoted_text_of (words_of operands.now))) }
 {
-    let (column, text) = column_and_text(alloc, operands)?;
+    let (column, text) = readable(two_words(operands))?;
+    let column = readable(read_column(column))?;
+    let text = read_quoted(alloc, text)?;
     Ok(Operation::Edge { edge, column, text })
 }
 
@@ -295,20 +255,14 @@ fn read_group_column(word: &[u8], place: &[u8]) -> Option<GroupColumn>
     }
 }
 
-fn one_direction(line: &[u8]) -> Option<Direction>
-    ensures { result ≡ spec.one words.direction_of (words_of line.now) }
-{
-    read_direction(only_word(line)?)
-}
-
 fn read_sort(line: &[u8]) -> Option<SortKey>
     ensures { result ≡ spec.sort_of (words_of line.now) }
 {
-    let (word, rest) = split_word(line)?;
-    let (place, rest) = split_word(rest)?;
-    let column = read_group_column(word, place)?;
-    let direction = one_direction(rest)?;
-    Some(SortKey { column, direction })
+    let (word, place, direction) = three_words(line)?;
+    Some(SortKey {
+        column: read_group_column(word, place)?,
+        direction: read_direction(direction)?,
+    })
 }
 
 fn read_name(word: &[u8]) -> Option<&[u8]>
@@ -317,22 +271,13 @@ fn read_name(word: &[u8]) -> Option<&[u8]>
     if is_name(word) { Some(word) } else { None }
 }
 
-fn place_column(word: &[u8], line: &[u8]) -> Option<GroupColumn>
-    ensures { result ≡ option_and_then (spec.group_column_of word.now)
-        (spec.only (words_of line.now)) }
-{
-    read_group_column(word, only_word(line)?)
-}
-
 // A name and what it shows.
 fn show_parts(line: &[u8]) -> Option<(&[u8], GroupColumn)>
     ensures { option_map (λ parts. record { name = parts.0.now; column = parts.1 }) result
         ≡ spec.show_of (words_of line.now) }
 {
-    let (word, rest) = split_word(line)?;
-    let (kind, rest) = split_word(rest)?;
-    let name = read_name(word)?;
-    Some((name, place_column(kind, rest)?))
+    let (name, word, place) = three_words(line)?;
+    Some((read_name(name)?, read_group_column(word, place)?))
 }
 
 fn read_show(alloc: Global, line: &[u8]) -> Result<Show, LineFault>
@@ -343,23 +288,12 @@ fn read_show(alloc: Global, line: &[u8]) -> Result<Show, LineFault>
     Ok(Show { name, column })
 }
 
-fn is_version(line: &[u8]) -> Option<Statement>
-    ensures { result ≡ option_and_then (λ version. if words.same version
-        (codes "1") then Some says.Header else None) (spec.only (words_of line.now)) }
-{
-    if only_word(line)? == "1".as_bytes() {
-        Some(Statement::Header)
-    } else {
-        None
-    }
-}
-
 fn read_header(line: &[u8]) -> Option<Statement>
     ensures { result ≡ spec.header_of (words_of line.now) }
 {
-    let (program, rest) = split_word(line)?;
-    if program == "program".as_bytes() {
-        is_version(rest)
+    let (program, version) = two_words(line)?;
+    if program == "program".as_bytes() && version == "1".as_bytes() {
+        Some(Statement::Header)
     } else {
         None
     }
@@ -377,20 +311,20 @@ fn read_end(line: &[u8]) -> Option<Statement>
 fn read_registers(line: &[u8]) -> Option<Statement>
     ensures { result ≡ option_map says.Registers (spec.one numerals.count_of (words_of line.now)) }
 {
-    Some(Statement::Registers(one_count(line)?))
+    Some(Statement::Registers(read_count(only_word(line)?)?))
 }
 
 fn read_report(line: &[u8]) -> Option<Statement>
     ensures { result ≡ option_map says.Report (spec.one numerals.count_of (words_of line.now)) }
 {
-    Some(Statement::Report(one_count(line)?))
+    Some(Statement::Report(read_count(only_word(line)?)?))
 }
 
 fn read_keep(line: &[u8]) -> Option<Statement>
     ensures { result ≡ option_map (λ f. says.Act (op.Keep f))
         (spec.one numerals.register_of (words_of line.now)) }
 {
-    let flag = one_register(line)?;
+    let flag = read_register(only_word(line)?)?;
     Some(Statement::Act(Op::Keep { flag }))
 }
 
@@ -398,8 +332,11 @@ fn read_scan(line: &[u8]) -> Option<Statement>
     ensures { result ≡ option_map (λ (table, t). says.Scan table t)
         (spec.two words.table_of numerals.register_of (words_of line.now)) }
 {
-    let (table, target) = table_and_register(line)?;
-    Some(Statement::Scan { table, target })
+    let (table, target) = two_words(line)?;
+    Some(Statement::Scan {
+        table: read_table(table)?,
+        target: read_register(target)?,
+    })
 }
 
 fn read_sort_line(line: &[u8]) -> Option<Statement>

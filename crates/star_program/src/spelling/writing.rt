@@ -1,6 +1,6 @@
 // The lines of a program, written.
 
-ghost use Rattle.std.specs.Prelude.{◌≡◌, ◌+◌, ◌*◌, ◌≤◌, ◌++◌, ◌∷◌, [], OnOk, codes, decimal, replicate};
+ghost use Rattle.std.specs.Prelude.{◌≡◌, ◌++◌, ℕ, List, OnOk, codes, decimal};
 ghost use Rattle.std.specs.Fmt.{signed_decimal};
 ghost use Rattle.std.specs.List.{flat_map};
 ghost use Rattle.star_schema.specs.Schema.{column_name, table_name};
@@ -24,14 +24,32 @@ pub(crate) fn push_register(out: &mut Vec<u8>, register: u16) -> Result<(), Allo
     out.extend_from_slice(text.as_bytes())
 }
 
-fn push_registers(out: &mut Vec<u8>, registers: &[u16]) -> Result<(), AllocError>
-    ensures { OnOk result (out.new.items ≡ out.old.items
-        ++ flat_map spec.register_text registers.now) }
+/// What is written one after another.
+pub(crate) trait Written {
+    ghost text: { Self → List ℕ };
+
+    /// Adds its text.
+    fn push(&self, out: &mut Vec<u8>) -> Result<(), AllocError>
+        ensures { OnOk result (out.new.items ≡ out.old.items ++ text self.now) };
+}
+
+/// Adds each of some, in order.
+pub(crate) fn push_each<T: Written>(out: &mut Vec<u8>, items: &[T]) -> Result<(), AllocError>
+    ensures { OnOk result (out.new.items ≡ out.old.items ++ flat_map T.text items.now) }
 {
-    for register in registers {
-        push_register(out, *register)?;
+    for item in items {
+        item.push(out)?;
     }
     Ok(())
+}
+
+/// A register.
+impl Written for u16 {
+    ghost text = { spec.register_text };
+
+    fn push(&self, out: &mut Vec<u8>) -> Result<(), AllocError> {
+        push_register(out, *self)
+    }
 }
 
 // Adds what begins an instruction that writes a register.
@@ -134,9 +152,9 @@ fn push_put(out: &mut Vec<u8>, group: u16, keys: &[u16], values: &[u16]) -> Resu
 {
     let text = format!(in *out.allocator(); "put {group}")?;
     out.extend_from_slice(text.as_bytes())?;
-    push_registers(out, keys)?;
+    push_each(out, keys)?;
     out.extend_from_slice(b" :")?;
-    push_registers(out, values)
+    push_each(out, values)
 }
 
 fn push_load(out: &mut Vec<u8>, target: u16, column: ColumnId, row: u16) -> Result<(), AllocError>
@@ -227,40 +245,25 @@ pub(crate) fn push_op(out: &mut Vec<u8>, op: &Op) -> Result<(), AllocError>
     }
 }
 
-#[tactic(auto, unfolding(crate::specs::Text::Written::key_text))]
-fn push_key(out: &mut Vec<u8>, key: GroupKey) -> Result<(), AllocError>
-    ensures { OnOk result (out.new.items ≡ out.old.items ++ spec.key_text key) }
-{
-    match key {
-        GroupKey::Number => out.extend_from_slice(b" number"),
-        GroupKey::Text(column) => push_column(out, column),
+impl Written for GroupKey {
+    ghost text = { spec.key_text };
+
+    #[tactic(auto, unfolding(crate::specs::Text::Written::key_text))]
+    fn push(&self, out: &mut Vec<u8>) -> Result<(), AllocError> {
+        match self {
+            GroupKey::Number => out.extend_from_slice(b" number"),
+            GroupKey::Text(column) => push_column(out, *column),
+        }
     }
 }
 
-fn push_keys(out: &mut Vec<u8>, keys: &[GroupKey]) -> Result<(), AllocError>
-    ensures { OnOk result (out.new.items ≡ out.old.items ++ flat_map spec.key_text keys.now) }
-{
-    for key in keys {
-        push_key(out, *key)?;
-    }
-    Ok(())
-}
+impl Written for Aggregate {
+    ghost text = { spec.aggregate_text };
 
-fn push_aggregate(out: &mut Vec<u8>, aggregate: Aggregate) -> Result<(), AllocError>
-    ensures { OnOk result (out.new.items ≡ out.old.items ++ spec.aggregate_text aggregate) }
-{
-    out.push(b' ')?;
-    out.extend_from_slice(aggregate_name(aggregate).as_bytes())
-}
-
-fn push_aggregates(out: &mut Vec<u8>, aggregates: &[Aggregate]) -> Result<(), AllocError>
-    ensures { OnOk result (out.new.items ≡ out.old.items
-        ++ flat_map spec.aggregate_text aggregates.now) }
-{
-    for aggregate in aggregates {
-        push_aggregate(out, *aggregate)?;
+    fn push(&self, out: &mut Vec<u8>) -> Result<(), AllocError> {
+        out.push(b' ')?;
+        out.extend_from_slice(aggregate_name(*self).as_bytes())
     }
-    Ok(())
 }
 
 // Adds a group by its number.
@@ -271,9 +274,9 @@ pub(crate) fn push_group(out: &mut Vec<u8>, place: u16, group: &GroupDecl) -> Re
     let shape = shape_name(group.shape);
     let text = format!(in *out.allocator(); "group {place} {shape}")?;
     out.extend_from_slice(text.as_bytes())?;
-    push_keys(out, group.keys.as_slice())?;
+    push_each(out, group.keys.as_slice())?;
     out.extend_from_slice(b" :")?;
-    push_aggregates(out, group.aggregates.as_slice())
+    push_each(out, group.aggregates.as_slice())
 }
 
 // Adds which column of a group is meant.

@@ -9,6 +9,6 @@ returns c =
     (rw c.as_slice.ensures at c.in_ok-push_groups.ensures)
     c.in_ok-push_body.ensures
     c.in_ok-push_report.ensures
-    (rw c.as_slice-2.ensures at c.in_ok-push_shows.ensures)
-    (rw c.as_slice-3.ensures at c.in_ok-push_sorts.ensures)
+    (rw c.as_slice-2.ensures at c.in_ok-push_each.ensures)
+    (rw c.as_slice-3.ensures at c.in_ok-push_each-2.ensures)
     ∙ sym (parts_text c.args.parts.now)

@@ -1,8 +1,0 @@
--- What was added so far.
-use Rattle.std.proofs.Common.{◌≡◌, ◌++◌, take}
-use Rattle.std.specs.List.{flat_map}
-use Rattle.star_program.specs.Text.Written.{key_text}
-use Rattle.star_program.proofs.spelling.writing.push_keys.Given as goal
-
-abbrev pub invariant-loop-key : goal.invariant-loop-key
-invariant-loop-key l = l.out.items ≡ l.fn.out.items ++ flat_map key_text (take l.key-index l.keys)
