@@ -1,4 +1,5 @@
 pub mod Lexed
+pub mod Terminals
 pub mod Machine
 pub mod Reads
 pub mod Clauses

@@ -1,6 +1,6 @@
 // The clauses of a query, from its tokens.
 
-ghost use Rattle.std.specs.Prelude.{◌≡◌, ◌≤◌, Some, length, OnOk, IfSome, IfNone};
+ghost use Rattle.std.specs.Prelude.{◌≡◌, ◌≤◌, Some, length, IfSome, IfNone};
 ghost use Rattle.star_query.specs.Private.Reads.{spot_of, head_of};
 ghost use Rattle.star_query.specs.Private.Clauses.{function_symbol, NoFunction, ReadsFunction, ReadsFolded, ReadsCounted, ReadsMeasure, ReadsAlias, ReadsAggregate, ReadsItem, NoComma, ReadsFilter, ReadsGroups, ReadsGrouping, ReadsKey, ReadsKeys, ReadsEnd, ReadsQuery};
 
@@ -56,9 +56,9 @@ impl<'a> Parser<'a> {
         ensures reads { ReadsFolded fold (spot_of self.old) (spot_of self.new) result }
         ensures shorter { length self.new.left.now ≤ length self.old.left.now }
     {
-        self.expect_sign(Sign::Open)?;
+        self.expect(Sign::Open)?;
         let expression = self.expression(0)?;
-        self.expect_sign(Sign::Close)?;
+        self.expect(Sign::Close)?;
         Ok(Measure::Fold(fold, expression))
     }
 
@@ -67,9 +67,9 @@ impl<'a> Parser<'a> {
         ensures reads { ReadsCounted (spot_of self.old) (spot_of self.new) result }
         ensures shorter { length self.new.left.now ≤ length self.old.left.now }
     {
-        self.expect_sign(Sign::Open)?;
-        self.expect_sign(Sign::Star)?;
-        self.expect_sign(Sign::Close)?;
+        self.expect(Sign::Open)?;
+        self.expect(Sign::Star)?;
+        self.expect(Sign::Close)?;
         Ok(Measure::Count)
     }
 
@@ -89,7 +89,7 @@ impl<'a> Parser<'a> {
         ensures reads { ReadsAlias (spot_of self.old) (spot_of self.new) result }
         ensures shorter { length self.new.left.now ≤ length self.old.left.now }
     {
-        if self.take_keyword(Keyword::As) {
+        if self.take(Keyword::As) {
             let name = self.name()?;
             return Ok(Some(name));
         }
@@ -133,7 +133,7 @@ impl<'a> Parser<'a> {
         requires { NoComma (spot_of self.old) }
         ensures { ReadsFilter (spot_of self.old) (spot_of self.new) result }
     {
-        if self.take_keyword(Keyword::Where) {
+        if self.take(Keyword::Where) {
             let condition = self.condition(0)?;
             return Ok(Some(condition));
         }
@@ -144,10 +144,10 @@ impl<'a> Parser<'a> {
     fn groups(&mut self) -> Result<Grouping, ParseError>
         ensures { ReadsGroups (spot_of self.old) (spot_of self.new) result }
     {
-        if self.take_keyword(Keyword::Cube) {
-            self.expect_sign(Sign::Open)?;
+        if self.take(Keyword::Cube) {
+            self.expect(Sign::Open)?;
             let columns = self.several::<Columns>()?;
-            self.expect_sign(Sign::Close)?;
+            self.expect(Sign::Close)?;
             return Ok(Grouping {
                 shape: Shape::Cube,
                 columns,
@@ -164,8 +164,8 @@ impl<'a> Parser<'a> {
     fn grouping(&mut self) -> Result<Grouping, ParseError>
         ensures { ReadsGrouping (spot_of self.old) (spot_of self.new) result }
     {
-        if self.take_keyword(Keyword::Group) {
-            self.expect_keyword(Keyword::By)?;
+        if self.take(Keyword::Group) {
+            self.expect(Keyword::By)?;
             return self.groups();
         }
         Ok(Grouping {
@@ -180,13 +180,13 @@ impl<'a> Parser<'a> {
         ensures shorter { length self.new.left.now ≤ length self.old.left.now }
     {
         let name = self.counted_name(Part::SortKey)?;
-        if self.take_keyword(Keyword::Desc) {
+        if self.take(Keyword::Desc) {
             return Ok(SortKey {
                 name,
                 direction: Direction::Descending,
             });
         }
-        if self.take_keyword(Keyword::Asc) {
+        if self.take(Keyword::Asc) {
             return Ok(SortKey {
                 name,
                 direction: Direction::Ascending,
@@ -202,8 +202,8 @@ impl<'a> Parser<'a> {
     fn keys(&mut self) -> Result<Vec<SortKey>, ParseError>
         ensures { ReadsKeys (spot_of self.old) (spot_of self.new) result }
     {
-        if self.take_keyword(Keyword::Order) {
-            self.expect_keyword(Keyword::By)?;
+        if self.take(Keyword::Order) {
+            self.expect(Keyword::By)?;
             return self.several::<Keys>();
         }
         Ok(Vec::new(self.alloc))
@@ -213,7 +213,7 @@ impl<'a> Parser<'a> {
     fn end(&mut self) -> Result<(), ParseError>
         ensures { ReadsEnd (spot_of self.old) (spot_of self.new) result }
     {
-        let _semicolon = self.take_sign(Sign::Semicolon);
+        let _semicolon = self.take(Sign::Semicolon);
         if !self.left.is_empty() {
             return Err(ParseError::Fault(Fault::Unexpected));
         }
@@ -224,9 +224,9 @@ impl<'a> Parser<'a> {
     pub(crate) fn query(&mut self) -> Result<Tree, ParseError>
         ensures { ReadsQuery (spot_of self.old) (spot_of self.new) result }
     {
-        self.expect_keyword(Keyword::Select)?;
+        self.expect(Keyword::Select)?;
         let items = self.several::<Items>()?;
-        self.expect_keyword(Keyword::From)?;
+        self.expect(Keyword::From)?;
         let tables = self.several::<Tables>()?;
         let condition = self.filter()?;
         let grouping = self.grouping()?;

@@ -1,53 +1,27 @@
 // The condition of WHERE, from its tokens.
 
-ghost use Rattle.std.specs.Prelude.{◌≡◌, ◌≤◌, [], ◌∷◌, Some, pos, neg_ℤ, length, OnOk, IfOk};
-ghost use Rattle.std.specs.Bool.{OnTrue, OnFalse};
+ghost use Rattle.std.specs.Prelude.{◌≡◌, ◌≤◌, pos, neg_ℤ, length, OnOk, IfOk};
 ghost use Rattle.star_query.specs.Symbols as symbols;
-ghost use Rattle.star_query.specs.Private.Reads.{spot_of, No, head_of, Nests, ReadsLit, ReadsNamed, ReadsUnit, ReadsConj, ReadsCond, NoAnd, NoLogic};
+ghost use Rattle.star_query.specs.Private.Reads.{spot_of, No, ReadsLit, ReadsNamed, ReadsUnit, ReadsConj, ReadsCond, NoAnd, NoLogic};
 ghost use Rattle.star_query.specs.Maxima.{most_nestings};
 ghost use Rattle.star_query.specs.Views.{name_view, condition_view, literal_view};
 ghost use Rattle.star_query.specs.Tree as tree;
 ghost use Rattle.star_query.specs.Private.Machine.{unit_wanted, unit_named, equal_had, lit_wanted, low, compared, behind_relation};
 
-use crate::counts::{MAX_DEPTH, Part};
+use crate::counts::Part;
 use crate::fault::{Fault, ParseError};
 use crate::parser::Parser;
-use crate::token::{Digits, Keyword, Kind, Relation, Sign};
+use crate::token::{Additive, Digits, Keyword, Relation, Sign};
 use crate::tree::{Comparison, Condition, Literal, Name, Test};
 use std::alloc::{AllocError, Global};
 
 impl<'a> Parser<'a> {
-    fn is_not(&self) -> bool
-        ensures taken { OnTrue result (head_of (spot_of self.now).left
-            ≡ Some (symbols.keyword Keyword.Not)) }
-        ensures other { OnFalse result (No (symbols.keyword Keyword.Not) (spot_of self.now)) }
-    {
-        matches!(self.left.first(), Some(token) if matches!(token.kind, Kind::Keyword(Keyword::Not)))
-    }
-
-    // Goes past `not`, if it is next.
-    fn negate(&mut self, depth: u32) -> Result<bool, ParseError>
-        ensures reads { Nests (symbols.keyword Keyword.Not) (Part.Comparison ∷ []) depth
-            (spot_of self.old) (spot_of self.new) result }
-        ensures shorter { length self.new.left.now ≤ length self.old.left.now }
-    {
-        if !self.is_not() {
-            return Ok(false);
-        }
-        if depth >= MAX_DEPTH {
-            return Err(ParseError::Fault(Fault::TooDeep));
-        }
-        self.count(Part::Comparison)?;
-        self.left = &self.left[1..];
-        Ok(true)
-    }
-
     // [-] number | text
     fn literal(&mut self) -> Result<Literal, ParseError>
         ensures reads { ReadsLit (spot_of self.old) (spot_of self.new) result }
         ensures shorter { length self.new.left.now ≤ length self.old.left.now }
     {
-        if self.take_minus() {
+        if self.take(Additive::Minus) {
             let number = self.number()?;
             return Ok(negated(number));
         }
@@ -66,7 +40,7 @@ impl<'a> Parser<'a> {
         ensures shorter { length self.new.left.now ≤ length self.old.left.now }
     {
         let least = self.literal()?;
-        self.expect_keyword(Keyword::And)?;
+        self.expect(Keyword::And)?;
         let most = self.literal()?;
         Ok(Condition::Test(Test::Comparison(Comparison::Between(column, least, most))))
     }
@@ -112,10 +86,10 @@ impl<'a> Parser<'a> {
             (spot_of self.new) result }
         ensures shorter { length self.new.left.now ≤ length self.old.left.now }
     {
-        if self.take_keyword(Keyword::Between) {
+        if self.take(Keyword::Between) {
             return self.between(column);
         }
-        let Some(relation) = self.take_relation() else {
+        let Some(relation) = self.take_any::<Relation>() else {
             return Err(ParseError::Fault(Fault::Unexpected));
         };
         self.related(column, relation)
@@ -139,15 +113,15 @@ impl<'a> Parser<'a> {
         ensures reads { ReadsUnit depth (spot_of self.old) (spot_of self.new) result }
         ensures shorter { length self.new.left.now ≤ length self.old.left.now }
     {
-        let negated = self.negate(depth)?;
+        let negated = self.nest(Keyword::Not, Some(Part::Comparison), depth)?;
         if negated {
             let inner = self.unit(depth + 1)?;
             return Ok(Condition::Not(Box::new(self.alloc, inner)?));
         }
-        let opened = self.open(depth)?;
+        let opened = self.nest(Sign::Open, None, depth)?;
         if opened {
             let grouped = self.condition(depth + 1)?;
-            self.expect_sign(Sign::Close)?;
+            self.expect(Sign::Close)?;
             return Ok(grouped);
         }
         self.comparison()
@@ -162,7 +136,7 @@ impl<'a> Parser<'a> {
         ensures shorter { length self.new.left.now ≤ length self.old.left.now }
     {
         let mut all = self.unit(depth)?;
-        while self.take_keyword(Keyword::And) {
+        while self.take(Keyword::And) {
             let next = self.unit(depth)?;
             all = and(self.alloc, all, next)?;
         }
@@ -178,7 +152,7 @@ impl<'a> Parser<'a> {
         ensures shorter { length self.new.left.now ≤ length self.old.left.now }
     {
         let mut any = self.conjunction(depth)?;
-        while self.take_keyword(Keyword::Or) {
+        while self.take(Keyword::Or) {
             let next = self.conjunction(depth)?;
             any = or(self.alloc, any, next)?;
         }

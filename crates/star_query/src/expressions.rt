@@ -26,7 +26,7 @@ impl<'a> Parser<'a> {
             let name = self.counted_name(Part::Operand)?;
             return Ok(Expression::Column(name));
         }
-        if self.take_minus() {
+        if self.take(Additive::Minus) {
             let number = self.counted_number(Part::Operand)?;
             return Ok(negative(number));
         }
@@ -41,10 +41,10 @@ impl<'a> Parser<'a> {
         ensures reads { ReadsFactor depth (spot_of self.old) (spot_of self.new) result }
         ensures shorter { length self.new.left.now ≤ length self.old.left.now }
     {
-        let opened = self.open(depth)?;
+        let opened = self.nest(Sign::Open, None, depth)?;
         if opened {
             let inner = self.expression(depth + 1)?;
-            self.expect_sign(Sign::Close)?;
+            self.expect(Sign::Close)?;
             return Ok(inner);
         }
         self.operand()
@@ -59,7 +59,7 @@ impl<'a> Parser<'a> {
         ensures shorter { length self.new.left.now ≤ length self.old.left.now }
     {
         let mut product = self.factor(depth)?;
-        while self.take_sign(Sign::Star) {
+        while self.take(Sign::Star) {
             let next = self.factor(depth)?;
             product = Expression::Mul(Box::new(self.alloc, product)?, Box::new(self.alloc, next)?);
         }
@@ -75,7 +75,7 @@ impl<'a> Parser<'a> {
         ensures shorter { length self.new.left.now ≤ length self.old.left.now }
     {
         let mut sum = self.term(depth)?;
-        while let Some(sign) = self.take_additive() {
+        while let Some(sign) = self.take_any::<Additive>() {
             let next = self.term(depth)?;
             sum = joined(self.alloc, sum, sign, next)?;
         }

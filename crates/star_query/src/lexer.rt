@@ -1,6 +1,6 @@
 // A text cut into tokens.
 
-ghost use Rattle.std.specs.Prelude.{◌≡◌, ◌≤◌, ◌+◌, length, IfOk, Ok, Some, None, Option, false, true, IfErr, option_to_list, max, map, Err};
+ghost use Rattle.std.specs.Prelude.{◌≡◌, ◌≤◌, ◌+◌, length, IfOk, Ok, Some, None, Option, false, true, IfErr, option_to_list, map, Err};
 ghost use Rattle.std.specs.List.{prefix_len, take_while};
 ghost use Rattle.std.specs.Char.{is_ascii_digit};
 ghost use Rattle.star_schema.specs.Tables as tables;
@@ -129,10 +129,8 @@ fn end_of_text(text: &[u8]) -> Ending
 
 // A sign, the longest that fits, and how many bytes it has.
 fn sign<'a>(byte: u8, next: Option<u8>, place: usize) -> Piece<'a>
-    ensures piece { lexed.piece_of place result ≡ spec.sign_piece place byte next }
-    ensures bad { lexed.BadLexically result }
-    ensures some { 1 ≤ lexed.width_of result }
-    ensures within { lexed.width_of result ≤ 1 + length (option_to_list next) }
+    ensures { lexed.IsPiece place (spec.sign_piece place byte next)
+        (1 + length (option_to_list next)) result }
 {
     match byte {
         b',' => Piece::Token(Kind::Sign(Sign::Comma), 1),
@@ -169,10 +167,7 @@ fn begins_with_letter(text: &[u8]) -> bool
 #[tactic(auto, using(crate::proofs::Lexing::number_some))]
 fn number<'a>(text: &'a [u8], place: usize) -> Piece<'a>
     requires { lexed.begins_with_digit text.now ≡ true }
-    ensures piece { lexed.piece_of place result ≡ spec.number_piece place text.now }
-    ensures bad { lexed.BadLexically result }
-    ensures some { 1 ≤ lexed.width_of result }
-    ensures within { lexed.width_of result ≤ max 1 (length text.now) }
+    ensures { lexed.IsPiece place (spec.number_piece place text.now) (length text.now) result }
 {
     let width = digits_width(text);
     let (digits, rest) = text.split_at(width);
@@ -188,10 +183,7 @@ fn number<'a>(text: &'a [u8], place: usize) -> Piece<'a>
 #[tactic(auto, using(crate::proofs::Lexing::word_some))]
 fn word<'a>(text: &'a [u8], place: usize) -> Piece<'a>
     requires { spec.begins_with_letter text.now ≡ true }
-    ensures piece { lexed.piece_of place result ≡ spec.word_piece place text.now }
-    ensures bad { lexed.BadLexically result }
-    ensures some { 1 ≤ lexed.width_of result }
-    ensures within { lexed.width_of result ≤ max 1 (length text.now) }
+    ensures { lexed.IsPiece place (spec.word_piece place text.now) (length text.now) result }
 {
     let width = word_width(text);
     let (word, _) = text.split_at(width);
@@ -207,10 +199,7 @@ fn word<'a>(text: &'a [u8], place: usize) -> Piece<'a>
 // A text, from behind its opening quote.
 fn quoted<'a>(text: &'a [u8], place: usize) -> Piece<'a>
     requires { place + 1 + length text.now ≤ usize.MAX }
-    ensures piece { lexed.piece_of place result ≡ spec.text_piece place text.now }
-    ensures bad { lexed.BadLexically result }
-    ensures some { 1 ≤ lexed.width_of result }
-    ensures within { lexed.width_of result ≤ 1 + length text.now }
+    ensures { lexed.IsPiece place (spec.text_piece place text.now) (1 + length text.now) result }
 {
     match end_of_text(text) {
         Ending::Closed(end) => {
@@ -227,10 +216,7 @@ fn quoted<'a>(text: &'a [u8], place: usize) -> Piece<'a>
 // What begins with the first of these bytes.
 fn next_piece<'a>(text: &'a [u8], place: usize) -> Piece<'a>
     requires { place + length text.now ≤ usize.MAX }
-    ensures piece { lexed.piece_of place result ≡ lexed.front_piece place text.now }
-    ensures bad { lexed.BadLexically result }
-    ensures some { 1 ≤ lexed.width_of result }
-    ensures within { lexed.width_of result ≤ max 1 (length text.now) }
+    ensures { lexed.IsPiece place (lexed.front_piece place text.now) (length text.now) result }
 {
     let Some((first, rest)) = text.split_first() else {
         return Piece::Blank;

@@ -16,6 +16,7 @@ mod lists;
 mod parser;
 mod printing;
 mod query;
+mod terminals;
 mod token;
 mod tree;
 

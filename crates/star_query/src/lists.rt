@@ -107,7 +107,7 @@ impl<'a> Parser<'a> {
         let mut several = Vec::new(self.alloc);
         let first = L::read(self)?;
         several.push(first)?;
-        while self.take_sign(Sign::Comma) {
+        while self.take(Sign::Comma) {
             let next = L::read(self)?;
             several.push(next)?;
         }

@@ -1,22 +1,20 @@
 // A query from its tokens, by recursive descent: what is next, what is counted, names, numbers and
 // texts.
 
-ghost use Rattle.std.specs.Prelude.{◌≡◌, ◌≤◌, [], ◌∷◌, ◌-◌, length, map, drop, IfErr, IfOk, IfSome, IfNone};
+ghost use Rattle.std.specs.Prelude.{◌≡◌, ◌≤◌, Some, [], ◌∷◌, ◌-◌, length, map, drop, option_to_list, IfErr, IfOk, IfSome, IfNone};
 ghost use Rattle.std.specs.Bool.{OnTrue, OnFalse};
 ghost use Rattle.star_query.specs.Symbols as symbols;
-ghost use Rattle.star_query.specs.Private.Reads.{spot_of, Takes, No, Expects, Counted, NoName, NoNumber, IsName, IsNumber, ReadsName, ReadsNumber, ReadsText, Nests};
+ghost use Rattle.star_query.specs.Private.Reads.{spot_of, head_of, next_kind, Takes, No, Expects, Counted, NoName, NoNumber, IsName, IsNumber, ReadsName, ReadsNumber, ReadsText, Nests};
 ghost use Rattle.star_query.specs.Views.{tree_view};
 ghost use Rattle.star_query.specs.Tree as tree;
 ghost use Rattle.star_query.specs.Private.Lexed.{placed};
 ghost use Rattle.star_query.specs.Derives.{Derives, place_of};
 ghost use Rattle.star_query.specs.Private.TokenFaults.{IsTokenFault, IsTreeRead, query_fault};
-ghost use Rattle.star_query.specs.declared.token.Additive.{Additive};
-ghost use Rattle.star_query.specs.declared.token.Additive.TheVariants.{Minus};
-ghost use Rattle.star_query.specs.declared.token.Relation.{Relation};
 
 use crate::counts::{Counts, MAX_DEPTH, MAX_NAME, Part};
 use crate::fault::{Fault, ParseError, QueryFault};
-use crate::token::{Additive, Digits, Keyword, Kind, Relation, Sign, Token};
+use crate::terminals::Terminal;
+use crate::token::{Digits, Kind, Token};
 use crate::tree::{Name, Tree};
 use std::alloc::{AllocError, Global};
 
@@ -28,118 +26,68 @@ pub(crate) struct Parser<'a> {
 }
 
 impl<'a> Parser<'a> {
-    // Goes past a sign, if it is next.
-    pub(crate) fn take_sign(&mut self, sign: Sign) -> bool
+    // What is next.
+    fn peek(&self) -> Option<Kind<'a>>
+        ensures { result ≡ next_kind self.now.left.now }
+    {
+        self.left.first().map(|token| token.kind)
+    }
+
+    // Which of these is next, if one is.
+    fn peek_terminal<T: Terminal>(&self) -> Option<T>
+        ensures found { IfSome result (λ next. head_of (spot_of self.now).left
+            ≡ Some (T.symbol next)) }
+        ensures other { IfNone result ((x : T) → No (T.symbol x) (spot_of self.now)) }
+    {
+        T::of(self.left.first()?)
+    }
+
+    fn is_next<T: Terminal>(&self, wanted: T) -> bool
+        ensures found { OnTrue result (head_of (spot_of self.now).left
+            ≡ Some (T.symbol wanted)) }
+        ensures other { OnFalse result (No (T.symbol wanted) (spot_of self.now)) }
+    {
+        self.peek_terminal() == Some(wanted)
+    }
+
+    // Goes past this, if it is next.
+    pub(crate) fn take<T: Terminal>(&mut self, wanted: T) -> bool
         ensures taken { OnTrue result (Takes (spot_of self.old) (spot_of self.new)
-            (symbols.sign sign) []) }
-        ensures other { OnFalse result (No (symbols.sign sign) (spot_of self.old)
+            (T.symbol wanted) []) }
+        ensures other { OnFalse result (No (T.symbol wanted) (spot_of self.old)
             × (spot_of self.new ≡ spot_of self.old)) }
         ensures shorter { length self.new.left.now ≤ length self.old.left.now }
     {
-        if let Some(token) = self.left.first() {
-            if let Kind::Sign(next) = token.kind {
-                if next == sign {
-                    self.left = &self.left[1..];
-                    return true;
-                }
-            }
+        let is_next = self.is_next(wanted);
+        if is_next {
+            self.left = &self.left[1..];
         }
-        false
+        is_next
     }
 
-    // Goes past a reserved word, if it is next.
-    pub(crate) fn take_keyword(&mut self, keyword: Keyword) -> bool
-        ensures taken { OnTrue result (Takes (spot_of self.old) (spot_of self.new)
-            (symbols.keyword keyword) []) }
-        ensures other { OnFalse result (No (symbols.keyword keyword) (spot_of self.old)
+    // Goes past one of these, if one is next.
+    pub(crate) fn take_any<T: Terminal>(&mut self) -> Option<T>
+        ensures taken { IfSome result (λ next. Takes (spot_of self.old) (spot_of self.new)
+            (T.symbol next) []) }
+        ensures other { IfNone result (((x : T) → No (T.symbol x) (spot_of self.old))
             × (spot_of self.new ≡ spot_of self.old)) }
         ensures shorter { length self.new.left.now ≤ length self.old.left.now }
     {
-        if let Some(token) = self.left.first() {
-            if let Kind::Keyword(next) = token.kind {
-                if next == keyword {
-                    self.left = &self.left[1..];
-                    return true;
-                }
-            }
-        }
-        false
+        let next = self.peek_terminal()?;
+        self.left = &self.left[1..];
+        Some(next)
     }
 
-    // Goes past a sign that has to be next.
-    pub(crate) fn expect_sign(&mut self, sign: Sign) -> Result<(), ParseError>
-        ensures reads { Expects (symbols.sign sign) (spot_of self.old) (spot_of self.new) result }
+    // Goes past this, which has to be next.
+    pub(crate) fn expect<T: Terminal>(&mut self, wanted: T) -> Result<(), ParseError>
+        ensures reads { Expects (T.symbol wanted) (spot_of self.old) (spot_of self.new) result }
         ensures shorter { length self.new.left.now ≤ length self.old.left.now }
     {
-        if self.take_sign(sign) {
+        if self.take(wanted) {
             Ok(())
         } else {
             Err(ParseError::Fault(Fault::Unexpected))
         }
-    }
-
-    // Goes past a reserved word that has to be next.
-    pub(crate) fn expect_keyword(&mut self, keyword: Keyword) -> Result<(), ParseError>
-        ensures reads { Expects (symbols.keyword keyword) (spot_of self.old) (spot_of self.new)
-            result }
-        ensures shorter { length self.new.left.now ≤ length self.old.left.now }
-    {
-        if self.take_keyword(keyword) {
-            Ok(())
-        } else {
-            Err(ParseError::Fault(Fault::Unexpected))
-        }
-    }
-
-    // Goes past a sign that joins terms, if one is next.
-    pub(crate) fn take_additive(&mut self) -> Option<Additive>
-        ensures taken { IfSome result (λ q. Takes (spot_of self.old) (spot_of self.new)
-            (symbols.additive q) []) }
-        ensures other { IfNone result (((q : Additive) → No (symbols.additive q) (spot_of self.old))
-            × (spot_of self.new ≡ spot_of self.old)) }
-        ensures shorter { length self.new.left.now ≤ length self.old.left.now }
-    {
-        if let Some(token) = self.left.first() {
-            if let Kind::Additive(additive) = token.kind {
-                self.left = &self.left[1..];
-                return Some(additive);
-            }
-        }
-        None
-    }
-
-    // Goes past a relation, if one is next.
-    pub(crate) fn take_relation(&mut self) -> Option<Relation>
-        ensures taken { IfSome result (λ q. Takes (spot_of self.old) (spot_of self.new)
-            (symbols.relation q) []) }
-        ensures other { IfNone result (((q : Relation) → No (symbols.relation q) (spot_of self.old))
-            × (spot_of self.new ≡ spot_of self.old)) }
-        ensures shorter { length self.new.left.now ≤ length self.old.left.now }
-    {
-        if let Some(token) = self.left.first() {
-            if let Kind::Relation(relation) = token.kind {
-                self.left = &self.left[1..];
-                return Some(relation);
-            }
-        }
-        None
-    }
-
-    // Goes past a minus, if it is next.
-    pub(crate) fn take_minus(&mut self) -> bool
-        ensures taken { OnTrue result (Takes (spot_of self.old) (spot_of self.new)
-            (symbols.additive Minus) []) }
-        ensures other { OnFalse result (No (symbols.additive Minus) (spot_of self.old)
-            × (spot_of self.new ≡ spot_of self.old)) }
-        ensures shorter { length self.new.left.now ≤ length self.old.left.now }
-    {
-        if let Some(token) = self.left.first() {
-            if let Kind::Additive(Additive::Minus) = token.kind {
-                self.left = &self.left[1..];
-                return true;
-            }
-        }
-        false
     }
 
     // One more of a part.
@@ -157,14 +105,14 @@ impl<'a> Parser<'a> {
         ensures found { OnTrue result (IsName (spot_of self.now).left) }
         ensures other { OnFalse result (NoName (spot_of self.now).left) }
     {
-        matches!(self.left.first(), Some(token) if matches!(token.kind, Kind::Name(_)))
+        matches!(self.peek(), Some(Kind::Name(_)))
     }
 
     pub(crate) fn is_number(&self) -> bool
         ensures found { OnTrue result (IsNumber (spot_of self.now).left) }
         ensures other { OnFalse result (NoNumber (spot_of self.now).left) }
     {
-        matches!(self.left.first(), Some(token) if matches!(token.kind, Kind::Number(_)))
+        matches!(self.peek(), Some(Kind::Number(_)))
     }
 
     // A name.
@@ -173,18 +121,16 @@ impl<'a> Parser<'a> {
         ensures reads { ReadsName [] (spot_of self.old) (spot_of self.new) result }
         ensures shorter { length self.new.left.now ≤ length self.old.left.now }
     {
-        if let Some(token) = self.left.first() {
-            if let Kind::Name(word) = token.kind {
-                if word.len() > MAX_NAME {
-                    return Err(ParseError::Fault(Fault::TooMany));
-                }
-                let place = token.place;
-                let text = word.to_ascii_lowercase(self.alloc)?;
-                self.left = &self.left[1..];
-                return Ok(Name { text, place });
-            }
+        let Some(Kind::Name(word)) = self.peek() else {
+            return Err(ParseError::Fault(Fault::Unexpected));
+        };
+        if word.len() > MAX_NAME {
+            return Err(ParseError::Fault(Fault::TooMany));
         }
-        Err(ParseError::Fault(Fault::Unexpected))
+        let text = word.to_ascii_lowercase(self.alloc)?;
+        let place = self.left[0].place;
+        self.left = &self.left[1..];
+        Ok(Name { text, place })
     }
 
     // A number.
@@ -192,13 +138,11 @@ impl<'a> Parser<'a> {
         ensures reads { ReadsNumber [] (spot_of self.old) (spot_of self.new) result }
         ensures shorter { length self.new.left.now ≤ length self.old.left.now }
     {
-        if let Some(token) = self.left.first() {
-            if let Kind::Number(digits) = token.kind {
-                self.left = &self.left[1..];
-                return Ok(digits);
-            }
-        }
-        Err(ParseError::Fault(Fault::Unexpected))
+        let Some(Kind::Number(digits)) = self.peek() else {
+            return Err(ParseError::Fault(Fault::Unexpected));
+        };
+        self.left = &self.left[1..];
+        Ok(digits)
     }
 
     // A name at which a part begins.
@@ -230,32 +174,36 @@ impl<'a> Parser<'a> {
         ensures reads { ReadsText (spot_of self.old) (spot_of self.new) result }
         ensures shorter { length self.new.left.now ≤ length self.old.left.now }
     {
-        if let Some(token) = self.left.first() {
-            if let Kind::Text(inside) = token.kind {
-                let text = unquoted(self.alloc, inside)?;
-                self.left = &self.left[1..];
-                return Ok(text);
-            }
-        }
-        Err(ParseError::Fault(Fault::Unexpected))
+        let Some(Kind::Text(inside)) = self.peek() else {
+            return Err(ParseError::Fault(Fault::Unexpected));
+        };
+        let text = unquoted(self.alloc, inside)?;
+        self.left = &self.left[1..];
+        Ok(text)
     }
 
-    // Opens a parenthesis, if one is next.
-    pub(crate) fn open(&mut self, depth: u32) -> Result<bool, ParseError>
-        ensures reads { Nests (symbols.sign Sign.Open) [] depth (spot_of self.old)
+    // Goes past this, which opens a nesting, if it is next. A part may begin there.
+    pub(crate) fn nest<T: Terminal>(
+        &mut self,
+        opening: T,
+        part: Option<Part>,
+        depth: u32,
+    ) -> Result<bool, ParseError>
+        ensures reads { Nests (T.symbol opening) (option_to_list part) depth (spot_of self.old)
             (spot_of self.new) result }
         ensures shorter { length self.new.left.now ≤ length self.old.left.now }
     {
-        if let Some(token) = self.left.first() {
-            if let Kind::Sign(Sign::Open) = token.kind {
-                if depth >= MAX_DEPTH {
-                    return Err(ParseError::Fault(Fault::TooDeep));
-                }
-                self.left = &self.left[1..];
-                return Ok(true);
-            }
+        if !self.is_next(opening) {
+            return Ok(false);
         }
-        Ok(false)
+        if depth >= MAX_DEPTH {
+            return Err(ParseError::Fault(Fault::TooDeep));
+        }
+        if let Some(part) = part {
+            self.count(part)?;
+        }
+        self.left = &self.left[1..];
+        Ok(true)
     }
 }
 

@@ -52,11 +52,6 @@ piece_of place pieces.Blank = spec.blank
 piece_of place (pieces.Token kind width) = spec.token (symbol_of kind place) width
 piece_of place (pieces.Bad e) = spec.bad e
 
--- how many bytes a piece has
-abbrev pub width_of : Piece → ℕ
-width_of (pieces.Token kind width) = width
-width_of _ = 1
-
 -- a fault of the cut, or want of memory
 abbrev pub IsLexical : QueryFault → Type 0
 IsLexical OutOfMemory = Unit {0}
@@ -65,9 +60,16 @@ IsLexical (BadNumber place) = Unit {0}
 IsLexical (OpenText place) = Unit {0}
 IsLexical _ = ⊥
 
-abbrev pub BadLexically : Piece → Type 0
-BadLexically (pieces.Bad fault) = IsLexical fault
-BadLexically _ = Unit {0}
+-- a token within so many bytes, or a fault of the cut
+abbrev pub IsWithin : ℕ → Piece → Type 0
+IsWithin size pieces.Blank = Unit {0}
+IsWithin size (pieces.Token kind width) = (1 ≤ width) × (width ≤ size)
+IsWithin size (pieces.Bad fault) = IsLexical fault
+
+-- what was found at a place, within so many bytes, is this piece of the cut
+pub record IsPiece (place : ℕ) (piece : spec.Piece) (size : ℕ) (found : Piece) : Type 0 where
+  pub same : piece_of place found ≡ piece
+  pub within : IsWithin size found
 
 -- the first fault of the cut, or want of memory
 abbrev pub IsCutFault : List ℕ → QueryFault → Type 0

@@ -1,5 +1,7 @@
 -- What the parser's functions do, by the machine.
 use Rattle.std.specs.Prelude.{◌≡◌, ℕ, ◌<◌, ◌≤◌, Bool, true, false, ◌||◌, List, [], ◌∷◌, map, Option, Some, None, Result, Ok, Err}
+use Rattle.star_query.specs.declared.token.Token.{Token}
+use Rattle.star_query.specs.declared.token.Kind.{Kind}
 use Rattle.star_query.specs.declared.token.Digits.{Digits}
 use Rattle.star_query.specs.declared.token.Keyword.TheVariants as k
 use Rattle.star_query.specs.declared.token.Sign.TheVariants as s
@@ -35,6 +37,11 @@ spot_of parser = record { left = map (λ t. symbol_of t.kind t.place) parser.lef
 abbrev pub head_of : List Symbol → Option Symbol
 head_of [] = None
 head_of (x ∷ xs) = Some x
+
+-- what kind of token is next
+abbrev pub next_kind : List Token → Option Kind
+next_kind [] = None
+next_kind (t ∷ ts) = Some t.kind
 
 -- this symbol isn't next
 abbrev pub No : Symbol → Spot → Type 0

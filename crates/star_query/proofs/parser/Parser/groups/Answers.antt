@@ -4,25 +4,25 @@ use Rattle.star_query.specs.Private.Reads.{spot_of}
 use Rattle.star_query.proofs.Queries.{read_cube, read_plain, bad_plain, bad_cube_columns, bad_cube_close}
 use Rattle.star_query.proofs.parser.Parser.groups.Goals as goal
 
-pub returns-then-take_keyword : goal.returns-then-take_keyword
-returns-then-take_keyword c =
-    read_cube (spot_of c.args.self.now) (spot_of c.take_keyword.new.self) (spot_of c.expect_sign.new.self) (spot_of c.several.new.self) (spot_of c.expect_sign-then-take_keyword.new.self) c.in_ok-columns.columns c.if-take_keyword.ensures.taken c.in_ok-expect_sign.ensures.reads c.in_ok-columns.ensures.reads c.in_ok-expect_sign-2.ensures.reads
+pub returns-then-take : goal.returns-then-take
+returns-then-take c =
+    read_cube (spot_of c.args.self.now) (spot_of c.take.new.self) (spot_of c.expect.new.self) (spot_of c.several.new.self) (spot_of c.expect-then-take.new.self) c.in_ok-columns.columns c.if-take.ensures.taken c.in_ok-expect.ensures.reads c.in_ok-columns.ensures.reads c.in_ok-expect-2.ensures.reads
 
 pub returns : goal.returns
 returns c =
-    read_plain (spot_of c.args.self.now) (spot_of c.take_keyword.new.self) (spot_of c.several-2.new.self) c.in_ok-columns-2.columns c.if-take_keyword.ensures.other.1 c.if-take_keyword.ensures.other.0 c.in_ok-columns-2.ensures.reads c.in_ok-columns-2.ensures.ends
+    read_plain (spot_of c.args.self.now) (spot_of c.take.new.self) (spot_of c.several-2.new.self) c.in_ok-columns-2.columns c.if-take.ensures.other.1 c.if-take.ensures.other.0 c.in_ok-columns-2.ensures.reads c.in_ok-columns-2.ensures.ends
 
 pub returns-in_err-columns : goal.returns-in_err-columns
 returns-in_err-columns c =
     let e = err_from_is_err_and c.from_residual-in_err-columns.result c.from_residual-in_err-columns.ensures.1 in
-    bad_cube_columns (spot_of c.args.self.now) (spot_of c.take_keyword.new.self) (spot_of c.expect_sign.new.self) (spot_of c.several.new.self) c.from_residual-in_err-columns.result _ (e.1 ∙ ap Err e.2) c.if-take_keyword.ensures.taken c.in_ok-expect_sign.ensures.reads c.in_err-columns.ensures.reads
+    bad_cube_columns (spot_of c.args.self.now) (spot_of c.take.new.self) (spot_of c.expect.new.self) (spot_of c.several.new.self) c.from_residual-in_err-columns.result _ (e.1 ∙ ap Err e.2) c.if-take.ensures.taken c.in_ok-expect.ensures.reads c.in_err-columns.ensures.reads
 
-pub returns-in_err-expect_sign-2 : goal.returns-in_err-expect_sign-2
-returns-in_err-expect_sign-2 c =
-    let e = err_from_is_err_and c.from_residual-in_err-expect_sign-2.result c.from_residual-in_err-expect_sign-2.ensures.1 in
-    bad_cube_close (spot_of c.args.self.now) (spot_of c.take_keyword.new.self) (spot_of c.expect_sign.new.self) (spot_of c.several.new.self) (spot_of c.expect_sign-then-take_keyword.new.self) c.in_ok-columns.columns c.from_residual-in_err-expect_sign-2.result _ (e.1 ∙ ap Err e.2) c.if-take_keyword.ensures.taken c.in_ok-expect_sign.ensures.reads c.in_ok-columns.ensures.reads c.in_ok-columns.ensures.ends c.in_err-expect_sign-2.ensures.reads
+pub returns-in_err-expect-2 : goal.returns-in_err-expect-2
+returns-in_err-expect-2 c =
+    let e = err_from_is_err_and c.from_residual-in_err-expect-2.result c.from_residual-in_err-expect-2.ensures.1 in
+    bad_cube_close (spot_of c.args.self.now) (spot_of c.take.new.self) (spot_of c.expect.new.self) (spot_of c.several.new.self) (spot_of c.expect-then-take.new.self) c.in_ok-columns.columns c.from_residual-in_err-expect-2.result _ (e.1 ∙ ap Err e.2) c.if-take.ensures.taken c.in_ok-expect.ensures.reads c.in_ok-columns.ensures.reads c.in_ok-columns.ensures.ends c.in_err-expect-2.ensures.reads
 
 pub returns-in_err-columns-2 : goal.returns-in_err-columns-2
 returns-in_err-columns-2 c =
     let e = err_from_is_err_and c.from_residual-in_err-columns-2.result c.from_residual-in_err-columns-2.ensures.1 in
-    bad_plain (spot_of c.args.self.now) (spot_of c.take_keyword.new.self) (spot_of c.several-2.new.self) c.from_residual-in_err-columns-2.result _ (e.1 ∙ ap Err e.2) c.if-take_keyword.ensures.other.1 c.if-take_keyword.ensures.other.0 c.in_err-columns-2.ensures.reads
+    bad_plain (spot_of c.args.self.now) (spot_of c.take.new.self) (spot_of c.several-2.new.self) c.from_residual-in_err-columns-2.result _ (e.1 ∙ ap Err e.2) c.if-take.ensures.other.1 c.if-take.ensures.other.0 c.in_err-columns-2.ensures.reads

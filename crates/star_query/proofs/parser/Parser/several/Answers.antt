@@ -14,9 +14,9 @@ loop-self-init g c =
 
 pub loop-self-preserved : goal.loop-self-preserved
 loop-self-preserved g c =
-    let left = shorter c.loop-self.self c.take_sign.new.self _ _ c.loop-self-test.ensures.taken in
+    let left = shorter c.loop-self.self c.take.new.self _ _ c.loop-self-test.ensures.taken in
     record {
-      reads = g.met.L.Listing.is_list.next (spot_of c.args.self.now) (spot_of c.loop-self.self) (spot_of c.take_sign.new.self) (spot_of c.read-in-loop-self.new.parser) c.loop-self.several c.push-in-loop-self.new.self c.in_ok-next.next c.loop-self.invariant.reads c.in_ok-push-2.ensures.items (comma_passed _ _ c.loop-self-test.ensures.taken) c.in_ok-next.ensures.reads;
+      reads = g.met.L.Listing.is_list.next (spot_of c.args.self.now) (spot_of c.loop-self.self) (spot_of c.take.new.self) (spot_of c.read-in-loop-self.new.parser) c.loop-self.several c.push-in-loop-self.new.self c.in_ok-next.next c.loop-self.invariant.reads c.in_ok-push-2.ensures.items (comma_passed _ _ c.loop-self-test.ensures.taken) c.in_ok-next.ensures.reads;
       shorter = omega (arith, left, c.in_ok-next.ensures.shorter, c.loop-self.invariant.shorter);
     }
 
@@ -30,4 +30,4 @@ pub returns-in_err-next-clause-reads : goal.returns-in_err-next-clause-reads
 returns-in_err-next-clause-reads g c =
     let e = err_from_is_err_and c.from_residual-in_err-next.result c.from_residual-in_err-next.ensures.1 in
     subst (g.L.Listing.ReadsAll (spot_of c.args.self.now) (spot_of c.read-in-loop-self.new.parser)) (sym (e.1 ∙ ap Err e.2))
-    (g.met.L.Listing.is_list.bad_next (spot_of c.args.self.now) (spot_of c.loop-self.self) (spot_of c.take_sign.new.self) (spot_of c.read-in-loop-self.new.parser) c.loop-self.several _ c.loop-self.invariant.reads (comma_passed _ _ c.loop-self-test.ensures.taken) c.in_err-next.ensures.reads)
+    (g.met.L.Listing.is_list.bad_next (spot_of c.args.self.now) (spot_of c.loop-self.self) (spot_of c.take.new.self) (spot_of c.read-in-loop-self.new.parser) c.loop-self.several _ c.loop-self.invariant.reads (comma_passed _ _ c.loop-self-test.ensures.taken) c.in_err-next.ensures.reads)
