@@ -11,7 +11,7 @@ use Rattle.star_plan.specs.Meaning.{Condition, or, and, not, compare, between, M
 use Rattle.star_program.specs.declared.op.Op.{Op}
 use Rattle.star_program.specs.declared.op.Op.TheVariants.{Assign, Keep}
 use Rattle.star_program.specs.declared.op.Operation.{Operation}
-use Rattle.star_program.specs.declared.op.Operation.TheVariants.{Binary, Within}
+use Rattle.star_program.specs.declared.op.Operation.TheVariants.{Binary}
 use Rattle.star_program.specs.declared.op.Operator.{Operator}
 use Rattle.star_program.specs.Code.{Code, Then}
 use Rattle.star_program.specs.CodeOfSteps as step
@@ -29,7 +29,7 @@ then_last : (steps : List Step) (s : Step) (k : Code)
 then_last [] s k = refl
 then_last (x ∷ steps) s k = ap (step.before x) (then_last steps s k)
 
-abbrev made : Code → ℕ → Whole
+abbrev pub made : Code → ℕ → Whole
 made c n = record { code = c; registers = n }
 
 -- an instruction that numbers so many registers
@@ -49,27 +49,28 @@ act old new o k pushed next =
 abbrev assignment : Operation → (Env → Env) → Env → Rest → Code
 assignment o known env k = Then (Assign env.next o) (k (known env) env.next)
 
-pub room_to_assign : (e : Emitter) (o : Operation) (known : Env → Env)
+pub room_to_assign : {e : Emitter} {o : Operation} {known : Env → Env}
     → HasRoom e (assignment o known) → e.next < 4096
 unfolding whole
-room_to_assign e o known room = omega (arith, room.fits)
+room_to_assign room = omega (arith, room.fits)
 
 abbrev env : ℕ → List (ColumnId × ℕ) → List (TableId × ℕ) → Env
 env n ls fs = record { next = n; loaded = ls; found = fs }
 
-pub assigned : (old new : Emitter) (o : Operation) (known : Env → Env) (r : ℕ)
+pub assigned : {old new : Emitter} {o : Operation} {known : Env → Env} {r : ℕ}
     → new.steps.items ≡ old.steps.items ++ Act (Assign old.next o) ∷ []
     → new.next ≡ old.next + 1 → new.loaded.items ≡ (known (env_of old)).loaded
     → new.found.items ≡ (known (env_of old)).found
     → (known (env_of old)).next ≡ old.next + 1 → r ≡ old.next
     → Writes old new (assignment o known) r
-assigned old new o known r pushed next loaded found known_next register = record {
-  same = λ k.
-      act old new (Assign old.next o) (k (env_of new) r) pushed next
-      ∙ (λ i.
-      whole old
-      (Then (Assign old.next o) (k (env ((next ∙ sym known_next) i) (loaded i) (found i)) (register i))));
-}
+assigned {old = old} {new = new} {o = o} {r = r} pushed next loaded found known_next register =
+    record {
+      same = λ k.
+          act old new (Assign old.next o) (k (env_of new) r) pushed next
+          ∙ (λ i.
+          whole old
+          (Then (Assign old.next o) (k (env ((next ∙ sym known_next) i) (loaded i) (found i)) (register i))));
+    }
 
 -- the same of what a call answers
 pub assigned_if_ok : (result : Result ℕ AllocError) (old new : Emitter) (o : Operation)
@@ -79,95 +80,44 @@ pub assigned_if_ok : (result : Result ℕ AllocError) (old new : Emitter) (o : O
     → IfOk result (Writes old new (assignment o one_more))
 assigned_if_ok (Err e) old new o register pushed next loaded found = tt
 assigned_if_ok (Ok r) old new o register pushed next loaded found =
-    assigned old new o one_more r pushed next (ap (λ v. v.items) loaded) (ap (λ v. v.items) found)
-    refl register
+    assigned pushed next (ap (λ v. v.items) loaded) (ap (λ v. v.items) found) refl register
 
 -- ---- a piece and then another
 
 abbrev followed_by : {K : Type 0} → (Env → Rest → Code) → (ℕ → Env → K → Code) → Env → K → Code
 followed_by first second env k = first env (λ e x. second x e k)
 
-pub room_for_first : {K : Type 0} (e : Emitter) (first : Env → Rest → Code)
-    (second : ℕ → Env → K → Code) → HasRoom e (followed_by first second) → HasRoom e first
-room_for_first e first second room = record {
-  rest = λ e x. second x e room.rest;
-  fits = room.fits;
-}
+-- there is room for a piece that, with some code after it, makes a whole of few registers
+pub room_where : {K : Type 0} {e : Emitter} {piece : Env → K → Code} {w : Whole} (rest : K)
+    → whole e (piece (env_of e) rest) ≡ w → w.registers ≤ 4096 → HasRoom e piece
+room_where rest same few =
+    record { rest = rest; fits = subst (λ w. w.registers ≤ 4096) (sym same) few }
 
-pub room_for_second : {K : Type 0} (old new : Emitter) (first : Env → Rest → Code) (x : ℕ)
+pub room_for_first : {K : Type 0} {e : Emitter} {first : Env → Rest → Code}
+    (second : ℕ → Env → K → Code) → HasRoom e (followed_by first second) → HasRoom e first
+room_for_first second room = record { rest = λ e x. second x e room.rest; fits = room.fits }
+
+pub room_for_second : {K : Type 0} {old new : Emitter} {first : Env → Rest → Code} {x : ℕ}
     (second : ℕ → Env → K → Code) → Writes old new first x
     → HasRoom old (followed_by first second) → HasRoom new (second x)
-room_for_second old new first x second wrote room = record {
-  rest = room.rest;
-  fits =
-      subst (λ w. w.registers ≤ 4096) (sym (wrote.same (λ e x. second x e room.rest))) room.fits;
-}
+room_for_second second wrote room =
+    room_where room.rest (wrote.same (λ e x. second x e room.rest)) room.fits
 
-pub then_if_ok : {A : Type 0} (result : Result A AllocError) (old middle new : Emitter)
-    (first : Env → Rest → Code) (x : ℕ) (second : ℕ → Env → (Env → A → Code) → Code)
+pub then_if_ok : {A : Type 0} (result : Result A AllocError) {old middle : Emitter} (new : Emitter)
+    {first : Env → Rest → Code} {x : ℕ} (second : ℕ → Env → (Env → A → Code) → Code)
     → Writes old middle first x → IfOk result (Writes middle new (second x))
     → IfOk result (Writes old new (followed_by first second))
-then_if_ok (Err e) old middle new first x second f g = tt
-then_if_ok (Ok y) old middle new first x second f g =
+then_if_ok (Err e) new second f g = tt
+then_if_ok (Ok y) new second f g =
     record { same = λ k. g.same k ∙ f.same (λ e x. second x e k) }
 
 -- an operator's right part, behind its left one
-pub room_for_right : (old new : Emitter) (left right : Env → Rest → Code) (o : Operator) (x : ℕ)
-    → Writes old new left x → HasRoom old (binary_code left right o) → HasRoom new right
-room_for_right old new left right o x wrote room =
-    room_for_first new right (λ y. write (Binary o x y))
-    (room_for_second old new left x (λ x. followed_by right (λ y. write (Binary o x y))) wrote room)
-
--- between two operands
-module _ (from upto made : Operation) (x : ℕ) where
-  abbrev within : Env → Rest → Code
-  within = followed_by (write from) (λ m. followed_by (write upto) (λ n. write (Within x m n)))
-
-  pub room_for_start : (old : Emitter) → made ≡ from → HasRoom old within
-      → HasRoom old (write made)
-  room_for_start old same room =
-      subst (λ o. HasRoom old (write o)) (sym same)
-      (room_for_first old (write from) (λ m. followed_by (write upto) (λ n. write (Within x m n)))
-      room)
-
-  from_written : (old new : Emitter) (m : ℕ) → made ≡ from → Writes old new (write made) m
-      → Writes old new (write from) m
-  from_written old new m same wrote = subst (λ o. Writes old new (write o) m) same wrote
-
-  room_for_end_first : (old new : Emitter) (m : ℕ) → made ≡ from → Writes old new (write made) m
-      → HasRoom old within → HasRoom new (followed_by (write upto) (λ n. write (Within x m n)))
-  room_for_end_first old new m same wrote room =
-      room_for_second old new (write from) m
-      (λ m. followed_by (write upto) (λ n. write (Within x m n)))
-      (from_written old new m same wrote) room
-
-  pub room_for_end : (old new : Emitter) (m : ℕ) (end' : Operation) → made ≡ from
-      → Writes old new (write made) m → end' ≡ upto → HasRoom old within
-      → HasRoom new (write end')
-  room_for_end old new m end' same wrote ends room =
-      subst (λ o. HasRoom new (write o)) (sym ends)
-      (room_for_first new (write upto) (λ n. write (Within x m n))
-      (room_for_end_first old new m same wrote room))
-
-  pub room_for_within : (old middle new : Emitter) (m n : ℕ) (end' : Operation) → made ≡ from
-      → Writes old middle (write made) m → end' ≡ upto → Writes middle new (write end') n
-      → HasRoom old within → HasRoom new (write (Within x m n))
-  room_for_within old middle new m n end' same wrote ends wrote_end room =
-      room_for_second middle new (write upto) n (λ n. write (Within x m n))
-      (subst (λ o. Writes middle new (write o) n) ends wrote_end)
-      (room_for_end_first old middle m same wrote room)
-
-  pub within_written : (result : Result ℕ AllocError) (old middle new last : Emitter) (m n : ℕ)
-      (end' : Operation) → made ≡ from → Writes old middle (write made) m → end' ≡ upto
-      → Writes middle new (write end') n
-      → IfOk result (Writes new last (write (Within x m n)))
-      → IfOk result (Writes old last within)
-  within_written result old middle new last m n end' same wrote ends wrote_end rest =
-      then_if_ok result old middle last (write from) m
-      (λ m. followed_by (write upto) (λ n. write (Within x m n)))
-      (from_written old middle m same wrote)
-      (then_if_ok result middle new last (write upto) n (λ n. write (Within x m n))
-      (subst (λ o. Writes middle new (write o) n) ends wrote_end) rest)
+pub room_for_right : {old new : Emitter} {left : Env → Rest → Code} (right : Env → Rest → Code)
+    (o : Operator) {x : ℕ} → Writes old new left x → HasRoom old (binary_code left right o)
+    → HasRoom new right
+room_for_right right o {x = x} wrote room =
+    room_for_first (λ y. write (Binary o x y))
+    (room_for_second (λ x. followed_by right (λ y. write (Binary o x y))) wrote room)
 
 -- ---- a piece of which some is written
 
@@ -196,17 +146,13 @@ one_behind first after code behind so_far env k =
 -- pieces in turn, of which those for `left` are still to be written
 module _ {X : Type 0} (after : List X → List ℕ → Env → Rests → Code)
     (code : List X → Env → Rests → Code) (behind : (xs : List X) → Behind (after xs) (code xs))
-    (old new : Emitter) (xs left : List X) (so_far : List ℕ)
+    {old new : Emitter} (xs left : List X) (so_far : List ℕ)
     (follows : Follows old new (after xs []) (after left so_far)) where
-  room_for_left : (l : List X) → left ≡ l → HasRoom old (code xs) → HasRoom new (after l so_far)
-  room_for_left l same room =
-      subst (λ l. HasRoom new (after l so_far)) same record {
-        rest = room.rest;
-        fits =
-            subst (λ w. w.registers ≤ 4096)
-            (sym (follows.same room.rest ∙ ap (whole old) (behind xs [] (env_of old) room.rest)))
-            room.fits;
-      }
+  room_for_left : {l : List X} → left ≡ l → HasRoom old (code xs) → HasRoom new (after l so_far)
+  room_for_left same room =
+      subst (λ l. HasRoom new (after l so_far)) same
+      (room_where room.rest
+      (follows.same room.rest ∙ ap (whole old) (behind xs [] (env_of old) room.rest)) room.fits)
 
   pub all_written : ((env : Env) (k : Rests) → after [] so_far env k ≡ k env so_far) → left ≡ []
       → Writes old new (code xs) so_far
@@ -237,41 +183,40 @@ module _ (js : List Join) where
   values_behind (greatest a ∷ ms) so_far env k = number_behind a ms (values_behind ms) so_far env k
 
   -- the next key
-  pub room_for_key : (old new : Emitter) (cs left : List ColumnId) (c : ColumnId) (rest : List ColumnId)
-      (so_far : List ℕ) → left ≡ c ∷ rest
+  pub room_for_key : {old new : Emitter} (cs : List ColumnId) {left : List ColumnId} {c : ColumnId}
+      {rest : List ColumnId} (so_far : List ℕ) → left ≡ c ∷ rest
       → Follows old new (keys_after js cs []) (keys_after js left so_far)
       → HasRoom old (keys_code js cs) → HasRoom new (column_code js c)
-  room_for_key old new cs left c rest so_far same follows room =
-      room_for_first new (column_code js c) (λ x. keys_after js rest (so_far ++ x ∷ []))
-      (room_for_left (keys_after js) (keys_code js) keys_behind old new cs left so_far follows
-      (c ∷ rest) same room)
+  room_for_key cs {left = left} {rest = rest} so_far same follows room =
+      room_for_first (λ x. keys_after js rest (so_far ++ x ∷ []))
+      (room_for_left (keys_after js) (keys_code js) keys_behind cs left so_far follows same room)
 
   -- the next number
-  pub room_for_value : (old new : Emitter) (ms left : List Measure) (m : Measure)
-      (rest : List Measure) (so_far : List ℕ) → left ≡ m ∷ rest
+  pub room_for_value : {old new : Emitter} (ms : List Measure) {left : List Measure} {m : Measure}
+      {rest : List Measure} (so_far : List ℕ) → left ≡ m ∷ rest
       → Follows old new (values_after js ms []) (values_after js left so_far)
       → HasRoom old (values_code js ms) → HasRoom new (value_after js m so_far)
-  room_for_value old new ms left m rest so_far same follows room =
+  room_for_value ms {left = left} {rest = rest} so_far same follows room =
       let here =
-      room_for_left (values_after js) (values_code js) values_behind old new ms left so_far follows
-      (m ∷ rest) same room in
+      room_for_left (values_after js) (values_code js) values_behind ms left so_far follows same room in
       record { rest = λ e rs. values_after js rest rs e here.rest; fits = here.fits }
 
 -- a condition, and a keep of it
 pub conjunct_written : (result : Result (Unit {0}) AllocError) (js : List Join) (c : Condition)
-    (old middle new : Emitter) (x : ℕ) → Writes old middle (condition_code js c) x
+    {old middle : Emitter} (new : Emitter) {x : ℕ} → Writes old middle (condition_code js c) x
     → IfOk result (λ _. new.steps.items ≡ middle.steps.items ++ Act (Keep x) ∷ [])
     → new.next ≡ middle.next → new.loaded ≡ middle.loaded → new.found ≡ middle.found
     → IfOk result (λ _. Wrote old new (conjunct_code js c))
-conjunct_written (Err e) js c old middle new x wrote pushed next loaded found = tt
-conjunct_written (Ok u) js c old middle new x wrote pushed next loaded found = record {
-  same = λ k.
-      act middle new (Keep x) (k (env_of new)) pushed (omega (arith, next))
-      ∙ (λ i.
-      whole middle
-      (Then (Keep x) (k (env (next i) ((ap (λ v. v.items) loaded) i) ((ap (λ v. v.items) found) i)))))
-      ∙ wrote.same (λ e x. Then (Keep x) (k e));
-}
+conjunct_written (Err e) js c new wrote pushed next loaded found = tt
+conjunct_written (Ok u) js c {middle = middle} new {x = x} wrote pushed next loaded found =
+    record {
+      same = λ k.
+          act middle new (Keep x) (k (env_of new)) pushed (omega (arith, next))
+          ∙ (λ i.
+          whole middle
+          (Then (Keep x) (k (env (next i) ((ap (λ v. v.items) loaded) i) ((ap (λ v. v.items) found) i)))))
+          ∙ wrote.same (λ e x. Then (Keep x) (k e));
+    }
 
 -- ---- parts have something in them
 

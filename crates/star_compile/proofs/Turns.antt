@@ -1,5 +1,5 @@
 -- A turn of the scan is its pieces, one behind another.
-use Rattle.std.proofs.Common.{◌≡◌, ℕ, ◌+◌, ◌≤◌, List, [], ◌∷◌, ◌++◌, refl, sym, ap, subst, ◌∙◌, arith}
+use Rattle.std.proofs.Common.{◌≡◌, ℕ, ◌+◌, ◌≤◌, List, [], ◌∷◌, ◌++◌, refl, ap, ◌∙◌, arith}
 use Rattle.star_plan.specs.Meaning.{Plan}
 use Rattle.star_program.specs.declared.body.Step.{Step}
 use Rattle.star_program.specs.declared.body.Step.TheVariants.{Act}
@@ -9,7 +9,7 @@ use Rattle.star_program.specs.CodeOfSteps.{before, code_of_steps}
 use Rattle.star_compiled.specs.Compiled.{Env, env_first, register_count, conjuncts_code, keys_code, values_code, put_code, turn_code}
 use Rattle.star_compile.specs.declared.emitter.Emitter.{Emitter}
 use Rattle.star_compile.specs.Private.Emitted.{Whole, steps_then, env_of, whole, Wrote, Writes, HasRoom}
-use Rattle.star_compile.proofs.Emits.{act}
+use Rattle.star_compile.proofs.Emits.{act, made, room_where}
 
 -- an emitter that has written nothing
 pub record IsFirst (e : Emitter) : Type 0 where
@@ -18,20 +18,20 @@ pub record IsFirst (e : Emitter) : Type 0 where
   pub loaded : e.loaded.items ≡ []
   pub found : e.found.items ≡ []
 
-abbrev made : Code → ℕ → Whole
-made c n = record { code = c; registers = n }
-
 module _ (p : Plan) where
-  -- what comes after the conjuncts, and after the keys
+  -- what comes after the keys, and after the conjuncts
   abbrev after_keys : Env → List ℕ → Code
   after_keys e keys = values_code p.joins p.measures e (put_code keys)
 
   abbrev after_conjuncts : Env → Code
   after_conjuncts e = keys_code p.joins p.keys e after_keys
 
+  -- all of a turn
+  abbrev turn : Whole
+  turn = made (turn_code p) (1 + register_count (turn_code p))
+
   at_first : (e : Emitter) → IsFirst e
-      → whole e (conjuncts_code p.joins p.conjuncts (env_of e) after_conjuncts)
-      ≡ made (turn_code p) (1 + register_count (turn_code p))
+      → whole e (conjuncts_code p.joins p.conjuncts (env_of e) after_conjuncts) ≡ turn
   unfolding whole
   at_first e first =
       (λ i.
@@ -44,41 +44,30 @@ module _ (p : Plan) where
 
   pub room_for_conjuncts : (e : Emitter) → IsFirst e → 1 + register_count (turn_code p) ≤ 4096
       → HasRoom e (conjuncts_code p.joins p.conjuncts)
-  room_for_conjuncts e first few = record {
-    rest = after_conjuncts;
-    fits = subst (λ w. w.registers ≤ 4096) (sym (at_first e first)) few;
-  }
+  room_for_conjuncts e first few = room_where after_conjuncts (at_first e first) few
 
   module _ (e0 e1 : Emitter) (first : IsFirst e0)
       (conjuncts : Wrote e0 e1 (conjuncts_code p.joins p.conjuncts)) where
-    at_keys : whole e1 (after_conjuncts (env_of e1))
-        ≡ made (turn_code p) (1 + register_count (turn_code p))
+    at_keys : whole e1 (after_conjuncts (env_of e1)) ≡ turn
     at_keys = conjuncts.same after_conjuncts ∙ at_first e0 first
 
     pub room_for_keys : 1 + register_count (turn_code p) ≤ 4096
         → HasRoom e1 (keys_code p.joins p.keys)
-    room_for_keys few = record {
-      rest = after_keys;
-      fits = subst (λ w. w.registers ≤ 4096) (sym at_keys) few;
-    }
+    room_for_keys few = room_where after_keys at_keys few
 
     module _ (e2 : Emitter) (ks : List ℕ) (keys : Writes e1 e2 (keys_code p.joins p.keys) ks) where
-      at_values : whole e2 (after_keys (env_of e2) ks)
-          ≡ made (turn_code p) (1 + register_count (turn_code p))
+      at_values : whole e2 (after_keys (env_of e2) ks) ≡ turn
       at_values = keys.same after_keys ∙ at_keys
 
       pub room_for_values : 1 + register_count (turn_code p) ≤ 4096
           → HasRoom e2 (values_code p.joins p.measures)
-      room_for_values few = record {
-        rest = put_code ks;
-        fits = subst (λ w. w.registers ≤ 4096) (sym at_values) few;
-      }
+      room_for_values few = room_where (put_code ks) at_values few
 
       module _ (e3 e4 : Emitter) (vs : List ℕ)
           (values : Writes e2 e3 (values_code p.joins p.measures) vs)
           (pushed : e4.steps.items ≡ e3.steps.items ++ Act (Put 0 ks vs) ∷ [])
           (next : e4.next ≡ e3.next) where
-        at_end : whole e4 Stop ≡ made (turn_code p) (1 + register_count (turn_code p))
+        at_end : whole e4 Stop ≡ turn
         at_end =
             act e3 e4 (Put 0 ks vs) Stop pushed (omega (arith, next)) ∙ values.same (put_code ks)
             ∙ at_values
@@ -87,13 +76,10 @@ module _ (p : Plan) where
         stopped [] = refl
         stopped (s ∷ steps) = ap (before s) (stopped steps)
 
-        pub turn_written : code_of_steps e4.steps.items ≡ turn_code p
+        pub turn_made : (code_of_steps e4.steps.items ≡ turn_code p)
+            × (e4.next ≡ 1 + register_count (turn_code p))
         unfolding whole
-        turn_written = stopped e4.steps.items ∙ ap (λ w. w.code) at_end
-
-        pub turn_counted : e4.next ≡ 1 + register_count (turn_code p)
-        unfolding whole
-        turn_counted =
-            let whole_count : e4.next + 0 ≡ 1 + register_count (turn_code p) =
+        turn_made =
+            let count : e4.next + 0 ≡ 1 + register_count (turn_code p) =
             ap (λ w. w.registers) at_end in
-            omega arith
+            (stopped e4.steps.items ∙ ap (λ w. w.code) at_end, omega arith)

@@ -4,37 +4,39 @@ ghost use Rattle.std.specs.Prelude.{◌≡◌, IfOk};
 ghost use Rattle.star_schema.specs.Schema as schema;
 ghost use Rattle.star_schema.specs.declared.table.TableId.TheVariants.{Lineorder};
 ghost use Rattle.star_compiled.specs.Compiled as spec;
-ghost use Rattle.star_compiled.specs.Compiled.{found_in, foreign_of, loaded_in};
+ghost use Rattle.star_compiled.specs.Compiled.{found_in, foreign_of, loaded_in, register_in};
 ghost use Rattle.star_compile.specs.Private.Emitted.{HasRoom, Writes};
 
 use crate::emitter::Emitter;
 use star_plan::Join;
-use star_program::{Operation, is_column};
+use star_program::Operation;
 use star_schema::{ColumnId, TableId, is_table, table_of};
 use std::alloc::AllocError;
 
-// The register of a column, if it is loaded.
-fn register_of(loaded: &[(ColumnId, u16)], column: ColumnId) -> Option<u16>
-    ensures { result ≡ loaded_in loaded.now column }
+// The register of a key, by its first entry.
+fn entry<K: Copy + PartialEq>(entries: &[(K, u16)], key: K) -> Option<u16>
+    ensures { result ≡ register_in K.eq entries.now key }
 {
-    for entry in loaded {
-        if is_column(column, entry.0) {
+    for entry in entries {
+        if key == entry.0 {
             return Some(entry.1);
         }
     }
     None
 }
 
+// The register of a column, if it is loaded.
+fn register_of(loaded: &[(ColumnId, u16)], column: ColumnId) -> Option<u16>
+    ensures { result ≡ loaded_in loaded.now column }
+{
+    entry(loaded, column)
+}
+
 // The register of a table's row, if it is found.
 fn row_of(found: &[(TableId, u16)], table: TableId) -> Option<u16>
     ensures { result ≡ found_in found.now table }
 {
-    for entry in found {
-        if is_table(table, entry.0) {
-            return Some(entry.1);
-        }
-    }
-    None
+    entry(found, table)
 }
 
 // The foreign key by which a table is joined.

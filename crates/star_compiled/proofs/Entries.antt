@@ -5,6 +5,7 @@ use Rattle.std.specs.Option.{option_or}
 use Rattle.std.proofs.lemmas.Bool.{cond-true, cond-false, eq-eqb, ne_eqb}
 use Rattle.std.proofs.lemmas.Option.{same_Some}
 use Rattle.star_program.specs.Values.{with_entry}
+use Rattle.star_compiled.specs.Compiled.{register_in}
 use Rattle.star_compiled.specs.Looks.{one_if}
 
 -- ---- registers
@@ -21,19 +22,13 @@ entry_other entries r q v h =
 
 -- ---- keys
 
--- the register that some entries give a key, as `loaded_in` gives one to a column and `found_in` to
--- a table
-abbrev pub entry_of : {K : Type 0} → (K → K → Bool) → List (K × ℕ) → K → Option ℕ
-entry_of same [] k = None
-entry_of same (e ∷ es) k = if same k e.0 then Some e.1 else entry_of same es k
-
 -- what it was before, or else the new one
 pub entry_after : {K : Type 0} (same : K → K → Bool) (es : List (K × ℕ)) (k : K) (n : ℕ) (q : K)
-    → entry_of same (es ++ (k, n) ∷ []) q
-    ≡ option_or (entry_of same es q) (if same q k then Some n else None)
+    → register_in same (es ++ (k, n) ∷ []) q
+    ≡ option_or (register_in same es q) (if same q k then Some n else None)
 entry_after same [] k n q = refl
 entry_after same (x ∷ es) k n q =
-    by (same q x.0) (entry_of same es q) (entry_of same (es ++ (k, n) ∷ []) q)
+    by (same q x.0) (register_in same es q) (register_in same (es ++ (k, n) ∷ []) q)
     (if same q k then Some n else None) (entry_after same es k n q)
   where
     by : (b : Bool) (o p r : Option ℕ) → p ≡ option_or o r
@@ -49,21 +44,21 @@ old_or_new None false n r e = absurd (cc)
 old_or_new (Some q) b n r e = inl e
 
 pub entry_split : {K : Type 0} (same : K → K → Bool) (es : List (K × ℕ)) (k : K) (n : ℕ) (q : K)
-    (r : ℕ) → entry_of same (es ++ (k, n) ∷ []) q ≡ Some r
-    → (entry_of same es q ≡ Some r) ⊎ ((same q k ≡ true) × (n ≡ r))
+    (r : ℕ) → register_in same (es ++ (k, n) ∷ []) q ≡ Some r
+    → (register_in same es q ≡ Some r) ⊎ ((same q k ≡ true) × (n ≡ r))
 entry_split same es k n q r e =
-    old_or_new (entry_of same es q) (same q k) n r (sym (entry_after same es k n q) ∙ e)
+    old_or_new (register_in same es q) (same q k) n r (sym (entry_after same es k n q) ∙ e)
 
 -- registers that say something of each key's value do so with the new key's value in the next one
 pub entry_known : {K V : Type 0} (same : K → K → Bool) (is : (q k : K) → same q k ≡ true → q ≡ k)
     (Says : K → Option V → Type 0) (es : List (K × ℕ)) (values : ℕ → Option V) (n : ℕ) (k : K)
     (v : V) → Says k (Some v) → (q : K) (r : ℕ)
-    → (entry_of same es q ≡ Some r → (r < n) × Says q (values r))
-    → entry_of same (es ++ (k, n) ∷ []) q ≡ Some r
+    → (register_in same es q ≡ Some r → (r < n) × Says q (values r))
+    → register_in same (es ++ (k, n) ∷ []) q ≡ Some r
     → (r < n + 1) × Says q (with_entry values n v r)
 entry_known same is Says es values n k v new q r old e = by (entry_split same es k n q r e)
   where
-    by : (entry_of same es q ≡ Some r) ⊎ ((same q k ≡ true) × (n ≡ r))
+    by : (register_in same es q ≡ Some r) ⊎ ((same q k ≡ true) × (n ≡ r))
         → (r < n + 1) × Says q (with_entry values n v r)
     by (inl e) =
         let h = old e in
@@ -92,11 +87,11 @@ falls false n (Some r) h = omega arith
 
 -- once less after a first time, and no more often otherwise
 pub entry_falls : {K : Type 0} (same : K → K → Bool) (is : (q k : K) → same q k ≡ true → q ≡ k)
-    (es : List (K × ℕ)) (k : K) (n : ℕ) → entry_of same es k ≡ None → (q : K)
-    → one_if (same q k) + missing (entry_of same (es ++ (k, n) ∷ []) q)
-    ≤ missing (entry_of same es q)
+    (es : List (K × ℕ)) (k : K) (n : ℕ) → register_in same es k ≡ None → (q : K)
+    → one_if (same q k) + missing (register_in same (es ++ (k, n) ∷ []) q)
+    ≤ missing (register_in same es q)
 entry_falls same is es k n none q =
     let after = ap missing (entry_after same es k n q) in
     let less =
-    falls (same q k) n (entry_of same es q) (λ e. ap (entry_of same es) (is q k e) ∙ none) in
+    falls (same q k) n (register_in same es q) (λ e. ap (register_in same es) (is q k e) ∙ none) in
     omega arith

@@ -41,13 +41,16 @@ pub record Env : Type 0 where
 abbrev pub env_first : Env
 env_first = record { next = 1; loaded = []; found = [] }
 
+-- the register of a key, by its first entry
+abbrev pub register_in : {K : Type 0} → (same : K → K → Bool) → List (K × ℕ) → K → Option ℕ
+register_in same [] k = None
+register_in same (e ∷ es) k = if same k e.0 then Some e.1 else register_in same es k
+
 abbrev pub loaded_in : List (ColumnId × ℕ) → ColumnId → Option ℕ
-loaded_in [] c = None
-loaded_in (e ∷ es) c = if is_column c e.0 then Some e.1 else loaded_in es c
+loaded_in = register_in is_column
 
 abbrev pub found_in : List (TableId × ℕ) → TableId → Option ℕ
-found_in [] t = None
-found_in (e ∷ es) t = if is_table t e.0 then Some e.1 else found_in es t
+found_in = register_in is_table
 
 -- after an instruction that writes the next register; after a load; after a find
 abbrev pub one_more : Env → Env

@@ -12,10 +12,8 @@ pub connective-condition-requires-2 : goal.connective-condition-requires-2
 connective-condition-requires-2 t c = (
   omega (arith, some_comparison (condition_shown c.args.left.now)),
   (
-    room_for_right c.args.self.now c.condition.new.self
-        (condition_code c.args.joins.now (condition_shown c.args.left.now))
-        (condition_code c.args.joins.now (condition_shown c.args.right.now)) c.args.operator
-        c.in_ok-left.left c.in_ok-left.ensures.written c.requires.room,
+    room_for_right (condition_code c.args.joins.now (condition_shown c.args.right.now))
+        c.args.operator c.in_ok-left.ensures.written c.requires.room,
     c.requires.right,
   ),
 )

@@ -11,10 +11,8 @@ arithmetic-expression-requires t c =
 pub arithmetic-expression-requires-2 : goal.arithmetic-expression-requires-2
 arithmetic-expression-requires-2 t c = (
   omega (arith, some_operand (expression_shown c.args.left.now)),
-  room_for_right c.args.self.now c.expression.new.self
-      (expression_code c.args.joins.now (expression_shown c.args.left.now))
-      (expression_code c.args.joins.now (expression_shown c.args.right.now)) c.args.operator
-      c.in_ok-left.left c.in_ok-left.ensures.written c.requires.room,
+  room_for_right (expression_code c.args.joins.now (expression_shown c.args.right.now))
+      c.args.operator c.in_ok-left.ensures.written c.requires.room,
 )
 
 pub expression-returns-in-Add : goal.expression-returns-in-Add

@@ -8,6 +8,5 @@ returns c =
     record {
       written =
           conjunct_written c.keep.result c.args.joins.now (condition_shown c.args.condition.now)
-          c.args.self.now c.condition.new.self c.keep.new.self c.in_ok-flag.flag
-          c.in_ok-flag.ensures.written kept.pushed kept.next kept.loaded kept.found;
+          c.keep.new.self c.in_ok-flag.ensures.written kept.pushed kept.next kept.loaded kept.found;
     }

@@ -1,4 +1,4 @@
-use Rattle.std.proofs.Common.{arith, ◌+◌, drop, refl, slice_index_or, drop_of_length-le}
+use Rattle.std.proofs.Common.{arith, drop, refl, drop_of_length-le}
 use Rattle.std.proofs.lemmas.Grind.{common_steps}
 use Rattle.std.proofs.lemmas.List.{drop_more}
 use Rattle.star_schema.specs.declared.column.ColumnId.TheVariants.{DDatekey}
@@ -8,16 +8,12 @@ use Rattle.star_compile.proofs.Emits.{keys_behind, room_for_key, all_written}
 use Rattle.star_compile.proofs.emitter.Emitter.keys.Goals as goal
 
 pub column-requires : goal.column-requires
-column-requires c =
-    let columns = c.args.columns.now in
-    let at = c.loop-column.column-index in
-    record {
-      room =
-          room_for_key c.args.joins.now c.args.self.now c.loop-column.self columns (drop at columns)
-          (slice_index_or columns at DDatekey) (drop (at + 1) columns)
-          c.loop-column.registers.items (drop_more columns at DDatekey c.loop-column-test.true)
-          c.loop-column.invariant c.requires.room;
-    }
+column-requires c = record {
+  room =
+      room_for_key c.args.joins.now c.args.columns.now c.loop-column.registers.items
+      (drop_more c.args.columns.now c.loop-column.column-index DDatekey c.loop-column-test.true)
+      c.loop-column.invariant c.requires.room;
+}
 
 pub returns : goal.returns
 returns c =
@@ -25,9 +21,9 @@ returns c =
     let columns = c.args.columns.now in
     record {
       written =
-          all_written (keys_after joins) (keys_code joins) (keys_behind joins) c.args.self.now
-          c.loop-column.self columns (drop c.loop-column.column-index columns)
-          c.loop-column.registers.items c.loop-column.invariant (λ env k. refl)
+          all_written (keys_after joins) (keys_code joins) (keys_behind joins) columns
+          (drop c.loop-column.column-index columns) c.loop-column.registers.items
+          c.loop-column.invariant (λ env k. refl)
           (drop_of_length-le columns c.loop-column-test.false);
     }
 

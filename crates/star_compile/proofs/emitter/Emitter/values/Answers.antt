@@ -12,10 +12,8 @@ value-requires c =
     let at = c.loop-aggregate.aggregate-index in
     record {
       room =
-          room_for_value c.args.joins.now c.args.self.now c.loop-aggregate.self
-          (measures_shown aggregates) (measures_shown (drop at aggregates))
-          (measure_shown c.aggregate-item.result.measure)
-          (measures_shown (drop (at + 1) aggregates)) c.loop-aggregate.registers.items
+          room_for_value c.args.joins.now (measures_shown aggregates)
+          c.loop-aggregate.registers.items
           (ap measures_shown (drop_more aggregates at c.aggregate-item.result c.loop-aggregate-test.true)
           ∙ ap (λ a. measure_shown a.measure ∷ measures_shown (drop (at + 1) aggregates))
           (sym c.aggregate-item.is))
@@ -28,8 +26,8 @@ returns c =
     let aggregates = c.args.aggregates.now in
     record {
       written =
-          all_written (values_after joins) (values_code joins) (values_behind joins) c.args.self.now
-          c.loop-aggregate.self (measures_shown aggregates)
+          all_written (values_after joins) (values_code joins) (values_behind joins)
+          (measures_shown aggregates)
           (measures_shown (drop c.loop-aggregate.aggregate-index aggregates))
           c.loop-aggregate.registers.items c.loop-aggregate.invariant (λ env k. refl)
           (ap measures_shown (drop_of_length-le aggregates c.loop-aggregate-test.false));

@@ -1,10 +1,8 @@
-use Rattle.star_compiled.specs.Compiled.{one_more}
 use Rattle.star_compile.proofs.Emits.{room_to_assign, assigned_if_ok}
 use Rattle.star_compile.proofs.emitter.Emitter.write.Goals as goal
 
 pub assign-requires : goal.assign-requires
-assign-requires c =
-    record { room = room_to_assign c.args.self.now c.args.operation one_more c.requires.room }
+assign-requires c = record { room = room_to_assign c.requires.room }
 
 pub returns : goal.returns
 returns c =
