@@ -15,7 +15,7 @@ use Rattle.star_program.specs.declared.fault.Fault.TheVariants.{BadRegister, Wri
 use Rattle.star_program.specs.Faults.{unless, group_at}
 use Rattle.star_program.specs.Keys.{key_value_cmp}
 use Rattle.star_program.specs.Effects.{Store, empty_store, Effect, GoesOn, EndsTurn, Traps, act}
-use Rattle.star_program.specs.Run.{End, Ended, Trapped, Limited, EndsWith, visited, turns, meaning}
+use Rattle.star_program.specs.Run.{End, visited, turns, meaning}
 use Rattle.star_common.proofs.Firsts.{or_none}
 use Rattle.star_program.proofs.Unless.{unless_none}
 use Rattle.star_admission.specs.Ranges.{KnownRow, Table}

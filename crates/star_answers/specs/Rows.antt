@@ -1,6 +1,6 @@
 -- Which rows a query selects, by its own words: those of the product of FROM's tables for which
 -- WHERE is true (Star Schema Benchmark, revision 3, section 3).
-use Rattle.std.specs.Prelude.{ℤ, pos, ◌+ℤ◌, ◌-ℤ◌, ◌*ℤ◌, Bool, true, ◌&&◌, ◌||◌, not as negated, List, [], ◌∷◌, filter, map, Option, Some, None}
+use Rattle.std.specs.Prelude.{ℤ, pos, Bool, true, ◌&&◌, ◌||◌, not as negated, List, [], ◌∷◌, filter, map, Option, Some, None}
 use Rattle.std.specs.List.{flat_map}
 use Rattle.std.specs.Option.{option_to_list}
 use Rattle.std.specs.Ordering.{is_eq, is_le}

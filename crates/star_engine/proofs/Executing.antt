@@ -20,8 +20,8 @@ use Rattle.star_engine.specs.declared.fault.EngineFault.TheVariants.{Refused}
 use Rattle.star_engine.specs.Answered.{Change}
 use Rattle.star_engine.specs.Executions.{IsQuote, IsQuoteOf, IsRefusal, IsProgramTold, IsToldOf, IsUntold, quote_over}
 use Rattle.star_engine.specs.Faults.{fault_of_refusal}
-use Rattle.star_engine.specs.Loads.{IsProgramOf}
-use Rattle.star_engine.specs.Noted.{IsNoted, Telling}
+use Rattle.star_engine.specs.Loads.{HoldsOfFile, IsProgramOf}
+use Rattle.star_engine.specs.Noted.{IsNoted}
 use Rattle.star_engine.specs.Notes.{counts_line, quote_line}
 use Rattle.star_engine.specs.Private.Steps.{IsNotVerified, IsRun, OrMemory}
 use Rattle.star_engine.proofs.NotedAs.{noted_as}
@@ -94,41 +94,31 @@ told_run database most program outcome has_run = record {
 
 -- ---- the program of a file, over the rows of five texts
 
-fault_of_file : (most visits : ℕ) (texts : TableId → List ℕ) (file : List ℕ) (program : Parts)
-    (fault : EngineFault) → IsLoadable most texts → IsProgramOf file program
-    → IsNotVerified (database_of texts) visits program fault → IsUntold most visits texts file fault
-fault_of_file most visits texts file program (Refused refusal) loadable of_file refused = record {
-  loadable = loadable;
-  program = program;
-  of_file = of_file;
-  refused = refused;
-}
-fault_of_file most visits texts file program _ loadable of_file refused = absurd refused
+module _ (most visits : ℕ) (texts : TableId → List ℕ) (file : List ℕ) (program : Parts)
+    (loadable : IsLoadable most texts) (spelled : IsProgramOf file program) where
+  abbrev database : Database
+  database = database_of texts
 
-pub of_file : {S N : Type 0} (out : Change S) (notes : Change N) (most visits : ℕ)
-    (texts : TableId → List ℕ) (file : List ℕ) (database : Database) (program : Parts)
-    (result : Result (Unit {0}) EngineFault) → database ≡ database_of texts
-    → IsLoadable most texts → IsProgramOf file program
-    → IsNoted out notes (IsQuote database program) (IsProgramTold database visits program)
-    (IsNotVerified database visits program) result
-    → IsNoted out notes (IsQuoteOf most texts file) (IsToldOf most visits texts file)
-    (IsUntold most visits texts file) result
-of_file out notes most visits texts file database program result same loadable spelled noted =
-    noted_as out notes (IsQuote (database_of texts) program) (IsQuoteOf most texts file)
-    (IsProgramTold (database_of texts) visits program) (IsToldOf most visits texts file)
-    (IsNotVerified (database_of texts) visits program) (IsUntold most visits texts file) result
-    (λ note quoted. record {
-      loadable = loadable;
-      program = program;
-      of_file = spelled;
-      quoted = quoted;
-    })
-    (λ telling told. record {
-      loadable = loadable;
-      program = program;
-      of_file = spelled;
-      told = told;
-    })
-    (λ fault refused. fault_of_file most visits texts file program fault loadable spelled refused)
-    (subst (λ d. IsNoted out notes (IsQuote d program) (IsProgramTold d visits program)
-    (IsNotVerified d visits program) result) same noted)
+  of_program : (Holds : Database → Parts → Type 0) → Holds database program
+      → HoldsOfFile most texts file Holds
+  of_program Holds holds =
+      record { loadable = loadable; program = program; of_file = spelled; holds = holds }
+
+  fault_of_program : (fault : EngineFault) → IsNotVerified database visits program fault
+      → IsUntold most visits texts file fault
+  fault_of_program (Refused refusal) refused = of_program _ refused
+  fault_of_program _ refused = absurd refused
+
+  pub of_file : {S N : Type 0} (out : Change S) (notes : Change N) (held : Database)
+      (result : Result (Unit {0}) EngineFault) → held ≡ database
+      → IsNoted out notes (IsQuote held program) (IsProgramTold held visits program)
+      (IsNotVerified held visits program) result
+      → IsNoted out notes (IsQuoteOf most texts file) (IsToldOf most visits texts file)
+      (IsUntold most visits texts file) result
+  of_file out notes held result same noted =
+      noted_as out notes (IsQuote database program) (IsQuoteOf most texts file)
+      (IsProgramTold database visits program) (IsToldOf most visits texts file)
+      (IsNotVerified database visits program) (IsUntold most visits texts file) result
+      (λ note quoted. of_program _ quoted) (λ telling told. of_program _ told) fault_of_program
+      (subst (λ d. IsNoted out notes (IsQuote d program) (IsProgramTold d visits program)
+      (IsNotVerified d visits program) result) same noted)

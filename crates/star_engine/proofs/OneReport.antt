@@ -47,14 +47,14 @@ telling_is_one most visits texts file telling other h k =
     let database = database_of texts in
     let w = world_of database in
     let program = one_program file h.program k.program h.of_file.spelled k.of_file.spelled in
-    let yields = subst (λ p. Yields w p (run_of w p) h.told.outcome) program h.told.yields in
-    let outcome = yields_one w k.program (run_of w k.program) h.told.outcome k.told.outcome yields k.told.yields in
+    let yields = subst (λ p. Yields w p (run_of w p) h.holds.outcome) program h.holds.yields in
+    let outcome = yields_one w k.program (run_of w k.program) h.holds.outcome k.holds.outcome yields k.holds.yields in
     let quoted : telling.quoted ≡ other.quoted =
-    h.told.quoted ∙ (λ i. quote_line (quote_over database (program i))) ∙ sym k.told.quoted in
+    h.holds.quoted ∙ (λ i. quote_line (quote_over database (program i))) ∙ sym k.holds.quoted in
     let report : telling.report ≡ other.report =
-    h.told.reported ∙ (λ i. report_text (outcome i).names (outcome i).rows) ∙ sym k.told.reported in
+    h.holds.reported ∙ (λ i. report_text (outcome i).names (outcome i).rows) ∙ sym k.holds.reported in
     let done : telling.done ≡ other.done =
-    h.told.done ∙ (λ i. counts_line (outcome i).visits (outcome i).lookups (outcome i).updates) ∙ sym k.told.done in
+    h.holds.done ∙ (λ i. counts_line (outcome i).visits (outcome i).lookups (outcome i).updates) ∙ sym k.holds.done in
     λ i. record { quoted = quoted i; report = report i; done = done i }
 
 -- ---- what is told is not refused
@@ -81,5 +81,5 @@ told_is_not_untold most visits texts file telling (Load fault) told due =
     due.1.not_loadable told.loadable
 told_is_not_untold most visits texts file telling (Refused refusal) told due =
     accepted_is_not_refused (database_of texts) visits file told.program due.program refusal
-    told.of_file due.of_file told.told.accepted due.refused
+    told.of_file due.of_file told.holds.accepted due.holds
 told_is_not_untold most visits texts file telling _ told due = due

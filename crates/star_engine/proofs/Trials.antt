@@ -40,7 +40,7 @@ pub no_trial : (most : ℕ) (texts : TableId → List ℕ) (file : List ℕ) (pr
 no_trial most texts file program visits OutOfMemory of_file none = tt
 no_trial most texts file program visits (Load fault) of_file none = ((program, of_file), none)
 no_trial most texts file program visits (Trial fault) of_file (loadable, stopped) =
-    (loadable, record { program = program; of_file = of_file; stopped = stopped })
+    record { loadable = loadable; program = program; of_file = of_file; holds = stopped }
 no_trial most texts file program visits _ of_file none = absurd none
 
 -- a report has a byte

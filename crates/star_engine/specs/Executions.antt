@@ -2,7 +2,6 @@
 use Rattle.std.specs.Prelude.{◌≡◌, ◌≤◌, ℕ, List, Some}
 use Rattle.star_schema.specs.declared.table.TableId.{TableId}
 use Rattle.star_schema.specs.Database.{Database}
-use Rattle.star_schema.specs.Loadable.{IsLoadable, database_of}
 use Rattle.star_program.specs.declared.outcome.Outcome.{Outcome}
 use Rattle.star_program.specs.declared.program.Parts.{Parts}
 use Rattle.star_program.specs.Run.{run_of}
@@ -16,7 +15,7 @@ use Rattle.star_report.specs.Report.{report_text}
 use Rattle.star_world.specs.WorldOf.{world_of}
 use Rattle.star_engine.specs.declared.fault.EngineFault.{EngineFault}
 use Rattle.star_engine.specs.declared.fault.EngineFault.TheVariants.{Refused}
-use Rattle.star_engine.specs.Loads.{IsProgramOf, IsUnread}
+use Rattle.star_engine.specs.Loads.{HoldsOfFile, IsUnread}
 use Rattle.star_engine.specs.Noted.{Telling}
 use Rattle.star_engine.specs.Notes.{counts_line, quote_line}
 
@@ -56,28 +55,19 @@ pub record IsProgramTold (database : Database) (most : ℕ) (program : Parts) (t
 -- ---- the program of a file over five texts
 
 -- the note of its quote
-pub record IsQuoteOf (most : ℕ) (texts : TableId → List ℕ) (file : List ℕ) (text : List ℕ)
-    : Type 0 where
-  pub loadable : IsLoadable most texts
-  pub program : Parts
-  pub of_file : IsProgramOf file program
-  pub quoted : IsQuote (database_of texts) program text
+abbrev pub IsQuoteOf : ℕ → (TableId → List ℕ) → (file text : List ℕ) → Type 0
+IsQuoteOf most texts file text =
+    HoldsOfFile most texts file (λ database program. IsQuote database program text)
 
 -- what is told of it
-pub record IsToldOf (most visits : ℕ) (texts : TableId → List ℕ) (file : List ℕ)
-    (telling : Telling) : Type 0 where
-  pub loadable : IsLoadable most texts
-  pub program : Parts
-  pub of_file : IsProgramOf file program
-  pub told : IsProgramTold (database_of texts) visits program telling
+abbrev pub IsToldOf : (most visits : ℕ) → (TableId → List ℕ) → List ℕ → Telling → Type 0
+IsToldOf most visits texts file telling =
+    HoldsOfFile most texts file (λ database program. IsProgramTold database visits program telling)
 
 -- it is refused
-pub record IsRefusalOf (most visits : ℕ) (texts : TableId → List ℕ) (file : List ℕ)
-    (refusal : Refusal) : Type 0 where
-  pub loadable : IsLoadable most texts
-  pub program : Parts
-  pub of_file : IsProgramOf file program
-  pub refused : IsRefusal (database_of texts) visits program refusal
+abbrev pub IsRefusalOf : (most visits : ℕ) → (TableId → List ℕ) → List ℕ → Refusal → Type 0
+IsRefusalOf most visits texts file refusal =
+    HoldsOfFile most texts file (λ database program. IsRefusal database visits program refusal)
 
 -- why nothing is told of it: the file is read first, then the tables, and then it is checked
 abbrev pub IsUntold : ℕ → ℕ → (TableId → List ℕ) → List ℕ → EngineFault → Type 0

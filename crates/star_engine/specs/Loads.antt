@@ -1,7 +1,9 @@
--- Why an answer stops before any run: the file spells no program, or the texts can't be loaded.
+-- What is read before any run, a program's file and five texts, and why an answer stops there: the
+-- file spells no program, or the texts can't be loaded.
 use Rattle.std.specs.Prelude.{◌≡◌, ℕ, List, Some}
 use Rattle.star_schema.specs.declared.table.TableId.{TableId}
-use Rattle.star_schema.specs.Loadable.{IsLoadable}
+use Rattle.star_schema.specs.Database.{Database}
+use Rattle.star_schema.specs.Loadable.{IsLoadable, database_of}
 use Rattle.star_catalogue.specs.Load.{load_fault}
 use Rattle.star_catalogue.specs.declared.fault.LoadFault.{LoadFault}
 use Rattle.star_program.specs.declared.program.Parts.{Parts}
@@ -25,6 +27,14 @@ pub record IsProgramOf (file : List ℕ) (program : Parts) : Type 0 where
 -- a file that spells a program within the limits
 abbrev pub IsProgram : List ℕ → Type 0
 IsProgram file = (program : Parts) × IsProgramOf file program
+
+-- the texts can be loaded, the file spells a program, and this holds of the program over their rows
+pub record HoldsOfFile (most : ℕ) (texts : TableId → List ℕ) (file : List ℕ)
+    (Holds : Database → Parts → Type 0) : Type 0 where
+  pub loadable : IsLoadable most texts
+  pub program : Parts
+  pub of_file : IsProgramOf file program
+  pub holds : Holds (database_of texts) program
 
 -- why there is no loaded table
 abbrev pub IsUnloaded : ℕ → (TableId → List ℕ) → EngineFault → Type 0

@@ -13,7 +13,7 @@ use Rattle.star_machine.specs.Trials.{IsFaultOf, Yields}
 use Rattle.star_world.specs.WorldOf.{world_of}
 use Rattle.star_engine.specs.declared.fault.EngineFault.{EngineFault}
 use Rattle.star_engine.specs.declared.fault.EngineFault.TheVariants.{Trial}
-use Rattle.star_engine.specs.Loads.{IsProgramOf, IsUnread}
+use Rattle.star_engine.specs.Loads.{HoldsOfFile, IsProgramOf, IsUnread}
 
 -- the printed rows of the program that a file spells, run over these tables with so many visits at
 -- most
@@ -31,13 +31,6 @@ abbrev pub IsStop : End → TrialFault → Type 0
 IsStop end trial.OutOfMemory = ⊥
 IsStop end fault = IsFaultOf end fault
 
--- the program that a file spells, run over these tables, is trapped or meets the limit on visits
-pub record IsStopped (database : Database) (file : List ℕ) (visits : ℕ)
-    (fault : TrialFault) : Type 0 where
-  pub program : Parts
-  pub of_file : IsProgramOf file program
-  pub stopped : IsStop (bounded_run_of (world_of database) visits program) fault
-
 -- ---- over five texts
 
 -- the report of a trial over the rows of five texts
@@ -49,5 +42,6 @@ pub record IsTrialReport (most : ℕ) (texts : TableId → List ℕ) (file : Lis
 -- why there is none
 abbrev pub IsNoTrial : ℕ → (TableId → List ℕ) → List ℕ → ℕ → EngineFault → Type 0
 IsNoTrial most texts file visits (Trial fault) =
-    IsLoadable most texts × IsStopped (database_of texts) file visits fault
+    HoldsOfFile most texts file
+    (λ database program. IsStop (bounded_run_of (world_of database) visits program) fault)
 IsNoTrial most texts file visits fault = IsUnread most texts file fault

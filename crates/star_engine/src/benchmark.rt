@@ -83,9 +83,10 @@ fn refused(alloc: Global, refusal: &Refusal) -> Result<Finding, AllocError>
         × (finding.text.items ≡ spec.refusal_line refusal.now)) }
 {
     let line = refusal_line(alloc, refusal)?;
-    let mut text = Vec::new(alloc);
-    text.extend_from_slice(line.as_bytes())?;
-    Ok(Finding { text, fits: false })
+    Ok(Finding {
+        text: line.into_bytes(),
+        fits: false,
+    })
 }
 
 // What is found of a program that was run.
@@ -123,12 +124,10 @@ fn named_quote(
     ensures { IfOk result (λ text. text.items
         ≡ spec.named_quote prepared.now.query (quote_over catalogue.now prepared.now.program)) }
 {
+    let name = prepared.query.name();
     let note = quote_note(alloc, catalogue, &prepared.program)?;
-    let mut text = Vec::new(alloc);
-    text.extend_from_slice(prepared.query.name().as_bytes())?;
-    text.push(b' ')?;
-    text.extend_from_slice(note.as_bytes())?;
-    Ok(text)
+    let text = format!(in alloc; "{name} {note}")?;
+    Ok(text.into_bytes())
 }
 
 // What is printed of a query, and whether it fits.

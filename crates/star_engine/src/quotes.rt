@@ -3,9 +3,8 @@
 ghost use Rattle.std.specs.Prelude.{◌≡◌, MatchResult, string_bytes};
 ghost use Rattle.star_schema.specs.Loadable.{IsLoadable, database_of};
 ghost use Rattle.star_catalogue.specs.Load.{text_of};
-ghost use Rattle.star_engine.specs.Executions.{IsQuote, IsQuoteOf};
-ghost use Rattle.star_engine.specs.Loads.{IsUnloaded, IsUnread};
-ghost use Rattle.star_engine.specs.Queries.{IsQueryQuote, IsUnasked};
+ghost use Rattle.star_engine.specs.Executions.{IsQuote};
+ghost use Rattle.star_engine.specs.Loads.{IsUnloaded};
 ghost use Rattle.star_engine.specs.QuoteTexts.{IsQuoteText, IsUnquoted, is_program_file};
 ghost use Rattle.star_engine.specs.Private.Steps.{OrMemory};
 
@@ -43,37 +42,6 @@ fn quote_over(
     Ok(quote_note(alloc, &catalogue, program)?)
 }
 
-// The same of the program that a file spells.
-fn quote_of_program(
-    alloc: Global,
-    texts: &Texts<'_>,
-    file: &[u8],
-    limits: Limits,
-) -> Result<String, EngineFault>
-    ensures { MatchResult result
-        (λ note. IsQuoteOf limits.rows (text_of texts.now) file.now (string_bytes note))
-        (OrMemory (IsUnread limits.rows (text_of texts.now) file.now)) }
-{
-    let program = read_program(alloc, file)?;
-    quote_over(alloc, texts, &program, limits)
-}
-
-// And of the program of the query that a file means.
-fn quote_of_query(
-    alloc: Global,
-    texts: &Texts<'_>,
-    file: &[u8],
-    limits: Limits,
-) -> Result<String, EngineFault>
-    ensures { MatchResult result
-        (λ note. IsQueryQuote limits.rows (text_of texts.now) file.now (string_bytes note))
-        (OrMemory (IsUnasked limits.rows (text_of texts.now) file.now)) }
-{
-    programs_of_queries_report_them();
-    let program = compile_query(alloc, file)?;
-    quote_over(alloc, texts, &program, limits)
-}
-
 // The line of a file's quote, over the tables of five texts.
 pub(crate) fn quote_of(
     alloc: Global,
@@ -85,9 +53,11 @@ pub(crate) fn quote_of(
         (λ note. IsQuoteText limits.rows (text_of texts.now) file.now (string_bytes note))
         (OrMemory (IsUnquoted limits.rows (text_of texts.now) file.now)) }
 {
-    if is_program(file) {
-        quote_of_program(alloc, texts, file, limits)
+    programs_of_queries_report_them();
+    let program = if is_program(file) {
+        read_program(alloc, file)?
     } else {
-        quote_of_query(alloc, texts, file, limits)
-    }
+        compile_query(alloc, file)?
+    };
+    quote_over(alloc, texts, &program, limits)
 }

@@ -1,5 +1,5 @@
 -- The plan of a well named query within the limits is sound and within the limits.
-use Rattle.std.proofs.Common.{◌≡◌, ◌∙◌, sym, ap, subst, ℕ, ◌+◌, ◌<◌, ◌≤◌, ◌^◌, true, List, [], ◌∷◌, Option, Some, None, length, arith}
+use Rattle.std.proofs.Common.{◌≡◌, ◌∙◌, sym, ap, subst, ◌+◌, ◌<◌, ◌≤◌, ◌^◌, true, List, [], ◌∷◌, Option, Some, None, length, arith}
 use Rattle.std.specs.List.{list_all, sum_by}
 use Rattle.std.proofs.lemmas.List.Sums.{sum_by-cons}
 use Rattle.star_plan.proofs.Conditions.{some_there}
@@ -13,7 +13,7 @@ use Rattle.star_plan.specs.Joins.{is_foreign, joins_of, where_pairs}
 use Rattle.star_plan.specs.Meaning.{Plan}
 use Rattle.star_plan.specs.Names.{column_at}
 use Rattle.star_plan.specs.Naming.{aggregate_names}
-use Rattle.star_plan.specs.Faults.{aggregates_fault, plan_fault}
+use Rattle.star_plan.specs.Faults.{plan_fault}
 use Rattle.star_plan.specs.Resolved.{IsResolved, resolved_key}
 use Rattle.star_plan.specs.Sound.{are_distinct, condition_is_sound, in_scope, is_group_column, measure_is_sound, IsSoundPlan}
 use Rattle.star_plan.specs.Limits.{IsPlanWithinLimits}

@@ -6,7 +6,7 @@ use Rattle.star_schema.specs.Loadable.{IsLoadable, database_of}
 use Rattle.star_program.specs.declared.outcome.Outcome.{Outcome}
 use Rattle.star_program.specs.declared.program.Parts.{Parts}
 use Rattle.star_program.specs.declared.spelling.fault.TextFault.{TextFault}
-use Rattle.star_program.specs.Run.{End, run_of}
+use Rattle.star_program.specs.Run.{End, bounded_run_of, run_of}
 use Rattle.star_program.specs.Text.Places.{text_fault}
 use Rattle.star_admission.specs.Admissible.{IsAdmissible}
 use Rattle.star_world.specs.WorldOf.{world_of}
@@ -17,8 +17,9 @@ use Rattle.star_machine.specs.Trials.{IsFaultOf, Yields}
 use Rattle.star_report.specs.Report.{report_text}
 use Rattle.star_engine.specs.declared.fault.EngineFault.TheVariants.{Program, Refused, Trial}
 use Rattle.star_engine.specs.Executions.{IsAcceptedWithin, IsProgramTold, IsRefusalOf, IsUntold, quote_over}
+use Rattle.star_engine.specs.Loads.{IsProgramOf}
 use Rattle.star_engine.specs.Notes.{counts_line, quote_line}
-use Rattle.star_engine.specs.Trials.{IsNoTrial, IsStop, IsStopped}
+use Rattle.star_engine.specs.Trials.{IsNoTrial, IsStop}
 
 -- ---- a program that is checked and then run
 
@@ -59,17 +60,19 @@ module _ (texts : TableId → List ℕ) (file : List ℕ) where
 
   -- ---- a trial
 
-  a_trial_that_stops : (rows visits : ℕ) (fault : TrialFault) → IsLoadable rows texts → IsStopped (database_of texts) file visits fault
-      → IsNoTrial rows texts file visits (Trial fault)
-  a_trial_that_stops rows visits fault loadable stopped = (loadable, stopped)
+  a_trial_that_stops : (rows visits : ℕ) (fault : TrialFault) (program : Parts) → IsLoadable rows texts → IsProgramOf file program
+      → IsStop (bounded_run_of (world_of (database_of texts)) visits program) fault → IsNoTrial rows texts file visits (Trial fault)
+  a_trial_that_stops rows visits fault program loadable spelled stopped =
+      record { loadable = loadable; program = program; of_file = spelled; holds = stopped }
 
   no_trial_over_tables_that_cannot_be_loaded : (rows visits : ℕ) (fault : TrialFault) → (IsLoadable rows texts → ⊥)
       → IsNoTrial rows texts file visits (Trial fault) → ⊥
-  no_trial_over_tables_that_cannot_be_loaded rows visits fault none no_trial = none no_trial.0
+  no_trial_over_tables_that_cannot_be_loaded rows visits fault none no_trial = none no_trial.loadable
 
-  no_stop_of_a_trial_that_ends : (rows visits : ℕ) (fault : TrialFault) → (IsStopped (database_of texts) file visits fault → ⊥)
+  no_stop_of_a_trial_that_ends : (rows visits : ℕ) (fault : TrialFault)
+      → ((program : Parts) → IsProgramOf file program → IsStop (bounded_run_of (world_of (database_of texts)) visits program) fault → ⊥)
       → IsNoTrial rows texts file visits (Trial fault) → ⊥
-  no_stop_of_a_trial_that_ends rows visits fault none no_trial = none no_trial.1
+  no_stop_of_a_trial_that_ends rows visits fault none no_trial = none no_trial.program no_trial.of_file no_trial.holds
 
   no_trial_of_no_program : (rows visits : ℕ) (fault : TextFault) → text_fault file ≡ Some fault → IsNoTrial rows texts file visits (Program fault)
   no_trial_of_no_program rows visits fault first = first
