@@ -1,7 +1,6 @@
 pub mod Registers
 pub mod Found
 pub mod Stored
-pub mod Filled
 pub mod Fine
 pub mod Checked
 pub mod Performed

@@ -1,15 +1,16 @@
 // What an instruction computes from the registers that it reads.
 
 ghost use Rattle.std.specs.Prelude.{◌≡◌, ◌<◌, ◌+ℤ◌, ◌-ℤ◌, ◌*ℤ◌, ◌&&◌, ◌||◌, true, false, length, MatchOption};
-ghost use Rattle.std.specs.Ordering.{int_cmp, is_eq, is_lt, is_le};
+ghost use Rattle.std.specs.Ordering.{is_lt, is_le};
 ghost use Rattle.star_interval.specs.Range.{is_i64};
-ghost use Rattle.star_program.specs.Effects.{answer_of};
+ghost use Rattle.star_program.specs.Effects.{answer_of, compared};
 ghost use Rattle.star_program.specs.Private.Doing.{fitting};
 ghost use Rattle.star_program.specs.Values.{number_in, flag_in, row_in, with_entry};
 ghost use Rattle.star_machine.specs.Private.Shown.{held};
 
 use crate::value::{Register, flag_of, number_of, register, row_of};
 use star_program::{Operator, Value};
+use std::cmp::Ordering;
 
 // The number in a register.
 pub(crate) fn number(registers: &[Register], at: u16) -> i64
@@ -63,45 +64,20 @@ fn product(registers: &[Register], left: u16, right: u16) -> Option<i64>
     number(registers, left).checked_mul(number(registers, right))
 }
 
-fn is_less(registers: &[Register], left: u16, right: u16) -> bool
-    ensures { result
-        ≡ is_lt (int_cmp (number_in (held registers.now left))
-        (number_in (held registers.now right))) }
+// How the numbers in two registers compare.
+fn compare(registers: &[Register], left: u16, right: u16) -> Ordering
+    ensures { result ≡ compared (held registers.now left) (held registers.now right) }
 {
-    number(registers, left)
-        .cmp(&number(registers, right))
-        .is_lt()
-}
-
-fn is_less_or_equal(registers: &[Register], left: u16, right: u16) -> bool
-    ensures { result
-        ≡ is_le (int_cmp (number_in (held registers.now left))
-        (number_in (held registers.now right))) }
-{
-    number(registers, left)
-        .cmp(&number(registers, right))
-        .is_le()
-}
-
-fn is_equal(registers: &[Register], left: u16, right: u16) -> bool
-    ensures { result
-        ≡ is_eq (int_cmp (number_in (held registers.now left))
-        (number_in (held registers.now right))) }
-{
-    number(registers, left)
-        .cmp(&number(registers, right))
-        .is_eq()
+    number(registers, left).cmp(&number(registers, right))
 }
 
 // Whether a register is at least `from` and less than `below`.
 pub(crate) fn is_within(registers: &[Register], value: u16, from: u16, below: u16) -> bool
     ensures { result
-        ≡ (is_le (int_cmp (number_in (held registers.now from))
-        (number_in (held registers.now value)))
-        && is_lt (int_cmp (number_in (held registers.now value))
-        (number_in (held registers.now below)))) }
+        ≡ (is_le (compared (held registers.now from) (held registers.now value))
+        && is_lt (compared (held registers.now value) (held registers.now below))) }
 {
-    is_less_or_equal(registers, from, value) && is_less(registers, value, below)
+    compare(registers, from, value).is_le() && compare(registers, value, below).is_lt()
 }
 
 fn and(registers: &[Register], left: u16, right: u16) -> bool
@@ -130,9 +106,9 @@ pub(crate) fn answer(
         Operator::Add => sum(registers, left, right).map(Value::Number),
         Operator::Sub => difference(registers, left, right).map(Value::Number),
         Operator::Mul => product(registers, left, right).map(Value::Number),
-        Operator::Less => Some(Value::Flag(is_less(registers, left, right))),
-        Operator::LessOrEqual => Some(Value::Flag(is_less_or_equal(registers, left, right))),
-        Operator::Equal => Some(Value::Flag(is_equal(registers, left, right))),
+        Operator::Less => Some(Value::Flag(compare(registers, left, right).is_lt())),
+        Operator::LessOrEqual => Some(Value::Flag(compare(registers, left, right).is_le())),
+        Operator::Equal => Some(Value::Flag(compare(registers, left, right).is_eq())),
         Operator::And => Some(Value::Flag(and(registers, left, right))),
         Operator::Or => Some(Value::Flag(or(registers, left, right))),
     }

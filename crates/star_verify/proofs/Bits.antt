@@ -1,5 +1,5 @@
 -- Sets of columns as the bits of a number.
-use Rattle.std.proofs.Common.{◌≡◌, ◌<◌, ◌≤◌, ◌^◌, ◌*◌, ◌%◌, ℕ, zero, suc, max, arith, ap, sym, ◌∙◌, refl, inl, inr, lit<}
+use Rattle.std.proofs.Common.{◌≡◌, ◌<◌, ◌≤◌, ◌^◌, ◌*◌, ◌%◌, ℕ, zero, suc, max, arith, ap, sym, ◌∙◌, refl, inl, inr}
 use Rattle.std.proofs.Math.Nat.{mod-eq_of_lt}
 use Rattle.std.proofs.Math.Pow.{pow_mono}
 use Rattle.std.proofs.lemmas.Bool.Decides.{eqb_tells}
@@ -7,9 +7,6 @@ use Rattle.std.proofs.lemmas.Nat.Bits.{bit_at-pow_same, bit_at-pow_other, bit_at
 use Rattle.std.specs.Int.{bit_at}
 use Rattle.std.specs.Int.Bits.{bit_or}
 use Rattle.std.specs.Prelude.{◌||◌, nat_eq}
-use Rattle.star_schema.specs.Schema.{index_of}
-use Rattle.star_schema.specs.declared.column.ColumnId.{ColumnId}
-use Rattle.star_schema.specs.declared.column.ColumnId.TheVariants.{DDatekey}
 
 pub bit_is : (k i : ℕ) → nat_eq (bit_at (2 ^ k) i) 1 ≡ nat_eq k i
 bit_is k i = elim (eqb_tells k i) [

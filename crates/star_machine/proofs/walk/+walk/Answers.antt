@@ -5,7 +5,6 @@ use Rattle.std.proofs.lemmas.Result.{err_from_is_err_and}
 use Rattle.star_schema.specs.Database.{rows_in}
 use Rattle.star_program.specs.Code.{code_size, scan_depth}
 use Rattle.star_program.specs.CodeOfSteps.{code_of_steps}
-use Rattle.star_program.specs.Effects.{act}
 use Rattle.star_program.specs.Run.{visited}
 use Rattle.star_program.specs.Values.{Registers, with_entry}
 use Rattle.star_program.specs.declared.value.Value.TheVariants.{Row}
@@ -14,7 +13,6 @@ use Rattle.star_machine.specs.Sound.{AreSound}
 use Rattle.star_machine.specs.Trials.{IsFaultOf}
 use Rattle.star_machine.specs.Private.Walks.{HasWorked, IsEnd, means, means_at}
 use Rattle.star_machine.specs.Private.Runs.{HasDone}
-use Rattle.star_world.specs.WorldOf.{world_of}
 use Rattle.star_program.proofs.Steps.{next_act, next_scan}
 use Rattle.star_machine.proofs.Registers.{sound_set}
 use Rattle.star_machine.proofs.Turned.{act_follows, after_fault, begin_turn, body_deep, done_visited, gone_on, rest_deep, scan_follows, stop_fault, turn_done, turn_ended, turns_fault, worked_act, worked_more}
@@ -79,16 +77,16 @@ turns-loop-row-preserved t c = record {
       let at = c.loop-row.invariant.ends s h in
       let done = c.in_ok-turn.ensures.ends at.0 at.1 in
       (done.s, done.done, sym (turn_done (λ visits. nat_lt visits c.args.machine.now.most) (length (rows_in c.args.machine.now.catalogue.now c.args.scanned.now.table)) c.loop-row.row (λ row. means_at c.args.machine.now c.args.scanned.now (held c.args.scanned.now.before.now) (Row c.args.scanned.now.table row)) at.0 done.s (omega (arith, c.loop-row-test.true, c.rows-row-end.ensures)) done.is) ∙ at.2);
-  worked = worked_more c.args.machine.now.most c.args.run.now c.loop-row.run c.turn.new.run 0 0 0 c.loop-row.invariant.worked c.in_ok-turn.ensures.worked (omega arith);
+  worked = worked_more c.loop-row.invariant.worked c.in_ok-turn.ensures.worked (omega arith);
 }
 
 pub walk-returns-in-Ok-EndsTurn-clause-ends : goal.walk-returns-in-Ok-EndsTurn-clause-ends
 walk-returns-in-Ok-EndsTurn-clause-ends t c = λ s h.
     let at = c.loop-step.invariant.ends s h in
-    let ends = turn_ended c.args.machine.now.catalogue.now c.args.machine.now.parts.now c.act.new.run (act (world_of c.args.machine.now.catalogue.now) c.args.machine.now.parts.now c.args.inside (held c.loop-step.registers) at.0 c.in-Act.op) c.in-Ok-EndsTurn.field-0 c.in-Ok-EndsTurn.field-0-is (held c.act.new.registers) (c.in-Ok-EndsTurn.ensures.does at.0 at.1) in
+    let ends = turn_ended (held c.act.new.registers) c.in-Ok-EndsTurn.field-0-is (c.in-Ok-EndsTurn.ensures.does at.0 at.1) in
     record {
       s = ends.s;
-      is = sym (ap (λ k. means c.args.machine.now k c.args.at c.args.inside (held c.args.registers.now) s) c.as_slice-step-items.ensures) ∙ sym at.2 ∙ act_follows (world_of c.args.machine.now.catalogue.now) c.args.machine.now.parts.now (λ visits. nat_lt visits c.args.machine.now.most) c.as_slice-step-items.result.now c.loop-step.step-index c.step-item.result c.loop-step.place c.args.inside (held c.loop-step.registers) at.0 c.in-Act.op _ c.loop-step-test.true c.step-item.is c.in-Act.is ends.does;
+      is = sym at.2 ∙ act_follows c.args.machine.now _ c.loop-step.place c.args.inside (held c.loop-step.registers) at.0 c.loop-step-test.true c.step-item.is c.in-Act.is ends.does;
       done = ends.done;
     }
 
@@ -96,17 +94,16 @@ pub walk-returns-in-Err-clause-ends : goal.walk-returns-in-Err-clause-ends
 walk-returns-in-Err-clause-ends t c = λ s h.
     let at = c.loop-step.invariant.ends s h in
     subst (IsFaultOf _) (sym c.stopped.ensures)
-    (stop_fault _ c.loop-step.place (act (world_of c.args.machine.now.catalogue.now) c.args.machine.now.parts.now c.args.inside (held c.loop-step.registers) at.0 c.in-Act.op) _ c.in-Err.stop (c.in-Err.ensures.does at.0 at.1)
-    (sym (ap (λ k. means c.args.machine.now k c.args.at c.args.inside (held c.args.registers.now) s) c.as_slice-step-items.ensures) ∙ sym at.2 ∙ act_follows (world_of c.args.machine.now.catalogue.now) c.args.machine.now.parts.now (λ visits. nat_lt visits c.args.machine.now.most) c.as_slice-step-items.result.now c.loop-step.step-index c.step-item.result c.loop-step.place c.args.inside (held c.loop-step.registers) at.0 c.in-Act.op _ c.loop-step-test.true c.step-item.is c.in-Act.is refl))
+    (stop_fault _ c.loop-step.place _ _ c.in-Err.stop (c.in-Err.ensures.does at.0 at.1)
+    (sym at.2 ∙ act_follows c.args.machine.now _ c.loop-step.place c.args.inside (held c.loop-step.registers) at.0 c.loop-step-test.true c.step-item.is c.in-Act.is refl))
 
 pub walk-scan-requires : goal.walk-scan-requires
 walk-scan-requires t c =
     let code = next_scan c.as_slice-step-items.result.now c.loop-step.step-index c.step-item.result c.in-Scan.table c.in-Scan.target c.in-Scan.body c.loop-step-test.true c.step-item.is c.in-Scan.is in
     let left = ap code_size code in
-    let all = ap code_size c.as_slice-step-items.ensures in
     let so_far = c.loop-step.invariant in
     let now = so_far.ends c.requires.ready.done.0 c.requires.ready.done.1 in (
-      omega (arith, c.decreases, left, all, so_far.placed, so_far.after),
+      omega (arith, c.decreases, left, so_far.placed, so_far.after),
       (
         c.loop-step.auto.registers ∙ c.requires.wide,
         (
@@ -114,7 +111,7 @@ walk-scan-requires t c =
           record {
             few = record {
               visits = so_far.worked.visits;
-              work = omega (arith, so_far.worked.work, c.requires.ready.few.work, so_far.placed, so_far.after, all);
+              work = omega (arith, so_far.worked.work, c.requires.ready.few.work, so_far.placed, so_far.after);
             };
             sound = so_far.sound;
             done = (now.0, now.1);
@@ -128,7 +125,7 @@ walk-returns-in_err-scan-in-Scan-clause-ends t c = λ s h.
     let p = err_from_is_err_and c.from_residual.result c.from_residual.ensures.1 in
     let at = c.loop-step.invariant.ends s h in
     rw (p.1, p.2) (after_fault _ _ _ c.in_err-scan-in-Scan.field-0.0 (c.in_err-scan-in-Scan.ensures.ends at.0 at.1)
-    (sym (ap (λ k. means c.args.machine.now k c.args.at c.args.inside (held c.args.registers.now) s) c.as_slice-step-items.ensures) ∙ sym at.2 ∙ scan_follows (world_of c.args.machine.now.catalogue.now) c.args.machine.now.parts.now (λ visits. nat_lt visits c.args.machine.now.most) c.as_slice-step-items.result.now c.loop-step.step-index c.step-item.result c.loop-step.place c.args.inside (held c.loop-step.registers) at.0 c.in-Scan.table c.in-Scan.target c.in-Scan.body _ c.loop-step-test.true c.step-item.is c.in-Scan.is refl))
+    (sym at.2 ∙ scan_follows c.args.machine.now _ c.loop-step.place c.args.inside (held c.loop-step.registers) at.0 c.loop-step-test.true c.step-item.is c.in-Scan.is refl))
 
 pub walk-loop-step-preserved : goal.walk-loop-step-preserved
 walk-loop-step-preserved t c =
@@ -139,16 +136,16 @@ walk-loop-step-preserved t c =
           record {
             ends = λ s h.
                 let at = c.loop-step.invariant.ends s h in
-                let goes = gone_on c.args.machine.now.catalogue.now c.args.machine.now.parts.now w.act.new.run (act (world_of c.args.machine.now.catalogue.now) c.args.machine.now.parts.now c.args.inside (held c.loop-step.registers) at.0 w.in-Act.op) w.in-Ok-GoesOn.field-0 w.in-Ok-GoesOn.field-0-is (held w.act.new.registers) (w.in-Ok-GoesOn.ensures.does at.0 at.1) in (
+                let goes = gone_on (held w.act.new.registers) w.in-Ok-GoesOn.field-0-is (w.in-Ok-GoesOn.ensures.does at.0 at.1) in (
                   goes.s,
                   subst (λ r. HasDone c.args.machine.now.catalogue.now c.args.machine.now.parts.now r goes.s) (sym w.run-is) goes.done,
                   (λ i. means c.args.machine.now (code_of_steps (drop (c.loop-step.step-index + 1) c.as_slice-step-items.result.now)) (w.place-is i) c.args.inside (held (w.registers-is i)) goes.s)
-                      ∙ sym (act_follows (world_of c.args.machine.now.catalogue.now) c.args.machine.now.parts.now (λ visits. nat_lt visits c.args.machine.now.most) c.as_slice-step-items.result.now c.loop-step.step-index c.step-item.result c.loop-step.place c.args.inside (held c.loop-step.registers) at.0 w.in-Act.op _ c.loop-step-test.true c.step-item.is w.in-Act.is goes.does)
+                      ∙ sym (act_follows c.args.machine.now _ c.loop-step.place c.args.inside (held c.loop-step.registers) at.0 c.loop-step-test.true c.step-item.is w.in-Act.is goes.does)
                       ∙ at.2,
                 );
             sound = subst (λ xs. AreSound c.args.machine.now.catalogue.now (held xs)) (sym w.registers-is) w.in-Ok-GoesOn.ensures.sound;
             worked = subst (λ r. HasWorked c.args.machine.now.most c.args.run.now r (c.match-step.place - c.args.at)) (sym w.run-is)
-                (worked_act c.args.machine.now.most c.args.run.now c.loop-step.run w.act.new.run (c.loop-step.place - c.args.at) (c.match-step.place - c.args.at) c.loop-step.invariant.worked w.act.ensures.visits w.act.ensures.work (omega (arith, w.place-is, c.loop-step.invariant.after)));
+                (worked_act c.loop-step.invariant.worked w.act.ensures.visits w.act.ensures.work (omega (arith, w.place-is, c.loop-step.invariant.after)));
             placed = omega (arith, left, c.loop-step.invariant.placed, w.place-is);
             after = omega (arith, c.loop-step.invariant.after, w.place-is);
             deep = subst (λ l. scan_depth (code_of_steps (drop (c.loop-step.step-index + 1) c.as_slice-step-items.result.now)) * c.args.machine.now.parts.now.registers ≤ l) (sym c.match-step.auto.frames)
@@ -166,12 +163,12 @@ walk-loop-step-preserved t c =
                   subst (λ r. HasDone c.args.machine.now.catalogue.now c.args.machine.now.parts.now r done.s) (sym w.run-is) done.done,
                   (λ i. means c.args.machine.now (code_of_steps (drop (c.loop-step.step-index + 1) c.as_slice-step-items.result.now)) (w.place-is i) c.args.inside (held (w.registers-is i)) done.s)
                       ∙ ap (λ n. means c.args.machine.now (code_of_steps (drop (c.loop-step.step-index + 1) c.as_slice-step-items.result.now)) n c.args.inside (held c.loop-step.registers) done.s) place
-                      ∙ sym (scan_follows (world_of c.args.machine.now.catalogue.now) c.args.machine.now.parts.now (λ visits. nat_lt visits c.args.machine.now.most) c.as_slice-step-items.result.now c.loop-step.step-index c.step-item.result c.loop-step.place c.args.inside (held c.loop-step.registers) at.0 w.in-Scan.table w.in-Scan.target w.in-Scan.body _ c.loop-step-test.true c.step-item.is w.in-Scan.is done.is)
+                      ∙ sym (scan_follows c.args.machine.now _ c.loop-step.place c.args.inside (held c.loop-step.registers) at.0 c.loop-step-test.true c.step-item.is w.in-Scan.is done.is)
                       ∙ at.2,
                 );
             sound = subst (λ xs. AreSound c.args.machine.now.catalogue.now (held xs)) (sym w.registers-is) c.loop-step.invariant.sound;
             worked = subst (λ r. HasWorked c.args.machine.now.most c.args.run.now r (c.match-step.place - c.args.at)) (sym w.run-is)
-                (worked_more c.args.machine.now.most c.args.run.now c.loop-step.run w.scan.new.run (c.loop-step.place - c.args.at) 0 (c.match-step.place - c.args.at) c.loop-step.invariant.worked w.in_ok-scan-in-Scan.ensures.worked (omega (arith, w.place-is, c.loop-step.invariant.after)));
+                (worked_more c.loop-step.invariant.worked w.in_ok-scan-in-Scan.ensures.worked (omega (arith, w.place-is, c.loop-step.invariant.after)));
             placed = omega (arith, left, c.loop-step.invariant.placed, w.place-is, w.size.ensures);
             after = omega (arith, c.loop-step.invariant.after, w.place-is);
             deep = subst (λ l. scan_depth (code_of_steps (drop (c.loop-step.step-index + 1) c.as_slice-step-items.result.now)) * c.args.machine.now.parts.now.registers ≤ l) (sym c.match-step.auto.frames)
@@ -184,6 +181,6 @@ walk-returns-clause-ends t c = λ s h.
     let at = c.loop-step.invariant.ends s h in
     record {
       s = at.0;
-      is = sym (ap (λ k. means c.args.machine.now k c.args.at c.args.inside (held c.args.registers.now) s) c.as_slice-step-items.ensures) ∙ sym at.2 ∙ ap (λ k. means c.args.machine.now k c.loop-step.place c.args.inside (held c.loop-step.registers) at.0) (ap code_of_steps (drop_all c.loop-step.step-index c.as_slice-step-items.result.now c.loop-step-test.false));
+      is = sym at.2 ∙ ap (λ k. means c.args.machine.now k c.loop-step.place c.args.inside (held c.loop-step.registers) at.0) (ap code_of_steps (drop_all c.loop-step.step-index c.as_slice-step-items.result.now c.loop-step-test.false));
       done = at.1;
     }

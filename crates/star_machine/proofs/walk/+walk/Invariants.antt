@@ -36,10 +36,10 @@ abbrev pub invariant-walk-loop-step : goal.invariant-walk-loop-step
 invariant-walk-loop-step l = record {
   ends : (s : Store) → HasDone l.machine.catalogue.now l.machine.parts.now l.initial.run s → (now : Store) × HasDone l.machine.catalogue.now l.machine.parts.now l.run now
       × (means l.machine (code_of_steps (drop l.step-index l.step-items)) l.place l.inside (held l.registers) now
-      ≡ means l.machine (code_of_steps l.step-items) l.at l.inside (held l.initial.registers) s);
+      ≡ means l.machine l.body l.at l.inside (held l.initial.registers) s);
   sound : AreSound l.machine.catalogue.now (held l.registers);
   worked : HasWorked l.machine.most l.initial.run l.run (l.place - l.at);
-  placed : l.place + code_size (code_of_steps (drop l.step-index l.step-items)) ≡ l.at + code_size (code_of_steps l.step-items);
+  placed : l.place + code_size (code_of_steps (drop l.step-index l.step-items)) ≡ l.at + code_size l.body;
   after : l.at ≤ l.place;
   deep : scan_depth (code_of_steps (drop l.step-index l.step-items)) * l.machine.parts.now.registers ≤ length l.frames;
 }
