@@ -1,7 +1,6 @@
 // The thirteen queries of the benchmark, one after the other over one load.
 
-ghost use Rattle.std.specs.Prelude.{◌≡◌, true, false, IfOk, MatchResult, string_bytes};
-ghost use Rattle.star_report.specs.Report as printed;
+ghost use Rattle.std.specs.Prelude.{◌≡◌, true, false, IfOk, MatchResult};
 ghost use Rattle.star_catalogue.specs.Load.{text_of};
 ghost use Rattle.star_engine.specs.Answered.{IsAnswered, change};
 ghost use Rattle.star_engine.specs.Bench as spec;
@@ -26,11 +25,9 @@ use crate::thirteen::{BenchmarkQuery, THIRTEEN};
 use crate::writing::write_text;
 use star_catalogue::{Catalogue, Texts};
 use star_common::Items;
-use star_machine::Outcome;
 use star_program::Program;
 use star_report::report_text;
 use star_schema::{Limits, Sink};
-use star_verify::Refusal;
 use std::alloc::{AllocError, Global};
 
 // A query of the benchmark with its program.
@@ -70,34 +67,6 @@ fn prepare_all(alloc: Global) -> Result<Items<Prepared>, EngineFault>
     Ok(all)
 }
 
-// The line of a refusal.
-fn refusal_line(alloc: Global, refusal: &Refusal) -> Result<String, AllocError>
-    ensures { IfOk result (λ line. string_bytes line ≡ spec.refusal_line refusal.now) }
-{
-    format!(in alloc; "{refusal}\n")
-}
-
-// What is found of a refused program.
-fn refused(alloc: Global, refusal: &Refusal) -> Result<Finding, AllocError>
-    ensures { IfOk result (λ finding. (finding.fits ≡ false)
-        × (finding.text.items ≡ spec.refusal_line refusal.now)) }
-{
-    let line = refusal_line(alloc, refusal)?;
-    Ok(Finding {
-        text: line.into_bytes(),
-        fits: false,
-    })
-}
-
-// What is found of a program that was run.
-fn reported(alloc: Global, outcome: &Outcome) -> Result<Finding, AllocError>
-    ensures { IfOk result (λ finding. (finding.fits ≡ true)
-        × (finding.text.items ≡ printed.report_text outcome.now.names outcome.now.rows)) }
-{
-    let text = report_text(alloc, outcome)?;
-    Ok(Finding { text, fits: true })
-}
-
 // What is found of a program over loaded tables. Its refusal is no fault here.
 fn find(
     alloc: Global,
@@ -109,8 +78,15 @@ fn find(
         (λ finding. IsFound catalogue.now limits.visits program finding.fits finding.text.items) }
 {
     match outcome_of(alloc, catalogue, program, limits) {
-        Ok(outcome) => reported(alloc, &outcome),
-        Err(EngineFault::Refused(refusal)) => refused(alloc, &refusal),
+        Ok(outcome) => {
+            let text = report_text(alloc, &outcome)?;
+            Ok(Finding { text, fits: true })
+        }
+        Err(EngineFault::Refused(refusal)) => {
+            let line = format!(in alloc; "{refusal}\n")?;
+            let text = line.into_bytes();
+            Ok(Finding { text, fits: false })
+        }
         Err(_) => Err(AllocError),
     }
 }

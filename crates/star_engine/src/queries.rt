@@ -2,14 +2,10 @@
 
 ghost use Rattle.std.specs.Prelude.{MatchResult};
 ghost use Rattle.star_catalogue.specs.Load.{text_of};
-ghost use Rattle.star_query.specs.Derives.{Means};
-ghost use Rattle.star_query.specs.Shown.{query_shown};
-ghost use Rattle.star_plan.specs.PlanTrees.{plan_tree};
-ghost use Rattle.star_plan.specs.Shown.{shown};
 ghost use Rattle.star_engine.specs.Answered.{IsAnswered, change};
 ghost use Rattle.star_engine.specs.Noted.{IsNoted};
 ghost use Rattle.star_engine.specs.Queries.{IsExplained, IsNoQuery, IsQueryQuote, IsQueryTold, IsUnanswered};
-ghost use Rattle.star_engine.specs.Private.QuerySteps.{IsPlanOfTree, IsProgramOfQuery, IsUnparsed, IsUnplanned};
+ghost use Rattle.star_engine.specs.Private.QuerySteps.{IsProgramOfQuery};
 ghost use Rattle.star_engine.specs.Private.Steps.{OrMemory};
 
 use crate::executions::execute;
@@ -19,35 +15,18 @@ use crate::query_laws::{programs_of_queries_report_them, queries_that_fit_are_an
 use crate::writing::write_text;
 use star_catalogue::Texts;
 use star_compile::compile;
-use star_plan::{Plan, plan};
+use star_plan::plan;
 use star_program::Program;
 use star_query::Query;
 use star_schema::{Limits, Sink};
 use std::alloc::Global;
 
-// The query that a text means.
-fn parse_query(alloc: Global, text: &[u8]) -> Result<Query, EngineFault>
-    ensures { MatchResult result
-        (λ query. Means text.now (query_shown query)) (OrMemory (IsUnparsed text.now)) }
-{
-    Ok(Query::parse(alloc, text)?)
-}
-
-// A query with its names resolved.
-fn plan_query(alloc: Global, query: &Query) -> Result<Plan, EngineFault>
-    ensures { MatchResult result
-        (λ plan. IsPlanOfTree (query_shown query.now) (shown (plan_tree plan)))
-        (OrMemory (IsUnplanned (query_shown query.now))) }
-{
-    Ok(plan(alloc, query)?)
-}
-
 // The program of the query that a text means.
 pub(crate) fn compile_query(alloc: Global, text: &[u8]) -> Result<Program, EngineFault>
     ensures { MatchResult result (IsProgramOfQuery text.now) (OrMemory (IsNoQuery text.now)) }
 {
-    let query = parse_query(alloc, text)?;
-    let plan = plan_query(alloc, &query)?;
+    let query = Query::parse(alloc, text)?;
+    let plan = plan(alloc, &query)?;
     Ok(compile(alloc, &plan)?)
 }
 

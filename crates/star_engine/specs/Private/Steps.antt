@@ -3,18 +3,14 @@ use Rattle.std.specs.Prelude.{◌≡◌, ◌≤◌, ◌⊎◌, ℕ, List, Some, 
 use Rattle.star_machine.specs.Trials.{Yields}
 use Rattle.star_program.specs.declared.outcome.Outcome.{Outcome}
 use Rattle.star_program.specs.declared.program.Parts.{Parts}
-use Rattle.star_program.specs.Run.{End, bounded_run_of, run_of}
+use Rattle.star_program.specs.Run.{run_of}
 use Rattle.star_program.specs.Text.Places.{text_fault}
-use Rattle.star_schema.specs.declared.table.TableId.{TableId}
 use Rattle.star_schema.specs.Database.{Database}
-use Rattle.star_schema.specs.Loadable.{IsLoadable, database_of}
 use Rattle.star_world.specs.WorldOf.{world_of}
 use Rattle.star_engine.specs.declared.fault.EngineFault.{EngineFault}
-use Rattle.star_engine.specs.declared.fault.EngineFault.TheVariants.{Load, OutOfMemory, Program, Refused, Trial, Write}
+use Rattle.star_engine.specs.declared.fault.EngineFault.TheVariants.{OutOfMemory, Program, Refused, Write}
 use Rattle.star_engine.specs.Answered.{Change, HasGained, HasGainedPart, IsUntouched}
 use Rattle.star_engine.specs.Executions.{IsAcceptedWithin, IsRefusal, quote_over}
-use Rattle.star_engine.specs.Loads.{IsLoadFault}
-use Rattle.star_engine.specs.Trials.{IsStop}
 
 -- a fault that is due, or want of memory; and no write has failed
 abbrev pub OrMemory : (EngineFault → Type 0) → EngineFault → Type 0
@@ -31,19 +27,6 @@ IsMemory fault = ⊥
 abbrev pub IsNoProgram : List ℕ → EngineFault → Type 0
 IsNoProgram file (Program fault) = text_fault file ≡ Some fault
 IsNoProgram file _ = ⊥
-
--- of a program's bounded run over loaded tables, by how it ends
-abbrev pub IsNoEnd : End → EngineFault → Type 0
-IsNoEnd end (Trial fault) = IsStop end fault
-IsNoEnd end _ = ⊥
-
--- of such a run over the tables of five texts
-abbrev pub IsNoOutcome : ℕ → (TableId → List ℕ) → Parts → ℕ → EngineFault → Type 0
-IsNoOutcome most texts program visits (Load fault) = IsLoadFault most texts fault
-IsNoOutcome most texts program visits (Trial fault) =
-    IsLoadable most texts
-    × IsStop (bounded_run_of (world_of (database_of texts)) visits program) fault
-IsNoOutcome most texts program visits _ = ⊥
 
 -- of the check of a program over loaded tables
 abbrev pub IsNotVerified : Database → ℕ → Parts → EngineFault → Type 0
