@@ -1,6 +1,6 @@
 // The walk over a body, and the turns of its scans.
 
-ghost use Rattle.std.specs.Prelude.{◌≡◌, ◌≤◌, ◌<◌, ◌+◌, ◌*◌, ◌^◌, OnOk, length};
+ghost use Rattle.std.specs.Prelude.{◌≡◌, ◌≤◌, ◌<◌, ◌+◌, ◌^◌, OnOk, length};
 ghost use Rattle.star_program.specs.Code.{code_size, scan_depth};
 ghost use Rattle.star_machine.specs.Private.Shown.{held};
 ghost use Rattle.star_machine.specs.Sound.{IsSoundValue};
@@ -51,11 +51,9 @@ fn turn(
     run: &mut Work<EagerStore>,
 ) -> Result<(), TrialFault>
     requires target { scanned.now.target < machine.now.parts.now.registers }
-    requires before { length scanned.now.before.now ≡ machine.now.parts.now.registers }
     requires wide { length registers.old ≡ machine.now.parts.now.registers }
-    requires deep { scan_depth scanned.now.body.now * machine.now.parts.now.registers
-        ≤ length frames.old }
-    requires ready { IsReady machine.now (held scanned.now.before.now) run.old 0 }
+    requires ready { IsReady machine.now scanned.now.before.now frames.old run.old
+        (scan_depth scanned.now.body.now) 0 }
     requires row { IsSoundValue machine.now.catalogue.now row }
     ensures ends { Does machine.now run.old run.new
         (means_turn machine.now scanned.now (held scanned.now.before.now) row) result }
@@ -90,11 +88,9 @@ fn turns(
     run: &mut Work<EagerStore>,
 ) -> Result<(), TrialFault>
     requires target { scanned.now.target < machine.now.parts.now.registers }
-    requires before { length scanned.now.before.now ≡ machine.now.parts.now.registers }
     requires wide { length registers.old ≡ machine.now.parts.now.registers }
-    requires deep { scan_depth scanned.now.body.now * machine.now.parts.now.registers
-        ≤ length frames.old }
-    requires ready { IsReady machine.now (held scanned.now.before.now) run.old 0 }
+    requires ready { IsReady machine.now scanned.now.before.now frames.old run.old
+        (scan_depth scanned.now.body.now) 0 }
     ensures ends { Does machine.now run.old run.new
         (means_turns machine.now scanned.now (held scanned.now.before.now)) result }
     ensures worked { OnOk result (HasWorked machine.now.most run.old run.new 0) }
@@ -114,10 +110,8 @@ fn scan(
     frames: &mut [Register],
     run: &mut Work<EagerStore>,
 ) -> Result<(), TrialFault>
-    requires before { length scanned.now.before.now ≡ machine.now.parts.now.registers }
-    requires deep { (1 + scan_depth scanned.now.body.now) * machine.now.parts.now.registers
-        ≤ length frames.old }
-    requires ready { IsReady machine.now (held scanned.now.before.now) run.old 0 }
+    requires ready { IsReady machine.now scanned.now.before.now frames.old run.old
+        (1 + scan_depth scanned.now.body.now) 0 }
     ensures ends { Does machine.now run.old run.new
         (means_scan machine.now scanned.now (held scanned.now.before.now)) result }
     ensures worked { OnOk result (HasWorked machine.now.most run.old run.new 0) }
@@ -147,9 +141,8 @@ pub(crate) fn walk(
 ) -> Result<(), TrialFault>
     requires size { code_size body.now ≤ 4096 }
     requires at { at + code_size body.now < 2 ^ 16 }
-    requires wide { length registers.old ≡ machine.now.parts.now.registers }
-    requires deep { scan_depth body.now * machine.now.parts.now.registers ≤ length frames.old }
-    requires ready { IsReady machine.now (held registers.old) run.old (code_size body.now) }
+    requires ready { IsReady machine.now registers.old frames.old run.old (scan_depth body.now)
+        (code_size body.now) }
     ensures ends { Does machine.now run.old run.new
         (means machine.now body.now at inside (held registers.old)) result }
     ensures worked { OnOk result (HasWorked machine.now.most run.old run.new (code_size body.now)) }

@@ -22,9 +22,7 @@ use Rattle.star_verify.specs.declared.instructions.Place.{Place}
 use Rattle.star_verify.specs.declared.refusal.Refusal.{Refusal}
 use Rattle.star_verify.specs.declared.refusal.Refusal.TheVariants as told
 use Rattle.star_verify.specs.declared.register.Register.{Register}
-use Rattle.star_verify.specs.Private.Facts.{AreFacts}
-use Rattle.star_verify.specs.Private.Judged.{AreFewAt, AreNoted, IsFirst, IsPlaced, IsSized, IsWalked, Keeps, scan_first}
-use Rattle.star_verify.specs.Private.Kept.{AreMarked}
+use Rattle.star_verify.specs.Private.Judged.{AreFewAt, AreNoted, InEachContext, IsFirst, IsPlaced, IsSized, IsWalked, Keeps, scan_first}
 use Rattle.star_verify.specs.Private.Shown.{known_in}
 use Rattle.star_verify.specs.Private.Walked.{IsLeft, Walk, after_step, step_first, step_size}
 use Rattle.star_verify.proofs.Firsts.{first_and_others}
@@ -141,11 +139,9 @@ opened_in g pending table r body rest body_as old inner outer e f is same =
 -- what the walk of a step answers where nothing refuses it
 abbrev IsStepped : Walk → List Register → Noted → ℕ → Step → Code → List Register → Noted → Type 0
 IsStepped walk registers noted at step rest registers_then noted_then =
-    (w : World) (x : Context) (pending : ℕ → Bool) → AreFacts w walk.subject.facts.now
-    → Keeps walk.subject.parts.now registers noted x → IsPlaced (record walk.place { at = at }) x
-    → AreMarked walk.subject.parts.now walk.place.pending pending
-    → (step_first w walk.subject.parts.now pending x at step rest ≡ None)
-    × Keeps walk.subject.parts.now registers_then noted_then (after_step w walk.subject.parts.now x step)
+    InEachContext walk.subject (record walk.place { at = at }) registers noted (λ w x pending.
+    (step_first w walk.subject.parts.now pending x at step rest ≡ None)
+    × Keeps walk.subject.parts.now registers_then noted_then (after_step w walk.subject.parts.now x step))
 
 module _ (walk : Walk) (registers : List Register) (noted : Noted) (at : ℕ) (left : List Step)
     (step : Step) (some : 1 ≤ length left) (is : step ≡ get_or left 0 step)
@@ -155,10 +151,10 @@ module _ (walk : Walk) (registers : List Register) (noted : Noted) (at : ℕ) (l
 
   pub one_walked : (registers_then : List Register) (noted_then : Noted) (next : ℕ)
       → IsStepped walk registers noted at step rest registers_then noted_then
-      → next ≡ at + step_size step → length registers_then ≡ length registers
-      → IsSized walk.subject.parts.now noted_then → AreFewAt noted_then next
+      → next ≡ at + step_size step
+      → IsSized walk.subject.parts.now registers_then noted_then → AreFewAt noted_then next
       → IsLeft walk registers_then noted_then next (others left)
-  one_walked registers_then noted_then next stepped number wide sized few =
+  one_walked registers_then noted_then next stepped number sized few =
       let code = code_first left step some is in
       record {
         past = omega (arith, number, so_far.past);
@@ -169,9 +165,7 @@ module _ (walk : Walk) (registers : List Register) (noted : Noted) (at : ℕ) (l
           ap (turns_met (size_of walk.subject.facts.now.sizes) walk.place.met) code,
           turns_after (size_of walk.subject.facts.now.sizes) walk.place.met step rest,
         );
-        wide = wide ∙ so_far.wide;
-        sized = sized;
-        few = few;
+        ready = record { met = so_far.ready.met; sized = sized; few = few };
         kept = λ w x pending facts keeps placed marked.
             let here = so_far.kept w x pending facts keeps placed marked in
             let there = here.0 in
@@ -192,21 +186,19 @@ module _ (walk : Walk) (registers : List Register) (noted : Noted) (at : ℕ) (l
       }
 
   -- what refuses the step is first
-  pub step_refused : (w : World) (x : Context) (pending : ℕ → Bool) (refusal : Refusal)
-      → ((there : Context) → Keeps walk.subject.parts.now registers noted there
-      → IsPlaced (record walk.place { at = at }) there
-      → IsFirst refusal (step_first w walk.subject.parts.now pending there at step rest))
-      → AreFacts w walk.subject.facts.now → Keeps walk.subject.parts.now walk.registers walk.noted x → IsPlaced walk.place x
-      → AreMarked walk.subject.parts.now walk.place.pending pending
-      → IsFirst refusal (first_reason w walk.subject.parts.now pending x walk.place.at (code_of_steps walk.steps))
-  step_refused w x pending refusal stops facts keeps placed marked =
+  pub step_refused : (refusal : Refusal)
+      → InEachContext walk.subject (record walk.place { at = at }) registers noted (λ w x pending.
+      IsFirst refusal (step_first w walk.subject.parts.now pending x at step rest))
+      → InEachContext walk.subject walk.place walk.registers walk.noted (λ w x pending.
+      IsFirst refusal (first_reason w walk.subject.parts.now pending x walk.place.at (code_of_steps walk.steps)))
+  step_refused refusal stops w x pending facts keeps placed marked =
       let here = so_far.kept w x pending facts keeps placed marked in
       let there = here.0 in
       subst (IsFirst refusal)
       (sym (here.3.first ∙ ap (first_reason w walk.subject.parts.now pending there at) (code_first left step some is)
       ∙ first_step w walk.subject.parts.now pending there at step rest))
       (first_of refusal (step_first w walk.subject.parts.now pending there at step rest) _
-      (stops there here.1 (record { inside = here.2.inside; met = here.2.met })))
+      (stops w there pending facts here.1 (record { inside = here.2.inside; met = here.2.met }) marked))
 
 none_left : (left : List Step) → length left < 1 → code_of_steps left ≡ Stop
 none_left [] h = refl
@@ -214,11 +206,9 @@ none_left (step ∷ rest) h = absurd (omega (arith, h))
 
 pub all_walked : (walk : Walk) (registers : List Register) (noted : Noted) (at : ℕ) (left : List Step)
     → length left < 1 → IsLeft walk registers noted at left
-    → (w : World) (x : Context) (pending : ℕ → Bool) → AreFacts w walk.subject.facts.now
-    → Keeps walk.subject.parts.now walk.registers walk.noted x → IsPlaced walk.place x
-    → AreMarked walk.subject.parts.now walk.place.pending pending
-    → (first_reason w walk.subject.parts.now pending x walk.place.at (code_of_steps walk.steps) ≡ None)
-    × AreNoted walk.subject.parts.now noted (at_end w walk.subject.parts.now x (code_of_steps walk.steps))
+    → InEachContext walk.subject walk.place walk.registers walk.noted (λ w x pending.
+    (first_reason w walk.subject.parts.now pending x walk.place.at (code_of_steps walk.steps) ≡ None)
+    × AreNoted walk.subject.parts.now noted (at_end w walk.subject.parts.now x (code_of_steps walk.steps)))
 all_walked walk registers noted at left none so_far w x pending facts keeps placed marked =
     let here = so_far.kept w x pending facts keeps placed marked in
     let there = here.0 in

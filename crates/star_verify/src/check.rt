@@ -8,7 +8,7 @@ ghost use Rattle.star_admission.specs.Contexts.{at_first};
 ghost use Rattle.star_admission.specs.Private.Forward.{first_reason, none_open};
 ghost use Rattle.star_admission.specs.Quote as spec;
 ghost use Rattle.star_verify.specs.Private.Facts.{AreFacts};
-ghost use Rattle.star_verify.specs.Private.Judged.{AreFewAt, AreNoted, IsChecked, IsFirst, IsSized};
+ghost use Rattle.star_verify.specs.Private.Judged.{AreFewAt, AreNoted, IsChecked, IsFirst};
 ghost use Rattle.star_verify.specs.Private.Shown.{known_in};
 
 use crate::facts::Facts;
@@ -37,7 +37,8 @@ fn unknown_registers(alloc: Global, count: u16) -> Result<Vec<Register>, AllocEr
 fn nothing_noted(alloc: Global, parts: &Parts) -> Result<Noted, AllocError>
     requires { IsWithinLimits parts.now }
     ensures noted { IfOk result (λ noted. AreNoted parts.now noted at_first) }
-    ensures sized { IfOk result (λ noted. IsSized parts.now noted) }
+    ensures flags { IfOk result (λ noted. length noted.written.items ≡ parts.now.registers) }
+    ensures tallies { IfOk result (λ noted. length noted.tallies.items ≡ 64) }
     ensures few { IfOk result (λ noted. AreFewAt noted 1) }
 {
     Ok(Noted {

@@ -13,8 +13,8 @@ ghost use Rattle.star_admission.specs.Ranges.{kinds_known};
 ghost use Rattle.star_admission.specs.declared.reason.Reason.TheVariants.{Faulty};
 ghost use Rattle.star_admission.specs.Refusals.{op_reason, range_reason, source_reason, target_again};
 ghost use Rattle.star_verify.specs.Private.Facts.{AreFacts};
-ghost use Rattle.star_verify.specs.Private.Judged.{AreFewAt, IsFirst, IsJudged, IsPlaced, IsSized, Keeps};
-ghost use Rattle.star_verify.specs.Private.Kept.{AreFew, AreMarked, HasShares, flag_at};
+ghost use Rattle.star_verify.specs.Private.Judged.{AreFewAt, InEachContext, IsFirst, IsJudged, IsReady, IsSized, Keeps};
+ghost use Rattle.star_verify.specs.Private.Kept.{AreFew, HasShares, flag_at};
 ghost use Rattle.star_verify.specs.Private.Made.{beyond_shown};
 ghost use Rattle.star_verify.specs.Private.Shown.{known_in};
 ghost use Rattle.star_verify.specs.Shown.{IsReason};
@@ -129,19 +129,15 @@ fn assign(
     requires placed { (inside : Bool)
         × (place_fault subject.now.parts.now inside (op.Assign target operation.now) ≡ None) }
     requires declared { target < subject.now.parts.now.registers }
-    requires wide { length registers.old ≡ subject.now.parts.now.registers }
-    requires sized { IsSized subject.now.parts.now noted.old }
-    ensures judged { (w : World) (x : Context) (pending_now : ℕ → Bool)
-        → AreFacts w subject.now.facts.now → Keeps subject.now.parts.now registers.old noted.old x
-        → AreMarked subject.now.parts.now place.pending pending_now
-        → IsJudged result place.at
-        (option_or (source_reason (open_with pending_now (code_of_steps rest.now)) x
+    requires ready { IsReady subject.now.parts.now place registers.old noted.old }
+    ensures judged { InEachContext subject.now place registers.old noted.old (λ w x pending.
+        IsJudged result place.at
+        (option_or (source_reason (open_with pending (code_of_steps rest.now)) x
         (op.Assign target operation.now))
         (range_reason w subject.now.parts.now x (op.Assign target operation.now)))
         (Keeps subject.now.parts.now registers.new noted.new
-        (after_op w subject.now.parts.now x (op.Assign target operation.now))) }
-    ensures wide { length registers.new ≡ length registers.old }
-    ensures sized { IsSized subject.now.parts.now noted.new }
+        (after_op w subject.now.parts.now x (op.Assign target operation.now)))) }
+    ensures sized { IsSized subject.now.parts.now registers.new noted.new }
     ensures tallies { noted.new.tallies ≡ noted.old.tallies }
 {
     let parts = subject.parts;
@@ -221,21 +217,14 @@ fn perform(
         × (fault_of subject.now.parts.now inside twice
         (kinds_known (known_in registers.old)) op.now ≡ None) }
     requires at { place.at ≤ 4096 }
-    requires met { place.met ≤ 10 ^ 15 }
-    requires wide { length registers.old ≡ subject.now.parts.now.registers }
-    requires sized { IsSized subject.now.parts.now noted.old }
-    requires few { AreFewAt noted.old place.at }
-    ensures judged { (w : World) (x : Context) (pending_now : ℕ → Bool)
-        → AreFacts w subject.now.facts.now → Keeps subject.now.parts.now registers.old noted.old x
-        → IsPlaced place x
-        → AreMarked subject.now.parts.now place.pending pending_now
-        → IsJudged result place.at
-        (option_or (source_reason (open_with pending_now (code_of_steps rest.now)) x op.now)
+    requires ready { IsReady subject.now.parts.now place registers.old noted.old }
+    ensures judged { InEachContext subject.now place registers.old noted.old (λ w x pending.
+        IsJudged result place.at
+        (option_or (source_reason (open_with pending (code_of_steps rest.now)) x op.now)
         (range_reason w subject.now.parts.now x op.now))
         (Keeps subject.now.parts.now registers.new noted.new
-        (after_op w subject.now.parts.now x op.now)) }
-    ensures wide { length registers.new ≡ length registers.old }
-    ensures sized { IsSized subject.now.parts.now noted.new }
+        (after_op w subject.now.parts.now x op.now))) }
+    ensures sized { IsSized subject.now.parts.now registers.new noted.new }
     ensures few { AreFewAt noted.new (place.at + 1) }
 {
     match op {
@@ -265,21 +254,13 @@ pub(crate) fn judge(
     op: &Op,
 ) -> Result<(), Refusal>
     requires at { place.at ≤ 4096 }
-    requires met { place.met ≤ 10 ^ 15 }
-    requires wide { length registers.old ≡ subject.now.parts.now.registers }
-    requires sized { IsSized subject.now.parts.now noted.old }
-    requires few { AreFewAt noted.old place.at }
-    ensures judged { (w : World) (x : Context) (pending_now : ℕ → Bool)
-        → AreFacts w subject.now.facts.now → Keeps subject.now.parts.now registers.old noted.old x
-        → IsPlaced place x
-        → AreMarked subject.now.parts.now place.pending pending_now
-        → IsJudged result place.at
-        (op_reason w subject.now.parts.now
-        (open_with pending_now (code_of_steps rest.now)) x op.now)
+    requires ready { IsReady subject.now.parts.now place registers.old noted.old }
+    ensures judged { InEachContext subject.now place registers.old noted.old (λ w x pending.
+        IsJudged result place.at
+        (op_reason w subject.now.parts.now (open_with pending (code_of_steps rest.now)) x op.now)
         (Keeps subject.now.parts.now registers.new noted.new
-        (after_op w subject.now.parts.now x op.now)) }
-    ensures wide { length registers.new ≡ length registers.old }
-    ensures sized { IsSized subject.now.parts.now noted.new }
+        (after_op w subject.now.parts.now x op.now))) }
+    ensures sized { IsSized subject.now.parts.now registers.new noted.new }
     ensures few { IfOk result (λ _. AreFewAt noted.new (place.at + 1)) }
 {
     match check_op(subject.parts, place.inside, registers, &noted.written, op) {

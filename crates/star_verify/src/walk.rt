@@ -1,17 +1,15 @@
 // The check of the instructions of a body, one after another.
 
-ghost use Rattle.std.specs.Prelude.{◌≡◌, ◌*◌, ◌+◌, ◌<◌, ◌≤◌, ◌^◌, ℕ, Bool, IfOk, length};
+ghost use Rattle.std.specs.Prelude.{◌≡◌, ◌*◌, ◌+◌, ◌<◌, ◌≤◌, ◌^◌, IfOk};
 ghost use Rattle.star_schema.specs.Sizes.{size_of};
 ghost use Rattle.star_program.specs.Code.{code_size};
 ghost use Rattle.star_program.specs.CodeOfSteps.{before, code_of_steps};
-ghost use Rattle.star_program.specs.World.{World};
 ghost use Rattle.star_admission.specs.Contexts.{Context, at_end, in_scan};
 ghost use Rattle.star_admission.specs.Private.Forward.{first_reason};
 ghost use Rattle.star_admission.specs.Quote.{turns_met};
 ghost use Rattle.star_admission.specs.Refusals.{scan_reason};
-ghost use Rattle.star_verify.specs.Private.Facts.{AreFacts};
-ghost use Rattle.star_verify.specs.Private.Judged.{AreFewAt, AreNoted, IsPlaced, IsSized, IsWalked, Keeps, scan_first};
-ghost use Rattle.star_verify.specs.Private.Kept.{AreMarked, flag_at};
+ghost use Rattle.star_verify.specs.Private.Judged.{AreFewAt, AreNoted, InEachContext, IsReady, IsSized, IsWalked, Keeps, scan_first};
+ghost use Rattle.star_verify.specs.Private.Kept.{flag_at};
 ghost use Rattle.star_verify.specs.Private.Walked.{after_step, step_first, step_size};
 ghost use Rattle.star_verify.specs.Shown.{IsReason};
 
@@ -63,19 +61,14 @@ fn scan(
     requires quote { place.met * size_of subject.now.facts.now.sizes table
         + turns_met (size_of subject.now.facts.now.sizes)
         (place.met * size_of subject.now.facts.now.sizes table) body.now ≤ 10 ^ 15 }
-    requires wide { length registers.now ≡ subject.now.parts.now.registers }
-    requires sized { IsSized subject.now.parts.now noted.old }
-    requires few { AreFewAt noted.old (place.at + 1) }
-    ensures judged { (w : World) (x : Context) (pending_now : ℕ → Bool)
-        → AreFacts w subject.now.facts.now → Keeps subject.now.parts.now registers.now noted.old x
-        → IsPlaced place x
-        → AreMarked subject.now.parts.now place.pending pending_now
-        → IsWalked result
-        (scan_first w subject.now.parts.now pending_now x place.at table target body.now)
+    requires ready { IsReady subject.now.parts.now place registers.now noted.old }
+    ensures judged { InEachContext subject.now place registers.now noted.old (λ w x pending.
+        IsWalked result
+        (scan_first w subject.now.parts.now pending x place.at table target body.now)
         (AreNoted subject.now.parts.now noted.new
-        (at_end w subject.now.parts.now (in_scan w x table target) body.now)) }
+        (at_end w subject.now.parts.now (in_scan w x table target) body.now))) }
     ensures next { IfOk result (λ next. next ≡ place.at + 1 + code_size body.now) }
-    ensures sized { IsSized subject.now.parts.now noted.new }
+    ensures sized { IsSized subject.now.parts.now registers.now noted.new }
     ensures few { IfOk result (λ next. AreFewAt noted.new next) }
 {
     if let Err(reason) = check_target(subject.parts, &noted.written, target) {
@@ -107,24 +100,16 @@ fn walk_step(
     rest: &[Step],
 ) -> Result<u16, Refusal>
     requires size { place.at + code_size (before step.now (code_of_steps rest.now)) ≤ 4097 }
-    requires met { place.met ≤ 10 ^ 15 }
     requires quote { turns_met (size_of subject.now.facts.now.sizes) place.met
         (before step.now (code_of_steps rest.now)) ≤ 10 ^ 15 }
-    requires wide { length registers.old ≡ subject.now.parts.now.registers }
-    requires sized { IsSized subject.now.parts.now noted.old }
-    requires few { AreFewAt noted.old place.at }
-    ensures judged { (w : World) (x : Context) (pending_now : ℕ → Bool)
-        → AreFacts w subject.now.facts.now → Keeps subject.now.parts.now registers.old noted.old x
-        → IsPlaced place x
-        → AreMarked subject.now.parts.now place.pending pending_now
-        → IsWalked result
-        (step_first w subject.now.parts.now pending_now x place.at step.now
-        (code_of_steps rest.now))
+    requires ready { IsReady subject.now.parts.now place registers.old noted.old }
+    ensures judged { InEachContext subject.now place registers.old noted.old (λ w x pending.
+        IsWalked result
+        (step_first w subject.now.parts.now pending x place.at step.now (code_of_steps rest.now))
         (Keeps subject.now.parts.now registers.new noted.new
-        (after_step w subject.now.parts.now x step.now)) }
+        (after_step w subject.now.parts.now x step.now))) }
     ensures next { IfOk result (λ next. next ≡ place.at + step_size step.now) }
-    ensures wide { length registers.new ≡ length registers.old }
-    ensures sized { IsSized subject.now.parts.now noted.new }
+    ensures sized { IsSized subject.now.parts.now registers.new noted.new }
     ensures few { IfOk result (λ next. AreFewAt noted.new next) }
 {
     match step {
@@ -157,23 +142,16 @@ pub(crate) fn walk(
     steps: &[Step],
 ) -> Result<u16, Refusal>
     requires size { place.at + code_size (code_of_steps steps.now) ≤ 4097 }
-    requires met { place.met ≤ 10 ^ 15 }
     requires quote { turns_met (size_of subject.now.facts.now.sizes) place.met
         (code_of_steps steps.now) ≤ 10 ^ 15 }
-    requires wide { length registers.old ≡ subject.now.parts.now.registers }
-    requires sized { IsSized subject.now.parts.now noted.old }
-    requires few { AreFewAt noted.old place.at }
-    ensures judged { (w : World) (x : Context) (pending_now : ℕ → Bool)
-        → AreFacts w subject.now.facts.now → Keeps subject.now.parts.now registers.old noted.old x
-        → IsPlaced place x
-        → AreMarked subject.now.parts.now place.pending pending_now
-        → IsWalked result
-        (first_reason w subject.now.parts.now pending_now x place.at (code_of_steps steps.now))
+    requires ready { IsReady subject.now.parts.now place registers.old noted.old }
+    ensures judged { InEachContext subject.now place registers.old noted.old (λ w x pending.
+        IsWalked result
+        (first_reason w subject.now.parts.now pending x place.at (code_of_steps steps.now))
         (AreNoted subject.now.parts.now noted.new
-        (at_end w subject.now.parts.now x (code_of_steps steps.now))) }
+        (at_end w subject.now.parts.now x (code_of_steps steps.now)))) }
     ensures next { IfOk result (λ next. next ≡ place.at + code_size (code_of_steps steps.now)) }
-    ensures wide { length registers.new ≡ length registers.old }
-    ensures sized { IsSized subject.now.parts.now noted.new }
+    ensures sized { IsSized subject.now.parts.now registers.new noted.new }
     ensures few { IfOk result (λ next. AreFewAt noted.new next) }
 {
     let mut at = place.at;

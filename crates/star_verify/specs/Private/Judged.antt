@@ -1,5 +1,5 @@
 -- What a check answers of an instruction, and what it keeps for the next.
-use Rattle.std.specs.Prelude.{◌≡◌, ◌*◌, ◌+◌, ◌^◌, ℕ, Bool, List, length, Option, Some, None, Result, MatchResult}
+use Rattle.std.specs.Prelude.{◌≡◌, ◌*◌, ◌+◌, ◌≤◌, ◌^◌, ℕ, Bool, List, length, Option, Some, None, Result, MatchResult}
 use Rattle.std.specs.Option.{option_or}
 use Rattle.star_common.specs.Memory.{UnlessMemory}
 use Rattle.star_schema.specs.declared.table.TableId.{TableId}
@@ -18,7 +18,9 @@ use Rattle.star_verify.specs.declared.instructions.Place.{Place}
 use Rattle.star_verify.specs.declared.refusal.Refusal.{Refusal}
 use Rattle.star_verify.specs.declared.refusal.Refusal.TheVariants as told
 use Rattle.star_verify.specs.declared.register.Register.{Register}
-use Rattle.star_verify.specs.Private.Kept.{AreFew, HasShares, flag_at}
+use Rattle.star_verify.specs.declared.subject.Subject.{Subject}
+use Rattle.star_verify.specs.Private.Facts.{AreFacts}
+use Rattle.star_verify.specs.Private.Kept.{AreFew, AreMarked, HasShares, flag_at}
 use Rattle.star_verify.specs.Private.Shown.{known_in}
 use Rattle.star_verify.specs.Shown.{refusal_shown}
 
@@ -30,8 +32,9 @@ IsFirst _ found = ⊥
 
 -- ---- what is kept
 
--- a flag for each register, and eight tallies for each of eight groups
-pub record IsSized (parts : Parts) (noted : Noted) : Type 0 where
+-- so many registers as are declared, a flag for each, and eight tallies for each of eight groups
+pub record IsSized (parts : Parts) (registers : List Register) (noted : Noted) : Type 0 where
+  pub wide : length registers ≡ parts.registers
   pub written : length noted.written.items ≡ parts.registers
   pub tallies : length noted.tallies.items ≡ 64
 
@@ -51,6 +54,21 @@ pub record IsPlaced (place : Place) (x : Context) : Type 0 where
 -- of at most 10^15 numbers for each instruction so far
 abbrev pub AreFewAt : Noted → ℕ → Type 0
 AreFewAt noted at = AreFew noted.tallies.items (at * 10 ^ 15)
+
+-- a check may go on from an instruction, which is met no more often than any run may visit
+pub record IsReady (parts : Parts) (place : Place) (registers : List Register) (noted : Noted)
+    : Type 0 where
+  pub met : place.met ≤ 10 ^ 15
+  pub sized : IsSized parts registers noted
+  pub few : AreFewAt noted place.at
+
+-- what holds in each world that the facts are of, and in each context that is kept at this place
+abbrev pub InEachContext : Subject → Place → List Register → Noted
+    → (World → Context → (ℕ → Bool) → Type 0) → Type 0
+InEachContext subject place registers noted Holds =
+    (w : World) (x : Context) (pending : ℕ → Bool) → AreFacts w subject.facts.now
+    → Keeps subject.parts.now registers noted x → IsPlaced place x
+    → AreMarked subject.parts.now place.pending pending → Holds w x pending
 
 -- ---- what is answered
 

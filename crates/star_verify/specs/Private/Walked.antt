@@ -1,5 +1,5 @@
 -- A walk over the steps of a body: what it answers of one step, and how far it is.
-use Rattle.std.specs.Prelude.{◌≡◌, ◌+◌, ◌≤◌, ◌^◌, ℕ, Bool, List, length, Option}
+use Rattle.std.specs.Prelude.{◌≡◌, ◌+◌, ◌≤◌, ◌^◌, ℕ, Bool, List, Option}
 use Rattle.star_schema.specs.Sizes.{size_of}
 use Rattle.star_program.specs.declared.body.Step.{Step}
 use Rattle.star_program.specs.declared.body.Step.TheVariants.{Act, Scan}
@@ -17,9 +17,7 @@ use Rattle.star_verify.specs.declared.instructions.Noted.{Noted}
 use Rattle.star_verify.specs.declared.instructions.Place.{Place}
 use Rattle.star_verify.specs.declared.register.Register.{Register}
 use Rattle.star_verify.specs.declared.subject.Subject.{Subject}
-use Rattle.star_verify.specs.Private.Facts.{AreFacts}
-use Rattle.star_verify.specs.Private.Judged.{AreFewAt, IsPlaced, IsSized, Keeps, scan_first}
-use Rattle.star_verify.specs.Private.Kept.{AreMarked}
+use Rattle.star_verify.specs.Private.Judged.{InEachContext, IsPlaced, IsReady, Keeps, scan_first}
 
 -- ---- a step
 
@@ -65,13 +63,9 @@ pub record IsLeft (walk : Walk) (registers : List Register) (noted : Noted) (at 
       ≡ walk.place.at + code_size (code_of_steps walk.steps)
   pub turns : turns_met (size_of walk.subject.facts.now.sizes) walk.place.met (code_of_steps left)
       ≤ 10 ^ 15
-  pub wide : length registers ≡ length walk.registers
-  pub sized : IsSized walk.subject.parts.now noted
-  pub few : AreFewAt noted at
-  pub kept : (w : World) (x : Context) (pending : ℕ → Bool) → AreFacts w walk.subject.facts.now
-      → Keeps walk.subject.parts.now walk.registers walk.noted x → IsPlaced walk.place x
-      → AreMarked walk.subject.parts.now walk.place.pending pending
-      → (there : Context) × Keeps walk.subject.parts.now registers noted there
+  pub ready : IsReady walk.subject.parts.now (record walk.place { at = at }) registers noted
+  pub kept : InEachContext walk.subject walk.place walk.registers walk.noted (λ w x pending.
+      (there : Context) × Keeps walk.subject.parts.now registers noted there
       × IsPlaced walk.place there
       × IsRest w walk.subject.parts.now pending x walk.place.at (code_of_steps walk.steps) there at
-      (code_of_steps left)
+      (code_of_steps left))

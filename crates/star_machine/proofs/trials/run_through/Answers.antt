@@ -1,4 +1,4 @@
-use Rattle.std.proofs.Common.{◌≡◌, ◌∙◌, ap, arith, subst, false}
+use Rattle.std.proofs.Common.{◌≡◌, ◌∙◌, ap, arith, rules, subst, false}
 use Rattle.std.specs.Prelude.{nat_lt}
 use Rattle.std.proofs.lemmas.Result.{err_from_is_err_and}
 use Rattle.star_program.specs.Effects.{empty_store}
@@ -16,6 +16,8 @@ walk-requires-clause-ready c =
     let done = c.in_ok-run.ensures c.args.catalogue.now in
     let empty = ap held c.as_mut_slice.ensures.value ∙ c.in_ok-registers.ensures.empty in
     record {
+      wide = search rules;
+      deep = search (arith, rules);
       few = record {
         visits = omega (arith, done.visits);
         work = omega (arith, done.visits, done.lookups, done.updates, c.requires.limits.instructions);

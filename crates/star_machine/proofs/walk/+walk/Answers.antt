@@ -31,25 +31,21 @@ turn-walk-requires t c =
         omega (arith, scanned.size),
         (
           scanned.numbered,
-          (
-            c.set.ensures.len ∙ c.copy_from_slice.ensures.len ∙ c.requires.wide,
-            (
-              c.requires.deep,
-              record {
-                few = record {
-                  visits = omega (arith, c.if-run-machine.false);
-                  work = omega (arith, c.requires.ready.few.work, scanned.size);
-                };
-                sound = subst (AreSound m.catalogue.now) (sym at_row)
-                    (sound_set m.catalogue.now (held scanned.before.now) scanned.target c.args.row
-                    c.requires.ready.sound c.requires.row);
-                done = (
-                  visited done.0,
-                  done_visited m.catalogue.now m.parts.now c.args.run.now _ done.0 refl refl refl refl done.1,
-                );
-              },
-            ),
-          ),
+          record {
+            wide = c.set.ensures.len ∙ c.copy_from_slice.ensures.len ∙ c.requires.wide;
+            deep = c.requires.ready.deep;
+            few = record {
+              visits = omega (arith, c.if-run-machine.false);
+              work = omega (arith, c.requires.ready.few.work, scanned.size);
+            };
+            sound = subst (AreSound m.catalogue.now) (sym at_row)
+                (sound_set m.catalogue.now (held scanned.before.now) scanned.target c.args.row
+                c.requires.ready.sound c.requires.row);
+            done = (
+              visited done.0,
+              done_visited m.catalogue.now m.parts.now c.args.run.now _ done.0 refl refl refl refl done.1,
+            );
+          },
         ),
       ),
     )
@@ -104,20 +100,16 @@ walk-scan-requires t c =
     let so_far = c.loop-step.invariant in
     let now = so_far.ends c.requires.ready.done.0 c.requires.ready.done.1 in (
       omega (arith, c.decreases, left, so_far.placed, so_far.after),
-      (
-        c.loop-step.auto.registers ∙ c.requires.wide,
-        (
-          body_deep c.in-Scan.table c.in-Scan.target c.args.machine.now.parts.now.registers (length c.loop-step.frames) c.in-Scan.body (code_of_steps (drop (c.loop-step.step-index + 1) c.as_slice-step-items.result.now)) (subst (λ k. scan_depth k * c.args.machine.now.parts.now.registers ≤ length c.loop-step.frames) code so_far.deep),
-          record {
-            few = record {
-              visits = so_far.worked.visits;
-              work = omega (arith, so_far.worked.work, c.requires.ready.few.work, so_far.placed, so_far.after);
-            };
-            sound = so_far.sound;
-            done = (now.0, now.1);
-          },
-        ),
-      ),
+      record {
+        wide = c.loop-step.auto.registers ∙ c.requires.ready.wide;
+        deep = body_deep c.in-Scan.table c.in-Scan.target c.args.machine.now.parts.now.registers (length c.loop-step.frames) c.in-Scan.body (code_of_steps (drop (c.loop-step.step-index + 1) c.as_slice-step-items.result.now)) (subst (λ k. scan_depth k * c.args.machine.now.parts.now.registers ≤ length c.loop-step.frames) code so_far.deep);
+        few = record {
+          visits = so_far.worked.visits;
+          work = omega (arith, so_far.worked.work, c.requires.ready.few.work, so_far.placed, so_far.after);
+        };
+        sound = so_far.sound;
+        done = (now.0, now.1);
+      },
     )
 
 pub walk-returns-in_err-scan-in-Scan-clause-ends : goal.walk-returns-in_err-scan-in-Scan-clause-ends

@@ -9,11 +9,11 @@ use Rattle.star_verify.proofs.Judging.{first_found, second_found}
 use Rattle.star_verify.proofs.instructions.assign.Goals as goal
 
 pub returns-in-Err-clause-judged : goal.returns-in-Err-clause-judged
-returns-in-Err-clause-judged c = λ w x pending facts keeps marked.
+returns-in-Err-clause-judged c = λ w x pending facts keeps placed marked.
     first_found c.args.place.at _ _ _ (c.in-Err.ensures x pending c.args.target keeps.known marked)
 
 pub returns-in-Err-make-clause-judged : goal.returns-in-Err-make-clause-judged
-returns-in-Err-make-clause-judged c = λ w x pending facts keeps marked.
+returns-in-Err-make-clause-judged c = λ w x pending facts keeps placed marked.
     let shares : HasShares c.args.subject.now.parts.now c.deref.result.now x = rw c.deref.ensures.value keeps.earlier.shares in
     subst (IsFirst c.overflow.result)
     (sym (second_found c.args.place.at _ _ _ (c.in-Ok.ensures x pending c.args.target keeps.known marked)
@@ -21,7 +21,7 @@ returns-in-Err-make-clause-judged c = λ w x pending facts keeps marked.
     (c.overflow.ensures w facts)
 
 pub returns-in-Ok-make-clause-judged : goal.returns-in-Ok-make-clause-judged
-returns-in-Ok-make-clause-judged c = λ w x pending facts keeps marked.
+returns-in-Ok-make-clause-judged c = λ w x pending facts keeps placed marked.
     let shares : HasShares c.args.subject.now.parts.now c.deref.result.now x = rw c.deref.ensures.value keeps.earlier.shares in
     let made = c.in-Ok-make.ensures w x facts keeps.known shares in
     let value = c.deref_mut.ensures.value in

@@ -59,23 +59,20 @@ walk-walk_step-requires t c =
     let few : c.loop-left.at + code_size (before step (code_of_steps (others left))) ≤ 4097 = omega (arith, size, kept.size, c.requires.size) in
     let turns = subst (λ code. turns_met (size_of c.args.subject.now.facts.now.sizes) c.args.place.met code ≤ 10 ^ 15) code kept.turns in
     let fewer : 3 * code_size (before step (code_of_steps (others left))) < 3 * code_size (code_of_steps c.args.steps.now) + 1 = omega (arith, size, kept.size, kept.past) in
-    (omega (arith, fewer, c.decreases), (few, (c.requires.met, (turns, (kept.wide ∙ c.requires.wide, (kept.sized, kept.few))))))
+    (omega (arith, fewer, c.decreases), (few, (turns, kept.ready)))
 
 pub walk-returns-in_err-at-clause-judged : goal.walk-returns-in_err-at-clause-judged
 walk-returns-in_err-at-clause-judged t c = λ w x pending facts keeps placed marked.
     let p = err_from_is_err_and c.from_residual.result c.from_residual.ensures.1 in
     rw (p.1, p.2)
     (step_refused _ c.loop-left.registers c.loop-left.noted c.loop-left.at c.loop-left.left.now c.step-item.result c.in-len1-up.len_at_least c.step-item.is
-    c.loop-left.invariant w x pending _
-    (λ there kept here. c.in_err-at.ensures.judged w there pending facts kept here marked)
-    facts keeps placed marked)
+    c.loop-left.invariant _ c.in_err-at.ensures.judged w x pending facts keeps placed marked)
 
 pub walk-loop-left-preserved : goal.walk-loop-left-preserved
 walk-loop-left-preserved t c =
     one_walked _ c.loop-left.registers c.loop-left.noted c.loop-left.at c.loop-left.left.now c.step-item.result c.in-len1-up.len_at_least c.step-item.is
     c.loop-left.invariant c.walk_step.new.registers c.walk_step.new.noted c.in_ok-at.at
-    (λ w x pending facts kept here marked. c.in_ok-at.ensures.judged w x pending facts kept here marked)
-    c.in_ok-at.ensures.next c.in_ok-at.ensures.wide c.in_ok-at.ensures.sized c.in_ok-at.ensures.few
+    c.in_ok-at.ensures.judged c.in_ok-at.ensures.next c.in_ok-at.ensures.sized c.in_ok-at.ensures.few
 
 pub walk-returns-clause-judged : goal.walk-returns-clause-judged
 walk-returns-clause-judged t c =
