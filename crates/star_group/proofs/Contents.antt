@@ -112,7 +112,7 @@ module _ (s : EagerStore) (u : Put) (shape : Shape) (gs : List Aggregate) (row :
     put_holds r = on_ok _ _ r (λ h us holds. holds_more (group_of s) us u row one (look s) (look_in s.shape es total) holds fits (puts_here h).merges)
 
     pub put_stays : {T E : Type 0} (r : Result T E) → OnOk r (PutsIn s u shape gs row es total) → OnOk r ((us : List Put) → Has s us → overflows (group_of s) us u ≡ false)
-    put_stays r = on_ok _ _ r (λ h us holds. stays_all (group_of s) us u s.few_keys fits holds.fit (stays_more (group_of s) us u row one (look s) (look_in s.shape es total) holds (puts_here h).stay))
+    put_stays r = on_ok _ _ r (λ h us holds. stays_all (group_of s) us u (omega (arith, s.wide, s.rows.trie.few)) fits holds.fit (stays_more (group_of s) us u row one (look s) (look_in s.shape es total) holds (puts_here h).stay))
 
   leaves_here : LeavesIn s u shape gs row → LeavesIn s u s.shape s.aggregates.items row
   leaves_here h = subst (λ a. LeavesIn s u a s.aggregates.items row) (sym is) (subst (λ g. LeavesIn s u shape g row) is_gs h)
@@ -120,7 +120,7 @@ module _ (s : EagerStore) (u : Put) (shape : Shape) (gs : List Aggregate) (row :
   pub put_leaves : {T E : Type 0} (memory : E) (r : Result T E) → IfErr r (λ e. UnlessMemory memory e (LeavesIn s u shape gs row)) → IfErr r (λ e. UnlessMemory memory e ((us : List Put) → Has s us → overflows (group_of s) us u ≡ true))
   put_leaves memory (Ok x) h = tt
   put_leaves memory (Err e) (inl none) = inl none
-  put_leaves memory (Err e) (inr some) = inr (λ us holds. overflows_some (group_of s) us u s.few_keys fits holds.fit (leaves_more (group_of s) us u row one (look s) (look s) holds (leaves_here some)))
+  put_leaves memory (Err e) (inr some) = inr (λ us holds. overflows_some (group_of s) us u (omega (arith, s.wide, s.rows.trie.few)) fits holds.fit (leaves_more (group_of s) us u row one (look s) (look s) holds (leaves_here some)))
 
 -- the rows of no puts: the row of all of them
 pub holds_looked : (d : Group) (look : List (Option KeyValue) → Option (List (Option ℤ))) (row : List (Option ℤ)) → IsBlank row → ((q : List (Option KeyValue)) → look q ≡ cond (key_eq q (padded 6 [])) (Some row) None) → Holds d look []

@@ -130,8 +130,7 @@ module _ (rows : KeyedRows) where
 
 pub grown_more : (a b c : KeyedRows) → IsGrown a b → IsGrown b c → IsGrown a c
 grown_more a b c ab bc = record {
-  width = bc.width ∙ ab.width;
-  many = bc.many ∙ ab.many;
+  widths = record { width = bc.widths.width ∙ ab.widths.width; many = bc.widths.many ∙ ab.widths.many };
   held = λ key number is. bc.held key number (ab.held key number is);
   more = omega (arith, ab.more, bc.more);
   keys = λ same. bc.keys (omega (arith, same, ab.more, bc.more)) ∙ ab.keys (omega (arith, same, ab.more, bc.more));
@@ -141,9 +140,9 @@ grown_more a b c ab bc = record {
 -- a place is the same among rows that have grown, as long as there are no more
 pub place_among : (old new : KeyedRows) (count : ℕ) (key : List KeyPart) (place : Place) → IsGrown old new → old.trie.len ≡ count
     → IsPlace old key place → IsPlaceAmong new count key place
-place_among old new count key (Held number) grown all is = subst (λ w. IsHeld (keys_in new) (take w key) number) (sym grown.width) (grown.held (take old.trie.width key) number is)
+place_among old new count key (Held number) grown all is = subst (λ w. IsHeld (keys_in new) (take w key) number) (sym grown.widths.width) (grown.held (take old.trie.width key) number is)
 place_among old new count key (Missing node digit) grown all is = λ same.
     let all_same = same ∙ sym all in
-    subst (λ w. IsMissing w (keys_in new) new.trie.links.items (take w key) node digit) (sym grown.width)
+    subst (λ w. IsMissing w (keys_in new) new.trie.links.items (take w key) node digit) (sym grown.widths.width)
     (subst (λ ks. IsMissing old.trie.width ks new.trie.links.items (take old.trie.width key) node digit) (sym (grown.keys all_same))
     (subst (λ ls. IsMissing old.trie.width (keys_in old) ls (take old.trie.width key) node digit) (sym (grown.links all_same)) is))

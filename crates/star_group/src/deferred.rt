@@ -27,8 +27,6 @@ pub struct DeferredStore {
     rows: KeyedRows,
     newest: Newest,
     total: Row,
-    ghost few_keys: { count ≤ 6 },
-    ghost few: { vec_len aggregates ≤ 8 },
     ghost wide: { count ≤ rows.trie.width },
     ghost many: { rows.many ≡ vec_len aggregates },
     ghost room: { HasBaseWithRoom

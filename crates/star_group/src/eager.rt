@@ -34,8 +34,6 @@ pub struct EagerStore {
     // Of a cube: the keys of a put's rows, and where they are.
     own: Vec<OrderedKey>,
     places: Vec<Place>,
-    ghost few_keys: { count ≤ 6 },
-    ghost few: { vec_len aggregates ≤ 8 },
     ghost wide: { count ≤ rows.trie.width },
     ghost many: { rows.many ≡ vec_len aggregates },
 }

@@ -18,6 +18,7 @@ pub(crate) struct KeyedRows {
     pub(crate) trie: Trie,
     pub(crate) many: usize,
     pub(crate) cells: Vec<Option<i64>>,
+    ghost few: { many ≤ 8 },
     ghost long: { length cells.items ≡ trie.len * many },
 }
 

@@ -15,7 +15,6 @@ mod group_rows;
 mod keyed;
 pub mod law;
 mod newest;
-mod placed;
 mod rows;
 mod store;
 

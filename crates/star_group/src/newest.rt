@@ -1,9 +1,10 @@
 // Where rows stand that were made lately.
 
-ghost use Rattle.star_group.specs.Private.Numbers.{IsKnown};
+ghost use Rattle.star_group.specs.Private.Numbers.{IsKnown, IsPlace};
 
 use crate::keyed::KeyedRows;
 use crate::keyed::key::OrderedKey;
+use crate::keyed::trie::Place;
 use std::alloc::{AllocError, Global};
 
 // So many numbers are kept: the keys of a cube by a year and two nations have slots of their own.
@@ -46,10 +47,23 @@ impl Newest {
         }
     }
 
-    // The number of the row of a key from now on.
-    pub(crate) fn set(&mut self, rows: &KeyedRows, key: &OrderedKey, number: usize) {
+    // Where this key's row is, or would be; that of a newer row is found with one look.
+    pub(crate) fn place(&self, rows: &KeyedRows, key: &OrderedKey) -> Place
+        ensures { IsPlace rows.now key.now result }
+    {
+        match self.number(rows, key) {
+            Some(number) => Place::Held(number),
+            None => rows.place(key),
+        }
+    }
+
+    // The number of the row of a key from now on, where it was missing among so many rows.
+    pub(crate) fn set(&mut self, rows: &KeyedRows, key: &OrderedKey, place: Place, count: usize) {
+        if !place.is_missing() {
+            return;
+        }
         if let Some(slot) = self.numbers.get_mut(slot_of(rows, key)) {
-            *slot = number;
+            *slot = count;
         }
     }
 }

@@ -1,6 +1,6 @@
 // One more put of the rows of its keys.
 
-ghost use Rattle.std.specs.Prelude.{◌≡◌, ◌≤◌, ◌<◌, ◌+◌, ℕ, true, List, [], length, map, IfErr, IfSome, MatchBool, OnErr, OnOk};
+ghost use Rattle.std.specs.Prelude.{◌≡◌, ◌<◌, ◌+◌, ℕ, true, List, [], length, map, IfErr, MatchBool, OnErr, OnOk};
 ghost use Rattle.std.specs.List.{list_any, IsDistinct};
 ghost use Rattle.std.specs.Option.{unwrap_or};
 ghost use Rattle.star_common.specs.Memory.{TellsMemory, UnlessMemory};
@@ -8,7 +8,7 @@ ghost use Rattle.star_group.specs.Base.{key_of, row_at};
 ghost use Rattle.star_group.specs.Entries.{entries_of};
 ghost use Rattle.star_group.specs.OwnKeys.{key_eq};
 ghost use Rattle.star_group.specs.Private.Merged.{IsMergedAt, MergeLeaves, MergeStays, RowsStay};
-ghost use Rattle.star_group.specs.Private.Numbers.{AreNarrow, ArePlaces, HasSpace, IsGrown, IsNarrow, IsPlace, IsPlaceAmong, IsWithin, keys_in};
+ghost use Rattle.star_group.specs.Private.Numbers.{AreAsWide, AreNarrow, ArePlaces, FitsIn, HasSpace, IsGrown, IsNarrow, IsPlace, IsPlaceAmong, IsWithin};
 ghost use Rattle.star_group.specs.Private.Rows.{AllStay, MergesAll, PutsRows, SomeLeaves};
 ghost use Rattle.star_group.specs.Private.Tries.{is_missing};
 ghost use Rattle.star_group.specs.declared.keyed.key.KeyPart.{KeyPart};
@@ -61,9 +61,7 @@ pub(crate) fn stays_at(
     more: &[Option<i64>],
 ) -> bool
     requires within { IsWithin rows.now place }
-    requires few { length aggregates.now ≤ 8 }
-    requires many { length aggregates.now ≡ rows.now.many }
-    requires wide { rows.now.many ≤ length more.now }
+    requires fits { FitsIn rows.now aggregates.now more.now }
     ensures { (key : List KeyPart) → length key ≡ 6 → IsNarrow rows.now.trie.width key
         → IsPlace rows.now key place → MatchBool result
         (MergeStays aggregates.now
@@ -87,9 +85,7 @@ fn all_stay_at(
 ) -> bool
     requires narrow { AreNarrow rows.now.trie.width own.now }
     requires places { ArePlaces rows.now own.now places.now }
-    requires few { length aggregates.now ≤ 8 }
-    requires many { length aggregates.now ≡ rows.now.many }
-    requires wide { rows.now.many ≤ length more.now }
+    requires fits { FitsIn rows.now aggregates.now more.now }
     ensures { MatchBool result
         (AllStay (row_at (entries_of rows.now)) (map key_of own.now) aggregates.now more.now)
         (SomeLeaves (row_at (entries_of rows.now)) (map key_of own.now) aggregates.now more.now) }
@@ -113,8 +109,7 @@ fn merge_at(
 )
     requires narrow { IsNarrow rows.old.trie.width key.now }
     requires place { IsPlaceAmong rows.old count key.now place }
-    requires many { length aggregates.now ≡ rows.old.many }
-    requires wide { rows.old.many ≤ length more.now }
+    requires fits { FitsIn rows.old aggregates.now more.now }
     requires stays { RowsStay aggregates.now
         (row_at (entries_of rows.old) (key_of key.now)) more.now }
     requires space { is_missing place ≡ true → HasSpace rows.old 1 }
@@ -123,14 +118,10 @@ fn merge_at(
     ensures space { (count : ℕ) → HasSpace rows.old (count + 1) → HasSpace rows.new count }
     ensures grown { IsGrown rows.old rows.new }
 {
-    match place {
-        Place::Held(number) => rows.merge_row(number, aggregates, more),
-        Place::Missing { node, digit } => {
-            match rows.merge_missing(count, node, digit, key, aggregates, more) {
-                Ok(()) => {}
-                Err(AllocError) => unreachable!(),
-            }
-        }
+    let place = rows.place_among(count, key, place);
+    match rows.merge(key, place, aggregates, more) {
+        Ok(()) => {}
+        Err(AllocError) => unreachable!(),
     }
 }
 
@@ -145,15 +136,13 @@ fn merge_all_at(
     requires narrow { AreNarrow rows.old.trie.width own.now }
     requires places { ArePlaces rows.old own.now places.now }
     requires distinct { IsDistinct key_eq (map key_of own.now) }
-    requires many { length aggregates.now ≡ rows.old.many }
-    requires wide { rows.old.many ≤ length more.now }
+    requires fits { FitsIn rows.old aggregates.now more.now }
     requires stay { AllStay (row_at (entries_of rows.old)) (map key_of own.now)
         aggregates.now more.now }
     requires space { list_any is_missing places.now ≡ true → HasSpace rows.old (length own.now) }
     ensures rows { MergesAll (map key_of own.now) aggregates.now more.now
         (row_at (entries_of rows.old)) (row_at (entries_of rows.new)) }
-    ensures width { rows.new.trie.width ≡ rows.old.trie.width }
-    ensures many { rows.new.many ≡ rows.old.many }
+    ensures widths { AreAsWide rows.old rows.new }
 {
     let count = rows.len();
     for index in 0..own.len() {
@@ -168,28 +157,9 @@ fn some_missing(places: &[Place]) -> bool
     places.iter().any(|place| place.is_missing())
 }
 
-// Room for the rows that are missing, so that a put into rows that are there takes no memory.
-fn reserve_missing(
-    rows: &mut KeyedRows,
-    own: &[OrderedKey],
-    places: &[Place],
-) -> Result<(), AllocError>
-    ensures ok { OnOk result
-        (list_any is_missing places.now ≡ true → HasSpace rows.new (length own.now)) }
-    ensures keys { keys_in rows.new ≡ keys_in rows.old }
-    ensures links { rows.new.trie.links.items ≡ rows.old.trie.links.items }
-    ensures rows { entries_of rows.new ≡ entries_of rows.old }
-    ensures width { rows.new.trie.width ≡ rows.old.trie.width }
-    ensures many { rows.new.many ≡ rows.old.many }
-{
-    if some_missing(places) {
-        rows.reserve(own.len())?;
-    }
-    Ok(())
-}
-
 // The row of one put merged into those of its keys, which are made where they are missing; or
-// nothing changes. Each row is looked up once, and all room is there before the first one changes.
+// nothing changes. Each row is looked up once, and all room is there before the first one changes;
+// none is taken where no row is missing, so that a put into rows that are there takes no memory.
 pub(crate) fn put_rows(
     rows: &mut KeyedRows,
     own: &[OrderedKey],
@@ -199,23 +169,22 @@ pub(crate) fn put_rows(
 ) -> Result<(), PutFault>
     requires narrow { AreNarrow rows.old.trie.width own.now }
     requires distinct { IsDistinct key_eq (map key_of own.now) }
-    requires few { length aggregates.now ≤ 8 }
-    requires many { length aggregates.now ≡ rows.old.many }
-    requires wide { rows.old.many ≤ length more.now }
+    requires fits { FitsIn rows.old aggregates.now more.now }
     ensures ok { OnOk result (PutsRows (map key_of own.now) aggregates.now more.now
         (row_at (entries_of rows.old)) (row_at (entries_of rows.new))) }
     ensures refused { OnErr result (entries_of rows.new ≡ entries_of rows.old) }
     ensures overflow { IfErr result (λ fault. UnlessMemory PutFault.OutOfMemory fault
         (SomeLeaves (row_at (entries_of rows.old)) (map key_of own.now) aggregates.now
         more.now)) }
-    ensures width { rows.new.trie.width ≡ rows.old.trie.width }
-    ensures many { rows.new.many ≡ rows.old.many }
+    ensures widths { AreAsWide rows.old rows.new }
 {
     find_places(rows, own, places)?;
     if !all_stay_at(rows, own, places.as_slice(), aggregates, more) {
         return Err(PutFault::Overflow);
     }
-    reserve_missing(rows, own, places.as_slice())?;
+    if some_missing(places.as_slice()) {
+        rows.reserve(own.len())?;
+    }
     merge_all_at(rows, own, places.as_slice(), aggregates, more);
     Ok(())
 }

@@ -1,7 +1,8 @@
 -- The numbers of rows by their keys, and the room for more of them.
-use Rattle.std.specs.Prelude.{◌≡◌, ℕ, ◌+◌, ◌*◌, ◌^◌, ◌<◌, ◌≤◌, List, [], Option, Some, None, drop, length, slice_index_or, take, vec_len}
+use Rattle.std.specs.Prelude.{◌≡◌, ℕ, ℤ, ◌+◌, ◌*◌, ◌^◌, ◌<◌, ◌≤◌, List, [], Option, Some, None, drop, length, slice_index_or, take, vec_len}
 use Rattle.std.specs.List.{AllByRecursion}
 use Rattle.std.specs.Vec.{vec_capacity}
+use Rattle.star_schema.specs.declared.group.Aggregate.{Aggregate}
 use Rattle.star_group.specs.declared.keyed.key.KeyPart.{KeyPart}
 use Rattle.star_group.specs.declared.keyed.KeyedRows.{KeyedRows}
 use Rattle.star_group.specs.declared.keyed.trie.Trie.{Trie}
@@ -51,10 +52,19 @@ pub record ArePlaces (rows : KeyedRows) (keys : List (List KeyPart)) (places : L
   pub many : length places ≡ length keys
   pub each : (index : ℕ) → index < length keys → IsPlace rows (slice_index_or keys index []) (slice_index_or places index (Held 0))
 
--- the same rows and maybe more, each with the number that it had, and no key's place changes as long as there are no more
-pub record IsGrown (old new : KeyedRows) : Type 0 where
+-- a row of these aggregates, or of more numbers than they, fits among the rows
+pub record FitsIn (rows : KeyedRows) (gs : List Aggregate) (row : List (Option ℤ)) : Type 0 where
+  pub many : length gs ≡ rows.many
+  pub wide : rows.many ≤ length row
+
+-- the rows have as many keys and as many aggregates as they had
+pub record AreAsWide (old new : KeyedRows) : Type 0 where
   pub width : new.trie.width ≡ old.trie.width
   pub many : new.many ≡ old.many
+
+-- the same rows and maybe more, each with the number that it had, and no key's place changes as long as there are no more
+pub record IsGrown (old new : KeyedRows) : Type 0 where
+  pub widths : AreAsWide old new
   pub held : (key : List KeyPart) (number : ℕ) → IsHeld (keys_in old) key number → IsHeld (keys_in new) key number
   pub more : old.trie.len ≤ new.trie.len
   pub keys : new.trie.len ≡ old.trie.len → keys_in new ≡ keys_in old

@@ -3,6 +3,7 @@
 ghost use Rattle.std.specs.Prelude.{◌≡◌, ◌≤◌, length, OnOk, OnErr};
 ghost use Rattle.star_group.specs.Entries.{entries_of};
 ghost use Rattle.star_group.specs.Private.BasePut.{HasRoomFor, TakesPut};
+ghost use Rattle.star_group.specs.Private.Numbers.{AreAsWide};
 
 use crate::KeyValue;
 use crate::cell::Row;
@@ -10,7 +11,6 @@ use crate::keyed::KeyedRows;
 use crate::keyed::key::base_key;
 use crate::keyed::merge::{merge_into, row_of_put};
 use crate::newest::Newest;
-use crate::placed::{merge, place_of};
 use star_schema::Aggregate;
 use std::alloc::AllocError;
 
@@ -23,8 +23,6 @@ pub(super) fn add_put(
     keys: &[KeyValue],
     values: &[i64],
 ) -> Result<(), AllocError>
-    requires few_keys { length keys.now ≤ 6 }
-    requires few { length aggregates.now ≤ 8 }
     requires values { length values.now ≡ length aggregates.now }
     requires wide { length keys.now ≤ rows.old.trie.width }
     requires many { length aggregates.now ≡ rows.old.many }
@@ -35,13 +33,14 @@ pub(super) fn add_put(
         (entries_of rows.old) total.old (entries_of rows.new) total.new) }
     ensures rows { OnErr result (entries_of rows.new ≡ entries_of rows.old) }
     ensures total { OnErr result (total.new ≡ total.old) }
-    ensures width { rows.new.trie.width ≡ rows.old.trie.width }
-    ensures many { rows.new.many ≡ rows.old.many }
+    ensures widths { AreAsWide rows.old rows.new }
 {
     let row = row_of_put(aggregates, values);
     let key = base_key(keys);
-    let place = place_of(rows, newest, &key);
-    merge(rows, newest, &key, place, aggregates, &row)?;
+    let place = newest.place(rows, &key);
+    let count = rows.len();
+    rows.merge(&key, place, aggregates, &row)?;
+    newest.set(rows, &key, place, count);
     merge_into(aggregates, total, &row);
     Ok(())
 }

@@ -5,7 +5,9 @@ ghost use Rattle.star_group.specs.Base.{HasBaseWithRoom, IsBase, row_at};
 ghost use Rattle.star_group.specs.Entries.{entries_of};
 ghost use Rattle.star_group.specs.Held.{Holds};
 ghost use Rattle.star_group.specs.Private.BasePut.{group_with};
-ghost use Rattle.star_group.specs.Private.Coarser.{IsRolledUpWithRoom, RollsUp, first_hidden};
+ghost use Rattle.star_group.specs.Private.Coarser as spec;
+ghost use Rattle.star_group.specs.Private.Coarser.{IsRolledUpWithRoom, RollsUp};
+ghost use Rattle.star_group.specs.Private.Numbers.{AreAsWide};
 ghost use Rattle.star_group.specs.Stores.{Put};
 
 use crate::cell::Row;
@@ -26,42 +28,30 @@ fn add_hidden(
     requires room { ∥ IsRolledUpWithRoom aggregates.now (place + 1) (entries_of rows.old) ∥₁ }
     ensures rows { OnOk result
         (RollsUp aggregates.now (place + 1) (entries_of rows.old) place (entries_of rows.new)) }
-    ensures width { rows.new.trie.width ≡ rows.old.trie.width }
-    ensures many { rows.new.many ≡ rows.old.many }
+    ensures widths { AreAsWide rows.old rows.new }
 {
     let finer = rows.listed(alloc)?;
     for index in 0..finer.len() {
         let key = hidden(&finer.key(index), place);
-        rows.merge(&key, aggregates, finer.row(index))?;
+        let found = rows.place(&key);
+        rows.merge(&key, found, aggregates, finer.row(index))?;
     }
     Ok(())
 }
 
-// The rows of each subset of the first keys, from those of all keys.
-pub(crate) fn add_coarser(
-    alloc: Global,
-    rows: &mut KeyedRows,
-    count: usize,
-    aggregates: &[Aggregate],
-) -> Result<(), AllocError>
-    requires count { count ≤ rows.old.trie.width }
-    requires many { length aggregates.now ≡ rows.old.many }
-    requires room { ∥ IsRolledUpWithRoom aggregates.now count (entries_of rows.old) ∥₁ }
-    ensures rows { OnOk result
-        (RollsUp aggregates.now count (entries_of rows.old) 0 (entries_of rows.new)) }
-    ensures width { rows.new.trie.width ≡ rows.old.trie.width }
-    ensures many { rows.new.many ≡ rows.old.many }
+// The first key that may be ALL in a row of these groups.
+fn first_hidden(shape: Shape, count: usize) -> usize
+    ensures first { result ≡ spec.first_hidden shape count }
+    ensures within { result ≤ count }
 {
-    let mut place = count;
-    while place > 0 {
-        place -= 1;
-        add_hidden(alloc, rows, place, aggregates)?;
+    match shape {
+        Shape::Cube => 0,
+        Shape::Plain => count,
     }
-    Ok(())
 }
 
 // The rows of the groups, from those of all keys.
-fn roll_up(
+fn add_coarser(
     alloc: Global,
     rows: &mut KeyedRows,
     shape: Shape,
@@ -72,14 +62,16 @@ fn roll_up(
     requires many { length aggregates.now ≡ rows.old.many }
     requires room { ∥ IsRolledUpWithRoom aggregates.now count (entries_of rows.old) ∥₁ }
     ensures rows { OnOk result (RollsUp aggregates.now count (entries_of rows.old)
-        (first_hidden shape count) (entries_of rows.new)) }
-    ensures width { rows.new.trie.width ≡ rows.old.trie.width }
-    ensures many { rows.new.many ≡ rows.old.many }
+        (spec.first_hidden shape count) (entries_of rows.new)) }
+    ensures widths { AreAsWide rows.old rows.new }
 {
-    match shape {
-        Shape::Cube => add_coarser(alloc, rows, count, aggregates),
-        Shape::Plain => Ok(()),
+    let first = first_hidden(shape, count);
+    let mut place = count;
+    while place > first {
+        place -= 1;
+        add_hidden(alloc, rows, place, aggregates)?;
     }
+    Ok(())
 }
 
 // The rows of the groups, and the total in any case.
@@ -92,7 +84,6 @@ pub(crate) fn all_rows(
     aggregates: &[Aggregate],
 ) -> Result<KeyedRows, AllocError>
     requires count { count ≤ base.trie.width }
-    requires few { length aggregates.now ≤ 8 }
     requires many { length aggregates.now ≡ base.many }
     requires room { HasBaseWithRoom (group_with shape count aggregates.now)
         (entries_of base) total }
@@ -102,7 +93,7 @@ pub(crate) fn all_rows(
         → Holds (group_with shape count aggregates.now) (row_at (entries_of rows)) puts) }
 {
     let mut rows = base;
-    roll_up(alloc, &mut rows, shape, count, aggregates)?;
+    add_coarser(alloc, &mut rows, shape, count, aggregates)?;
     rows.insert(&ALL_HIDDEN, &total[..aggregates.len()])?;
     Ok(rows)
 }

@@ -6,6 +6,7 @@ ghost use Rattle.star_schema.specs.declared.group.Shape.TheVariants.{Cube};
 ghost use Rattle.star_group.specs.Base.{row_at};
 ghost use Rattle.star_group.specs.Entries.{entries_of};
 ghost use Rattle.star_group.specs.OwnKeys.{own_keys, padded};
+ghost use Rattle.star_group.specs.Private.Numbers.{AreAsWide, FitsIn};
 ghost use Rattle.star_group.specs.Private.Rows.{PutsRows, SomeLeaves};
 
 use super::own::fill_own;
@@ -25,11 +26,8 @@ pub(super) fn put_cube(
     keys: &[KeyValue],
     more: &[Option<i64>],
 ) -> Result<(), PutFault>
-    requires few_keys { length keys.now ≤ 6 }
     requires narrow { length keys.now ≤ rows.old.trie.width }
-    requires few { length aggregates.now ≤ 8 }
-    requires many { length aggregates.now ≡ rows.old.many }
-    requires wide { rows.old.many ≤ length more.now }
+    requires fits { FitsIn rows.old aggregates.now more.now }
     ensures ok { OnOk result (PutsRows
         (own_keys Cube (length keys.now) (padded 6 keys.now)) aggregates.now more.now
         (row_at (entries_of rows.old)) (row_at (entries_of rows.new))) }
@@ -37,8 +35,7 @@ pub(super) fn put_cube(
     ensures overflow { IfErr result (λ fault. UnlessMemory PutFault.OutOfMemory fault
         (SomeLeaves (row_at (entries_of rows.old))
         (own_keys Cube (length keys.now) (padded 6 keys.now)) aggregates.now more.now)) }
-    ensures width { rows.new.trie.width ≡ rows.old.trie.width }
-    ensures many { rows.new.many ≡ rows.old.many }
+    ensures widths { AreAsWide rows.old rows.new }
 {
     fill_own(own, keys)?;
     put_rows(rows, own.as_slice(), places, aggregates, more)

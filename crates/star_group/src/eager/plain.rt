@@ -9,7 +9,7 @@ ghost use Rattle.star_group.specs.Eager.{look_in};
 ghost use Rattle.star_group.specs.Entries.{entries_of};
 ghost use Rattle.star_group.specs.OwnKeys.{own_keys, padded};
 ghost use Rattle.star_group.specs.Private.Merged.{IsMergedAt, MergeLeaves, MergeStays};
-ghost use Rattle.star_group.specs.Private.Numbers.{IsNarrow};
+ghost use Rattle.star_group.specs.Private.Numbers.{AreAsWide, FitsIn, IsNarrow};
 ghost use Rattle.star_group.specs.Private.Rows.{PutsRows, SomeLeaves};
 
 use crate::KeyValue;
@@ -18,7 +18,6 @@ use crate::keyed::KeyedRows;
 use crate::keyed::key::{OrderedKey, base_key};
 use crate::keyed::merge::{merge_into, row_stays};
 use crate::newest::Newest;
-use crate::placed::{merge, place_of};
 use crate::rows::{PutFault, stays_at};
 use star_schema::Aggregate;
 
@@ -31,9 +30,7 @@ fn put_row(
     more: &[Option<i64>],
 ) -> Result<(), PutFault>
     requires narrow { IsNarrow rows.old.trie.width key.now }
-    requires few { length aggregates.now ≤ 8 }
-    requires many { length aggregates.now ≡ rows.old.many }
-    requires wide { rows.old.many ≤ length more.now }
+    requires fits { FitsIn rows.old aggregates.now more.now }
     ensures ok { OnOk result (IsMergedAt aggregates.now (key_of key.now) more.now
         (entries_of rows.old) (entries_of rows.new)) }
     ensures stays { OnOk result (MergeStays aggregates.now
@@ -42,14 +39,15 @@ fn put_row(
     ensures overflow { IfErr result (λ fault. UnlessMemory PutFault.OutOfMemory fault
         (MergeLeaves aggregates.now
         (unwrap_or (row_at (entries_of rows.old) (key_of key.now)) []) more.now)) }
-    ensures width { rows.new.trie.width ≡ rows.old.trie.width }
-    ensures many { rows.new.many ≡ rows.old.many }
+    ensures widths { AreAsWide rows.old rows.new }
 {
-    let place = place_of(rows, newest, key);
+    let place = newest.place(rows, key);
     if !stays_at(rows, place, aggregates, more) {
         return Err(PutFault::Overflow);
     }
-    merge(rows, newest, key, place, aggregates, more)?;
+    let count = rows.len();
+    rows.merge(key, place, aggregates, more)?;
+    newest.set(rows, key, place, count);
     Ok(())
 }
 
@@ -62,11 +60,8 @@ pub(super) fn put_plain(
     keys: &[KeyValue],
     more: &[Option<i64>],
 ) -> Result<(), PutFault>
-    requires few_keys { length keys.now ≤ 6 }
     requires narrow { length keys.now ≤ rows.old.trie.width }
-    requires few { length aggregates.now ≤ 8 }
-    requires many { length aggregates.now ≡ rows.old.many }
-    requires wide { rows.old.many ≤ length more.now }
+    requires fits { FitsIn rows.old aggregates.now more.now }
     ensures ok { OnOk result (PutsRows
         (own_keys Plain (length keys.now) (padded 6 keys.now)) aggregates.now more.now
         (look_in Plain (entries_of rows.old) total.old)
@@ -76,8 +71,7 @@ pub(super) fn put_plain(
     ensures overflow { IfErr result (λ fault. UnlessMemory PutFault.OutOfMemory fault
         (SomeLeaves (look_in Plain (entries_of rows.old) total.old)
         (own_keys Plain (length keys.now) (padded 6 keys.now)) aggregates.now more.now)) }
-    ensures width { rows.new.trie.width ≡ rows.old.trie.width }
-    ensures many { rows.new.many ≡ rows.old.many }
+    ensures widths { AreAsWide rows.old rows.new }
 {
     if !row_stays(aggregates, total, more) {
         return Err(PutFault::Overflow);

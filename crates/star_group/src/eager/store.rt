@@ -61,7 +61,6 @@ fn newest_of(alloc: Global, shape: Shape) -> Result<Newest, AllocError> {
 
 // The row of all puts.
 fn all_row<'a>(rows: &'a KeyedRows, shape: Shape, total: &'a Row) -> Option<&'a [Option<i64>]>
-    requires few { rows.now.many ≤ 8 }
     ensures row { MatchOption result
         (look_in shape (entries_of rows.now) total.now (key_of all_hidden) ≡ None)
         (λ row. look_in shape (entries_of rows.now) total.now (key_of all_hidden)

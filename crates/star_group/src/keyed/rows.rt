@@ -6,9 +6,8 @@ ghost use Rattle.star_group.specs.Entries.{entries_of};
 ghost use Rattle.star_group.specs.declared.keyed.key.KeyPart.{KeyPart};
 ghost use Rattle.star_program.specs.Rows.{cut};
 ghost use Rattle.star_group.specs.Private.Merged.{IsMergedAt, IsWithRow, MergeStays, RowsStay};
-ghost use Rattle.star_group.specs.Private.Numbers.{HasSpace, IsGrown, IsNarrow, IsNumber, IsPlace, IsPlaceAmong, keys_in};
-ghost use Rattle.star_group.specs.declared.keyed.trie.Place.TheVariants.{Missing};
-ghost use Rattle.star_group.specs.Private.Tries.{IsHeld, IsMissing};
+ghost use Rattle.star_group.specs.Private.Numbers.{AreAsWide, FitsIn, HasSpace, IsGrown, IsNarrow, IsNumber, IsPlace, IsPlaceAmong, keys_in};
+ghost use Rattle.star_group.specs.Private.Tries.{IsHeld, IsMissing, is_missing};
 
 use super::KeyedRows;
 use super::cells::{merge_at, write_at};
@@ -21,7 +20,8 @@ use std::alloc::{AllocError, Global};
 impl KeyedRows {
     // No rows of so many keys and aggregates.
     pub(crate) fn new(alloc: Global, count: usize, many: usize) -> Result<KeyedRows, AllocError>
-        requires { count ≤ 6 }
+        requires few_keys { count ≤ 6 }
+        requires few { many ≤ 8 }
         ensures empty { IfOk result (λ rows. entries_of rows ≡ []) }
         ensures keys { IfOk result (λ rows. count ≤ rows.trie.width) }
         ensures many { IfOk result (λ rows. rows.many ≡ many) }
@@ -58,6 +58,20 @@ impl KeyedRows {
         self.trie.find(&key[..self.trie.width])
     }
 
+    // The same, where this place is the answer as long as there are so many rows; where there are
+    // more and the row was missing, it is looked up once more.
+    pub(crate) fn place_among(&self, count: usize, key: &OrderedKey, place: Place) -> Place
+        requires { IsPlaceAmong self.now count key.now place }
+        ensures place { IsPlace self.now key.now result }
+        ensures missing { is_missing result ≡ true → is_missing place ≡ true }
+    {
+        if place.is_missing() && self.trie.len != count {
+            self.place(key)
+        } else {
+            place
+        }
+    }
+
     // Whether the row of a number is that of this key.
     pub(crate) fn has(&self, number: usize, key: &OrderedKey) -> bool
         ensures { result ≡ true
@@ -77,8 +91,7 @@ impl KeyedRows {
         ensures keys { keys_in self.new ≡ keys_in self.old }
         ensures links { self.new.trie.links.items ≡ self.old.trie.links.items }
         ensures rows { entries_of self.new ≡ entries_of self.old }
-        ensures width { self.new.trie.width ≡ self.old.trie.width }
-        ensures many { self.new.many ≡ self.old.many }
+        ensures widths { AreAsWide self.old self.new }
     {
         let cells = additional.checked_mul(self.many).ok_or(AllocError)?;
         self.trie.reserve(additional)?;
@@ -132,8 +145,7 @@ impl KeyedRows {
         more: &[Option<i64>],
     )
         requires within { number < length (entries_of self.old) }
-        requires many { length aggregates.now ≡ self.old.many }
-        requires wide { self.old.many ≤ length more.now }
+        requires fits { FitsIn self.old aggregates.now more.now }
         requires stays { MergeStays aggregates.now
             (slice_index_or (entries_of self.old) number ([], [])).1 more.now }
         ensures rows { (key : List KeyPart) → length key ≡ 6
@@ -149,27 +161,27 @@ impl KeyedRows {
         merge_at(self.cells.as_mut_slice(), count, number, aggregates, more);
     }
 
-    // One more row for this key, merged into the row that is there.
+    // One more row for this key, which has this place, merged into the row that is there.
     pub(crate) fn merge(
         &mut self,
         key: &OrderedKey,
+        place: Place,
         aggregates: &[Aggregate],
         more: &[Option<i64>],
     ) -> Result<(), AllocError>
         requires narrow { IsNarrow self.old.trie.width key.now }
-        requires many { length aggregates.now ≡ self.old.many }
-        requires wide { self.old.many ≤ length more.now }
+        requires place { IsPlace self.old key.now place }
+        requires fits { FitsIn self.old aggregates.now more.now }
         requires stays { RowsStay aggregates.now
             (row_at (entries_of self.old) (key_of key.now)) more.now }
         ensures ok { OnOk result (IsMergedAt aggregates.now (key_of key.now) more.now
             (entries_of self.old) (entries_of self.new)) }
         ensures refused { OnErr result (entries_of self.new ≡ entries_of self.old) }
-        ensures space { (count : ℕ) → HasSpace self.old (count + 1)
-            → IsOk result × HasSpace self.new count }
+        ensures enough { (is_missing place ≡ true → HasSpace self.old 1) → IsOk result }
+        ensures space { (count : ℕ) → HasSpace self.old (count + 1) → HasSpace self.new count }
         ensures grown { IsGrown self.old self.new }
     {
-        let width = self.trie.width;
-        match self.trie.find(&key[..width]) {
+        match place {
             Place::Held(number) => {
                 self.merge_row(number, aggregates, more);
                 Ok(())
@@ -181,50 +193,15 @@ impl KeyedRows {
         }
     }
 
-    // One more row for this key, which is missing at this place as long as there are so many rows;
-    // where there are more, it is looked up once more.
-    pub(crate) fn merge_missing(
-        &mut self,
-        count: usize,
-        node: usize,
-        digit: usize,
-        key: &OrderedKey,
-        aggregates: &[Aggregate],
-        more: &[Option<i64>],
-    ) -> Result<(), AllocError>
-        requires narrow { IsNarrow self.old.trie.width key.now }
-        requires missing { IsPlaceAmong self.old count key.now
-            (Missing node digit) }
-        requires many { length aggregates.now ≡ self.old.many }
-        requires wide { self.old.many ≤ length more.now }
-        requires stays { RowsStay aggregates.now
-            (row_at (entries_of self.old) (key_of key.now)) more.now }
-        ensures ok { OnOk result (IsMergedAt aggregates.now (key_of key.now) more.now
-            (entries_of self.old) (entries_of self.new)) }
-        ensures refused { OnErr result (entries_of self.new ≡ entries_of self.old) }
-        ensures space { (count : ℕ) → HasSpace self.old (count + 1)
-            → IsOk result × HasSpace self.new count }
-        ensures grown { IsGrown self.old self.new }
-    {
-        if self.trie.len == count {
-            let many = self.many;
-            self.push(node, digit, key, &more[..many])
-        } else {
-            self.merge(key, aggregates, more)
-        }
-    }
-
     // The row of this key, in place of one that is there.
     pub(crate) fn insert(&mut self, key: &OrderedKey, row: &[Option<i64>]) -> Result<(), AllocError>
         requires narrow { IsNarrow self.old.trie.width key.now }
         requires wide { length row.now ≡ self.old.many }
         ensures ok { OnOk result (IsWithRow (key_of key.now) row.now
             (entries_of self.old) (entries_of self.new)) }
-        ensures width { self.new.trie.width ≡ self.old.trie.width }
-        ensures many { self.new.many ≡ self.old.many }
+        ensures widths { AreAsWide self.old self.new }
     {
-        let width = self.trie.width;
-        match self.trie.find(&key[..width]) {
+        match self.place(key) {
             Place::Held(number) => {
                 let count = self.trie.len;
                 write_at(self.cells.as_mut_slice(), count, number, row);

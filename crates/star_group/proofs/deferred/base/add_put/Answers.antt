@@ -24,5 +24,5 @@ merge-requires-clause-stays c =
 pub returns-clause-ok : goal.returns-clause-ok
 returns-clause-ok c = λ shape puts base.
     let u : Put = record { keys = c.args.keys.now; values = c.args.values.now } in
-    base_more (group_with shape (length u.keys) c.args.aggregates.now) puts u c.base_key-key.result c.row_of_put-row.result c.base_key-key.ensures c.row_of_put-row.ensures (entries_of c.args.rows.now) c.args.total.now base refl (entries_of c.merge.new.rows) c.merge_into.new.held
+    base_more (group_with shape (length u.keys) c.args.aggregates.now) puts u c.base_key-key.result c.row_of_put-row.result c.base_key-key.ensures c.row_of_put-row.ensures (entries_of c.args.rows.now) c.args.total.now base refl (entries_of c.merge.new.self) c.merge_into.new.held
     c.in_ok-merge.ensures.ok c.merge_into.ensures.row

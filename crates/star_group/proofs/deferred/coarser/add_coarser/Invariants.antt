@@ -1,14 +1,15 @@
-use Rattle.std.proofs.Common.{◌≡◌, ◌≤◌}
+use Rattle.std.proofs.Common.{◌≤◌}
 use Rattle.star_group.specs.Entries.{entries_of}
 use Rattle.star_group.specs.Private.Coarser.{RollsUp}
+use Rattle.star_group.specs.Private.Numbers.{AreAsWide}
 use Rattle.star_group.proofs.deferred.coarser.add_coarser.Given as goal
 
 abbrev pub invariant-loop-place : goal.invariant-loop-place
 invariant-loop-place l = record {
+  above : l.first ≤ l.place;
   below : l.place ≤ l.count;
   rolls : RollsUp l.aggregates l.count (entries_of l.fn.rows) l.place (entries_of l.rows);
-  width : l.rows.trie.width ≡ l.fn.rows.trie.width;
-  many : l.rows.many ≡ l.fn.rows.many;
+  widths : AreAsWide l.fn.rows l.rows;
 }
 
 abbrev pub decreases-loop-place : goal.decreases-loop-place

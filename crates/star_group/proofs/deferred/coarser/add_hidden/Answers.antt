@@ -21,16 +21,15 @@ once_finer finer rows same = subst IsOnceAt (sym same) (once_rows rows)
 pub loop-index-init : goal.loop-index-init
 loop-index-init c = record {
   merged = none_merged c.args.aggregates.now c.args.place (listed_entries c.in_ok-finer.finer) (once_finer c.in_ok-finer.finer c.args.rows.now c.in_ok-finer.ensures.rows) (entries_of c.args.rows.now) c.in_ok-finer.ensures.rows;
-  width = refl;
-  many = refl;
+  widths = record { width = refl; many = refl };
 }
 
 pub merge-requires-clause-narrow : goal.merge-requires-clause-narrow
 merge-requires-clause-narrow c =
     let width = c.loop-index.rows.trie.width in
-    let within : c.args.place < width = omega (arith, c.requires.place, c.loop-index.invariant.width) in
+    let within : c.args.place < width = omega (arith, c.requires.place, c.loop-index.invariant.widths.width) in
     ap (drop width) c.hidden-key.ensures.parts ∙ drop-set-lt width c.key.result c.args.place All within
-    ∙ subst (λ n. drop n c.key.result ≡ drop n all_hidden) (c.in_ok-finer.ensures.width ∙ sym c.loop-index.invariant.width) c.key.ensures.narrow
+    ∙ subst (λ n. drop n c.key.result ≡ drop n all_hidden) (c.in_ok-finer.ensures.width ∙ sym c.loop-index.invariant.widths.width) c.key.ensures.narrow
 
 pub merge-requires-clause-stays : goal.merge-requires-clause-stays
 merge-requires-clause-stays c =
@@ -53,8 +52,7 @@ loop-index-preserved c =
     record {
       merged = turn_merges c.args.aggregates.now c.args.place es (once_finer c.in_ok-finer.finer c.args.rows.now c.in_ok-finer.ensures.rows) index e (slice_get-get_or es index ([], []) within) (entries_of c.loop-index.rows) c.hidden-key.result key c.loop-index.invariant.merged (entries_of c.merge.new.self)
           (subst (λ more. IsMergedAt c.args.aggregates.now (key_of c.hidden-key.result) more (entries_of c.loop-index.rows) (entries_of c.merge.new.self)) c.row.ensures.row c.in_ok-merge.ensures.ok);
-      width = c.merge.ensures.grown.width ∙ c.loop-index.invariant.width;
-      many = c.merge.ensures.grown.many ∙ c.loop-index.invariant.many;
+      widths = record { width = c.merge.ensures.grown.widths.width ∙ c.loop-index.invariant.widths.width; many = c.merge.ensures.grown.widths.many ∙ c.loop-index.invariant.widths.many };
     }
 
 pub returns-clause-rows : goal.returns-clause-rows

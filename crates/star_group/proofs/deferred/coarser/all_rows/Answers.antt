@@ -5,8 +5,8 @@ use Rattle.star_group.specs.Private.BasePut.{group_with}
 use Rattle.star_group.proofs.AllRows.{base_room, base_rolled, holds_all}
 use Rattle.star_group.proofs.deferred.coarser.all_rows.Goals as goal
 
-pub roll_up-requires-clause-room : goal.roll_up-requires-clause-room
-roll_up-requires-clause-room c =
+pub add_coarser-requires-clause-room : goal.add_coarser-requires-clause-room
+add_coarser-requires-clause-room c =
     let few : c.args.count ≤ 6 = omega (arith, c.requires.count, c.args.base.trie.few) in
     base_room c.args.shape c.args.count c.args.aggregates.now (entries_of c.args.base) c.args.total few c.requires.room
 
@@ -15,6 +15,6 @@ returns-clause-rows c = λ puts base.
     let gs = c.args.aggregates.now in
     let d = group_with c.args.shape c.args.count gs in
     let few : c.args.count ≤ 6 = omega (arith, c.requires.count, c.args.base.trie.few) in
-    holds_all d puts (entries_of c.roll_up.new.rows) (entries_of c.insert.new.self) (take (length gs) c.args.total)
-    (c.in_ok-roll_up.ensures.rows c.args.shape c.args.count puts (omega arith) few (base_rolled d (entries_of c.args.base) c.args.total puts base))
+    holds_all d puts (entries_of c.add_coarser.new.rows) (entries_of c.insert.new.self) (take (length gs) c.args.total)
+    (c.in_ok-add_coarser.ensures.rows c.args.shape c.args.count puts (omega arith) few (base_rolled d (entries_of c.args.base) c.args.total puts base))
     (λ place h. get_or-take (length gs) c.args.total place None h ∙ base.total place h) c.in_ok-insert.ensures.ok

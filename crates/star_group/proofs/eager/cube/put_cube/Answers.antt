@@ -1,4 +1,4 @@
-use Rattle.std.proofs.Common.{ap, ◌∙◌, map, subst, sym}
+use Rattle.std.proofs.Common.{ap, arith, ◌∙◌, map, subst, sym}
 use Rattle.std.specs.List.{IsDistinct}
 use Rattle.star_schema.specs.declared.group.Shape.TheVariants.{Cube}
 use Rattle.star_group.specs.Base.{key_of}
@@ -8,7 +8,7 @@ use Rattle.star_group.proofs.Distinct.{own_distinct}
 use Rattle.star_group.proofs.eager.cube.put_cube.Goals as goal
 
 pub put_rows-requires-clause-distinct : goal.put_rows-requires-clause-distinct
-put_rows-requires-clause-distinct c = subst (IsDistinct key_eq) (sym (ap (map key_of) c.as_slice.ensures.value ∙ c.in_ok-fill_own.ensures.keys)) (own_distinct Cube c.args.keys.now c.requires.few_keys)
+put_rows-requires-clause-distinct c = subst (IsDistinct key_eq) (sym (ap (map key_of) c.as_slice.ensures.value ∙ c.in_ok-fill_own.ensures.keys)) (own_distinct Cube c.args.keys.now (omega (arith, c.requires.narrow, c.args.rows.now.trie.few)))
 
 pub put_rows-requires-clause-narrow : goal.put_rows-requires-clause-narrow
 put_rows-requires-clause-narrow c =

@@ -1,4 +1,4 @@
-use Rattle.std.proofs.Common.{ap, length, sym, ◌∙◌, subst}
+use Rattle.std.proofs.Common.{ap, arith, length, sym, ◌∙◌, subst}
 use Rattle.star_group.specs.Eager.{group_of}
 use Rattle.star_group.specs.Entries.{entries_of}
 use Rattle.star_group.specs.Held.{Holds}
@@ -17,6 +17,6 @@ returns c =
     let all = entries_of c.in_ok-rows.rows in
     if_ok _ _ c.rows_given.result
     (λ rows is puts has. subst (λ xs. AreRows (group_of s) puts xs) (sym (is ∙ (λ i. rows_given s.shape s.count (c.as_slice-aggregates.ensures.value i) (shown_entries (c.into_listed-rows.ensures.rows i)))))
-    (are_rows (group_of s) puts all s.few_keys (rows_once c.in_ok-rows.rows)
+    (are_rows (group_of s) puts all (omega (arith, s.wide, s.rows.trie.few)) (rows_once c.in_ok-rows.rows)
     (subst (λ look. Holds (group_of s) look puts) (λ i q. sym (c.in_ok-rows.ensures.rows q) i) (holds_taken (group_of s) puts s.total _ (ap length c.as_slice-aggregates.ensures.value) s.shape (entries_of s.rows) has))))
     c.rows_given.ensures
