@@ -11,7 +11,7 @@ use Rattle.star_reader.proofs.Law.{table_complete}
 use Rattle.star_catalogue.specs.declared.fault.LoadFault.{LoadFault}
 use Rattle.star_catalogue.specs.Load.{absent_fault, load_fault, table_fault, tables_fault}
 use Rattle.star_catalogue.proofs.KeyLists.{distinct_no_fault}
-use Rattle.star_catalogue.proofs.ReferredRows.{found_keys}
+use Rattle.star_catalogue.proofs.ReferredRows.{found_keys, of_column}
 use Rattle.star_catalogue.specs.declared.referred.Referred.{Referred}
 use Rattle.star_catalogue.specs.Private.Referred.{AreReferred, rows_kept}
 use Rattle.star_schema.specs.Bounds.{numbers_of}
@@ -73,5 +73,6 @@ referred_sound texts kept distinct are =
     record {
       distinct = λ t. rw (rows_in-database_of texts t) (distinct t);
       found = λ c t refers. found_keys (keys_of t (rows_in database t))
-          (numbers_of c (rows_in database (table_of c))) (rows_kept kept c) (are c t refers);
+          (numbers_of c (rows_in database (table_of c))) (rows_kept kept c)
+          ((of_column database kept c are).1 t refers);
     }

@@ -16,11 +16,10 @@ IsKeptAs kept c column =
     IsColumnAt kept.rows (map as_read kept.columns.items) (place_of c) (kind_of c) (as_read column)
 
 -- a column at its place is the one that was read there
-pub column_at : (kept : Inside) (c : ColumnId) (place : ℕ) (column : Column) → IsKept kept
+pub column_at : {kept : Inside} (c : ColumnId) {place : ℕ} {column : Column} → IsKept kept
     → table_of c ≡ kept.table → place ≡ place_of c → column ≡ get_or kept.columns.items place column
     → IsKeptAs kept c column
-column_at kept c place column h of_table at is =
-    column_read_at kept.table kept.rows (map as_read kept.columns.items) (place_of c) (kind_of c)
-    (as_read column) h.columns (rw (← of_table) (kind_at_place c))
+column_at {kept} c {place} {column} h of_table at is =
+    column_read_at h.columns (rw (← of_table) (kind_at_place c))
     (ap as_read is ∙ sym (get_or-map as_read kept.columns.items place column)
     ∙ ap (λ p. get_or (map as_read kept.columns.items) p (as_read column)) at)

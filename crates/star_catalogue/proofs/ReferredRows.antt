@@ -1,20 +1,22 @@
 -- The rows that foreign keys refer to.
-use Rattle.std.proofs.Common.{◌≡◌, ◌+◌, ◌<◌, ◌≤◌, ◌^◌, ◌∷◌, ◌++◌, ◌∙◌, ℕ, ℤ, List, [], All, Contains, IsSome, Option, Some, None, ap, arith, get_or, length, pos, refl, sym, take}
+use Rattle.std.proofs.Common.{◌≡◌, ◌+◌, ◌<◌, ◌≤◌, ◌^◌, ◌∷◌, ◌++◌, ◌∙◌, ℕ, ℤ, List, [], All, Contains, IsSome, MatchOption, Option, Some, None, ap, arith, get_or, inl, inr, length, pos, refl, sym, take}
 use Rattle.std.specs.Int.RustNames.{unsigned_abs}
 use Rattle.std.specs.List.{slice_get}
 use Rattle.std.specs.Option.{option_map}
-use Rattle.std.proofs.lemmas.List.{length-map, map-append, take_all}
+use Rattle.std.proofs.lemmas.List.{length-append, length-map, map-append, take_all}
 use Rattle.std.proofs.lemmas.List.Elements.{All-get_or, All-nil, All-push}
 use Rattle.std.proofs.lemmas.Option.{get_or_from_slice_get, slice_get-get_or, slice_get-map, slice_get_within}
 use Rattle.star_schema.specs.declared.column.ColumnId.{ColumnId}
-use Rattle.star_schema.specs.declared.column.ColumnId.TheVariants.{LoCustkey, LoPartkey, LoSuppkey, LoOrderdate, LoCommitdate}
+use Rattle.star_schema.specs.declared.column.TheConstants.{COLUMNS}
 use Rattle.star_schema.specs.declared.table.TableId.{TableId}
 use Rattle.star_schema.specs.Bounds.{numbers_of}
 use Rattle.star_schema.specs.Database.{Database, rows_in}
-use Rattle.star_schema.specs.Loadable.{keys_of}
-use Rattle.star_schema.specs.Schema.{column_of, place_of, references, table_of}
+use Rattle.star_schema.specs.Loadable.{RefersTo, keys_of}
+use Rattle.star_schema.specs.Schema.{index_of, place_of, references, table_of}
 use Rattle.star_catalogue.specs.declared.referred.Referred.{Referred}
-use Rattle.star_catalogue.specs.Private.Referred.{AreFound, AreReferred, rows_kept}
+use Rattle.star_catalogue.specs.Private.Referred.{AreFound, AreOfFirst, AreReferred, AreRowsOf, rows_kept}
+use Rattle.star_schema.proofs.Same.{at_index}
+use Rattle.star_column.proofs.Trees.{pushed_cases}
 use Rattle.star_reader.proofs.RowPlaces.{length-numbers_at}
 use Rattle.star_catalogue.proofs.Copies.{copied_more}
 
@@ -91,19 +93,46 @@ found_keys keys numbers rows h i d within =
           (get_or numbers i d ∷ []) key,
     )
 
--- no other column refers to one
-pub no_other : (c : ColumnId) → (c ≡ LoCustkey → ⊥) → (c ≡ LoPartkey → ⊥) → (c ≡ LoSuppkey → ⊥)
-    → (c ≡ LoOrderdate → ⊥) → (c ≡ LoCommitdate → ⊥) → IsSome (references c) → ⊥
-unfolding column_of
-no_other LoCustkey customer part supplier order commit some = customer refl
-no_other LoPartkey customer part supplier order commit some = part refl
-no_other LoSuppkey customer part supplier order commit some = supplier refl
-no_other LoOrderdate customer part supplier order commit some = order refl
-no_other LoCommitdate customer part supplier order commit some = commit refl
-no_other _ customer part supplier order commit some = cc
+-- what was found of the table that a column refers to
+pub of_table : (database : Database) (c : ColumnId) (t : TableId) → references c ≡ Some t
+    → (found : Option (List ℤ)) → MatchOption found (¬ RefersTo database c t)
+    (AreFound (keys_of t (rows_in database t)) (numbers_of c (rows_in database (table_of c))))
+    → MatchOption found (¬ ((u : TableId) → references c ≡ Some u → RefersTo database c u))
+    (AreRowsOf database c)
+of_table database c t refers None absent = λ all. absent (all t refers)
+of_table database c t refers (Some rows) found = λ u other. let same : t ≡ u = cc in rw (← same) found
+
+-- the rows of the columns, one column after the other
+pub of_one_more : {database : Database} {n : ℕ} {lists : List (List ℤ)} (c : ColumnId) (rows : List ℤ)
+    (more : List (List ℤ)) → AreOfFirst database n lists → more ≡ lists ++ rows ∷ []
+    → slice_get COLUMNS n ≡ Some c → AreRowsOf database c rows
+    → AreOfFirst database (n + 1) more
+of_one_more {database} {n} {lists} c rows more so_far pushed at are =
+    rw pushed (record {
+      all = length-append lists (rows ∷ []) ∙ ap (λ m. m + 1) so_far.all;
+      each = λ i d other d_at there. elim (pushed_cases lists rows i other there) [
+        | inl before ↦ so_far.each i d other d_at before
+        | inr last ↦
+            let same : Some c ≡ Some d =
+            sym at ∙ ap (slice_get COLUMNS) (sym (last.0 ∙ so_far.all)) ∙ d_at in
+            let is : c ≡ d = cc in
+            rw (← is, ← last.1) are
+      ];
+    })
+
+-- the rows of one column
+pub of_column : (database : Database) (kept : Referred) (c : ColumnId) → AreReferred database kept
+    → (index_of c < length kept.rows.items) × AreRowsOf database c (rows_kept kept c)
+of_column database kept c are =
+    let within = rw (← are.all) at (slice_get_within COLUMNS (index_of c) c (at_index c)) in (
+      within,
+      are.each (index_of c) c (rows_kept kept c) (at_index c)
+          (slice_get-get_or kept.rows.items (index_of c) [] within),
+    )
 
 -- what is kept of a row of a column that refers to a table
 pub record LeadsOn (database : Database) (kept : Referred) (c : ColumnId) (row : ℕ) : Type 0 where
+  pub within : index_of c < length kept.rows.items
   pub place : ℤ
   pub there : slice_get (rows_kept kept c) row ≡ Some place
   pub few : unsigned_abs place < 2 ^ 32
@@ -126,10 +155,12 @@ leads_on database kept c row are some within = by (references c) refl
         let at : slice_get numbers row ≡ Some number =
         slice_get-get_or numbers row (pos 0)
         (omega (arith, within, length-numbers_at (place_of c) (rows_in database (table_of c)))) in
+        let (within_lists, rows_are) = of_column database kept c are in
         let (place, there, few, key) =
         row_there (keys_of t (rows_in database t)) numbers (rows_kept kept c) row number
-        (are c t refers) at in
+        (rows_are t refers) at in
         record {
+          within = within_lists;
           place = place;
           there = there;
           few = few;

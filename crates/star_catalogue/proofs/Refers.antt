@@ -10,46 +10,26 @@ use Rattle.std.proofs.Math.Seq.{drop-length}
 use Rattle.std.proofs.lemmas.Bool.{cases_Bool}
 use Rattle.std.proofs.lemmas.List.{length-map}
 use Rattle.std.proofs.lemmas.Cmp.{int_eq_equiv}
-use Rattle.std.proofs.lemmas.List.Elements.{All-cons, All-map, All-nil}
+use Rattle.std.proofs.lemmas.List.Elements.{All-map}
 use Rattle.std.proofs.lemmas.List.FromFn.{get_or-enumerate_from, length-enumerate_from}
 use Rattle.std.proofs.lemmas.Map.Keys.{any_passes_from_place}
 use Rattle.std.proofs.lemmas.Map.Views.{Contains-from_any, list_any-from_Contains}
 use Rattle.std.proofs.lemmas.Option.{slice_get-get_or, slice_get-map}
 use Rattle.star_schema.specs.declared.column.ColumnId.{ColumnId}
-use Rattle.star_schema.specs.declared.column.ColumnId.TheVariants.{LoCustkey, LoPartkey, LoSuppkey, LoOrderdate, LoCommitdate}
+use Rattle.star_schema.specs.declared.column.ColumnId.TheVariants.{DDatekey}
 use Rattle.star_schema.specs.declared.table.TableId.{TableId}
 use Rattle.star_schema.specs.declared.table.TableId.TheVariants.{Lineorder}
 use Rattle.star_schema.specs.Bounds.{numbers_at, numbers_of}
 use Rattle.star_schema.specs.Database.{Database, rows_in}
 use Rattle.star_common.specs.First.{first_answer}
 use Rattle.star_schema.specs.Loadable.{IsSound, RefersTo, foreign_keys, keys_of, number_at}
-use Rattle.star_schema.specs.Schema.{column_of, references}
+use Rattle.star_schema.specs.Schema.{references}
 use Rattle.star_schema.specs.Tables.{Value}
 use Rattle.star_common.proofs.Firsts.{all_without_answer, enumerated_at, first_answer_here, first_answer_none, first_answer_on}
-use Rattle.star_schema.proofs.KeyColumns.{IsNumberOf, foreign_key, foreign_keys_are}
+use Rattle.star_schema.proofs.KeyColumns.{foreign_key}
 use Rattle.star_catalogue.specs.declared.fault.LoadFault.{LoadFault}
 use Rattle.star_catalogue.specs.declared.fault.LoadFault.TheVariants.{AbsentKey}
 use Rattle.star_catalogue.specs.Load.{absent_fault, cell_fault, is_found, row_fault, same_key}
-
--- each column that refers to a table is one of numbers of lineorder
-five_numbers : All (IsNumberOf Lineorder)
-    (LoCustkey ∷ LoPartkey ∷ LoSuppkey ∷ LoOrderdate ∷ LoCommitdate ∷ [])
-unfolding column_of
-five_numbers =
-    All-cons (IsNumberOf Lineorder) LoCustkey
-    (LoPartkey ∷ LoSuppkey ∷ LoOrderdate ∷ LoCommitdate ∷ [])
-    (record { table = refl; kind = refl })
-    (All-cons (IsNumberOf Lineorder) LoPartkey (LoSuppkey ∷ LoOrderdate ∷ LoCommitdate ∷ [])
-    (record { table = refl; kind = refl })
-    (All-cons (IsNumberOf Lineorder) LoSuppkey (LoOrderdate ∷ LoCommitdate ∷ [])
-    (record { table = refl; kind = refl })
-    (All-cons (IsNumberOf Lineorder) LoOrderdate (LoCommitdate ∷ [])
-    (record { table = refl; kind = refl })
-    (All-cons (IsNumberOf Lineorder) LoCommitdate [] (record { table = refl; kind = refl })
-    (All-nil (IsNumberOf Lineorder))))))
-
-pub foreign_keys_numbers : All (IsNumberOf Lineorder) foreign_keys
-foreign_keys_numbers = rw foreign_keys_are five_numbers
 
 -- the number of a row in a column
 pub number_of_row : (c : ColumnId) (rows : List (List Value)) (row : ℕ) (n : ℤ) → row < length rows
@@ -102,6 +82,13 @@ pub cell_free : (database : Database) (at_row : ℕ) (row : List Value) (c : Col
 cell_free database at_row row c free =
     let known : is_found database (references c) (number_at c row) ≡ true = rw free refl in
     rw known refl
+
+-- the column at a place of a slice that lists known ones
+pub listed_at : (known columns : List ColumnId) (i : ℕ) → columns ≡ known → i < length columns
+    → slice_get known i ≡ Some (get_or columns i DDatekey)
+listed_at known columns i are within =
+    ap (λ (cs : List ColumnId). slice_get cs i) (sym are)
+    ∙ slice_get-get_or columns i DDatekey within
 
 -- the foreign keys of a row, column by column
 pub row_on : (database : Database) (at_row : ℕ) (row : List Value) (i : ℕ) (c : ColumnId)

@@ -3,7 +3,7 @@
 ghost use Rattle.std.specs.Prelude.{◌≡◌, ◌+◌, ◌<◌, ◌^◌, [], None, Some, MatchResult, length, slice_index_or};
 ghost use Rattle.star_schema.specs.Database.{rows_in};
 ghost use Rattle.star_schema.specs.Loadable.{RefersTo, foreign_keys};
-ghost use Rattle.star_schema.specs.Schema.{kind_of, references, table_of};
+ghost use Rattle.star_schema.specs.Schema.{references};
 ghost use Rattle.star_schema.specs.declared.column.ColumnId.{ColumnId};
 ghost use Rattle.star_schema.specs.declared.table.TableId.{TableId};
 ghost use Rattle.star_catalogue.specs.Load.{absent_fault, cell_fault, row_fault};
@@ -11,7 +11,7 @@ ghost use Rattle.star_catalogue.specs.Load.{absent_fault, cell_fault, row_fault}
 use crate::fault::LoadFault;
 use crate::tables::Tables;
 use star_column::ColumnData;
-use star_schema::{ColumnId, Kind, TableId, references};
+use star_schema::{ColumnId, TableId, references};
 
 /// The columns that refer to a table, in the order of columns.
 static FOREIGN_KEYS: [ColumnId; 5] = [
@@ -33,8 +33,6 @@ fn foreign_key_columns() -> &'static [ColumnId]
 fn check_cell(tables: &Tables, row: u32, column: ColumnId) -> Result<(), LoadFault>
     requires row { row < length (rows_in tables.now TableId.Lineorder) }
     requires few { row + 1 < 2 ^ 32 }
-    requires table { table_of column ≡ TableId.Lineorder }
-    requires kind { kind_of column ≡ Kind.Number }
     ensures { let values = slice_index_or (rows_in tables.now TableId.Lineorder) row [] in
         MatchResult result
         (λ _. cell_fault tables.now (row + 1) values column ≡ None)

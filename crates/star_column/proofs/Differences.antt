@@ -5,8 +5,7 @@ use Rattle.std.specs.List.{All, slice_get}
 use Rattle.std.specs.Option.{option_map}
 use Rattle.std.proofs.lemmas.Bool.Decides.{nat_tests}
 use Rattle.std.proofs.lemmas.List.{length-map}
-use Rattle.std.proofs.lemmas.List.Elements.{All-get_or}
-use Rattle.std.proofs.lemmas.Option.{get_or_from_slice_get, slice_get-map, slice_get_within}
+use Rattle.std.proofs.lemmas.Option.{slice_get-map}
 use Rattle.star_interval.specs.declared.Interval.{Interval}
 use Rattle.star_interval.specs.Interval.{range_of}
 use Rattle.star_interval.specs.Range.{Holds}
@@ -47,18 +46,6 @@ pub packed_held : (bounds : Interval) (words : Words) → IsPacked bounds words
 packed_held bounds words packed =
     all_between (range_of bounds) (above bounds.low (numbers_in words)) packed.bounds_are.low
     packed.bounds_are.high
-
-pub packed_holds : (bounds : Interval) (words : Words) (row d : ℕ) → IsPacked bounds words
-    → slice_get (numbers_in words) row ≡ Some d
-    → Holds (range_of bounds) (bounds.low +ℤ pos d)
-packed_holds bounds words row d packed there =
-    let values = above bounds.low (numbers_in words) in
-    let at_row = packed_at bounds.low (numbers_in words) row d there in
-    let within : row < length values =
-    slice_get_within values row (bounds.low +ℤ pos d) at_row in
-    rw (get_or_from_slice_get values row (bounds.low +ℤ pos d) (pos 0) at_row)
-    at (All-get_or (Holds (range_of bounds)) values row (pos 0) within
-    (packed_held bounds words packed))
 
 -- what a column keeps, as its parts were built
 pub are_packed : (bounds : Interval) (words : Words) (ns : List ℤ) → length ns < 2 ^ 32

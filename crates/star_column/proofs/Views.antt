@@ -6,6 +6,7 @@ use Rattle.std.proofs.lemmas.List.Elements.{All-get_or, All-weaker}
 use Rattle.std.proofs.lemmas.Option.{get_or_from_slice_get, slice_get-get_or, slice_get_within}
 use Rattle.std.proofs.lemmas.Simd.{map-map}
 use Rattle.star_common.proofs.Members.{map_agree}
+use Rattle.star_schema.specs.Bounds.{least}
 use Rattle.star_schema.specs.Dictionary.{codes_of, dictionary_of, low_in}
 use Rattle.star_schema.proofs.Dictionaries.{IsDictionary-dictionary_of}
 use Rattle.star_schema.proofs.TextPlaces.{low_in-place}
@@ -13,6 +14,7 @@ use Rattle.star_interval.specs.Range.{Holds, Range}
 use Rattle.star_column.specs.Private.Codes.{AreCodes}
 use Rattle.star_flat.specs.Repeated.{texts_at}
 use Rattle.star_column.specs.Private.Words.{above}
+use Rattle.star_column.proofs.Coded.{least-codes_of}
 use Rattle.star_column.proofs.Differences.{packed_at}
 
 -- what holds of all values holds of a row's
@@ -42,8 +44,8 @@ module _ (dictionary : List (List ℕ)) (codes : List ℕ) (are : AreCodes dicti
       (IsDictionary-dictionary_of (texts_at dictionary codes)).sorted n (get_or dictionary n [])
       there))
 
-  pub above_codes : above (pos 0) codes ≡ codes_of (texts_at dictionary codes)
-  above_codes =
+  same_codes : above (pos 0) codes ≡ codes_of (texts_at dictionary codes)
+  same_codes =
       let texts = texts_at dictionary codes in
       map_agree (λ n. pos 0 +ℤ pos n)
       (λ n. pos (low_in (dictionary_of texts) (get_or dictionary n []))) codes
@@ -52,3 +54,9 @@ module _ (dictionary : List (List ℕ)) (codes : List ℕ) (are : AreCodes dicti
       are.within)
       ∙ sym (map-map (λ text. pos (low_in (dictionary_of texts) text))
       (λ n. get_or dictionary n []) codes)
+
+  pub above_codes : (low : ℤ) (texts : List (List ℕ)) → low ≡ least (codes_of texts)
+      → texts_at dictionary codes ≡ texts → above low codes ≡ codes_of texts
+  above_codes low texts low_is texts_are =
+      let zero : low ≡ pos 0 = low_is ∙ sym (least-codes_of texts) in
+      rw (zero, ← texts_are) same_codes

@@ -1,8 +1,6 @@
 // Columns of numbers in words no wider than they need.
 
-ghost use Rattle.std.specs.Prelude.{◌≡◌, ◌<◌, ◌^◌, IfOk, length, map, pos, ◌+ℤ◌};
-ghost use Rattle.star_interval.specs.Range.{Holds};
-ghost use Rattle.star_interval.specs.Interval.{range_of};
+ghost use Rattle.std.specs.Prelude.{◌≡◌, ◌<◌, ◌^◌, IfOk, length, map};
 ghost use Rattle.star_column.specs.Width.{bits_of};
 
 use crate::column::ColumnData;
@@ -91,18 +89,10 @@ impl ColumnData for PackedColumn {
     }
 
     fn at(&self, row: u32) -> i64 {
-        number_above(self.bounds, self.words.at(row as usize))
+        self.view().at(row)
     }
 
     fn bounds(&self) -> Interval {
         self.bounds
     }
-}
-
-/// The number between these bounds that lies so far above the lower one.
-pub(crate) fn number_above(bounds: Interval, difference: u64) -> i64
-    requires { Holds (range_of bounds) (bounds.low +ℤ pos difference) }
-    ensures { result ≡ bounds.low +ℤ pos difference }
-{
-    bounds.low.wrapping_add_unsigned(difference)
 }

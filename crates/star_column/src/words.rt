@@ -7,6 +7,7 @@ ghost use Rattle.star_interval.specs.Interval.{range_of};
 ghost use Rattle.star_column.specs.Width.{least_width};
 ghost use Rattle.star_column.specs.Private.Words.{above, numbers_in, width_of};
 
+use crate::view::LentWords;
 use star_flat::SignedWord;
 use star_interval::Interval;
 use std::alloc::{AllocError, Global};
@@ -103,12 +104,7 @@ impl Words {
         requires { place < length (numbers_in self.now) }
         ensures { slice_get (numbers_in self.now) place ≡ Some result }
     {
-        match self {
-            Words::Bits8(words) => u64::from(words[place]),
-            Words::Bits16(words) => u64::from(words[place]),
-            Words::Bits32(words) => u64::from(words[place]),
-            Words::Bits64(words) => words[place],
-        }
+        LentWords::of(self).at(place)
     }
 
     /// How far each number lies above the lower bound, in the least width in which the difference

@@ -31,11 +31,11 @@ place_within table rows columns place k h at =
     let here : slice_get (map kind_of columns) place ≡ Some k = rw h.kinds at in
     omega (arith, slice_get_within (map kind_of columns) place k here, length-map columns kind_of)
 
-pub column_at : (table : TableId) (rows : ℕ) (columns : List RawColumn) (place : ℕ) (k : Kind)
-    (column : RawColumn) → AreColumnsOf table rows columns
+pub column_at : {table : TableId} {rows : ℕ} {columns : List RawColumn} {place : ℕ} {k : Kind}
+    {column : RawColumn} → AreColumnsOf table rows columns
     → slice_get (kinds_of table) place ≡ Some k
     → column ≡ get_or columns place column → IsColumnAt rows columns place k column
-column_at table rows columns place k column h at is =
+column_at {table} {rows} {columns} {place} {k} {column} h at is =
     let within = place_within table rows columns place k h at in
     let there = slice_get_read columns (length columns) place column refl within is in
     let kinds : slice_get (map kind_of columns) place ≡ Some (kind_of column) =

@@ -6,6 +6,7 @@ pub mod Pushes
 pub mod Counts
 pub mod RowLemmas
 pub mod ColumnLemmas
+pub mod PassedOn
 pub mod Law
 pub mod TableSteps
 pub mod Fronts

@@ -1,7 +1,7 @@
-use Rattle.std.proofs.Common.{inl, inr, arith}
+use Rattle.std.proofs.Common.{arith}
 use Rattle.std.specs.List.{zip}
-use Rattle.std.proofs.lemmas.Result.{err_from_is_err_and}
 use Rattle.std.proofs.lemmas.Slice.Zip.{length-zip}
+use Rattle.star_reader.proofs.PassedOn.{passed_on}
 use Rattle.star_catalogue.proofs.Apart.{pairs_apart}
 use Rattle.star_catalogue.proofs.keys.check_pairs.Goals as goal
 
@@ -12,13 +12,8 @@ places_of-requires c =
 
 pub returns-in_err-places_of : goal.returns-in_err-places_of
 returns-in_err-places_of c =
-    let p = err_from_is_err_and c.from_residual-in_err-places_of.result
-    c.from_residual-in_err-places_of.ensures.1 in
-    rw (p.1, p.2)
-    (elim c.in_err-places_of.ensures [
-      | inl memory ↦ inl memory
-      | inr first ↦ inr (rw (c.as_slice.ensures.value, c.in_ok-pairs.ensures) at first)
-    ])
+    passed_on _ _ _ c.in_err-places_of.ensures c.from_residual-in_err-places_of.ensures.1
+    (λ first. rw (c.as_slice.ensures.value, c.in_ok-pairs.ensures) at first)
 
 pub returns : goal.returns
 returns c = pairs_apart (zip c.args.firsts.now c.args.seconds.now)

@@ -4,17 +4,25 @@ use Rattle.star_schema.specs.Bounds.{numbers_of}
 use Rattle.star_schema.specs.Database.{rows_in}
 use Rattle.star_schema.specs.Loadable.{number_at}
 use Rattle.star_schema.specs.Schema.{place_of, table_of}
+use Rattle.star_schema.proofs.KeyColumns.{IsNumberOf, foreign_key}
 use Rattle.star_reader.proofs.RowPlaces.{length-numbers_at}
 use Rattle.star_catalogue.proofs.Refers.{cell_absent, cell_known, number_of_row}
 use Rattle.star_catalogue.proofs.references.check_cell.Goals as goal
-use Rattle.star_catalogue.proofs.references.check_cell.Goals.{After-at-number}
+use Rattle.star_catalogue.proofs.references.check_cell.Goals.{After-at-number, In-Some}
+
+-- a column that refers to a table is one of numbers of lineorder
+key : (c : In-Some) → IsNumberOf Lineorder c.args.column
+key c = (foreign_key c.args.column c.in-Some.table (sym c.in-Some.ensures)).0
+
+pub numbers-requires : goal.numbers-requires
+numbers-requires c = (key (goal.at.numbers-requires c).In-Some).kind
 
 pub at-number-requires : goal.at-number-requires
 at-number-requires c =
     rw (
       c.numbers.ensures,
       length-numbers_at (place_of c.args.column) (rows_in c.args.tables.now (table_of c.args.column)),
-      c.requires.table,
+      (key (goal.at.at-number-requires c).In-Some).table,
     ) c.requires.row
 
 number_is : (c : After-at-number)
@@ -22,8 +30,9 @@ number_is : (c : After-at-number)
     ≡ c.at-number.result
 number_is c =
     let rows = rows_in c.args.tables.now Lineorder in
+    let of_table = (foreign_key c.args.column c.in-Some.table (sym c.in-Some.ensures)).0.table in
     let there : slice_get (numbers_of c.args.column rows) c.args.row ≡ Some c.at-number.result =
-    rw (c.numbers.ensures, c.requires.table) at c.at-number.ensures in
+    rw (c.numbers.ensures, of_table) at c.at-number.ensures in
     number_of_row c.args.column rows c.args.row c.at-number.result c.requires.row there
 
 pub returns-in-None : goal.returns-in-None

@@ -1,39 +1,13 @@
-use Rattle.std.proofs.Common.{◌≡◌, ◌+◌, ◌<◌, ◌≤◌, ℕ, List, [], get_or, length, Some, slice_get, sym, ap, ◌∙◌, arith}
-use Rattle.std.proofs.lemmas.List.Elements.{All-get_or}
-use Rattle.std.proofs.lemmas.Option.{slice_get-get_or}
+use Rattle.std.proofs.Common.{◌≡◌, ◌+◌, ◌≤◌, ℕ, List, [], get_or, length, ◌∙◌, arith}
 use Rattle.std.proofs.lemmas.Result.{err_from_is_err_and}
 use Rattle.star_schema.specs.declared.column.ColumnId.{ColumnId}
 use Rattle.star_schema.specs.declared.column.ColumnId.TheVariants.{DDatekey}
 use Rattle.star_schema.specs.declared.table.TableId.TheVariants.{Lineorder}
 use Rattle.star_schema.specs.Database.{rows_in}
 use Rattle.star_schema.specs.Loadable.{foreign_keys}
-use Rattle.star_schema.proofs.KeyColumns.{IsNumberOf}
 use Rattle.star_catalogue.specs.Load.{cell_fault}
-use Rattle.star_catalogue.proofs.Refers.{after_all, foreign_keys_numbers, row_here, row_on}
+use Rattle.star_catalogue.proofs.Refers.{after_all, listed_at, row_here, row_on}
 use Rattle.star_catalogue.proofs.references.check_row.Goals as goal
-
--- a column at a place of a list that is the one of the columns that refer
-number_at_place : (columns : List ColumnId) (i : ℕ) → columns ≡ foreign_keys → i < length columns
-    → IsNumberOf Lineorder (get_or columns i DDatekey)
-number_at_place columns i are within =
-    rw are (All-get_or (IsNumberOf Lineorder) foreign_keys i DDatekey
-    (rw are at within) foreign_keys_numbers)
-
-there : (columns : List ColumnId) (i : ℕ) → columns ≡ foreign_keys → i < length columns
-    → slice_get foreign_keys i ≡ Some (get_or columns i DDatekey)
-there columns i are within =
-    ap (λ (cs : List ColumnId). slice_get cs i) (sym are)
-    ∙ slice_get-get_or columns i DDatekey within
-
-pub check_cell-requires-clause-table : goal.check_cell-requires-clause-table
-check_cell-requires-clause-table c =
-    (number_at_place c.foreign_key_columns-column-items.result.now c.loop-column.column-index
-    c.foreign_key_columns-column-items.ensures c.loop-column-test.true).table
-
-pub check_cell-requires-clause-kind : goal.check_cell-requires-clause-kind
-check_cell-requires-clause-kind c =
-    (number_at_place c.foreign_key_columns-column-items.result.now c.loop-column.column-index
-    c.foreign_key_columns-column-items.ensures c.loop-column-test.true).kind
 
 pub returns-in_err-check_cell : goal.returns-in_err-check_cell
 returns-in_err-check_cell c =
@@ -44,7 +18,7 @@ returns-in_err-check_cell c =
     (row_here c.args.tables.now (c.args.row + 1)
     (get_or (rows_in c.args.tables.now Lineorder) c.args.row []) i
     (get_or columns i DDatekey) c.in_err-check_cell.field-0.0
-    (there columns i c.foreign_key_columns-column-items.ensures c.loop-column-test.true)
+    (listed_at foreign_keys columns i c.foreign_key_columns-column-items.ensures c.loop-column-test.true)
     c.in_err-check_cell.ensures c.loop-column.invariant)
 
 pub loop-column-preserved : goal.loop-column-preserved
@@ -53,7 +27,7 @@ loop-column-preserved c =
     let i = c.loop-column.column-index in
     row_on c.args.tables.now (c.args.row + 1)
     (get_or (rows_in c.args.tables.now Lineorder) c.args.row []) i (get_or columns i DDatekey)
-    (there columns i c.foreign_key_columns-column-items.ensures c.loop-column-test.true)
+    (listed_at foreign_keys columns i c.foreign_key_columns-column-items.ensures c.loop-column-test.true)
     c.in_ok-check_cell.ensures c.loop-column.invariant
 
 pub returns : goal.returns

@@ -1,5 +1,16 @@
+use Rattle.std.proofs.Common.{◌∙◌, sym}
+use Rattle.std.proofs.lemmas.Result.{IfOk-weaker}
+use Rattle.star_schema.proofs.KeyColumns.{foreign_key}
+use Rattle.star_catalogue.proofs.ReferredRows.{of_table}
 use Rattle.star_catalogue.proofs.referred.rows_of.Goals as goal
 
-pub returns : goal.returns
-returns c =
-    rw (c.table.ensures.table, c.table.ensures.rows, c.numbers.ensures) at c.find_all.ensures
+pub numbers-requires : goal.numbers-requires
+numbers-requires c =
+    (foreign_key c.args.column c.in-Some.table (sym c.references.ensures ∙ c.in-Some.is)).0.kind
+
+pub returns-in-Some : goal.returns-in-Some
+returns-in-Some c =
+    IfOk-weaker c.find_all.result _ _
+    (of_table c.args.tables.now c.args.column c.in-Some.table
+    (sym c.references.ensures ∙ c.in-Some.is))
+    (rw (c.table.ensures.table, c.table.ensures.rows, c.numbers.ensures) at c.find_all.ensures)

@@ -1,7 +1,7 @@
-use Rattle.std.proofs.Common.{◌≡◌, inl, inr, arith}
-use Rattle.std.proofs.lemmas.Result.{err_from_is_err_and}
+use Rattle.std.proofs.Common.{◌≡◌, inr, arith}
 use Rattle.csv.specs.Records.{fields_of as fields_read}
 use Rattle.star_reader.specs.Private.Lines.{TakesFirst}
+use Rattle.star_reader.proofs.PassedOn.{passed_on}
 use Rattle.star_reader.proofs.TableSteps as steps
 use Rattle.star_reader.proofs.raw_table.read_records.Goals as goal
 
@@ -22,12 +22,8 @@ returns-in_err-add_record c = λ table lines left empty.
     let h = c.loop-rows.invariant table lines left empty in
     let next : TakesFirst h.lines (fields_read c.read_next.new.row) c.read_next.new.reader =
     rw c.if-not-branch.false at (c.in_ok-read_next.ensures.reads h.lines h.left) in
-    let p = err_from_is_err_and c.from_residual-in_err-add_record.result
-    c.from_residual-in_err-add_record.ensures.1 in
-    rw (p.1, p.2) (elim (c.in_err-add_record.ensures next.line next.parts_are) [
-      | inl memory ↦ inl memory
-      | inr here ↦ inr (steps.faulty h next c.loop-rows-test.true here)
-    ])
+    passed_on _ _ _ (c.in_err-add_record.ensures next.line next.parts_are)
+    c.from_residual-in_err-add_record.ensures.1 (steps.faulty h next c.loop-rows-test.true)
 
 pub loop-rows-preserved : goal.loop-rows-preserved
 loop-rows-preserved c = λ table lines left empty.

@@ -1,9 +1,9 @@
-use Rattle.std.proofs.Common.{◌≡◌, ◌∙◌, ◌++◌, ap, drop, inl, inr, length, refl, sym, take, arith}
-use Rattle.std.proofs.lemmas.Result.{err_from_is_err_and}
+use Rattle.std.proofs.Common.{◌≡◌, ◌∙◌, ◌++◌, ap, drop, inr, length, refl, sym, take, arith}
 use Rattle.star_schema.specs.Records.{records_of}
 use Rattle.star_reader.specs.declared.fault.ReadFault.TheVariants as fault
 use Rattle.star_reader.specs.Faults.{records_fault, text_fault}
 use Rattle.star_reader.proofs.Law.{marked_fault, plain_fault, refused, table_sound}
+use Rattle.star_reader.proofs.PassedOn.{passed_on}
 use Rattle.star_reader.proofs.TableSteps.{no_mark, whole_slice}
 use Rattle.star_reader.proofs.raw_table.read_table.Goals as goal
 use Rattle.star_reader.proofs.raw_table.read_table.Goals.{After-read_columns}
@@ -48,13 +48,8 @@ all_columns c =
 pub returns-in_err-rows-clause-refused : goal.returns-in_err-rows-clause-refused
 returns-in_err-rows-clause-refused c =
     let at = (goal.at.returns-in_err-rows-clause-refused c).After-read_columns in
-    let p = err_from_is_err_and c.from_residual-in_err-rows.result
-    c.from_residual-in_err-rows.ensures.1 in
-    rw (p.1, p.2) (elim c.in_err-rows.ensures [
-      | inl memory ↦ inl memory
-      | inr faulty ↦
-          inr (refused c.args.table c.args.limits.rows c.args.text.now _ (no_marks_fault at ∙ faulty))
-    ])
+    passed_on _ _ _ c.in_err-rows.ensures c.from_residual-in_err-rows.ensures.1
+    (λ faulty. refused c.args.table c.args.limits.rows c.args.text.now _ (no_marks_fault at ∙ faulty))
 
 pub invariant_of-result : goal.invariant_of-result
 invariant_of-result c =

@@ -1,14 +1,14 @@
-use Rattle.std.proofs.Common.{◌≡◌, ◌≤◌, ◌∙◌, Some, get_or, length, map, ℕ, List, inl, inr, sym, arith}
+use Rattle.std.proofs.Common.{◌≡◌, ◌≤◌, ◌∙◌, Some, get_or, length, map, ℕ, List, inr, sym, arith}
 use Rattle.std.specs.List.{slice_get}
 use Rattle.std.proofs.lemmas.List.{length-map}
 use Rattle.std.proofs.lemmas.Option.{slice_get-get_or}
-use Rattle.std.proofs.lemmas.Result.{err_from_is_err_and}
 use Rattle.csv.specs.Records.{fields_of as fields_read}
 use Rattle.star_schema.specs.declared.column.Kind.{Kind}
 use Rattle.star_schema.specs.Tables.{cells_of}
 use Rattle.star_reader.specs.Columns.{kind_of}
 use Rattle.star_reader.proofs.Counts.{right_count, wrong_count}
 use Rattle.star_reader.proofs.Fields.{cell_at, field_there}
+use Rattle.star_reader.proofs.PassedOn.{passed_on}
 use Rattle.star_reader.proofs.Pushes as pushes
 use Rattle.star_reader.proofs.record.push_record.Goals as goal
 use Rattle.star_reader.proofs.record.push_record.Goals.{After-index-columns-place}
@@ -54,15 +54,11 @@ returns-in_err-push_cell-in-Some-clause-pushed c =
     rw (length-map c.args.columns.now kind_of)
     (sym c.cell_count.ensures ∙ c.if-cell_count-columns.false) in
     let at = (goal.at.returns-in_err-push_cell-in-Some-clause-pushed c).After-index-columns-place in
-    let p = err_from_is_err_and c.from_residual.result c.from_residual.ensures.1 in
-    rw (p.1, p.2) (elim c.in_err-push_cell-in-Some.ensures.pushed [
-      | inl memory ↦ inl memory
-      | inr fault ↦
-          inr (right_count ks c.args.at_row fields all
-          ∙ pushes.faulty c.args.at_row ks
-          (cells_of (length ks) fields) c.loop-place.place c.args.columns.now c.loop-place.columns _
-          _ _ c.loop-place.invariant (kind_there at) (cell_there at) fault)
-    ])
+    passed_on _ _ _ c.in_err-push_cell-in-Some.ensures.pushed c.from_residual.ensures.1
+    (λ fault. right_count ks c.args.at_row fields all
+    ∙ pushes.faulty c.args.at_row ks
+    (cells_of (length ks) fields) c.loop-place.place c.args.columns.now c.loop-place.columns _
+    _ _ c.loop-place.invariant (kind_there at) (cell_there at) fault)
 
 pub returns-in_err-push_cell-in-Some-clause-kinds : goal.returns-in_err-push_cell-in-Some-clause-kinds
 returns-in_err-push_cell-in-Some-clause-kinds c =

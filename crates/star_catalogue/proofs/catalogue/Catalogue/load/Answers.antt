@@ -1,6 +1,6 @@
-use Rattle.std.proofs.Common.{◌∙◌, inl, inr}
-use Rattle.std.proofs.lemmas.Result.{err_from_is_err_and}
+use Rattle.std.proofs.Common.{◌∙◌, inr}
 use Rattle.star_schema.specs.Loadable.{IsSound, database_of}
+use Rattle.star_reader.proofs.PassedOn.{passed_on}
 use Rattle.star_catalogue.specs.Load.{text_of}
 use Rattle.star_catalogue.specs.Private.Referred.{AreReferred}
 use Rattle.star_catalogue.proofs.Loading.{referred_sound, refused_key, refused_table}
@@ -10,12 +10,8 @@ use Rattle.star_catalogue.proofs.catalogue.Catalogue.load.Goals as goal
 
 pub returns-in_err-loaded-clause-refused : goal.returns-in_err-loaded-clause-refused
 returns-in_err-loaded-clause-refused c =
-    let p = err_from_is_err_and c.from_residual.result c.from_residual.ensures.1 in
-    rw (p.1, p.2)
-    (elim c.in_err-loaded.ensures [
-      | inl memory ↦ inl memory
-      | inr fault ↦ inr (refused_table c.args.limits.rows (text_of c.args.texts.now) _ fault)
-    ])
+    passed_on _ _ _ c.in_err-loaded.ensures c.from_residual.ensures.1
+    (refused_table c.args.limits.rows (text_of c.args.texts.now) _)
 
 pub absent_key-requires : goal.absent_key-requires
 absent_key-requires c =

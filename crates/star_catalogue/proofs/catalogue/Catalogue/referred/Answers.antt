@@ -26,6 +26,10 @@ read c l =
     rw (to_z-of_z fits) at c.unsigned_abs.ensures.value in
     rw (value, same) refl
 
+pub rows-rows-requires : goal.rows-rows-requires
+rows-rows-requires c =
+    rw c.deref.ensures (leads (goal.at.rows-rows-requires c).After-deref).within
+
 pub get-requires : goal.get-requires
 get-requires c =
     let l = leads (goal.at.get-requires c).After-deref in

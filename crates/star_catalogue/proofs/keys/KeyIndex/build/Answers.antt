@@ -1,11 +1,12 @@
 use Rattle.std.proofs.Common.{◌≡◌, ◌∙◌, ap, inl, inr, length, sym}
-use Rattle.std.proofs.lemmas.Result.{MatchResult-weaker, err_from_is_err_and}
+use Rattle.std.proofs.lemmas.Result.{MatchResult-weaker}
 use Rattle.star_schema.specs.declared.table.Key.TheVariants.{One, Two}
 use Rattle.star_schema.specs.Bounds.{numbers_at}
 use Rattle.star_schema.specs.Loadable.{keys_of}
 use Rattle.star_schema.specs.Schema.{key_of, place_of}
 use Rattle.star_schema.proofs.KeyColumns.{key_column, key_pair, number_at_place}
 use Rattle.star_reader.proofs.RowPlaces.{length-numbers_at}
+use Rattle.star_reader.proofs.PassedOn.{passed_on}
 use Rattle.star_catalogue.proofs.Apart.{numbers_apart}
 use Rattle.star_catalogue.proofs.KeyLists.{apart_of_one, apart_of_two, fault_of_one, fault_of_two, keys_of_one, length_of_two}
 use Rattle.star_catalogue.specs.Private.Keys.{row_in}
@@ -86,19 +87,16 @@ returns-in_err-check_pairs-in-Two c =
     let rows = c.args.raw.now.rows in
     let key : key_of table ≡ Two c.in-Two.first c.in-Two.second =
     ap key_of (sym c.table-table.ensures) ∙ sym c.in-Two.ensures in
-    let p = err_from_is_err_and c.from_residual-in_err-check_pairs-in-Two.result
-    c.from_residual-in_err-check_pairs-in-Two.ensures.1 in
-    rw (p.1, p.2) (elim c.in_err-check_pairs-in-Two.ensures [
-      | inl memory ↦ inl memory
-      | inr first ↦ inr (fault_of_two table c.in-Two.first c.in-Two.second rows key
-          ∙ rw (
-            c.table-table.ensures,
-            c.numbers-firsts.ensures.numbers,
-            c.numbers-seconds.ensures.numbers,
-            c.place_of-in-Two.ensures.place,
-            c.place_of-in-Two-2.ensures.place,
-          ) at first)
-    ])
+    passed_on _ _ _ c.in_err-check_pairs-in-Two.ensures
+    c.from_residual-in_err-check_pairs-in-Two.ensures.1
+    (λ first. fault_of_two table c.in-Two.first c.in-Two.second rows key
+    ∙ rw (
+      c.table-table.ensures,
+      c.numbers-firsts.ensures.numbers,
+      c.numbers-seconds.ensures.numbers,
+      c.place_of-in-Two.ensures.place,
+      c.place_of-in-Two-2.ensures.place,
+    ) at first)
 
 pub returns-in_ok-check_pairs-in-Two : goal.returns-in_ok-check_pairs-in-Two
 returns-in_ok-check_pairs-in-Two c =

@@ -1,20 +1,15 @@
-use Rattle.std.proofs.Common.{◌∙◌, ap, inl, inr}
-use Rattle.std.proofs.lemmas.Result.{err_from_is_err_and}
+use Rattle.std.proofs.Common.{◌∙◌, ap}
 use Rattle.star_reader.specs.Columns.{Table}
 use Rattle.star_reader.proofs.Law.{table_complete}
+use Rattle.star_reader.proofs.PassedOn.{passed_on}
 use Rattle.star_catalogue.proofs.table.LoadedTable.load.Goals as goal
 
 pub returns-in_err-loaded : goal.returns-in_err-loaded
 returns-in_err-loaded c =
     let read = c.in_ok-raw.ensures in
-    let p = err_from_is_err_and c.from_residual-in_err-loaded.result
-    c.from_residual-in_err-loaded.ensures.1 in
-    rw (p.1, p.2) (elim c.in_err-loaded.ensures [
-      | inl memory ↦ inl memory
-      | inr repeat ↦
-          inr (rw (table_complete c.args.table c.args.limits.rows c.args.text.now read.0)
-          (rw (read.1, read.2) at repeat))
-    ])
+    passed_on _ _ _ c.in_err-loaded.ensures c.from_residual-in_err-loaded.ensures.1
+    (λ repeat. rw (table_complete c.args.table c.args.limits.rows c.args.text.now read.0)
+    (rw (read.1, read.2) at repeat))
 
 pub returns : goal.returns
 returns c =

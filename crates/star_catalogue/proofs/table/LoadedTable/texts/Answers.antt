@@ -6,8 +6,8 @@ use Rattle.star_catalogue.proofs.table.LoadedTable.texts.Goals.{After-index}
 
 column : (c : After-index) → IsKeptAs c.self.inside c.args.column c.index.result.now
 column c =
-    column_at c.self.inside c.args.column c.place_of.result c.index.result.now c.self.invariant
-    (rw (← c.self.view_is) at c.requires.table) c.place_of.ensures.place c.index.ensures
+    column_at c.args.column c.self.invariant (rw (← c.self.view_is) at c.requires.table)
+    c.place_of.ensures.place c.index.ensures
 
 pub unreachable-requires : goal.unreachable-requires
 unreachable-requires c =

@@ -9,10 +9,8 @@ use Rattle.star_reader.proofs.raw_table.RawTable.numbers.Goals as goal
 column : (c : goal.In-Numbers) → IsColumnAt c.self.inside.rows c.self.inside.columns.items
     c.args.place kind.Number (Numbers c.in-Numbers.numbers)
 column c =
-    let raw = c.self.inside in
     rw c.in-Numbers.is at
-    (column_at raw.table raw.rows raw.columns.items c.args.place kind.Number c.index.result.now
-    c.self.invariant (rw (← c.self.view_is) at c.requires) c.index.ensures)
+    (column_at c.self.invariant (rw (← c.self.view_is) at c.requires) c.index.ensures)
 
 pub returns-clause-numbers : goal.returns-clause-numbers
 returns-clause-numbers c = rw (← c.self.view_is) (sym (numbers_are (column c)))

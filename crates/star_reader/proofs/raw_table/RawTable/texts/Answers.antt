@@ -9,10 +9,8 @@ use Rattle.star_reader.proofs.raw_table.RawTable.texts.Goals as goal
 column : (c : goal.In-Texts) → IsColumnAt c.self.inside.rows c.self.inside.columns.items
     c.args.place kind.Text (Texts c.in-Texts.texts)
 column c =
-    let raw = c.self.inside in
     rw c.in-Texts.is at
-    (column_at raw.table raw.rows raw.columns.items c.args.place kind.Text c.index.result.now
-    c.self.invariant (rw (← c.self.view_is) at c.requires) c.index.ensures)
+    (column_at c.self.invariant (rw (← c.self.view_is) at c.requires) c.index.ensures)
 
 pub returns-clause-texts : goal.returns-clause-texts
 returns-clause-texts c = rw (← c.self.view_is) (sym (texts_are (column c)))
