@@ -12,22 +12,12 @@ use Rattle.star_machine.specs.declared.fault.TrialFault.{TrialFault}
 use Rattle.star_machine.specs.declared.fault.TrialFault.TheVariants as trial
 use Rattle.star_machine.specs.Trials.{IsFaultOf}
 use Rattle.star_world.specs.WorldOf.{world_of}
-use Rattle.star_engine.specs.declared.fault.EngineFault.{EngineFault}
-use Rattle.star_engine.specs.declared.fault.EngineFault.TheVariants.{Load, OutOfMemory}
 use Rattle.star_engine.specs.Faults.{fault_of_trial}
-use Rattle.star_engine.specs.Loads.{IsProgramOf, IsUnloaded}
+use Rattle.star_engine.specs.Loads.{IsProgramOf}
 use Rattle.star_engine.specs.Private.Steps.{OrMemory}
 use Rattle.star_engine.specs.Trials.{IsNoTrial}
 
--- texts that can't be loaded have no report
-pub untried_tables : (most : ℕ) (texts : TableId → List ℕ) (file : List ℕ) (program : Parts)
-    (visits : ℕ) (fault : EngineFault) → IsProgramOf file program
-    → OrMemory (IsUnloaded most texts) fault → OrMemory (IsNoTrial most texts file visits) fault
-untried_tables most texts file program visits OutOfMemory of_file is = tt
-untried_tables most texts file program visits (Load fault) of_file is = ((program, of_file), is)
-untried_tables most texts file program visits _ of_file is = absurd is
-
--- nor has a program whose run over them doesn't come to its end
+-- a program whose run over loaded tables doesn't come to its end has no report
 pub no_trial : (most : ℕ) (texts : TableId → List ℕ) (file : List ℕ) (program : Parts)
     (visits : ℕ) (fault : TrialFault) → IsLoadable most texts → IsProgramOf file program
     → IsFaultOf (bounded_run_of (world_of (database_of texts)) visits program) fault

@@ -1,5 +1,5 @@
 -- The columns of keys, and those that refer to keys.
-use Rattle.std.specs.Prelude.{◌≡◌, [], ◌∷◌, Contains, Some, None, slice_get, refl}
+use Rattle.std.specs.Prelude.{◌≡◌, Contains, Some, None, slice_get, refl}
 use Rattle.std.proofs.Common.{ap, ◌∙◌, lit≤}
 use Rattle.std.specs.Option.{option_map}
 use Rattle.std.proofs.lemmas.Option.{slice_get-map}
@@ -60,9 +60,3 @@ refers_or_not _ = tt
 pub foreign_key : (c : ColumnId) (t : TableId) → references c ≡ Some t
     → IsNumberOf Lineorder c × Contains foreign_keys c
 foreign_key c t e = rw e at (refers_or_not c)
-
--- each of the foreign keys refers to a table
-pub foreign_keys_are : foreign_keys
-    ≡ LoCustkey ∷ LoPartkey ∷ LoSuppkey ∷ LoOrderdate ∷ LoCommitdate ∷ []
-unfolding column_of foreign_keys
-foreign_keys_are = refl
