@@ -1,10 +1,14 @@
-// Writes two folders of tables of one size: `ordinary`, with random keys, pairs of keys and texts, and
+// Writes three folders of tables of one size: `ordinary`, with random keys, pairs of keys and texts;
 // `hostile`, with ones that collide under the hash with a fixed seed of the toolchain's maps, whose
-// formula stands here: it tells what whoever writes a file can reckon.
+// formula stands here: it tells what whoever writes a file can reckon; and `unseeded`, with keys of
+// customers that collide under the hash of the index of keys, SipHash-1-3, as it is without the seed
+// that each index has of its own. All keys of customers lie far apart.
 //
 //     rustc --edition 2021 -O plain/hostile.rs && ./hostile FOLDER CUSTOMERS LINES
 
+use std::collections::hash_map::DefaultHasher;
 use std::fs::{self, File};
+use std::hash::Hasher;
 use std::io::{BufWriter, Result, Write};
 use std::path::Path;
 
@@ -25,6 +29,14 @@ fn fed_number(state: u64, number: u64) -> u64 {
 fn hash_of_text(text: &[u8]) -> u64 {
     let start = fed_number(FIRST, text.len() as u64);
     text.iter().fold(start, |state, byte| fold(state ^ u64::from(*byte), MULTIPLIER ^ 2))
+}
+
+/// What the index makes of the hash of a key, where no seed stands before the key.
+fn unseeded_hash(key: u64) -> u64 {
+    let mut hasher = DefaultHasher::new();
+    hasher.write_i64(key as i64);
+    let hash = hasher.finish();
+    hash ^ (hash >> 32)
 }
 
 /// A row of numbers that look random, the same in each run.
@@ -63,9 +75,13 @@ fn text(mut number: u64) -> [u8; 12] {
     })
 }
 
-fn write(folder: &Path, customers: usize, lines: usize, collide: bool) -> Result<()> {
+fn write(folder: &Path, customers: usize, lines: usize, collide: bool, unseeded: bool) -> Result<()> {
     fs::create_dir_all(folder)?;
-    let keys = values(customers, collide, 1, key, |key| fed_number(FIRST, *key));
+    let keys = if unseeded {
+        values(customers, true, 1, key, |key| unseeded_hash(*key))
+    } else {
+        values(customers, collide, 1, key, |key| fed_number(FIRST, *key))
+    };
     let names = values(customers, collide, 2, text, |text| hash_of_text(text));
     let orders = values(lines, collide, 3, key, |key| fed_number(fed_number(FIRST, *key), 1));
     let file = |name: &str| File::create(folder.join(name)).map(BufWriter::new);
@@ -92,8 +108,8 @@ fn main() -> Result<()> {
         panic!("hostile FOLDER CUSTOMERS LINES");
     };
     let (customers, lines) = (customers.parse().expect("customers"), lines.parse().expect("lines"));
-    for (name, collide) in [("ordinary", false), ("hostile", true)] {
-        write(&Path::new(folder).join(name), customers, lines, collide)?;
+    for (name, collide, unseeded) in [("ordinary", false, false), ("hostile", true, false), ("unseeded", false, true)] {
+        write(&Path::new(folder).join(name), customers, lines, collide, unseeded)?;
     }
     Ok(())
 }

@@ -1,7 +1,6 @@
 -- What is printed for the bytes of a query over the bytes of five tables.
 use Rattle.std.specs.Prelude.{◌≡◌, ℕ, List}
-use Rattle.star_schema.specs.declared.table.TableId.{TableId}
-use Rattle.star_schema.specs.Database.{rows_in}
+use Rattle.star_schema.specs.Database.{TableTexts, rows_in}
 use Rattle.star_schema.specs.Loadable.{database_of}
 use Rattle.star_query.specs.Derives.{Means}
 use Rattle.star_query.specs.Tree.{Tree}
@@ -12,7 +11,7 @@ use Rattle.star_answers.specs.Answers.{IsAnswer}
 
 -- the text means a query that is well named, and the report is its printed answer over
 -- the rows that the five texts hold
-pub record IsReport (texts : TableId → List ℕ) (query report : List ℕ) : Type 0 where
+pub record IsReport (texts : TableTexts) (query report : List ℕ) : Type 0 where
   pub tree : Tree
   pub means : Means query tree
   pub named : IsWellNamed tree

@@ -4,9 +4,8 @@ ghost use Rattle.std.specs.Prelude.{◌≡◌, ◌∷◌, ◌↔◌, ℕ, List, 
 ghost use Rattle.std.specs.List.Sorted.{IsPermutation};
 ghost use Rattle.star_schema.specs.declared.group.Aggregate.{Aggregate};
 ghost use Rattle.star_schema.specs.declared.group.Shape.{Shape};
-ghost use Rattle.star_schema.specs.declared.table.TableId.{TableId};
 ghost use Rattle.star_schema.specs.declared.table.TableId.TheVariants.{Lineorder};
-ghost use Rattle.star_schema.specs.Database.{rows_in};
+ghost use Rattle.star_schema.specs.Database.{TableTexts, rows_in};
 ghost use Rattle.star_schema.specs.Groups.{AreGroups, Entry, GroupRow, totals_of};
 ghost use Rattle.star_schema.specs.Loadable.{database_of};
 ghost use Rattle.star_schema.specs.Order.{value_cmp};
@@ -70,14 +69,14 @@ pub fn one_query_has_one_answer()
 
 /// The bytes of a query have one report over the bytes of five tables.
 pub fn one_text_has_one_report()
-    ensures { (texts : TableId → List ℕ) (query report other : List ℕ)
+    ensures { (texts : TableTexts) (query report other : List ℕ)
         → IsReport texts query report → IsReport texts query other → report ≡ other }
 {}
 
 /// The printed answer of a plan is the report of the text that the plan was made of: what is known
 /// of a parsed query and of its plan is all that is asked.
 pub fn plans_have_the_reports_of_their_texts()
-    ensures { (texts : TableId → List ℕ) (text report : List ℕ) (query : Tree) (p : Plan)
+    ensures { (texts : TableTexts) (text report : List ℕ) (query : Tree) (p : Plan)
         (names : List (List ℕ)) (rows : List (List Cell))
         → Means text query → IsWellNamed query → IsResolved query p
         → IsPlanAnswer (rows_in (database_of texts)) p names rows

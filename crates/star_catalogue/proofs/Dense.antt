@@ -8,7 +8,7 @@ use Rattle.std.proofs.lemmas.Bool.Decides.{Decides-int_eq, nat_tests}
 use Rattle.std.proofs.lemmas.Int.{ints}
 use Rattle.std.proofs.lemmas.List.{get_or-set_other, get_or-set_same}
 use Rattle.std.proofs.lemmas.Option.{slice_get-get_or, slice_get_past}
-use Rattle.star_catalogue.specs.Private.Keys.{dense_at, row_of}
+use Rattle.star_catalogue.specs.Private.Places.{dense_at, row_of}
 
 -- no number below the least key is one
 from_least : (least key : ℤ) → least ≤ℤ key → int_lt key least ≡ false

@@ -6,7 +6,7 @@ use Rattle.std.specs.Option.{option_map}
 use Rattle.std.specs.Ordering.{int_eq}
 use Rattle.std.proofs.lemmas.Bool.Decides.{Decides-int_eq}
 use Rattle.std.proofs.lemmas.Cmp.{int_eq_equiv}
-use Rattle.star_catalogue.specs.Private.Keys.{ArePlaces}
+use Rattle.star_catalogue.specs.Private.Places.{ArePlaces}
 use Rattle.std.proofs.lemmas.Option.{get_or_from_slice_get, slice_get-map, slice_get_within}
 
 one_numbers : (o : Option ℤ) (n : ℤ) → option_map (λ (m : ℤ). m ∷ []) o ≡ Some (n ∷ []) → o ≡ Some n

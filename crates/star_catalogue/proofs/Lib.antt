@@ -5,6 +5,7 @@ pub mod KeyLists
 pub mod Dense
 pub mod Copies
 pub mod Found
+pub mod Positions
 pub mod Placed
 pub mod Refers
 pub mod ReferredRows

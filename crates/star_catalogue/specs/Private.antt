@@ -1,4 +1,6 @@
 pub mod Columns
+pub mod Places
+pub mod Indexed
 pub mod Keys
 pub mod Kept
 pub mod FiveTables

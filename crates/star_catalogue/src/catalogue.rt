@@ -1,6 +1,6 @@
 // The catalogue of the five tables.
 
-ghost use Rattle.std.specs.Prelude.{◌≡◌, ◌↔◌, ◌<◌, ◌∷◌, [], ℕ, ℤ, All, Some, IfErr, IfOk, IsSome, length, slice_get};
+ghost use Rattle.std.specs.Prelude.{◌≡◌, ◌↔◌, ◌≤◌, ◌<◌, ◌∷◌, [], ℕ, ℤ, All, Some, IfErr, IfOk, IsSome, length, slice_get};
 ghost use Rattle.star_common.specs.Memory.{UnlessMemory};
 ghost use Rattle.star_schema.specs.Bounds.{greatest, least, numbers_of};
 ghost use Rattle.star_schema.specs.Database.{rows_in};
@@ -11,8 +11,10 @@ ghost use Rattle.star_schema.specs.Tables.{IsRowOf};
 ghost use Rattle.star_schema.specs.Texts.{texts_of};
 ghost use Rattle.star_schema.specs.declared.table.TableId.{TableId};
 ghost use Rattle.star_schema.specs.Dictionary.{HasCode, codes_of, dictionary_of, high_in, low_in};
+ghost use Rattle.star_column.specs.Masks.{lies, mask_of};
 ghost use Rattle.star_column.specs.Width.{bits_of};
 ghost use Rattle.star_catalogue.specs.ColumnBounds.{HasI64Bounds};
+ghost use Rattle.star_catalogue.specs.ReferredRows.{AreReferredRows};
 ghost use Rattle.star_catalogue.specs.Load.{load_fault, text_of};
 
 use crate::fault::LoadFault;
@@ -20,7 +22,7 @@ use crate::references::absent_key;
 use crate::referred::Referred;
 use crate::tables::Tables;
 use crate::texts::Texts;
-use star_column::{ColumnData, ColumnView};
+use star_column::{ColumnData, ColumnView, JoinIndex};
 use star_interval::Interval;
 use star_schema::{ColumnId, Kind, Limits, Sizes, TableId, kind_of};
 use std::alloc::Global;
@@ -208,6 +210,23 @@ impl Catalogue {
         }
     }
 
+    /// Which of 64 rows of a column, from a row on, have a value that lies from one number to
+    /// another: its number, or the code of its text. Bit i is set exactly where there is a row that
+    /// is i behind the first and its value lies so.
+    pub fn mask(&self, column: ColumnId, first: u32, low: i64, high: i64) -> u64
+        requires { first ≤ length (rows_in self.now (table_of column)) }
+        ensures numbers { kind_of column ≡ Kind.Number
+            → result
+            ≡ mask_of (lies low high) (numbers_of column (rows_in self.now (table_of column)))
+            first }
+        ensures texts { kind_of column ≡ Kind.Text
+            → result
+            ≡ mask_of (lies low high)
+            (codes_of (texts_of column (rows_in self.now (table_of column)))) first }
+    {
+        self.column(column).mask(first, low, high)
+    }
+
     /// The row of a table, from 0, whose key is this number, if there is one. The keys of lineorder
     /// are pairs, so there is none in it.
     pub fn find(&self, table: TableId, key: i64) -> Option<u32>
@@ -226,7 +245,15 @@ impl Catalogue {
             → slice_get (numbers_of column (rows_in self.now (table_of column))) row ≡ Some number
             → slice_get (keys_of table (rows_in self.now table)) result ≡ Some (number ∷ []) }
     {
-        let rows = self.referred.rows(column);
-        rows.get(row as usize).unsigned_abs() as u32
+        self.referred_rows(column).row(row)
+    }
+
+    /// The join index of a column that refers to a table: for each row of the column the row of that
+    /// table, from 0, whose key is the column's number. It was made at the load.
+    pub fn referred_rows(&self, column: ColumnId) -> &JoinIndex
+        requires { IsSome (references column) }
+        ensures { AreReferredRows self.now column result.now }
+    {
+        self.referred.rows(column)
     }
 }

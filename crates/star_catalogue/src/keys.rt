@@ -1,17 +1,17 @@
 // The keys of tables, which no two rows share.
 
-ghost use Rattle.std.specs.Prelude.{◌≡◌, ◌≢◌, ◌↔◌, ◌<◌, ◌^◌, ◌-ℤ◌, ◌≤ℤ◌, All, AllPairs, IfOk, IfSome, IsTrue, MatchResult, Some, length, slice_get};
+ghost use Rattle.std.specs.Prelude.{◌≡◌, ◌≢◌, ◌↔◌, ◌<◌, ◌^◌, AllPairs, IfOk, IsTrue, MatchResult, Some, length, slice_get};
 ghost use Rattle.std.specs.List.{IsDistinct, zip};
 ghost use Rattle.std.specs.BTreeMap.{get};
-ghost use Rattle.std.specs.Int.RustNames.{unsigned_abs};
 ghost use Rattle.std.specs.Option.{option_map};
-ghost use Rattle.std.specs.Ordering.{int_eq};
 ghost use Rattle.std.specs.declared.cmp.Ordering.TheVariants.{Less};
 ghost use Rattle.star_common.specs.Memory.{UnlessMemory};
 ghost use Rattle.star_schema.specs.Loadable.{HasDistinctKeys, keys_of};
-ghost use Rattle.star_catalogue.specs.Private.Keys.{AreKept, ArePlaces, dense_at, pair_cmp, row_in, row_of, same_pair};
+ghost use Rattle.star_catalogue.specs.Private.Keys.{AreKept, pair_cmp, row_in, same_pair};
+ghost use Rattle.star_catalogue.specs.Private.Places.{ArePlaces};
 ghost use Rattle.star_catalogue.specs.Load.{first_repeat, keys_fault};
 
+use crate::dimension::DimensionKeys;
 use crate::fault::LoadFault;
 use star_flat::FlatNumbers;
 use star_reader::RawTable;
@@ -45,103 +45,11 @@ fn places_of<K: Copy + Ord + Drop>(
     Ok(places)
 }
 
-/// What stands where no row has the key: one more than any row's place.
-const NO_ROW: u32 = u32::MAX;
-
-/// So many numbers for each key, and some more, may lie between the least key and the greatest for
-/// a row to be kept for each of them.
-const NUMBERS_FOR_EACH: u64 = 8;
-
-const NUMBERS_FREE: u64 = 131_072;
-
-fn least_of(keys: &[i64]) -> Option<i64>
-    ensures { IfSome result (λ least. All (λ key. least ≤ℤ key) keys.now) }
-{
-    keys.iter().copied().min()
-}
-
-fn greatest_of(keys: &[i64]) -> Option<i64>
-    ensures { IfSome result (λ greatest. All (λ key. key ≤ℤ greatest) keys.now) }
-{
-    keys.iter().copied().max()
-}
-
-/// The least key, and how many numbers there are from it to the greatest, where these are few for
-/// so many keys.
-fn dense_range(keys: &[i64]) -> Option<(i64, usize)>
-    requires { length keys.now < 2 ^ 32 }
-    ensures least { IfSome result (λ range. All (λ key. range.0 ≤ℤ key) keys.now) }
-    ensures within { IfSome result
-        (λ range. All (λ key. unsigned_abs (key -ℤ range.0) < range.1) keys.now) }
-{
-    let (Some(least), Some(greatest)) = (least_of(keys), greatest_of(keys)) else {
-        return None;
-    };
-    let span = greatest.abs_diff(least);
-    if span < keys.len() as u64 * NUMBERS_FOR_EACH + NUMBERS_FREE {
-        Some((least, span as usize + 1))
-    } else {
-        None
-    }
-}
-
-/// For each number from the least key on its place among the keys, or the first record whose key an
-/// earlier one has.
-fn rows_from(
-    alloc: Global,
-    table: TableId,
-    keys: &[i64],
-    least: i64,
-    span: usize,
-) -> Result<Vec<u32>, LoadFault>
-    requires few { length keys.now < 2 ^ 32 }
-    requires least { All (λ key. least ≤ℤ key) keys.now }
-    requires within { All (λ key. unsigned_abs (key -ℤ least) < span) keys.now }
-    ensures { MatchResult result
-        (λ rows. ArePlaces int_eq (dense_at least rows.items) keys.now × IsDistinct int_eq keys.now)
-        (λ fault. UnlessMemory LoadFault.OutOfMemory fault
-        (option_map (LoadFault.DuplicateKey table) (first_repeat int_eq keys.now) ≡ Some fault)) }
-{
-    let mut rows = vec![in alloc; NO_ROW; span]?;
-    for (place, key) in keys.iter().enumerate() {
-        let slot = key.abs_diff(least) as usize;
-        if rows[slot] != NO_ROW {
-            return Err(LoadFault::DuplicateKey {
-                table,
-                at_row: place as u32 + 1,
-            });
-        }
-        rows[slot] = place as u32;
-    }
-    Ok(rows)
-}
-
-/// The row that a number leads to, if there is one, by the rows from the least key on.
-fn find_from(least: i64, rows: &[u32], key: i64) -> Option<u32>
-    ensures { result ≡ dense_at least rows.now key }
-{
-    if key < least {
-        return None;
-    }
-    match rows.get(key.abs_diff(least) as usize) {
-        Some(row) => row_in_slot(*row),
-        None => None,
-    }
-}
-
-fn row_in_slot(row: u32) -> Option<u32>
-    ensures { result ≡ row_of (Some row) }
-{
-    if row == NO_ROW { None } else { Some(row) }
-}
-
 /// The rows of a table by their keys.
 #[derive(Drop)]
 pub enum KeyIndex {
-    /// For each number from the least key on the row with that key, or `NO_ROW`.
-    Dense { least: i64, rows: Vec<u32> },
-    /// The row of each key.
-    Tree(BTreeMap<i64, u32>),
+    /// Keys of one number.
+    Dimension(DimensionKeys),
     /// Keys of two numbers, by which no row is looked for.
     Pairs,
 }
@@ -160,7 +68,8 @@ impl KeyIndex {
         match key_of(table) {
             Key::One(column) => {
                 let keys = wide(alloc, raw.numbers(place_of(column)))?;
-                KeyIndex::of_keys(alloc, table, keys.as_slice())
+                let index = DimensionKeys::build(alloc, table, keys.as_slice())?;
+                Ok(KeyIndex::Dimension(index))
             }
             Key::Two(first, second) => {
                 let firsts = raw.numbers(place_of(first));
@@ -171,31 +80,13 @@ impl KeyIndex {
         }
     }
 
-    /// The index of keys of one number, or the first record whose key an earlier one has.
-    fn of_keys(alloc: Global, table: TableId, keys: &[i64]) -> Result<KeyIndex, LoadFault>
-        requires { length keys.now < 2 ^ 32 }
-        ensures { MatchResult result
-            (λ index. ArePlaces int_eq (row_in index) keys.now × IsDistinct int_eq keys.now)
-            (λ fault. UnlessMemory LoadFault.OutOfMemory fault
-            (option_map (LoadFault.DuplicateKey table) (first_repeat int_eq keys.now)
-            ≡ Some fault)) }
-    {
-        match dense_range(keys) {
-            Some((least, span)) => {
-                let rows = rows_from(alloc, table, keys, least, span)?;
-                Ok(KeyIndex::Dense { least, rows })
-            }
-            None => Ok(KeyIndex::Tree(places_of(alloc, table, keys)?)),
-        }
-    }
-
     /// The row that a number leads to, if there is one.
+    #[inline(always)]
     pub(crate) fn find(&self, key: i64) -> Option<u32>
         ensures { result ≡ row_in self.now key }
     {
         match self {
-            KeyIndex::Dense { least, rows } => find_from(*least, rows.as_slice(), key),
-            KeyIndex::Tree(rows) => rows.get(&key).copied(),
+            KeyIndex::Dimension(keys) => keys.find(key),
             KeyIndex::Pairs => None,
         }
     }

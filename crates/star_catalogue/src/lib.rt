@@ -4,11 +4,13 @@
 
 mod catalogue;
 mod columns;
+mod dimension;
 mod fault;
 mod keys;
 mod references;
 mod referred;
 mod sample_texts;
+mod seeded;
 mod table;
 mod tables;
 mod texts;

@@ -9,16 +9,15 @@ ghost use Rattle.star_catalogue.specs.Private.Referred.{AreFound, AreReferred, A
 
 use crate::table::LoadedTable;
 use crate::tables::Tables;
-use star_column::{ColumnData, PackedColumn};
-use star_flat::FlatNumbers;
+use star_column::{ColumnData, JoinIndex, PackedColumn};
 use star_schema::{COLUMNS, ColumnId, references};
 use std::alloc::{AllocError, Global};
 
-/// For each column, in their order, the rows that its numbers refer to, from 0, and none where it
-/// refers to no table.
+/// For each column, in their order, its join index, which has no rows where the column refers to
+/// no table.
 #[derive(Drop)]
 pub struct Referred {
-    rows: Vec<FlatNumbers>,
+    rows: Vec<JoinIndex>,
 }
 
 /// The rows of a table that have these numbers as their keys, if each is the key of one.
@@ -26,29 +25,47 @@ fn find_all(
     alloc: Global,
     table: &LoadedTable,
     numbers: &PackedColumn,
-) -> Result<Option<FlatNumbers>, AllocError>
+) -> Result<Option<Vec<u32>>, AllocError>
     ensures { let keys = keys_of table.now.table table.now.rows in IfOk result
         (λ found. MatchOption found
         (¬ All (λ number. Contains keys (number ∷ [])) numbers.now)
-        (λ rows. AreFound keys numbers.now rows)) }
+        (λ rows. AreFound keys numbers.now rows.items)) }
 {
-    let mut rows = FlatNumbers::new(alloc);
+    let mut rows = Vec::with_capacity(alloc, numbers.len() as usize)?;
     let lent = numbers.view();
     for row in 0..numbers.len() {
         match table.find(lent.at(row)) {
-            Some(found) => rows.push(i64::from(found))?,
+            Some(found) => rows.push_reserved(found),
             None => return Ok(None),
         }
     }
     Ok(Some(rows))
 }
 
-/// The rows that a column refers to, if it refers to a table and each of its numbers is a key there.
+/// The join index of numbers, if each is the key of a row of a table.
+fn join_index(
+    alloc: Global,
+    table: &LoadedTable,
+    numbers: &PackedColumn,
+) -> Result<Option<JoinIndex>, AllocError>
+    ensures { let keys = keys_of table.now.table table.now.rows in IfOk result
+        (λ found. MatchOption found
+        (¬ All (λ number. Contains keys (number ∷ [])) numbers.now)
+        (λ rows. AreFound keys numbers.now rows)) }
+{
+    match find_all(alloc, table, numbers)? {
+        Some(rows) => Ok(Some(JoinIndex::build(alloc, rows.as_slice(), table.rows())?)),
+        None => Ok(None),
+    }
+}
+
+/// The join index of a column, if it refers to no table or each of its numbers is a key of the table
+/// that it refers to.
 fn rows_of(
     alloc: Global,
     tables: &Tables,
     column: ColumnId,
-) -> Result<Option<FlatNumbers>, AllocError>
+) -> Result<Option<JoinIndex>, AllocError>
     ensures { IfOk result
         (λ found. MatchOption found
         (¬ ((table : TableId) → references column ≡ Some table
@@ -56,8 +73,8 @@ fn rows_of(
         (λ rows. AreRowsOf tables.now column rows)) }
 {
     match references(column) {
-        Some(table) => find_all(alloc, tables.table(table), tables.numbers(column)),
-        None => Ok(Some(FlatNumbers::new(alloc))),
+        Some(table) => join_index(alloc, tables.table(table), tables.numbers(column)),
+        None => Ok(Some(JoinIndex::build(alloc, &[], 0)?)),
     }
 }
 
@@ -82,8 +99,8 @@ impl Referred {
         Ok(Some(Referred { rows }))
     }
 
-    /// The rows that a column refers to.
-    pub(crate) fn rows(&self, column: ColumnId) -> &FlatNumbers
+    /// The join index of a column.
+    pub(crate) fn rows(&self, column: ColumnId) -> &JoinIndex
         requires { index_of column < length self.now.rows.items }
         ensures { result.now ≡ rows_kept self.now column }
     {

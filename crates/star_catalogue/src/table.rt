@@ -1,6 +1,6 @@
 // A table in memory.
 
-ghost use Rattle.std.specs.Prelude.{◌≡◌, ◌↔◌, ◌<◌, ◌∷◌, [], ℕ, All, Some, MatchResult, length, slice_get};
+ghost use Rattle.std.specs.Prelude.{◌≡◌, ◌↔◌, ◌<◌, ◌∷◌, [], ℕ, All, Some, MatchResult, length, map, slice_get};
 ghost use Rattle.std.specs.Option.{option_map};
 ghost use Rattle.star_common.specs.Memory.{UnlessMemory};
 ghost use Rattle.star_schema.specs.Bounds.{numbers_of};
@@ -15,7 +15,7 @@ use crate::columns::{Column, build_columns};
 use crate::fault::LoadFault;
 use crate::keys::KeyIndex;
 use star_column::{PackedColumn, TextColumn};
-use star_reader::{RawTable, read_table};
+use star_reader::{RawTable, read_parts};
 use star_schema::{ColumnId, Kind, Limits, TableId, place_of};
 use std::alloc::Global;
 use std::marker::Model;
@@ -42,15 +42,21 @@ impl Model for LoadedTable {
     ghost invariant = { IsKept };
 }
 
-/// The table that a text is, or its first fault.
-fn read(alloc: Global, text: &[u8], table: TableId, limits: Limits) -> Result<RawTable, LoadFault>
+/// The table that some parts are, or its first fault.
+fn read(
+    alloc: Global,
+    parts: &[&[u8]],
+    table: TableId,
+    limits: Limits,
+) -> Result<RawTable, LoadFault>
     ensures { MatchResult result
-        (λ raw. IsTable table limits.rows text.now × (raw.table ≡ table)
-        × (raw.rows ≡ rows_of table text.now))
+        (λ raw. IsTable table limits.rows (map (λ part. part.now) parts.now)
+        × (raw.table ≡ table) × (raw.rows ≡ rows_of table (map (λ part. part.now) parts.now)))
         (λ fault. UnlessMemory LoadFault.OutOfMemory fault
-        (option_map (fault_of_read table) (text_fault table limits.rows text.now) ≡ Some fault)) }
+        (option_map (fault_of_read table)
+        (text_fault table limits.rows (map (λ part. part.now) parts.now)) ≡ Some fault)) }
 {
-    match read_table(alloc, text, table, limits) {
+    match read_parts(alloc, parts, table, limits) {
         Ok(raw) => Ok(raw),
         Err(fault) => Err(LoadFault::of_read(table, fault)),
     }
@@ -77,22 +83,23 @@ fn keep(alloc: Global, raw: RawTable) -> Result<LoadedTable, LoadFault>
 }
 
 impl LoadedTable {
-    /// The table that a text is, or its first fault: as a table, and then in its keys. It is boxed,
-    /// so that letting go of it is one call.
+    /// The table that some parts are, or its first fault: as a table, and then in its keys. It is
+    /// boxed, so that letting go of it is one call.
     pub(crate) fn load(
         alloc: Global,
-        text: &[u8],
+        parts: &[&[u8]],
         table: TableId,
         limits: Limits,
     ) -> Result<Box<LoadedTable>, LoadFault>
         ensures { MatchResult result
-            (λ loaded. IsTable table limits.rows text.now × (loaded.value.table ≡ table)
-            × (loaded.value.rows ≡ rows_of table text.now)
-            × HasDistinctKeys table (rows_of table text.now))
+            (λ loaded. IsTable table limits.rows (map (λ part. part.now) parts.now)
+            × (loaded.value.table ≡ table)
+            × (loaded.value.rows ≡ rows_of table (map (λ part. part.now) parts.now))
+            × HasDistinctKeys table (rows_of table (map (λ part. part.now) parts.now)))
             (λ fault. UnlessMemory LoadFault.OutOfMemory fault
-            (table_fault table limits.rows text.now ≡ Some fault)) }
+            (table_fault table limits.rows (map (λ part. part.now) parts.now) ≡ Some fault)) }
     {
-        let raw = read(alloc, text, table, limits)?;
+        let raw = read(alloc, parts, table, limits)?;
         let loaded = keep(alloc, raw)?;
         Ok(Box::new(alloc, loaded)?)
     }
@@ -129,6 +136,7 @@ impl LoadedTable {
     }
 
     /// The row with a key of one number, if there is one.
+    #[inline(always)]
     pub(crate) fn find(&self, key: i64) -> Option<u32>
         ensures { (row : ℕ) → (result ≡ Some row)
             ↔ (slice_get (keys_of self.now.table self.now.rows) row ≡ Some (key ∷ [])) }

@@ -1,11 +1,12 @@
 // The texts of five table files.
 
-/// The texts of the five table files, in the order of the tables.
+/// The texts of the five tables, in their order. That of lineorder is in parts.
 #[derive(Clone, Copy)]
 pub struct Texts<'a> {
     pub date: &'a [u8],
     pub customer: &'a [u8],
     pub supplier: &'a [u8],
     pub part: &'a [u8],
-    pub lineorder: &'a [u8],
+    /// Its parts, in order; a record ends with its part. An empty list is a table without rows.
+    pub lineorder: &'a [&'a [u8]],
 }

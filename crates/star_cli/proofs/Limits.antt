@@ -17,7 +17,7 @@ use Rattle.clap.specs.declared.builder.command.Command.{Command}
 use Rattle.clap.specs.declared.builder.command.Command.TheViews.{out-Command as fields_of}
 use Rattle.clap.specs.declared.builder.value_parser.ValueParser.TheVariants.{Signed}
 use Rattle.clap.specs.declared.parser.matches.ArgMatches.{ArgMatches}
-use Rattle.star_schema.specs.declared.limits.TheConstants.{MOST_VISITS}
+use Rattle.star_schema.specs.Most.{most_visits}
 use Rattle.star_cli.specs.Private.Asked.{AsksForLimit, HasLimit, IsWord}
 use Rattle.star_cli.proofs.Asking.{all_distinct, all_fit, first_word, folder_file_and_limit, lengths, word_at}
 
@@ -101,6 +101,6 @@ has_limit command matches limit parsed =
     only
     (λ none. fits.2 (sym same ∙ none))
     (λ auto. fits.3 (subst (λ t. (t ≡ codes "help") ⊎ (t ≡ codes "version")) same auto))
-    (Signed (pos 0) (pos MOST_VISITS))
-    (ap (λ x. x.value_parser) third ∙ rules.parser (Signed (pos 0) (pos MOST_VISITS)) (limit.number d)) in
+    (Signed (pos 0) (pos most_visits))
+    (ap (λ x. x.value_parser) third ∙ rules.parser (Signed (pos 0) (pos most_visits)) (limit.number d)) in
     (read.0, subst (λ t. one_text (found_of matches) t ≡ Some (without_minus read.0)) (same ∙ is.named) read.1, read.2)

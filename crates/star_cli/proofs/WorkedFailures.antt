@@ -1,8 +1,9 @@
 -- What keeps a command from its answer: the line of each failure, and its status. No other crate may name them.
 use Rattle.std.proofs.Common.{◌≡◌, ℕ, List, [], ◌∷◌, Some, refl, ap}
 use Rattle.std.specs.Borrow.{Bor}
+use Rattle.std.specs.Fmt.{digits}
 use Rattle.std.specs.Prelude.{◌++◌, codes, map}
-use Rattle.star_cli.specs.declared.failure.Failure.TheVariants.{NotText, EmptyFolder, NoCommand, File, OutOfMemory}
+use Rattle.star_cli.specs.declared.failure.Failure.TheVariants.{NotText, EmptyFolder, NoCommand, File, Part, OutOfMemory}
 use Rattle.star_cli.specs.Failures.{failure_text, status_of}
 use Rattle.star_cli.specs.Names.{shown_name}
 
@@ -16,5 +17,10 @@ line_of_a_file : (name : Bor (List ℕ)) → shown_name name.now ≡ codes "part
 unfolding failure_text
 line_of_a_file name shown = ap (λ word. Some (codes "file " ++ (word ++ codes "\n"))) shown
 
-statuses : (name : Bor (List ℕ)) → map status_of (NotText ∷ EmptyFolder ∷ NoCommand ∷ File name ∷ OutOfMemory ∷ []) ≡ 2 ∷ 2 ∷ 2 ∷ 6 ∷ 7 ∷ []
+lines_of_parts : map failure_text (Part 2 ∷ Part 1001 ∷ [])
+    ≡ Some (codes "file lineorder.tbl.2\n") ∷ Some (codes "file lineorder.tbl.1001\n") ∷ []
+unfolding failure_text digits
+lines_of_parts = refl
+
+statuses : (name : Bor (List ℕ)) → map status_of (NotText ∷ EmptyFolder ∷ NoCommand ∷ File name ∷ Part 2 ∷ OutOfMemory ∷ []) ≡ 2 ∷ 2 ∷ 2 ∷ 6 ∷ 6 ∷ 7 ∷ []
 statuses name = refl

@@ -1,8 +1,8 @@
 -- What a task asks of the bytes that were read for it.
 use Rattle.std.specs.Prelude.{◌≡◌, ◌⊎◌, ℕ, Bool, true, false, List, Result, Ok, Err, IfOk}
 use Rattle.star_schema.specs.declared.limits.Limits.{Limits}
-use Rattle.star_schema.specs.declared.limits.TheConstants.{MOST_ROWS, MOST_VISITS}
-use Rattle.star_schema.specs.declared.table.TableId.{TableId}
+use Rattle.star_schema.specs.Most.{most_rows, most_visits}
+use Rattle.star_schema.specs.Database.{TableTexts}
 use Rattle.star_catalogue.specs.Load.{text_of}
 use Rattle.star_engine.specs.declared.fault.EngineFault.{EngineFault}
 use Rattle.star_engine.specs.Answered.{Change, IsAnswered, IsUntouched}
@@ -30,21 +30,21 @@ IsWhole IsAnswer result =
     (answer : Result (Unit {0}) EngineFault) × IsAnswer answer × (result ≡ whole answer)
 
 -- the tables of five texts are listed
-abbrev pub IsListed : {S : Type 0} → Change S → (TableId → List ℕ)
+abbrev pub IsListed : {S : Type 0} → Change S → TableTexts
     → Result (Unit {0}) EngineFault → Type 0
 IsListed out texts answer =
-    IsAnswered out (IsListing MOST_ROWS texts) (IsUnloaded MOST_ROWS texts) answer
+    IsAnswered out (IsListing most_rows texts) (IsUnloaded most_rows texts) answer
 
 -- the queries of the benchmark are answered over them, and the answer is whether each fits
-pub record IsBenched {S : Type 0} (out : Change S) (texts : TableId → List ℕ)
+pub record IsBenched {S : Type 0} (out : Change S) (texts : TableTexts)
     (result : Result Bool EngineFault) : Type 0 where
-  pub answered : IsAnswered out (IsBench MOST_ROWS MOST_VISITS texts) (IsUnloaded MOST_ROWS texts)
+  pub answered : IsAnswered out (IsBench most_rows most_visits texts) (IsUnloaded most_rows texts)
       result
-  pub all_fit : IfOk result (λ fits. fits ≡ true → AllFit MOST_VISITS texts)
-  pub some_unfit : IfOk result (λ fits. fits ≡ false → SomeIsUnfit MOST_VISITS texts)
+  pub all_fit : IfOk result (λ fits. fits ≡ true → AllFit most_visits texts)
+  pub some_unfit : IfOk result (λ fits. fits ≡ false → SomeIsUnfit most_visits texts)
 
 -- the one and then the other, where the one isn't stopped
-abbrev pub IsListedAndBenched : {S : Type 0} → Change S → (TableId → List ℕ)
+abbrev pub IsListedAndBenched : {S : Type 0} → Change S → TableTexts
     → Result Bool EngineFault → Type 0
 IsListedAndBenched {S} out texts result =
     ((fault : EngineFault) × IsListed out texts (Err fault) × (result ≡ Err fault))
@@ -52,12 +52,12 @@ IsListedAndBenched {S} out texts result =
     × IsBenched (record out { old = listed }) texts result)
 
 -- the query of a file is answered over them, with notes
-abbrev pub IsQueried : {S N : Type 0} → Change S → Change N → (TableId → List ℕ) → List ℕ
+abbrev pub IsQueried : {S N : Type 0} → Change S → Change N → TableTexts → List ℕ
     → Result (Unit {0}) EngineFault → Type 0
 IsQueried out notes texts file answer =
-    IsNoted out notes (IsQueryQuote MOST_ROWS texts file)
-    (IsQueryTold MOST_ROWS MOST_VISITS texts file)
-    (IsUnanswered MOST_ROWS MOST_VISITS texts file) answer
+    IsNoted out notes (IsQueryQuote most_rows texts file)
+    (IsQueryTold most_rows most_visits texts file)
+    (IsUnanswered most_rows most_visits texts file) answer
 
 -- the program of the query of a file is written
 abbrev pub IsExplanation : {S : Type 0} → Change S → List ℕ
@@ -65,20 +65,20 @@ abbrev pub IsExplanation : {S : Type 0} → Change S → List ℕ
 IsExplanation out file answer = IsAnswered out (IsExplained file) (IsNoQuery file) answer
 
 -- the program of a file is verified and run over them, with notes
-abbrev pub IsExecuted : {S N : Type 0} → Change S → Change N → (TableId → List ℕ) → List ℕ
+abbrev pub IsExecuted : {S N : Type 0} → Change S → Change N → TableTexts → List ℕ
     → Result (Unit {0}) EngineFault → Type 0
 IsExecuted out notes texts file answer =
-    IsNoted out notes (IsQuoteOf MOST_ROWS texts file) (IsToldOf MOST_ROWS MOST_VISITS texts file)
-    (IsUntold MOST_ROWS MOST_VISITS texts file) answer
+    IsNoted out notes (IsQuoteOf most_rows texts file) (IsToldOf most_rows most_visits texts file)
+    (IsUntold most_rows most_visits texts file) answer
 
 -- it is told how many visits of the query, or of the program, of a file are quoted over them
-abbrev pub IsQuoted : {S : Type 0} → Change S → (TableId → List ℕ) → List ℕ
+abbrev pub IsQuoted : {S : Type 0} → Change S → TableTexts → List ℕ
     → Result (Unit {0}) EngineFault → Type 0
 IsQuoted out texts file answer =
-    IsAnswered out (IsQuoteText MOST_ROWS texts file) (IsUnquoted MOST_ROWS texts file) answer
+    IsAnswered out (IsQuoteText most_rows texts file) (IsUnquoted most_rows texts file) answer
 
 -- the program of a file is run over them under these limits
-abbrev pub IsTried : {S : Type 0} → Limits → Change S → (TableId → List ℕ) → List ℕ
+abbrev pub IsTried : {S : Type 0} → Limits → Change S → TableTexts → List ℕ
     → Result (Unit {0}) EngineFault → Type 0
 IsTried limits out texts file answer =
     IsAnswered out (IsTrialReport limits.rows texts file limits.visits)

@@ -1,5 +1,5 @@
 -- What keeps a command from an answer, its line, and its exit status.
-use Rattle.std.specs.Prelude.{◌≡◌, ◌==◌, ◌++◌, ◌⊎◌, ℕ, List, Bool, true, false, Option, Some, None, IfSome, codes}
+use Rattle.std.specs.Prelude.{◌≡◌, ◌==◌, ◌++◌, ◌⊎◌, ℕ, List, Bool, true, false, Option, Some, None, IfSome, codes, decimal}
 use Rattle.clap.specs.Values.{kind_of}
 use Rattle.clap.specs.declared.error.Error.{Error}
 use Rattle.clap.specs.declared.error.kind.ErrorKind.{ErrorKind}
@@ -9,7 +9,7 @@ use Rattle.star_engine.specs.Answered.{Change, IsUntouched}
 use Rattle.star_cli.specs.Lines.{IsTextTold}
 use Rattle.star_cli.specs.Names.{shown_name}
 use Rattle.star_cli.specs.declared.failure.Failure.{Failure}
-use Rattle.star_cli.specs.declared.failure.Failure.TheVariants.{Words, NotText, EmptyFolder, NoCommand, File, OutOfMemory}
+use Rattle.star_cli.specs.declared.failure.Failure.TheVariants.{Words, NotText, EmptyFolder, NoCommand, File, Part, OutOfMemory}
 
 -- an error of the parser of the words: it too may want memory
 abbrev pub failure_of_kind : Error → ErrorKind → Failure
@@ -26,6 +26,7 @@ failure_text NotText = Some (codes "error: a word is not UTF-8\n")
 failure_text EmptyFolder = Some (codes "error: the folder's name is empty\n")
 failure_text NoCommand = Some (codes "error: the words are no command\n")
 failure_text (File name) = Some (codes "file " ++ (shown_name name.now ++ codes "\n"))
+failure_text (Part number) = Some (codes "file lineorder.tbl." ++ (decimal number ++ codes "\n"))
 failure_text OutOfMemory = Some (codes "memory\n")
 
 -- ---- the exit status
@@ -42,6 +43,7 @@ status_of NotText = 2
 status_of EmptyFolder = 2
 status_of NoCommand = 2
 status_of (File name) = 6
+status_of (Part number) = 6
 status_of OutOfMemory = 7
 
 -- ---- telling it

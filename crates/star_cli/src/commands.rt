@@ -5,8 +5,8 @@ use crate::failure::Failure;
 use crate::files::{Folder, read_file};
 use crate::words::{Task, task_of};
 use star_engine::sample;
-use star_schema::Out;
-use std::alloc::AllocError;
+use star_schema::{Out, Sink};
+use std::alloc::{AllocError, Global};
 use std::io::Write;
 use std::rt::{Env, Files};
 use std::{env, io};
@@ -47,9 +47,17 @@ fn read_for<'a, R: Files + AllocGlobal>(rt: &R, task: Task<'a>) -> Result<Read, 
 }
 
 impl Read {
-    fn bytes(&self) -> Bytes<'_> {
+    // The parts of lineorder, where a folder was read.
+    fn lineorder(&self, alloc: Global) -> Result<Vec<&[u8]>, AllocError> {
+        match &self.tables {
+            Some(tables) => tables.lineorder(alloc),
+            None => Ok(Vec::new(alloc)),
+        }
+    }
+
+    fn bytes<'a>(&'a self, lineorder: &'a [&'a [u8]]) -> Bytes<'a> {
         let texts = match &self.tables {
-            Some(tables) => tables.texts(),
+            Some(tables) => tables.texts(lineorder),
             None => sample(),
         };
         Bytes {
@@ -69,6 +77,20 @@ fn prepare<'a, R: Files + AllocGlobal>(
     Ok((task, read))
 }
 
+// Answers a task over what was read for it.
+fn answer_over<S: Sink, E: Sink>(
+    alloc: Global,
+    task: Task<'_>,
+    read: &Read,
+    out: &mut S,
+    err: &mut E,
+) -> u8 {
+    match read.lineorder(alloc) {
+        Ok(parts) => answer(alloc, task, &read.bytes(parts.as_slice()), out, err),
+        Err(_) => Failure::from(AllocError).tell(alloc, out, err),
+    }
+}
+
 /// Does what the words ask for, the program's own name left off, and gives the exit status: 0
 /// where all is well, 1 for a query or a program that is refused, or a program that is trapped or
 /// meets its limit, 2 for words that are no command, 3 for table files that can't be loaded, 4 for
@@ -83,7 +105,7 @@ pub fn command<R: Files + AllocGlobal, W: Write, E: Write>(
     let mut answers = Out::new(&mut *out);
     let mut notes = Out::new(&mut *err);
     match prepare(rt, words) {
-        Ok((task, read)) => answer(rt.alloc(), task, &read.bytes(), &mut answers, &mut notes),
+        Ok((task, read)) => answer_over(rt.alloc(), task, &read, &mut answers, &mut notes),
         Err(failure) => failure.tell(rt.alloc(), &mut answers, &mut notes),
     }
 }

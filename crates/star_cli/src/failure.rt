@@ -27,6 +27,9 @@ pub(crate) enum Failure<'a> {
     NoCommand,
     /// A file could not be read, or is too large.
     File(&'a str),
+    /// The part of lineorder with this number, from 1, could not be read, is too large, or is one
+    /// too many.
+    Part(u16),
     /// Memory was refused.
     OutOfMemory,
 }
@@ -61,6 +64,7 @@ impl<'a> fmt::Display for Failure<'a> {
             Failure::EmptyFolder => f.write_str("error: the folder's name is empty\n"),
             Failure::NoCommand => f.write_str("error: the words are no command\n"),
             Failure::File(name) => writeln!(f, "file {}", Shown(name)),
+            Failure::Part(number) => writeln!(f, "file lineorder.tbl.{number}"),
             Failure::OutOfMemory => f.write_str(MEMORY_LINE),
         }
     }
@@ -84,7 +88,7 @@ impl<'a> Failure<'a> {
         match self {
             Failure::Words(error) => status_of_words(error.kind()),
             Failure::NotText | Failure::EmptyFolder | Failure::NoCommand => 2,
-            Failure::File(_) => 6,
+            Failure::File(_) | Failure::Part(_) => 6,
             Failure::OutOfMemory => MEMORY_STATUS,
         }
     }

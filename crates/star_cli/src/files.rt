@@ -2,39 +2,42 @@
 
 use crate::failure::Failure;
 use star_engine::{FileFault, Input, Texts, read_expected};
-use std::alloc::AllocError;
+use std::alloc::{AllocError, Global};
 use std::fs::{File, OpenFile};
 use std::io;
 use std::rt::Files;
 
-/// The most bytes that a table file may have.
+/// The most bytes that a table file, or a part of one, may have.
 const MOST_TABLE_BYTES: u64 = 1_000_000_000_000;
+
+/// The most parts that lineorder may have.
+const MOST_PARTS: u16 = 1_000;
+
+/// The file of lineorder, behind whose name its parts have a dot and their number.
+const LINEORDER: &str = "lineorder.tbl";
 
 /// The most bytes that the file of a program may have.
 const MOST_FILE_BYTES: u64 = 16_777_216;
 
-/// The bytes of the five table files of a folder.
+/// The bytes of the table files of a folder. Those of lineorder are in parts.
 #[derive(Drop)]
 pub(crate) struct Folder {
     date: Vec<u8>,
     customer: Vec<u8>,
     supplier: Vec<u8>,
     part: Vec<u8>,
-    lineorder: Vec<u8>,
+    lineorder: Vec<Vec<u8>>,
 }
 
-fn failure_of_open<'a>(error: &io::Error, name: &'a str) -> Failure<'a> {
-    if error.kind() == io::ErrorKind::OutOfMemory {
-        Failure::from(AllocError)
-    } else {
-        Failure::File(name)
-    }
-}
-
-fn failure_of_read(fault: FileFault, name: &str) -> Failure<'_> {
-    match fault {
-        FileFault::Memory => Failure::from(AllocError),
-        FileFault::Failed => Failure::File(name),
+// Opens a file, if it is there. Only what is not found is not there.
+fn open_there<R: Files>(rt: &R, path: &str) -> Result<Option<R::File>, FileFault> {
+    match File::open(rt, path) {
+        Ok(file) => Ok(Some(file)),
+        Err(error) => match error.kind() {
+            io::ErrorKind::NotFound => Ok(None),
+            io::ErrorKind::OutOfMemory => Err(FileFault::Memory),
+            _ => Err(FileFault::Failed),
+        },
     }
 }
 
@@ -46,22 +49,44 @@ fn told_size(file: &impl OpenFile) -> u64 {
     }
 }
 
-// The bytes of a file of at most so many, which a failure names so. It is opened once. A file that
-// is told to have more is not read: it may be sparse, and larger than any memory.
+// The bytes of a file of at most so many, if it is there. It is opened once. A file that is told to
+// have more is not read: it may be sparse, and larger than any memory.
+fn read_there<R: Files + AllocGlobal>(
+    rt: &R,
+    path: &str,
+    most: u64,
+) -> Result<Option<Vec<u8>>, FileFault> {
+    let Some(file) = open_there(rt, path)? else {
+        return Ok(None);
+    };
+    let expected = told_size(&file);
+    if expected > most {
+        return Err(FileFault::Failed);
+    }
+    let bytes = read_expected(rt.alloc(), &mut Input::new(file), most, expected)?;
+    Ok(Some(bytes))
+}
+
+// What a fault is told as: want of memory, or else the failure that names the file.
+fn failure_of(fault: FileFault, named: Failure<'_>) -> Failure<'_> {
+    match fault {
+        FileFault::Memory => Failure::from(AllocError),
+        FileFault::Failed => named,
+    }
+}
+
+// The bytes of a file of at most so many, which a failure names so, also where it is not there.
 fn read_at_most<'a, R: Files + AllocGlobal>(
     rt: &R,
     path: &str,
     name: &'a str,
     most: u64,
 ) -> Result<Vec<u8>, Failure<'a>> {
-    let file = File::open(rt, path).map_err(|error| failure_of_open(&error, name))?;
-    let expected = told_size(&file);
-    if expected > most {
-        return Err(Failure::File(name));
+    match read_there(rt, path, most) {
+        Ok(Some(bytes)) => Ok(bytes),
+        Ok(None) => Err(Failure::File(name)),
+        Err(fault) => Err(failure_of(fault, Failure::File(name))),
     }
-    read_expected(rt.alloc(), &mut Input::new(file), most, expected).map_err(
-        |fault| failure_of_read(fault, name),
-    )
 }
 
 /// Reads the file of a program, which a failure names as the words do.
@@ -81,8 +106,83 @@ fn read_table<R: Files + AllocGlobal>(
     read_at_most(rt, path.as_str(), name, MOST_TABLE_BYTES)
 }
 
+fn path_of_part(alloc: Global, folder: &str, number: u16) -> Result<String, AllocError> {
+    format!(in alloc; "{folder}/lineorder.tbl.{number}")
+}
+
+// The bytes of a part of lineorder, by its number, if it is there.
+fn read_part<R: Files + AllocGlobal>(
+    rt: &R,
+    folder: &str,
+    number: u16,
+) -> Result<Option<Vec<u8>>, Failure<'static>> {
+    let path = path_of_part(rt.alloc(), folder, number)?;
+    match read_there(rt, path.as_str(), MOST_TABLE_BYTES) {
+        Ok(part) => Ok(part),
+        Err(fault) => Err(failure_of(fault, Failure::Part(number))),
+    }
+}
+
+// Refuses a part of lineorder that is there, which would be one too many. It is not read.
+fn refuse_part<R: Files + AllocGlobal>(
+    rt: &R,
+    folder: &str,
+    number: u16,
+) -> Result<(), Failure<'static>> {
+    let path = path_of_part(rt.alloc(), folder, number)?;
+    match open_there(rt, path.as_str()) {
+        Ok(None) => Ok(()),
+        Ok(Some(_)) => Err(Failure::Part(number)),
+        Err(fault) => Err(failure_of(fault, Failure::Part(number))),
+    }
+}
+
+fn add_part(parts: &mut Vec<Vec<u8>>, part: Vec<u8>) -> Result<(), AllocError> {
+    Ok(parts.push(part)?)
+}
+
+// The bytes of the parts of lineorder, from the first up to one that is not there.
+fn read_parts<R: Files + AllocGlobal>(
+    rt: &R,
+    folder: &str,
+) -> Result<Vec<Vec<u8>>, Failure<'static>> {
+    let mut parts = Vec::new(rt.alloc());
+    for number in 1..=MOST_PARTS {
+        match read_part(rt, folder, number)? {
+            Some(part) => add_part(&mut parts, part)?,
+            None => return Ok(parts),
+        }
+    }
+    refuse_part(rt, folder, MOST_PARTS + 1)?;
+    Ok(parts)
+}
+
+// The bytes of lineorder: its file, or else its parts, of which there is one at least.
+fn read_lineorder<R: Files + AllocGlobal>(
+    rt: &R,
+    folder: &str,
+) -> Result<Vec<Vec<u8>>, Failure<'static>> {
+    let path = format!(in rt.alloc(); "{folder}/{LINEORDER}")?;
+    match read_there(rt, path.as_str(), MOST_TABLE_BYTES) {
+        Ok(Some(whole)) => {
+            let mut parts = Vec::new(rt.alloc());
+            add_part(&mut parts, whole)?;
+            Ok(parts)
+        }
+        Ok(None) => {
+            let parts = read_parts(rt, folder)?;
+            if parts.is_empty() {
+                return Err(Failure::File(LINEORDER));
+            }
+            Ok(parts)
+        }
+        Err(fault) => Err(failure_of(fault, Failure::File(LINEORDER))),
+    }
+}
+
 impl Folder {
-    /// Reads the files, in the order of the tables.
+    /// Reads the files, in the order of the tables. Where there is no file of lineorder its parts
+    /// are read, `lineorder.tbl.1` and on, up to the first that is not there.
     pub(crate) fn read<R: Files + AllocGlobal>(
         rt: &R,
         folder: &str,
@@ -92,17 +192,26 @@ impl Folder {
             customer: read_table(rt, folder, "customer.tbl")?,
             supplier: read_table(rt, folder, "supplier.tbl")?,
             part: read_table(rt, folder, "part.tbl")?,
-            lineorder: read_table(rt, folder, "lineorder.tbl")?,
+            lineorder: read_lineorder(rt, folder)?,
         })
     }
 
-    pub(crate) fn texts(&self) -> Texts<'_> {
+    /// The parts of lineorder, lent.
+    pub(crate) fn lineorder(&self, alloc: Global) -> Result<Vec<&[u8]>, AllocError> {
+        self.lineorder
+            .iter()
+            .map(|part| part.as_slice())
+            .collect(alloc)
+    }
+
+    /// The texts of the tables, of which lineorder's parts are given.
+    pub(crate) fn texts<'a>(&'a self, lineorder: &'a [&'a [u8]]) -> Texts<'a> {
         Texts {
             date: self.date.as_slice(),
             customer: self.customer.as_slice(),
             supplier: self.supplier.as_slice(),
             part: self.part.as_slice(),
-            lineorder: self.lineorder.as_slice(),
+            lineorder,
         }
     }
 }

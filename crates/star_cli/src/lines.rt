@@ -4,7 +4,7 @@ ghost use Rattle.std.specs.Prelude.{◌≡◌, IfOk, string_bytes};
 ghost use Rattle.star_engine.specs.Answered.{change};
 ghost use Rattle.star_cli.specs.Lines.{IsFaultTold, IsTextTold, fault_line, fault_status};
 
-use star_engine::EngineFault;
+use star_engine::{EngineFault, FaultLine};
 use star_report::write_whole;
 use star_schema::Sink;
 use std::alloc::{AllocError, Global};
@@ -27,7 +27,7 @@ pub(crate) fn tell<S: Sink>(sink: &mut S, text: &[u8])
 fn line_of(alloc: Global, fault: &EngineFault) -> Result<String, AllocError>
     ensures { IfOk result (λ line. string_bytes line ≡ fault_line fault.now) }
 {
-    format!(in alloc; "{fault}\n")
+    format!(in alloc; "{}\n", FaultLine(fault))
 }
 
 fn status_of(fault: &EngineFault) -> u8

@@ -24,7 +24,7 @@ fn folder_word<'a>(alloc: Global) -> Arg<'a>
     word(
         alloc,
         "FOLDER",
-        "A folder with date.tbl, customer.tbl, supplier.tbl, part.tbl and lineorder.tbl",
+        "A folder with date.tbl, customer.tbl, supplier.tbl, part.tbl, and lineorder.tbl or its parts",
     )
 }
 
@@ -34,6 +34,7 @@ fn file_word<'a>(alloc: Global, help: &'a str) -> Arg<'a>
     word(alloc, "FILE", help)
 }
 
+// A negative number is taken for the value that is none, and not for an option.
 fn limit_word<'a>(alloc: Global) -> Arg<'a>
     ensures { IsLimit (codes "LIMIT") result }
 {
@@ -42,6 +43,7 @@ fn limit_word<'a>(alloc: Global) -> Arg<'a>
         "LIMIT",
         "How many turns of scans may begin at most, from 0 to 1000000000000000",
     )
+    .allow_negative_numbers(true)
     .value_parser(value_parser!(i64).range(0..=MOST_VISITS as i64))
 }
 
@@ -56,7 +58,7 @@ fn wordless<'a>(alloc: Global, help: Help) -> Result<Command<'a>, AllocError>
         .bin_name(help.called)
 }
 
-/// The command that has commands of its own, and no words.
+/// A command that has no words: the one that has commands of its own, or one that is told alone.
 pub(crate) fn program<'a>(alloc: Global, help: Help) -> Result<Command<'a>, AllocError> {
     wordless(alloc, help)
 }

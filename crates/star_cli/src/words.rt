@@ -2,12 +2,12 @@
 
 ghost use Rattle.std.specs.Prelude.{◌≡◌, codes};
 ghost use Rattle.star_cli.specs.Private.Asked.{HasLimit, HasWord};
-ghost use Rattle.star_schema.specs.declared.limits.TheConstants.{MOST_ROWS};
+ghost use Rattle.star_schema.specs.Most.{most_rows};
 
 use crate::failure::Failure;
 use crate::help::{
     BENCH, CHECK, EITHER_FILE, EXEC, EXPLAIN, Help, PROGRAM_FILE, QUERY, QUERY_FILE, QUOTE, STAR,
-    TRIAL,
+    TABLES, TRIAL,
 };
 use crate::parser::{over_file, over_folder, over_folder_and_file, program, under_limit};
 use clap::{ArgMatches, Command};
@@ -71,7 +71,8 @@ fn star_command<'a>(alloc: Global) -> Result<Command<'a>, AllocError> {
     let star = with(star, over_file(alloc, EXPLAIN, QUERY_FILE))?;
     let star = with(star, over_folder_and_file(alloc, EXEC, PROGRAM_FILE))?;
     let star = with(star, over_folder_and_file(alloc, QUOTE, EITHER_FILE))?;
-    with(star, under_limit(alloc, TRIAL, PROGRAM_FILE))
+    let star = with(star, under_limit(alloc, TRIAL, PROGRAM_FILE))?;
+    with(star, program(alloc, TABLES))
 }
 
 // The value of a word that the parser lets not be missing.
@@ -94,7 +95,7 @@ fn folder_given<'a>(matches: &ArgMatches<'a>) -> Result<&'a str, Failure<'a>>
 // The widest limits, but for the visits of LIMIT, which the parser lets be no other number.
 fn limits_given(matches: &ArgMatches<'_>) -> Limits
     requires { HasLimit matches.now (codes "LIMIT") }
-    ensures { result.rows ≡ MOST_ROWS }
+    ensures { result.rows ≡ most_rows }
 {
     Limits {
         rows: MOST_ROWS,
@@ -152,9 +153,21 @@ fn parsed<'a>(alloc: Global, words: &'a [String]) -> Result<ArgMatches<'a>, Fail
     Ok(star_command(alloc)?.try_get_matches_from(words)?)
 }
 
+fn page_of<'a>(alloc: Global, words: &'a [&'a str]) -> Result<ArgMatches<'a>, Failure<'a>> {
+    Ok(star_command(alloc)?.try_get_matches_from(words)?)
+}
+
 // What is said of words of which the first names no command: it may ask for help or the version.
 fn no_command<'a>(alloc: Global, words: &'a [String]) -> Failure<'a> {
     match parsed(alloc, words) {
+        Ok(_) => Failure::NoCommand,
+        Err(failure) => failure,
+    }
+}
+
+// What help says of the tables, which is all that there is to say of them.
+fn tables_told<'a>(alloc: Global) -> Failure<'a> {
+    match page_of(alloc, &["help", "tables"]) {
         Ok(_) => Failure::NoCommand,
         Err(failure) => failure,
     }
@@ -191,6 +204,7 @@ pub(crate) fn task_of<'a>(alloc: Global, words: &'a [String]) -> Result<Task<'a>
             Ok(Task::Quote { folder, file })
         }
         "trial" => trial_of(alloc, rest),
+        "tables" if rest.is_empty() => Err(tables_told(alloc)),
         _ => Err(no_command(alloc, words)),
     }
 }

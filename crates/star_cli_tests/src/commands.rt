@@ -3,6 +3,7 @@
 use star_cli::command;
 use star_engine::sample;
 use star_fixtures::programs::ABOVE_AVERAGE;
+use star_fixtures::samples::orders_of;
 use std::alloc::{AllocError, Global};
 use std::process::Abort;
 use std::rt::Files;
@@ -88,6 +89,7 @@ const NO_COMMANDS: &[&[&str]] = &[
     &["trial", "a", "b", "1000000000000001"],
     &["trial", "a", "b", "-1"],
     &["trial", "a", "b", "x"],
+    &["tables", "a"],
     &["--no"],
 ];
 
@@ -126,7 +128,7 @@ pub(crate) fn write_sample<R: Files + AllocGlobal>(rt: &R, folder: &str) -> io::
         ("customer", texts.customer),
         ("supplier", texts.supplier),
         ("part", texts.part),
-        ("lineorder", texts.lineorder),
+        ("lineorder", orders_of(&texts)),
     ] {
         let path = format!(in rt.alloc(); "{folder}/{name}.tbl")?;
         fs::write(rt, path.as_str(), bytes)?;

@@ -7,4 +7,8 @@ mod commands;
 #[cfg(test)]
 mod damaged;
 #[cfg(test)]
+mod parts;
+#[cfg(test)]
 mod surroundings;
+#[cfg(test)]
+mod tables;

@@ -198,6 +198,11 @@ const HELP: &[(&[&str], &str, &str)] = &[
         "  star check data\n",
     ),
     (
+        &["check", "--help"],
+        "lineorder.tbl.1, lineorder.tbl.2 and so on",
+        "at most 1,000",
+    ),
+    (
         &["bench", "--help"],
         "Usage: star bench <FOLDER>\n",
         "  star bench data\n",

@@ -1,12 +1,15 @@
+pub mod BitLists
 pub mod Coded
 pub mod Differences
 pub mod Edges
 pub mod Enumerated
 pub mod Extremes
 pub mod Fronts
+pub mod Masks
 pub mod Numbers
 pub mod Ordered
 pub mod Repeats
 pub mod Trees
 pub mod Views
+mod WorkedMasks
 mod WorkedWidths

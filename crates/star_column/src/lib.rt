@@ -6,6 +6,8 @@ mod coding;
 mod column;
 mod dictionary;
 mod distinct;
+mod join_index;
+mod mask;
 mod number;
 mod packed;
 mod text;
@@ -13,6 +15,7 @@ mod view;
 mod words;
 
 pub use column::ColumnData;
+pub use join_index::JoinIndex;
 pub use number::NumberColumn;
 pub use packed::PackedColumn;
 pub use text::TextColumn;

@@ -1,6 +1,6 @@
 // Unsigned numbers in words of 8, 16, 32 or 64 bits.
 
-ghost use Rattle.std.specs.Prelude.{◌≡◌, ◌-◌, ◌<◌, ◌^◌, ℕ, ◌-ℤ◌, ◌≤ℤ◌, All, IfOk, Some, length, map, slice_get, slice_index};
+ghost use Rattle.std.specs.Prelude.{◌≡◌, ◌+◌, ◌-◌, ◌<◌, ◌^◌, ℕ, ◌-ℤ◌, ◌≤ℤ◌, All, IfOk, Some, length, map, slice_get, slice_index};
 ghost use Rattle.std.specs.Int.RustNames.{unsigned_abs};
 ghost use Rattle.star_interval.specs.Range.{Holds};
 ghost use Rattle.star_interval.specs.Interval.{range_of};
@@ -13,7 +13,7 @@ use star_interval::Interval;
 use std::alloc::{AllocError, Global};
 
 /// An unsigned integer of some width.
-trait Word: Copy + Drop {
+pub(crate) trait Word: Copy + Drop {
     // Every number below it fits.
     ghost limit: { ℕ };
 
@@ -23,6 +23,19 @@ trait Word: Copy + Drop {
     fn of(value: u64) -> Self
         requires { value < limit }
         ensures { number result ≡ value };
+
+    /// The number that it is.
+    fn value(self) -> u64
+        ensures { result ≡ number self };
+
+    /// The greatest number that fits.
+    fn greatest() -> u64
+        ensures limit { result + 1 ≡ limit }
+        ensures above { 0 < result };
+
+    /// What holds of every word: its number fits.
+    fn law(words: &[Self])
+        ensures { All (λ word. number word < limit) words.now };
 }
 
 impl Word for u8 {
@@ -32,6 +45,18 @@ impl Word for u8 {
 
     fn of(value: u64) -> u8 {
         value as u8
+    }
+
+    fn value(self) -> u64 {
+        u64::from(self)
+    }
+
+    fn greatest() -> u64 {
+        u64::from(u8::MAX)
+    }
+
+    fn law(words: &[u8]) {
+        let _words = words;
     }
 }
 
@@ -43,6 +68,18 @@ impl Word for u16 {
     fn of(value: u64) -> u16 {
         value as u16
     }
+
+    fn value(self) -> u64 {
+        u64::from(self)
+    }
+
+    fn greatest() -> u64 {
+        u64::from(u16::MAX)
+    }
+
+    fn law(words: &[u16]) {
+        let _words = words;
+    }
 }
 
 impl Word for u32 {
@@ -53,6 +90,18 @@ impl Word for u32 {
     fn of(value: u64) -> u32 {
         value as u32
     }
+
+    fn value(self) -> u64 {
+        u64::from(self)
+    }
+
+    fn greatest() -> u64 {
+        u64::from(u32::MAX)
+    }
+
+    fn law(words: &[u32]) {
+        let _words = words;
+    }
 }
 
 impl Word for u64 {
@@ -62,6 +111,18 @@ impl Word for u64 {
 
     fn of(value: u64) -> u64 {
         value
+    }
+
+    fn value(self) -> u64 {
+        self
+    }
+
+    fn greatest() -> u64 {
+        u64::MAX
+    }
+
+    fn law(words: &[u64]) {
+        let _words = words;
     }
 }
 
@@ -156,6 +217,22 @@ impl Words {
             Ok(Words::Bits32(values_at(alloc, places, values)?))
         }
     }
+
+    /// These rows of a table that has so many, in the least width in which each of the table's
+    /// fits.
+    pub(crate) fn of_rows(alloc: Global, rows: &[u32], count: u32) -> Result<Words, AllocError>
+        requires { All (λ row. row < count) rows.now }
+        ensures { IfOk result (λ words. numbers_in words ≡ rows.now) }
+    {
+        let span = count.saturating_sub(1);
+        if span <= u32::from(u8::MAX) {
+            Ok(Words::Bits8(same(alloc, rows)?))
+        } else if span <= u32::from(u16::MAX) {
+            Ok(Words::Bits16(same(alloc, rows)?))
+        } else {
+            Ok(Words::Bits32(same(alloc, rows)?))
+        }
+    }
 }
 
 /// How far each number lies above another.
@@ -187,6 +264,18 @@ fn values_at<W: Word>(alloc: Global, places: &[u32], values: &[u32]) -> Result<V
     let mut words = Vec::with_capacity(alloc, places.len())?;
     for place in places {
         words.push_reserved(W::of(u64::from(values[*place as usize])));
+    }
+    Ok(words)
+}
+
+/// The same numbers in words of a width in which they fit.
+fn same<W: Word>(alloc: Global, numbers: &[u32]) -> Result<Vec<W>, AllocError>
+    requires { All (λ number. number < W.limit) numbers.now }
+    ensures { IfOk result (λ words. map W.number words.items ≡ numbers.now) }
+{
+    let mut words = Vec::with_capacity(alloc, numbers.len())?;
+    for number in numbers {
+        words.push_reserved(W::of(u64::from(*number)));
     }
     Ok(words)
 }

@@ -2,15 +2,15 @@
 use Rattle.std.proofs.Common.{◌≡◌, ℕ, zero, suc, ◌+◌, Bool, true, false, List, [], ◌∷◌, Option, Some, None, refl, sym, ap, subst, ◌∙◌, cond}
 use mathlib.Core.Logic.{inl, inr}
 use Rattle.std.specs.Prelude.{pos, ◌&&◌, map, replicate, slice_index_or}
-use Rattle.std.specs.List.{Contains}
-use Rattle.std.specs.Option.{option_map}
+use Rattle.std.specs.List.{Contains, list_all}
+use Rattle.std.specs.Option.{is_none, option_map}
 use Rattle.std.specs.Ordering.{is_eq}
 use Rattle.std.specs.declared.cmp.Ordering.{Ordering}
 use Rattle.star_common.proofs.Members.{contains_here, contains_later, contains_mapped, from_contains_map}
 use Rattle.star_schema.specs.declared.group.Shape.{Shape}
-use Rattle.star_schema.specs.declared.group.Shape.TheVariants.{Cube}
+use Rattle.star_schema.specs.declared.group.Shape.TheVariants.{Plain, Cube, Rollup}
 use Rattle.star_schema.specs.declared.group.Aggregate.{Aggregate}
-use Rattle.star_schema.specs.Groups.{Entry, IsMasked, IsGroup, belongs, members, aggregate, numbers_for, totals_from, GroupRow, AreGroups}
+use Rattle.star_schema.specs.Groups.{Entry, IsMasked, IsGroup, belongs, is_grouping, members, aggregate, numbers_for, totals_from, GroupRow, AreGroups}
 
 -- each key by the function of its place
 abbrev pub applied : {K L : Type 0} → (ℕ → K → L) → List K → List L
@@ -36,24 +36,41 @@ abbrev pub row_applied : {K L : Type 0} → (ℕ → K → L) → GroupRow K →
 row_applied f r = record { keys = applied_some f r.keys; totals = r.totals }
 
 -- a masked list is coded as its list is
-masked_applied : {K L : Type 0} (s : Shape) (f : ℕ → K → L) (m : List (Option K)) (ks : List K)
-    → IsMasked s m ks → IsMasked s (applied_some f m) (applied f ks)
-masked_applied s f [] [] h = tt
-masked_applied s f (Some k ∷ m) (x ∷ ks) h =
-    (ap (f 0) h.0, masked_applied s (λ i. f (suc i)) m ks h.1)
-masked_applied Cube f (None ∷ m) (x ∷ ks) h = masked_applied Cube (λ i. f (suc i)) m ks h
-masked_applied s f _ _ h = absurd h
+masked_applied : {K L : Type 0} (f : ℕ → K → L) (m : List (Option K)) (ks : List K)
+    → IsMasked m ks → IsMasked (applied_some f m) (applied f ks)
+masked_applied f [] [] h = tt
+masked_applied f (Some k ∷ m) (x ∷ ks) h =
+    (ap (f 0) h.0, masked_applied (λ i. f (suc i)) m ks h.1)
+masked_applied f (None ∷ m) (x ∷ ks) h = masked_applied (λ i. f (suc i)) m ks h
+masked_applied f _ _ h = absurd h
 
 -- and each masked list of a coded list is coded
-applied_masked : {K L : Type 0} (s : Shape) (f : ℕ → K → L) (m : List (Option L)) (ks : List K)
-    → IsMasked s m (applied f ks) → (n : List (Option K)) × IsMasked s n ks × (applied_some f n ≡ m)
-applied_masked s f [] [] h = ([], tt, refl)
-applied_masked s f (Some l ∷ m) (x ∷ ks) h =
-    let q = applied_masked s (λ i. f (suc i)) m ks h.1 in
+applied_masked : {K L : Type 0} (f : ℕ → K → L) (m : List (Option L)) (ks : List K)
+    → IsMasked m (applied f ks) → (n : List (Option K)) × IsMasked n ks × (applied_some f n ≡ m)
+applied_masked f [] [] h = ([], tt, refl)
+applied_masked f (Some l ∷ m) (x ∷ ks) h =
+    let q = applied_masked (λ i. f (suc i)) m ks h.1 in
     (Some x ∷ q.0, (refl, q.1), λ i. Some (sym h.0 i) ∷ q.2 i)
-applied_masked Cube f (None ∷ m) (x ∷ ks) h =
-    let q = applied_masked Cube (λ i. f (suc i)) m ks h in (None ∷ q.0, q.1, ap (λ l. None ∷ l) q.2)
-applied_masked s f _ _ h = absurd h
+applied_masked f (None ∷ m) (x ∷ ks) h =
+    let q = applied_masked (λ i. f (suc i)) m ks h in (None ∷ q.0, q.1, ap (λ l. None ∷ l) q.2)
+applied_masked f _ _ h = absurd h
+
+-- it hides the same keys
+none_applied : {K L : Type 0} (f : ℕ → K → L) (m : List (Option K))
+    → list_all is_none (applied_some f m) ≡ list_all is_none m
+none_applied f [] = refl
+none_applied f (Some k ∷ m) = refl
+none_applied f (None ∷ m) = none_applied (λ i. f (suc i)) m
+
+grouping_applied : {K L : Type 0} (s : Shape) (f : ℕ → K → L) (m : List (Option K))
+    → is_grouping s (applied_some f m) ≡ is_grouping s m
+grouping_applied Cube f m = refl
+grouping_applied Plain f [] = refl
+grouping_applied Plain f (Some k ∷ m) = grouping_applied Plain (λ i. f (suc i)) m
+grouping_applied Plain f (None ∷ m) = refl
+grouping_applied Rollup f [] = refl
+grouping_applied Rollup f (Some k ∷ m) = grouping_applied Rollup (λ i. f (suc i)) m
+grouping_applied Rollup f (None ∷ m) = none_applied (λ i. f (suc i)) m
 
 no_keys : {K L : Type 0} (f : ℕ → K → L) (k : ℕ)
     → applied_some f (replicate k None) ≡ replicate k None
@@ -62,19 +79,19 @@ no_keys f (suc k) = ap (λ l. None ∷ l) (no_keys (λ i. f (suc i)) k)
 
 module _ {K L : Type 0} (same : K → K → Ordering) (also : L → L → Ordering) where
   -- which rows belong to a group of a row
-  belongs_applied : (s : Shape) (f : ℕ → K → L) (m : List (Option K)) (ks vs : List K)
-      → IsMasked s m ks → Keeps same also f ks vs
+  belongs_applied : (f : ℕ → K → L) (m : List (Option K)) (ks vs : List K)
+      → IsMasked m ks → Keeps same also f ks vs
       → belongs also (applied_some f m) (applied f vs) ≡ belongs same m vs
-  belongs_applied s f [] [] [] h q = refl
-  belongs_applied s f [] [] (v ∷ vs) h q = absurd q
-  belongs_applied s f (Some k ∷ m) (x ∷ ks) (v ∷ vs) h q =
+  belongs_applied f [] [] [] h q = refl
+  belongs_applied f [] [] (v ∷ vs) h q = absurd q
+  belongs_applied f (Some k ∷ m) (x ∷ ks) (v ∷ vs) h q =
       λ i. (ap (λ u. is_eq (also (f 0 u) (f 0 v))) h.0 ∙ q.0 ∙ ap (λ u. is_eq (same u v)) (sym h.0))
-      i && belongs_applied s (λ i. f (suc i)) m ks vs h.1 q.1 i
-  belongs_applied Cube f (None ∷ m) (x ∷ ks) (v ∷ vs) h q =
-      belongs_applied Cube (λ i. f (suc i)) m ks vs h q.1
-  belongs_applied s f (Some k ∷ m) (x ∷ ks) [] h q = absurd q
-  belongs_applied s f (None ∷ m) (x ∷ ks) [] h q = absurd q
-  belongs_applied s f _ _ vs h q = absurd h
+      i && belongs_applied (λ i. f (suc i)) m ks vs h.1 q.1 i
+  belongs_applied f (None ∷ m) (x ∷ ks) (v ∷ vs) h q =
+      belongs_applied (λ i. f (suc i)) m ks vs h q.1
+  belongs_applied f (Some k ∷ m) (x ∷ ks) [] h q = absurd q
+  belongs_applied f (None ∷ m) (x ∷ ks) [] h q = absurd q
+  belongs_applied f _ _ vs h q = absurd h
 
   -- each belongs to the group of all
   belongs_all : (f : ℕ → K → L) (k : ℕ) (vs : List K)
@@ -121,29 +138,37 @@ module _ {K L : Type 0} (same : K → K → Ordering) (also : L → L → Orderi
       → Keeps same also f e.keys d.keys) where
     group_belongs : (m : List (Option K)) → IsGroup s k es m → (e : Entry K) → Contains es e
         → belongs also (applied_some f m) (applied f e.keys) ≡ belongs same m e.keys
-    group_belongs m (inl h) e q = belongs_applied s f m h.0.keys e.keys h.2 (keeps h.0 e h.1 q)
-    group_belongs m (inr h) e q =
-        ap (λ n. belongs also (applied_some f n) (applied f e.keys)) h.1 ∙ belongs_all f k e.keys
-        ∙ ap (λ n. belongs same n e.keys) (sym h.1)
+    group_belongs m (shown, inl h) e q = belongs_applied f m h.0.keys e.keys h.2 (keeps h.0 e h.1 q)
+    group_belongs m (shown, inr all) e q =
+        ap (λ n. belongs also (applied_some f n) (applied f e.keys)) all ∙ belongs_all f k e.keys
+        ∙ ap (λ n. belongs same n e.keys) (sym all)
 
     group_applied : (m : List (Option K)) → IsGroup s k es m
         → IsGroup s k (map (entry_applied f) es) (applied_some f m)
-    group_applied m (inl h) =
-        inl (
-          entry_applied f h.0,
-          contains_mapped (entry_applied f) es h.0 h.1,
-          masked_applied s f m
-              h.0.keys h.2,
-        )
-    group_applied m (inr h) = inr (h.0, ap (applied_some f) h.1 ∙ no_keys f k)
+    group_applied m (shown, inl h) = (
+      grouping_applied s f m ∙ shown,
+      inl (
+        entry_applied f h.0,
+        contains_mapped (entry_applied f) es h.0 h.1,
+        masked_applied f m h.0.keys h.2,
+      ),
+    )
+    group_applied m (shown, inr all) =
+        (grouping_applied s f m ∙ shown, inr (ap (applied_some f) all ∙ no_keys f k))
 
     applied_group : (m : List (Option L)) → IsGroup s k (map (entry_applied f) es) m
         → (n : List (Option K)) × IsGroup s k es n × (applied_some f n ≡ m)
-    applied_group m (inl h) =
+    applied_group m (shown, inl h) =
         let e = from_contains_map (entry_applied f) es h.0 h.1 in
-        let q = applied_masked s f m e.0.keys (subst (λ d. IsMasked s m d.keys) (sym e.2) h.2) in
-        (q.0, inl (e.0, e.1, q.1), q.2)
-    applied_group m (inr h) = (replicate k None, inr (h.0, refl), no_keys f k ∙ sym h.1)
+        let q = applied_masked f m e.0.keys (subst (λ d. IsMasked m d.keys) (sym e.2) h.2) in
+        let same : is_grouping s q.0 ≡ is_grouping s m =
+        sym (grouping_applied s f q.0) ∙ ap (is_grouping s) q.2 in
+        (q.0, (same ∙ shown, inl (e.0, e.1, q.1)), q.2)
+    applied_group m (shown, inr all) =
+        let none : applied_some f (replicate k None) ≡ m = no_keys f k ∙ sym all in
+        let same : is_grouping s (replicate k None) ≡ is_grouping s m =
+        sym (grouping_applied s f (replicate k None)) ∙ ap (is_grouping s) none in
+        (replicate k None, (same ∙ shown, inr refl), none)
 
     -- groups of coded rows are the coded groups
     pub groups_applied : (rows : List (GroupRow K)) → AreGroups same s k gs es rows

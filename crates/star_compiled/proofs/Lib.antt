@@ -17,7 +17,7 @@ pub mod Elements
 pub mod KeyCodes
 pub mod Answered
 pub mod QueryAnswers
-mod Plans
+pub mod Plans
 mod RevenueTexts
 mod ProfitTexts
 mod Vectors

@@ -2,7 +2,7 @@
 use Rattle.std.proofs.Common.{ℕ, List, refl}
 use Rattle.std.specs.Prelude.{All}
 use Rattle.star_schema.specs.declared.table.TableId.{TableId}
-use Rattle.star_schema.specs.Database.{Database, rows_in}
+use Rattle.star_schema.specs.Database.{Database, TableTexts, rows_in}
 use Rattle.star_schema.specs.Loadable.{IsLoadable, IsSound, database_of}
 use Rattle.star_schema.specs.Tables.{IsRowOf}
 use Rattle.star_query.specs.Derives.{Means}
@@ -32,7 +32,7 @@ answers_the_query database w query p rows world named resolved may s outcome run
     told)
 
 pub reports_the_query : ((database : Database) → IsSound database → IsWorldOf database
-    (world_of database)) → (most : ℕ) (texts : TableId → List ℕ) (text : List ℕ) (query : Tree)
+    (world_of database)) → (most : ℕ) (texts : TableTexts) (text : List ℕ) (query : Tree)
     (p : Plan)
     → IsLoadable most texts → Means text query → IsWellNamed query → IsResolved query p
     → ReportsTheQuery texts text p

@@ -1,9 +1,9 @@
 -- What a run of a compiled program has put, and what it answers.
 use Rattle.std.specs.Prelude.{◌≡◌, ℕ, Bool, List, map, reverse}
 use Rattle.star_schema.specs.declared.column.ColumnId.{ColumnId}
-use Rattle.star_schema.specs.declared.table.TableId.{TableId}
 use Rattle.star_schema.specs.Loadable.{database_of}
 use Rattle.star_schema.specs.Tables.{Value, Number, Text}
+use Rattle.star_schema.specs.Database.{TableTexts}
 use Rattle.star_query.specs.Tree.{Tree}
 use Rattle.star_plan.specs.Meaning.{Joined, Plan, Tables, measured, plan_rows, value_of}
 use Rattle.star_program.specs.declared.key.KeyValue.{KeyValue}
@@ -52,7 +52,7 @@ AnswersTheQuery ts w query p = (may : ℕ → Bool) (s : Store) (outcome : Outco
     → IsAnswer ts query outcome.names outcome.rows
 
 -- over the rows of five texts, what is printed of an outcome is the report of a query's text
-abbrev pub ReportsTheQuery : (TableId → List ℕ) → List ℕ → Plan → Type 0
+abbrev pub ReportsTheQuery : TableTexts → List ℕ → Plan → Type 0
 ReportsTheQuery texts text p = (may : ℕ → Bool) (s : Store) (outcome : Outcome)
     → run_while (world_of (database_of texts)) may (compiled p) ≡ Ended s
     → IsOutcome (world_of (database_of texts)) (compiled p) s outcome

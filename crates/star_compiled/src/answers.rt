@@ -2,7 +2,7 @@
 
 ghost use Rattle.std.specs.Prelude.{All, List, ℕ};
 ghost use Rattle.star_schema.specs.declared.table.TableId.{TableId};
-ghost use Rattle.star_schema.specs.Database.{Database, rows_in};
+ghost use Rattle.star_schema.specs.Database.{Database, TableTexts, rows_in};
 ghost use Rattle.star_schema.specs.Loadable.{IsLoadable};
 ghost use Rattle.star_schema.specs.Tables.{IsRowOf};
 ghost use Rattle.star_query.specs.Derives.{Means};
@@ -44,7 +44,7 @@ pub fn compiled_programs_answer_their_queries()
 /// And what is printed of it, where five loadable texts hold the rows, is the report of the query's
 /// text.
 pub fn compiled_programs_report_their_queries()
-    ensures { (most : ℕ) (texts : TableId → List ℕ) (text : List ℕ) (query : Tree) (p : Plan)
+    ensures { (most : ℕ) (texts : TableTexts) (text : List ℕ) (query : Tree) (p : Plan)
         → IsLoadable most texts → Means text query
         → IsWellNamed query → IsResolved query p → ReportsTheQuery texts text p }
 {

@@ -4,8 +4,7 @@ use Rattle.std.specs.Prelude.{Contains, ◌&&◌, codes}
 use Rattle.std.specs.Prelude.{Result, Err}
 use Rattle.std.specs.List.{AllByRecursion}
 use Rattle.std.proofs.lemmas.List.{length-append}
-use Rattle.star_schema.specs.declared.table.TableId.{TableId}
-use Rattle.star_schema.specs.Database.{Database}
+use Rattle.star_schema.specs.Database.{Database, TableTexts}
 use Rattle.star_schema.specs.Loadable.{IsLoadable, database_of}
 use Rattle.star_plan.specs.Meaning.{Plan}
 use Rattle.star_verify.specs.declared.refusal.Refusal.{Refusal}
@@ -36,21 +35,21 @@ there : {X : Type 0} (x y : X) (xs : List X) → Contains xs x → Contains (y �
 there x y xs (k, within, is) = (suc k, omega arith, is)
 
 -- some of these queries doesn't fit
-abbrev pub SomeUnfit : ℕ → (TableId → List ℕ) → List BenchmarkQuery → Type 0
+abbrev pub SomeUnfit : ℕ → TableTexts → List BenchmarkQuery → Type 0
 SomeUnfit most texts qs =
     (q : BenchmarkQuery) × Contains qs q × (refusal : Refusal)
     × IsUnfit most texts (query_text q) refusal
 
-abbrev pub IsVerdictOn : ℕ → (TableId → List ℕ) → List BenchmarkQuery → (fit : Bool) → Type 0
+abbrev pub IsVerdictOn : ℕ → TableTexts → List BenchmarkQuery → (fit : Bool) → Type 0
 IsVerdictOn most texts qs true = AllByRecursion (λ q. FitsTexts most texts (query_text q)) qs
 IsVerdictOn most texts qs false = SomeUnfit most texts qs
 
-abbrev IsVerdictOnOne : ℕ → (TableId → List ℕ) → BenchmarkQuery → (fits : Bool) → Type 0
+abbrev IsVerdictOnOne : ℕ → TableTexts → BenchmarkQuery → (fits : Bool) → Type 0
 IsVerdictOnOne most texts q true = FitsTexts most texts (query_text q)
 IsVerdictOnOne most texts q false =
     (refusal : Refusal) × IsUnfit most texts (query_text q) refusal
 
-both_verdicts : (most : ℕ) (texts : TableId → List ℕ) (q : BenchmarkQuery) (qs : List BenchmarkQuery)
+both_verdicts : (most : ℕ) (texts : TableTexts) (q : BenchmarkQuery) (qs : List BenchmarkQuery)
     (one others : Bool) → IsVerdictOnOne most texts q one → IsVerdictOn most texts qs others
     → IsVerdictOn most texts (q ∷ qs) (one && others)
 both_verdicts most texts q qs true true fits all = (fits, all)
@@ -60,7 +59,7 @@ both_verdicts most texts q qs false others unfit _ = (q, here q qs, unfit.0, unf
 
 -- ---- parts
 
-module _ (rows most : ℕ) (texts : TableId → List ℕ) (loadable : IsLoadable rows texts)
+module _ (rows most : ℕ) (texts : TableTexts) (loadable : IsLoadable rows texts)
     (judged : (query : List ℕ) (p : Plan) → IsPlanOf query p → IsJudged most texts query p) where
   abbrev database : Database
   database = database_of texts
@@ -132,14 +131,14 @@ module _ (rows most : ℕ) (texts : TableId → List ℕ) (loadable : IsLoadable
 
 -- ---- the thirteen
 
-pub verdict_told : (most : ℕ) (texts : TableId → List ℕ) (fit : Bool)
+pub verdict_told : (most : ℕ) (texts : TableTexts) (fit : Bool)
     → IsVerdictOn most texts THIRTEEN fit → IsVerdict most texts fit
 verdict_told most texts true all = all
 verdict_told most texts false (q, among, refusal, unfit) =
     record { q = q; among = among; refusal = refusal; unfit = unfit }
 
 -- their text has a byte
-parts_some : (most : ℕ) (texts : TableId → List ℕ) (q : BenchmarkQuery) (qs : List BenchmarkQuery)
+parts_some : (most : ℕ) (texts : TableTexts) (q : BenchmarkQuery) (qs : List BenchmarkQuery)
     (text : List ℕ) → AreParts most texts (q ∷ qs) text → 0 < length text
 parts_some most texts q qs text (part, rest, is, others, whole) =
     let quote = quote_line (fact_rows texts) in
@@ -153,7 +152,7 @@ parts_some most texts q qs text (part, rest, is, others, whole) =
       length-append (query_name q) (codes " " ++ quote),
     ))
 
-pub bench_some : (rows most : ℕ) (texts : TableId → List ℕ) (text : List ℕ)
+pub bench_some : (rows most : ℕ) (texts : TableTexts) (text : List ℕ)
     → IsBench rows most texts text → 0 < length text
 bench_some rows most texts text is = parts_some most texts Q11 (drop 1 THIRTEEN) text is.parts
 

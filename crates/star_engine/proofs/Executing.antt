@@ -2,8 +2,7 @@
 use Rattle.std.proofs.Common.{◌≡◌, ◌≤◌, ◌<◌, ℕ, List, Some, None, arith, inl, inr, length, refl, subst, ◌∙◌}
 use Rattle.std.specs.Prelude.{◌↔◌, Result}
 use Rattle.star_common.specs.Memory.{UnlessMemory}
-use Rattle.star_schema.specs.declared.table.TableId.{TableId}
-use Rattle.star_schema.specs.Database.{Database}
+use Rattle.star_schema.specs.Database.{Database, TableTexts}
 use Rattle.star_schema.specs.Loadable.{IsLoadable, database_of}
 use Rattle.star_program.specs.declared.outcome.Outcome.{Outcome}
 use Rattle.star_program.specs.declared.program.Parts.{Parts}
@@ -94,7 +93,7 @@ told_run database most program outcome has_run = record {
 
 -- ---- the program of a file, over the rows of five texts
 
-module _ (most visits : ℕ) (texts : TableId → List ℕ) (file : List ℕ) (program : Parts)
+module _ (most visits : ℕ) (texts : TableTexts) (file : List ℕ) (program : Parts)
     (loadable : IsLoadable most texts) (spelled : IsProgramOf file program) where
   abbrev database : Database
   database = database_of texts

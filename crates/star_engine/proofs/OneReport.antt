@@ -1,8 +1,7 @@
 -- A file's report over some tables is one, and so is what is told of its run; where it is told, no fault is due.
 use Rattle.std.proofs.Common.{◌≡◌, ◌∙◌, ℕ, List, Some, subst, sym}
-use Rattle.star_schema.specs.declared.table.TableId.{TableId}
 use Rattle.star_schema.specs.Loadable.{database_of}
-use Rattle.star_schema.specs.Database.{Database}
+use Rattle.star_schema.specs.Database.{Database, TableTexts}
 use Rattle.star_program.specs.declared.outcome.Outcome.{Outcome}
 use Rattle.star_program.specs.declared.program.Parts.{Parts}
 use Rattle.star_program.specs.Outcome.{IsOutcome}
@@ -40,7 +39,7 @@ report_is_one database file visits report other h k =
     h.printed ∙ (λ i. report_text (outcome i).names (outcome i).rows) ∙ sym k.printed
 
 -- what is told of the program of a file is one
-pub telling_is_one : (most visits : ℕ) (texts : TableId → List ℕ) (file : List ℕ)
+pub telling_is_one : (most visits : ℕ) (texts : TableTexts) (file : List ℕ)
     (telling other : Telling) → IsToldOf most visits texts file telling
     → IsToldOf most visits texts file other → telling ≡ other
 telling_is_one most visits texts file telling other h k =
@@ -72,7 +71,7 @@ accepted_is_not_refused database most file told refused refusal h k accepted is 
     is.not_accepted
     (subst (IsAcceptedWithin database most) (one_program file told refused h.spelled k.spelled) accepted)
 
-pub told_is_not_untold : (most visits : ℕ) (texts : TableId → List ℕ) (file : List ℕ)
+pub told_is_not_untold : (most visits : ℕ) (texts : TableTexts) (file : List ℕ)
     (telling : Telling) (fault : EngineFault) → IsToldOf most visits texts file telling
     → IsUntold most visits texts file fault → ⊥
 told_is_not_untold most visits texts file telling (Program fault) told due =

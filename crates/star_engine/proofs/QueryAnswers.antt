@@ -1,8 +1,7 @@
 -- What is told of the program of a query is what is told of the query.
 use Rattle.std.proofs.Common.{◌≡◌, ◌≤◌, ◌<◌, ◌∙◌, ℕ, List, Some, ap, subst, sym}
 use Rattle.std.specs.Prelude.{◌↔◌, Result}
-use Rattle.star_schema.specs.declared.table.TableId.{TableId}
-use Rattle.star_schema.specs.Database.{Database, rows_in}
+use Rattle.star_schema.specs.Database.{Database, TableTexts, rows_in}
 use Rattle.star_schema.specs.Loadable.{IsLoadable, database_of}
 use Rattle.star_plan.specs.Meaning.{Plan}
 use Rattle.star_program.specs.declared.program.Parts.{Parts}
@@ -27,7 +26,7 @@ use Rattle.star_engine.specs.Private.Steps.{IsNotVerified}
 use Rattle.star_engine.proofs.NotedAs.{noted_as}
 
 -- what the laws say of the program of a query over five texts
-pub record IsJudged (most : ℕ) (texts : TableId → List ℕ) (query : List ℕ) (p : Plan) : Type 0 where
+pub record IsJudged (most : ℕ) (texts : TableTexts) (query : List ℕ) (p : Plan) : Type 0 where
   pub accepted : FitsTables most (rows_in (database_of texts)) p
       ↔ IsAcceptedWithin (database_of texts) most (compiled p)
   pub costly : most < fact_rows texts
@@ -39,7 +38,7 @@ pub record IsJudged (most : ℕ) (texts : TableId → List ℕ) (query : List �
   pub printed : (s : Store) → run_of (world_of (database_of texts)) (compiled p) ≡ Ended s
       → PrintsTheReport texts query p s
 
-module _ (rows most : ℕ) (texts : TableId → List ℕ) (query : List ℕ) (p : Plan)
+module _ (rows most : ℕ) (texts : TableTexts) (query : List ℕ) (p : Plan)
     (loadable : IsLoadable rows texts) (meant : IsPlanOf query p)
     (judged : IsJudged most texts query p) where
   abbrev database : Database
@@ -108,7 +107,7 @@ module _ (rows most : ℕ) (texts : TableId → List ℕ) (query : List ℕ) (p 
 
 -- the rows that are loaded are those of the texts, and the program is the query's
 pub of_query : {S N : Type 0} (out : Change S) (notes : Change N) (rows most : ℕ)
-    (texts : TableId → List ℕ) (query : List ℕ) (held : Database) (program : Parts)
+    (texts : TableTexts) (query : List ℕ) (held : Database) (program : Parts)
     (result : Result (Unit {0}) EngineFault) → held ≡ database_of texts → IsLoadable rows texts
     → (of_query : IsProgramOfQuery query program) → IsJudged most texts query of_query.p
     → IsNoted out notes (IsQuote held program) (IsProgramTold held most program)

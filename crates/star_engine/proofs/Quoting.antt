@@ -1,7 +1,7 @@
 -- What is quoted of a file, by the quote of its program.
 use Rattle.std.proofs.Common.{◌≡◌, ◌<◌, ◌∙◌, ℕ, Bool, true, false, List, ap, length}
-use Rattle.star_schema.specs.declared.table.TableId.{TableId}
 use Rattle.star_schema.specs.Loadable.{IsLoadable, database_of}
+use Rattle.star_schema.specs.Database.{TableTexts}
 use Rattle.star_plan.specs.Meaning.{Plan}
 use Rattle.star_program.specs.declared.program.Parts.{Parts}
 use Rattle.star_compiled.specs.Compiled.{compiled}
@@ -21,7 +21,7 @@ IsProgramOfKind true file program = IsProgramOf file program
 IsProgramOfKind false file program = IsProgramOfQuery file program
 
 -- its tables can't be loaded
-pub unquoted_tables : (is_program : Bool) (rows : ℕ) (texts : TableId → List ℕ) (file : List ℕ)
+pub unquoted_tables : (is_program : Bool) (rows : ℕ) (texts : TableTexts) (file : List ℕ)
     (program : Parts) → IsProgramOfKind is_program file program → (fault : EngineFault)
     → IsUnloaded rows texts fault → IsUnquotedOfKind is_program rows texts file fault
 unquoted_tables true rows texts file program told (engine.Load fault) is = ((program, told), is)
@@ -31,7 +31,7 @@ unquoted_tables is_program rows texts file program told _ is = absurd is
 
 -- ---- the line
 
-pub quoted : (is_program : Bool) (rows : ℕ) (texts : TableId → List ℕ) (file text : List ℕ)
+pub quoted : (is_program : Bool) (rows : ℕ) (texts : TableTexts) (file text : List ℕ)
     (program : Parts) → ((p : Plan) → quote_over (database_of texts) (compiled p) ≡ fact_rows texts)
     → IsProgramOfKind is_program file program → IsLoadable rows texts
     → IsQuote (database_of texts) program text → IsQuoteOfKind is_program rows texts file text
@@ -44,7 +44,7 @@ quoted false rows texts file text program rows_quoted told loadable is = record 
 }
 
 -- it has a byte
-pub quote_text_some : (is_program : Bool) (rows : ℕ) (texts : TableId → List ℕ)
+pub quote_text_some : (is_program : Bool) (rows : ℕ) (texts : TableTexts)
     (file text : List ℕ) → IsQuoteOfKind is_program rows texts file text → 0 < length text
 quote_text_some true rows texts file text is =
     rw is.holds (quote_some (quote_over (database_of texts) is.program))

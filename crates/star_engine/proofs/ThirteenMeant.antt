@@ -20,7 +20,7 @@ use Rattle.star_engine.specs.Queries.{IsNoQuery}
 use Rattle.star_engine.specs.Thirteen.{query_text}
 use Rattle.star_engine.proofs.Meanings.{IsWorked, are_named, meaning, means}
 
-worked : (q : BenchmarkQuery) → IsWorked (query_text q)
+pub worked : (q : BenchmarkQuery) → IsWorked (query_text q)
 unfolding query_text cut_from reserved reserved_words spelling column_of column_called table_called has_name table_name first_answer function_word has_text
 worked Q11 = record { short = lit≤ tt; cut = refl; whole = refl; named = refl }
 worked Q12 = record { short = lit≤ tt; cut = refl; whole = refl; named = refl }

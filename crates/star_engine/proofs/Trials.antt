@@ -2,8 +2,8 @@
 use Rattle.std.proofs.Common.{◌<◌, ◌++◌, ℕ, List, arith, codes, length}
 use Rattle.std.specs.List.{flat_map, join_with_byte}
 use Rattle.std.proofs.lemmas.List.{length-append}
-use Rattle.star_schema.specs.declared.table.TableId.{TableId}
 use Rattle.star_schema.specs.Loadable.{IsLoadable, database_of}
+use Rattle.star_schema.specs.Database.{TableTexts}
 use Rattle.star_program.specs.declared.outcome.Cell.{Cell}
 use Rattle.star_program.specs.declared.program.Parts.{Parts}
 use Rattle.star_program.specs.Run.{bounded_run_of}
@@ -18,7 +18,7 @@ use Rattle.star_engine.specs.Private.Steps.{OrMemory}
 use Rattle.star_engine.specs.Trials.{IsNoTrial}
 
 -- a program whose run over loaded tables doesn't come to its end has no report
-pub no_trial : (most : ℕ) (texts : TableId → List ℕ) (file : List ℕ) (program : Parts)
+pub no_trial : (most : ℕ) (texts : TableTexts) (file : List ℕ) (program : Parts)
     (visits : ℕ) (fault : TrialFault) → IsLoadable most texts → IsProgramOf file program
     → IsFaultOf (bounded_run_of (world_of (database_of texts)) visits program) fault
     → OrMemory (IsNoTrial most texts file visits) (fault_of_trial fault)

@@ -1,7 +1,6 @@
 -- What is told of a program that is checked and then run over five tables.
 use Rattle.std.specs.Prelude.{◌≡◌, ◌≤◌, ℕ, List, Some}
-use Rattle.star_schema.specs.declared.table.TableId.{TableId}
-use Rattle.star_schema.specs.Database.{Database}
+use Rattle.star_schema.specs.Database.{Database, TableTexts}
 use Rattle.star_program.specs.declared.outcome.Outcome.{Outcome}
 use Rattle.star_program.specs.declared.program.Parts.{Parts}
 use Rattle.star_program.specs.Run.{run_of}
@@ -55,21 +54,21 @@ pub record IsProgramTold (database : Database) (most : ℕ) (program : Parts) (t
 -- ---- the program of a file over five texts
 
 -- the note of its quote
-abbrev pub IsQuoteOf : ℕ → (TableId → List ℕ) → (file text : List ℕ) → Type 0
+abbrev pub IsQuoteOf : ℕ → TableTexts → (file text : List ℕ) → Type 0
 IsQuoteOf most texts file text =
     HoldsOfFile most texts file (λ database program. IsQuote database program text)
 
 -- what is told of it
-abbrev pub IsToldOf : (most visits : ℕ) → (TableId → List ℕ) → List ℕ → Telling → Type 0
+abbrev pub IsToldOf : (most visits : ℕ) → TableTexts → List ℕ → Telling → Type 0
 IsToldOf most visits texts file telling =
     HoldsOfFile most texts file (λ database program. IsProgramTold database visits program telling)
 
 -- it is refused
-abbrev pub IsRefusalOf : (most visits : ℕ) → (TableId → List ℕ) → List ℕ → Refusal → Type 0
+abbrev pub IsRefusalOf : (most visits : ℕ) → TableTexts → List ℕ → Refusal → Type 0
 IsRefusalOf most visits texts file refusal =
     HoldsOfFile most texts file (λ database program. IsRefusal database visits program refusal)
 
 -- why nothing is told of it: the file is read first, then the tables, and then it is checked
-abbrev pub IsUntold : ℕ → ℕ → (TableId → List ℕ) → List ℕ → EngineFault → Type 0
+abbrev pub IsUntold : ℕ → ℕ → TableTexts → List ℕ → EngineFault → Type 0
 IsUntold most visits texts file (Refused refusal) = IsRefusalOf most visits texts file refusal
 IsUntold most visits texts file fault = IsUnread most texts file fault

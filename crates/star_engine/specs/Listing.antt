@@ -12,6 +12,7 @@ use Rattle.star_schema.specs.Bounds.{greatest, least, numbers_of}
 use Rattle.star_schema.specs.Loadable.{IsLoadable}
 use Rattle.star_schema.specs.Schema.{column_name, columns_of, kind_of, table_name}
 use Rattle.star_schema.specs.Tables.{Value, rows_of}
+use Rattle.star_schema.specs.Database.{TableTexts}
 
 unfoldable pub table_line : TableId → ℕ → List ℕ
 table_line t rows =
@@ -37,10 +38,10 @@ unfoldable pub listing_of : (TableId → List (List Value)) → List ℕ
 listing_of rows = flat_map (λ t. table_text t (rows t)) TABLES
 
 -- the text of `check` for five texts
-abbrev pub check_text : (TableId → List ℕ) → List ℕ
+abbrev pub check_text : TableTexts → List ℕ
 check_text texts = listing_of (λ t. rows_of t (texts t))
 
 -- the listing of five texts that can be loaded
-pub record IsListing (most : ℕ) (texts : TableId → List ℕ) (text : List ℕ) : Type 0 where
+pub record IsListing (most : ℕ) (texts : TableTexts) (text : List ℕ) : Type 0 where
   pub loadable : IsLoadable most texts
   pub listed : text ≡ check_text texts

@@ -1,8 +1,7 @@
 -- What is read before any run, a program's file and five texts, and why an answer stops there: the
 -- file spells no program, or the texts can't be loaded.
 use Rattle.std.specs.Prelude.{◌≡◌, ℕ, List, Some}
-use Rattle.star_schema.specs.declared.table.TableId.{TableId}
-use Rattle.star_schema.specs.Database.{Database}
+use Rattle.star_schema.specs.Database.{Database, TableTexts}
 use Rattle.star_schema.specs.Loadable.{IsLoadable, database_of}
 use Rattle.star_catalogue.specs.Load.{load_fault}
 use Rattle.star_catalogue.specs.declared.fault.LoadFault.{LoadFault}
@@ -14,7 +13,7 @@ use Rattle.star_engine.specs.declared.fault.EngineFault.{EngineFault}
 use Rattle.star_engine.specs.declared.fault.EngineFault.TheVariants.{Load, Program}
 
 -- the first fault of five texts, which can't be loaded
-pub record IsLoadFault (most : ℕ) (texts : TableId → List ℕ) (fault : LoadFault)
+pub record IsLoadFault (most : ℕ) (texts : TableTexts) (fault : LoadFault)
     : Type 0 where
   pub first : load_fault most texts ≡ Some fault
   pub not_loadable : ¬ IsLoadable most texts
@@ -29,7 +28,7 @@ abbrev pub IsProgram : List ℕ → Type 0
 IsProgram file = (program : Parts) × IsProgramOf file program
 
 -- the texts can be loaded, the file spells a program, and this holds of the program over their rows
-pub record HoldsOfFile (most : ℕ) (texts : TableId → List ℕ) (file : List ℕ)
+pub record HoldsOfFile (most : ℕ) (texts : TableTexts) (file : List ℕ)
     (Holds : Database → Parts → Type 0) : Type 0 where
   pub loadable : IsLoadable most texts
   pub program : Parts
@@ -37,12 +36,12 @@ pub record HoldsOfFile (most : ℕ) (texts : TableId → List ℕ) (file : List 
   pub holds : Holds (database_of texts) program
 
 -- why there is no loaded table
-abbrev pub IsUnloaded : ℕ → (TableId → List ℕ) → EngineFault → Type 0
+abbrev pub IsUnloaded : ℕ → TableTexts → EngineFault → Type 0
 IsUnloaded most texts (Load fault) = IsLoadFault most texts fault
 IsUnloaded most texts _ = ⊥
 
 -- why there is no program over loaded tables: the file is read first
-abbrev pub IsUnread : ℕ → (TableId → List ℕ) → List ℕ → EngineFault → Type 0
+abbrev pub IsUnread : ℕ → TableTexts → List ℕ → EngineFault → Type 0
 IsUnread most texts file (Program fault) = text_fault file ≡ Some fault
 IsUnread most texts file (Load fault) = IsProgram file × IsLoadFault most texts fault
 IsUnread most texts file _ = ⊥

@@ -1,9 +1,8 @@
 -- What is answered to a query's text over the texts of five tables, and which faults are due. No
 -- program is named here but by the instruction that a refusal tells and by the counts of a run.
 use Rattle.std.specs.Prelude.{◌≡◌, ◌≢◌, ◌≤◌, ◌<◌, ℕ, List, Some, length}
-use Rattle.star_schema.specs.declared.table.TableId.{TableId}
 use Rattle.star_schema.specs.declared.table.TableId.TheVariants.{Lineorder}
-use Rattle.star_schema.specs.Database.{rows_in}
+use Rattle.star_schema.specs.Database.{TableTexts, rows_in}
 use Rattle.star_schema.specs.Loadable.{IsLoadable, database_of}
 use Rattle.star_query.specs.declared.fault.QueryFault.{QueryFault}
 use Rattle.star_query.specs.declared.fault.QueryFault.TheVariants as parsing
@@ -46,12 +45,12 @@ abbrev pub IsQuery : List ℕ → Type 0
 IsQuery query = (p : Plan) × IsPlanOf query p
 
 -- how many rows five texts hold of lineorder, each of which a query visits once
-abbrev pub fact_rows : (TableId → List ℕ) → ℕ
+abbrev pub fact_rows : TableTexts → ℕ
 fact_rows texts = length (rows_in (database_of texts) Lineorder)
 
 -- the text means a well named query, which fits the rows that five texts hold, where so many may be
 -- visited at most
-pub record FitsTexts (most : ℕ) (texts : TableId → List ℕ) (query : List ℕ) : Type 0 where
+pub record FitsTexts (most : ℕ) (texts : TableTexts) (query : List ℕ) : Type 0 where
   pub p : Plan
   pub meant : IsPlanOf query p
   pub fits : FitsTables most (rows_in (database_of texts)) p
@@ -76,13 +75,13 @@ IsNoQuery query (engine.Plan fault) = IsPlanFault query fault
 IsNoQuery query _ = ⊥
 
 -- why there is no query over loaded tables: the query is read first
-abbrev pub IsUnasked : ℕ → (TableId → List ℕ) → (query : List ℕ) → EngineFault → Type 0
+abbrev pub IsUnasked : ℕ → TableTexts → (query : List ℕ) → EngineFault → Type 0
 IsUnasked rows texts query (engine.Load fault) = IsQuery query × IsLoadFault rows texts fault
 IsUnasked rows texts query fault = IsNoQuery query fault
 
 -- why a query that doesn't fit is refused: lineorder's rows are over the limit on visits; or else a
 -- range leaves 64 bits, and the first instruction of its program with such a range is told
-pub record IsUnfit (most : ℕ) (texts : TableId → List ℕ) (query : List ℕ)
+pub record IsUnfit (most : ℕ) (texts : TableTexts) (query : List ℕ)
     (refusal : Refusal) : Type 0 where
   pub p : Plan
   pub meant : IsPlanOf query p
@@ -93,7 +92,7 @@ pub record IsUnfit (most : ℕ) (texts : TableId → List ℕ) (query : List ℕ
   pub first : refusal_shown refusal ≡ first_refusal (world_of (database_of texts)) most (compiled p)
 
 -- why a query has no report: it is read first, then the tables, and then it is judged
-abbrev pub IsUnanswered : (rows visits : ℕ) → (TableId → List ℕ) → (query : List ℕ) → EngineFault
+abbrev pub IsUnanswered : (rows visits : ℕ) → TableTexts → (query : List ℕ) → EngineFault
     → Type 0
 IsUnanswered rows visits texts query (engine.Refused refusal) =
     IsLoadable rows texts × IsUnfit visits texts query refusal
@@ -102,13 +101,13 @@ IsUnanswered rows visits texts query fault = IsUnasked rows texts query fault
 -- ---- texts
 
 -- the line of a query's quote
-pub record IsQueryQuote (rows : ℕ) (texts : TableId → List ℕ) (query text : List ℕ) : Type 0 where
+pub record IsQueryQuote (rows : ℕ) (texts : TableTexts) (query text : List ℕ) : Type 0 where
   pub loadable : IsLoadable rows texts
   pub is_query : IsQuery query
   pub quoted : text ≡ quote_line (fact_rows texts)
 
 -- what is told of a query that fits: its quote, its report, and what the run of its program did
-pub record IsQueryTold (rows visits : ℕ) (texts : TableId → List ℕ) (query : List ℕ)
+pub record IsQueryTold (rows visits : ℕ) (texts : TableTexts) (query : List ℕ)
     (telling : Telling) : Type 0 where
   pub loadable : IsLoadable rows texts
   pub fitting : FitsTexts visits texts query

@@ -1,7 +1,6 @@
 -- What `trial` prints of a program over five tables.
 use Rattle.std.specs.Prelude.{◌≡◌, ℕ, List}
-use Rattle.star_schema.specs.declared.table.TableId.{TableId}
-use Rattle.star_schema.specs.Database.{Database}
+use Rattle.star_schema.specs.Database.{Database, TableTexts}
 use Rattle.star_schema.specs.Loadable.{IsLoadable, database_of}
 use Rattle.star_program.specs.declared.outcome.Outcome.{Outcome}
 use Rattle.star_program.specs.declared.program.Parts.{Parts}
@@ -34,13 +33,13 @@ IsStop end fault = IsFaultOf end fault
 -- ---- over five texts
 
 -- the report of a trial over the rows of five texts
-pub record IsTrialReport (most : ℕ) (texts : TableId → List ℕ) (file : List ℕ) (visits : ℕ)
+pub record IsTrialReport (most : ℕ) (texts : TableTexts) (file : List ℕ) (visits : ℕ)
     (report : List ℕ) : Type 0 where
   pub loadable : IsLoadable most texts
   pub reported : IsBoundedReport (database_of texts) file visits report
 
 -- why there is none
-abbrev pub IsNoTrial : ℕ → (TableId → List ℕ) → List ℕ → ℕ → EngineFault → Type 0
+abbrev pub IsNoTrial : ℕ → TableTexts → List ℕ → ℕ → EngineFault → Type 0
 IsNoTrial most texts file visits (Trial fault) =
     HoldsOfFile most texts file
     (λ database program. IsStop (bounded_run_of (world_of database) visits program) fault)

@@ -15,9 +15,11 @@ use star_report::WriteFault;
 use star_verify::Refusal;
 use std::alloc::AllocError;
 use std::fmt;
+use thiserror::Error;
 
-/// Why an answer was not given. Shown, it is the line that the program prints.
-#[derive(Drop)]
+/// Why an answer was not given. Shown, it is its `FaultLine`.
+#[derive(Debug, Drop, Error)]
+#[error("{line}", line = FaultLine(self))]
 pub enum EngineFault {
     /// Memory was refused.
     OutOfMemory,
@@ -37,12 +39,17 @@ pub enum EngineFault {
     Write { sent: u64 },
 }
 
-impl fmt::Display for EngineFault {
-    ghost output = { λ fault. Some (engine_fault_text fault) };
+/// The line of a fault that the program prints, without its line end. No clause tells what a
+/// derived message shows, so the words stand here, and are proved.
+#[derive(Clone, Copy)]
+pub struct FaultLine<'a>(pub &'a EngineFault);
+
+impl<'a> fmt::Display for FaultLine<'a> {
+    ghost output = { λ line. Some (engine_fault_text line.0.now) };
 
     #[tactic(auto, unfolding(crate::specs::FaultTexts::engine_fault_text))]
     fn fmt<W: fmt::Write>(&self, f: &mut fmt::Formatter<W>) -> fmt::Result {
-        match self {
+        match self.0 {
             EngineFault::OutOfMemory => f.write_str("memory"),
             EngineFault::Query(fault) => write!(f, "query {fault}"),
             EngineFault::Plan(fault) => write!(f, "query {fault}"),

@@ -1,8 +1,7 @@
 //! Laws of what is answered: functions with no body, whose clauses are the laws.
 
 ghost use Rattle.std.specs.Prelude.{◌≡◌, ℕ, List};
-ghost use Rattle.star_schema.specs.Database.{Database};
-ghost use Rattle.star_schema.specs.declared.table.TableId.{TableId};
+ghost use Rattle.star_schema.specs.Database.{Database, TableTexts};
 ghost use Rattle.star_engine.specs.declared.fault.EngineFault.{EngineFault};
 ghost use Rattle.star_engine.specs.Executions.{IsToldOf, IsUntold};
 ghost use Rattle.star_engine.specs.Noted.{Telling};
@@ -18,10 +17,10 @@ pub fn one_report()
 /// Of the program of one file, checked and run over the same texts under the same limits, one
 /// report and one pair of notes is told; and where these are told, no fault is due.
 pub fn one_telling()
-    ensures one { (most visits : ℕ) (texts : TableId → List ℕ) (file : List ℕ)
+    ensures one { (most visits : ℕ) (texts : TableTexts) (file : List ℕ)
         (telling other : Telling) → IsToldOf most visits texts file telling
         → IsToldOf most visits texts file other → telling ≡ other }
-    ensures not_refused { (most visits : ℕ) (texts : TableId → List ℕ) (file : List ℕ)
+    ensures not_refused { (most visits : ℕ) (texts : TableTexts) (file : List ℕ)
         (telling : Telling) (fault : EngineFault) → IsToldOf most visits texts file telling
         → ¬ IsUntold most visits texts file fault }
 {}

@@ -20,7 +20,7 @@ mod writing;
 
 pub use answers::{answer_program, check, quote_text, trial_program};
 pub use benchmark::bench;
-pub use fault::EngineFault;
+pub use fault::{EngineFault, FaultLine};
 pub use input::Input;
 pub use queries::{answer_query, explain_query};
 pub use reading::{FileFault, read_expected, read_whole};

@@ -1,8 +1,7 @@
 //! Laws of what queries are answered: functions with no body, whose clauses are the laws.
 
 ghost use Rattle.std.specs.Prelude.{◌≡◌, ◌≢◌, ◌≤◌, ◌<◌, ◌^◌, ◌↔◌, ℕ, List, Some, None};
-ghost use Rattle.star_schema.specs.declared.table.TableId.{TableId};
-ghost use Rattle.star_schema.specs.Database.{rows_in};
+ghost use Rattle.star_schema.specs.Database.{TableTexts, rows_in};
 ghost use Rattle.star_schema.specs.Loadable.{IsLoadable, database_of};
 ghost use Rattle.star_query.specs.Derives.{Means};
 ghost use Rattle.star_query.specs.Tree.{Tree};
@@ -38,20 +37,20 @@ use star_world::law::sound_rows_are_loaded;
 /// Where it doesn't fit it is refused: for its visits where lineorder has more rows than may be
 /// visited, and else since a range leaves 64 bits.
 pub fn queries_that_fit_are_answered()
-    ensures accepted { (rows most : ℕ) (texts : TableId → List ℕ) (query : List ℕ) (p : Plan)
+    ensures accepted { (rows most : ℕ) (texts : TableTexts) (query : List ℕ) (p : Plan)
         → IsLoadable rows texts → IsPlanOf query p
         → FitsTables most (rows_in (database_of texts)) p
         ↔ IsAcceptedWithin (database_of texts) most (compiled p) }
-    ensures answered { (rows most : ℕ) (texts : TableId → List ℕ) (query : List ℕ) (p : Plan)
+    ensures answered { (rows most : ℕ) (texts : TableTexts) (query : List ℕ) (p : Plan)
         → IsLoadable rows texts → IsPlanOf query p
         → FitsTables most (rows_in (database_of texts)) p → most ≤ 10 ^ 15
         → EndsWith (run_of (world_of (database_of texts)) (compiled p))
         (HasReported texts query p) }
-    ensures costly { (most : ℕ) (texts : TableId → List ℕ) (p : Plan)
+    ensures costly { (most : ℕ) (texts : TableTexts) (p : Plan)
         → most < fact_rows texts
         → first_refusal (world_of (database_of texts)) most (compiled p)
         ≡ Some (TooCostly (fact_rows texts)) }
-    ensures wide { (rows most : ℕ) (texts : TableId → List ℕ) (query : List ℕ) (p : Plan)
+    ensures wide { (rows most : ℕ) (texts : TableTexts) (query : List ℕ) (p : Plan)
         → IsLoadable rows texts → IsPlanOf query p → fact_rows texts ≤ most
         → ¬ FitsTables most (rows_in (database_of texts)) p
         → IsOverflow (first_refusal (world_of (database_of texts)) most (compiled p)) }
@@ -68,10 +67,10 @@ pub fn queries_that_fit_are_answered()
 /// The program of a query is quoted lineorder's row count, some text spells it, and wherever its
 /// run comes to its end, what is printed of it is the query's report.
 pub fn programs_of_queries_report_them()
-    ensures quoted { (texts : TableId → List ℕ) (p : Plan)
+    ensures quoted { (texts : TableTexts) (p : Plan)
         → quote_over (database_of texts) (compiled p) ≡ fact_rows texts }
     ensures spelled { (query : List ℕ) (p : Plan) → IsPlanOf query p → IsSpellable (compiled p) }
-    ensures printed { (rows : ℕ) (texts : TableId → List ℕ) (query : List ℕ) (p : Plan) (s : Store)
+    ensures printed { (rows : ℕ) (texts : TableTexts) (query : List ℕ) (p : Plan) (s : Store)
         → IsLoadable rows texts → IsPlanOf query p
         → run_of (world_of (database_of texts)) (compiled p) ≡ Ended s
         → PrintsTheReport texts query p s }

@@ -4,7 +4,7 @@ use crate::printed::{Room, answered};
 use crate::tables::with_orders;
 use star_engine::{BenchmarkQuery, Texts, sample};
 use star_fixtures::programs::NO_TEXTS;
-use star_fixtures::samples::replaced;
+use star_fixtures::samples::{orders_of, replaced};
 use star_schema::Limits;
 use std::alloc::Global;
 use std::test::Fail;
@@ -43,6 +43,13 @@ const REVENUES: &str = concat!(
     "group by cube(d_year, s_region) order by revenue desc",
 );
 
+// The same in every prefix of the two.
+const REVENUES_BY_PREFIX: &str = concat!(
+    "select d_year, s_region, sum(lo_revenue) as revenue, count(*) as n ",
+    "from lineorder, date, supplier where lo_orderdate = d_datekey and lo_suppkey = s_suppkey ",
+    "group by rollup(d_year, s_region) order by revenue desc",
+);
+
 const OF_THE_SAMPLE: &[Case] = &[
     (
         "select sum(lo_revenue - lo_supplycost) as profit from lineorder",
@@ -69,6 +76,15 @@ const OF_THE_SAMPLE: &[Case] = &[
         ),
         "quote 5\nvisits 5 lookups 10 updates 5\n",
     ),
+    (
+        REVENUES_BY_PREFIX,
+        concat!(
+            "d_year|s_region|revenue|n\nALL|ALL|7045|5\n1997|ALL|3630|2\n1997|AMERICA|3000|1\n",
+            "1993|ALL|2920|2\n1993|EUROPE|1940|1\n1993|AMERICA|980|1\n1997|EUROPE|630|1\n",
+            "1994|AMERICA|495|1\n1994|ALL|495|1\n",
+        ),
+        "quote 5\nvisits 5 lookups 10 updates 5\n",
+    ),
 ];
 
 // As many items as a query has at most, and as many aggregates.
@@ -88,11 +104,18 @@ const OF_MANY_ITEMS: &[Case] = &[(
     "quote 5\nvisits 5 lookups 0 updates 5\n",
 )];
 
-const OF_EMPTY_TABLES: &[Case] = &[(
-    REVENUES,
-    "d_year|s_region|revenue|n\nALL|ALL|NULL|0\n",
-    "quote 0\nvisits 0 lookups 0 updates 0\n",
-)];
+const OF_EMPTY_TABLES: &[Case] = &[
+    (
+        REVENUES,
+        "d_year|s_region|revenue|n\nALL|ALL|NULL|0\n",
+        "quote 0\nvisits 0 lookups 0 updates 0\n",
+    ),
+    (
+        REVENUES_BY_PREFIX,
+        "d_year|s_region|revenue|n\nALL|ALL|NULL|0\n",
+        "quote 0\nvisits 0 lookups 0 updates 0\n",
+    ),
+];
 
 const OF_NO_ORDERS: &[Case] = &[(
     "select count(*) from lineorder",
@@ -105,10 +128,10 @@ fn reports_with_notes(rt: HostRuntime) -> Result<(), Fail> {
     all_agree(rt.alloc(), &sample(), OF_THE_SAMPLE)?;
     all_agree(rt.alloc(), &sample(), OF_MANY_ITEMS)?;
     all_agree(rt.alloc(), &NO_TEXTS, OF_EMPTY_TABLES)?;
-    all_agree(rt.alloc(), &with_orders(b""), OF_NO_ORDERS)?;
+    all_agree(rt.alloc(), &with_orders(&[]), OF_NO_ORDERS)?;
     agrees(
         rt.alloc(),
-        &with_orders(b""),
+        &with_orders(&[]),
         BenchmarkQuery::Q21.text(),
         "sum1|d_year|p_brand1\n",
         "quote 0\nvisits 0 lookups 0 updates 0\n",
@@ -199,7 +222,7 @@ const LAST: &str = "3|2|2|2|1|19930210|1-URGENT|0|1|700|3700|10|700|100|1|199712
 // The sample's orders with these two lines as the second and the last.
 fn orders_between(alloc: Global, second: &str, last: &str) -> Result<String, Fail> {
     let old = "1|2|1|2|1|19930210|2-HIGH|0|30|2000|3000|3|1940|1200|0|19940105|RAIL|\n";
-    let first = replaced(alloc, sample().lineorder, old, second)?;
+    let first = replaced(alloc, orders_of(&sample()), old, second)?;
     let old = "3|2|1|2|1|19971215|1-URGENT|0|1|700|3700|10|630|100|1|19971215|AIR|\n";
     replaced(alloc, first.as_bytes(), old, last)
 }
@@ -210,9 +233,10 @@ fn ties_are_broken_by_all_keys(rt: HostRuntime) -> Result<(), Fail> {
     let customer = replaced(rt.alloc(), sample().customer, "CHINA    3", "UNITED KI5")?;
     for (second, last) in [(SECOND, LAST), (LAST, SECOND)] {
         let lineorder = orders_between(rt.alloc(), second, last)?;
+        let parts = [lineorder.as_bytes()];
         let texts = Texts {
             customer: customer.as_bytes(),
-            lineorder: lineorder.as_bytes(),
+            lineorder: &parts,
             ..sample()
         };
         agrees(

@@ -4,6 +4,7 @@ use star_engine::{EngineFault, Texts, check, sample, trial_program};
 use star_fixtures::programs::{
     ABOVE_AVERAGE, ABSENT_KEY, MISPLACED, NESTED, NO_TEXTS, READ_INSIDE, UNSET, counting,
 };
+use star_fixtures::samples::orders_of;
 use star_fixtures::streams::Short;
 use star_schema::{Limits, MOST_VISITS, Out};
 use std::alloc::{AllocError, Global};
@@ -105,8 +106,9 @@ fn rewritten(alloc: Global, text: &str, bar: &str, end: &str) -> Result<String, 
 
 // The same of the sample with other lines of orders.
 fn orders_agree(alloc: Global, lines: &str, expected: &str) -> Result<(), Fail> {
+    let parts = [lines.as_bytes()];
     let changed = Texts {
-        lineorder: lines.as_bytes(),
+        lineorder: &parts,
         ..sample()
     };
     check_agrees(alloc, &changed, Limits::widest(), expected)
@@ -115,7 +117,7 @@ fn orders_agree(alloc: Global, lines: &str, expected: &str) -> Result<(), Fail> 
 // Whether the sample is listed where its lines of orders end so, with and without the last line
 // end.
 fn ending_agrees(alloc: Global, bar: &str, end: &str) -> Result<(), Fail> {
-    let lines = rewritten(alloc, str::from_utf8(sample().lineorder)?, bar, end)?;
+    let lines = rewritten(alloc, str::from_utf8(orders_of(&sample()))?, bar, end)?;
     orders_agree(alloc, lines.as_str(), LISTING)?;
     let unended = lines.as_str().strip_suffix(end).unwrap_or("");
     orders_agree(alloc, unended, LISTING)
@@ -130,8 +132,44 @@ fn lists_the_sample(rt: HostRuntime) -> Result<(), Fail> {
     Ok(())
 }
 
+fn parts_agree(alloc: Global, parts: &[&[u8]], expected: &str) -> Result<(), Fail> {
+    let changed = Texts {
+        lineorder: parts,
+        ..sample()
+    };
+    check_agrees(alloc, &changed, Limits::widest(), expected)
+}
+
+const MARK: &[u8] = b"\xef\xbb\xbf";
+
+// What is answered of the sample whose two first lines of orders are a part, and whose three last.
+fn two_and_three_agree(alloc: Global, two: &[u8], three: &[u8]) -> Result<(), Fail> {
+    parts_agree(alloc, &[two, three], LISTING)?;
+    parts_agree(alloc, &[two, b"", b"\n", three], LISTING)?;
+    let cut = "load 4 FieldCount table lineorder record 3";
+    parts_agree(alloc, &[two, b"2|1", three], cut)?;
+    let marked = "load 2 ByteOrderMark table lineorder";
+    parts_agree(alloc, &[two, MARK, three], marked)?;
+    let again = "load 8 DuplicateKey table lineorder record 6";
+    parts_agree(alloc, &[two, three, two], again)
+}
+
+#[test]
+fn lists_the_sample_in_parts(rt: HostRuntime) -> Result<(), Fail> {
+    let texts = sample();
+    match str::from_utf8(orders_of(&texts))?.split_once("\n2|1|") {
+        Some((two, rest)) => {
+            let three = format!(in rt.alloc(); "2|1|{rest}")?;
+            two_and_three_agree(rt.alloc(), two.as_bytes(), three.as_bytes())?;
+            let ended = format!(in rt.alloc(); "{two}\n")?;
+            two_and_three_agree(rt.alloc(), ended.as_bytes(), three.as_bytes())
+        }
+        None => Err(Fail::from("two lines and three")),
+    }
+}
+
 fn changed_order_agrees(alloc: Global, old: &str, new: &str, expected: &str) -> Result<(), Fail> {
-    let lines = replaced(alloc, str::from_utf8(sample().lineorder)?, old, new)?;
+    let lines = replaced(alloc, str::from_utf8(orders_of(&sample()))?, old, new)?;
     orders_agree(alloc, lines.as_str(), expected)
 }
 

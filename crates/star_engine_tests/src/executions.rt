@@ -4,7 +4,7 @@
 use star_engine::{EngineFault, Texts, answer_program, quote_text, sample};
 use star_fixtures::programs::{
     ABOVE_AVERAGE, ABSENT_KEY, DISCOUNTED_REVENUE, MISPLACED, NESTED, NO_TEXTS, READ_INSIDE,
-    REVENUES, UNSET, counting,
+    REVENUES, SIX_NUMBERS, UNSET, counting,
 };
 use star_schema::{Limits, MOST_ROWS, MOST_VISITS, Out};
 use std::alloc::{AllocError, Global};
@@ -19,7 +19,7 @@ pub(crate) type Case = (&'static str, u64, &'static str, &'static str);
 
 // The report of a program; and its notes, with its fault line behind them.
 #[derive(Drop)]
-struct Printed {
+pub(crate) struct Printed {
     report: Vec<u8>,
     notes: Vec<u8>,
 }
@@ -45,7 +45,7 @@ impl Printed {
         Ok(printed)
     }
 
-    fn agree(&self, report: &str, notes: &str) -> Result<(), Fail> {
+    pub(crate) fn agree(&self, report: &str, notes: &str) -> Result<(), Fail> {
         if self.report.as_slice() == report.as_bytes()
             && self.notes.as_slice() == notes.as_bytes()
         {
@@ -65,7 +65,7 @@ fn limits_of(visits: u64) -> Limits {
 }
 
 // What a program prints over some texts, where so many visits are allowed.
-fn executed(
+pub(crate) fn executed(
     alloc: Global,
     texts: &Texts<'_>,
     program: &str,
@@ -140,6 +140,16 @@ const WORKED: &[Case] = &[
             "1997|EUROPE|630|1\n1994|AMERICA|495|1\n1994|ALL|495|1\n",
         ),
         "quote 5\nvisits 5 lookups 10 updates 5\n",
+    ),
+    (
+        SIX_NUMBERS,
+        0,
+        concat!(
+            "a|b|c|d|e|f|s|n\n1|1|1|1|1|1|7|1\n1|1|1|1|1|ALL|7|1\n1|1|1|1|ALL|ALL|7|1\n",
+            "1|1|1|ALL|ALL|ALL|7|1\n1|1|ALL|ALL|ALL|ALL|7|1\n1|ALL|ALL|ALL|ALL|ALL|7|1\n",
+            "ALL|ALL|ALL|ALL|ALL|ALL|7|1\n",
+        ),
+        "quote 0\nvisits 0 lookups 0 updates 1\n",
     ),
 ];
 
@@ -400,8 +410,9 @@ const UNREAD: &[(&str, &str, &str)] = &[
 #[test]
 fn tells_what_is_not_read(rt: HostRuntime) -> Result<(), Fail> {
     for (program, lineorder, line) in UNREAD {
+        let parts = [lineorder.as_bytes()];
         let texts = Texts {
-            lineorder: lineorder.as_bytes(),
+            lineorder: &parts,
             ..sample()
         };
         executed(rt.alloc(), &texts, program, 10)?.agree("", line)?;

@@ -85,16 +85,24 @@ const OF_A_GREAT_PRICE: &[Case<'static>] = &[(
 #[test]
 fn ranges_that_leave_64_bits_are_refused(rt: HostRuntime) -> Result<(), Fail> {
     let ten = dear_lines(rt.alloc(), 10)?;
-    all_agree(rt.alloc(), &with_orders(ten.as_bytes()), OF_TEN_LINES)?;
+    all_agree(rt.alloc(), &with_orders(&[ten.as_bytes()]), OF_TEN_LINES)?;
     let eleven = dear_lines(rt.alloc(), 11)?;
-    all_agree(rt.alloc(), &with_orders(eleven.as_bytes()), OF_ELEVEN_LINES)?;
+    all_agree(
+        rt.alloc(),
+        &with_orders(&[eleven.as_bytes()]),
+        OF_ELEVEN_LINES,
+    )?;
     let great = great_price(rt.alloc())?;
-    all_agree(rt.alloc(), &with_orders(great.as_bytes()), OF_A_GREAT_PRICE)
+    all_agree(
+        rt.alloc(),
+        &with_orders(&[great.as_bytes()]),
+        OF_A_GREAT_PRICE,
+    )
 }
 
 // What all that is done with a query answers: the query's fault, and where that is none, the tables'.
 fn faults_agree(alloc: Global, query: &[u8], fault: &str) -> Result<(), Fail> {
-    let unread = with_orders(b"x");
+    let unread = with_orders(&[b"x"]);
     answered(alloc, &unread, query, limits_of(0), Room::AMPLE)?.agree(b"", b"", fault)?;
     quoted(alloc, &unread, query, AMPLE)?.agree(b"", b"", fault)
 }

@@ -11,6 +11,10 @@ mod executions;
 #[cfg(test)]
 mod faults;
 #[cfg(test)]
+mod lengths;
+#[cfg(test)]
+mod lines;
+#[cfg(test)]
 mod printed;
 #[cfg(test)]
 mod ranges;

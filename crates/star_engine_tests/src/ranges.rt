@@ -32,6 +32,14 @@ const TWO_COLUMNS: &str = concat!(
     "report 0\nshow m aggregate 0\n",
 );
 
+// The greatest of the prices times years, of two tables, the later one's column loaded first.
+const TWO_TABLES: &str = concat!(
+    "star program 1\nregisters 6\ngroup 0 plain : max\nscan lineorder r0\n",
+    "r1 = load lo_extendedprice r0\nr2 = load lo_orderdate r0\nr3 = find date r2\n",
+    "r4 = load d_year r3\nr5 = mul r1 r4\nput 0 : r5\nend\n",
+    "report 0\nshow m aggregate 0\n",
+);
+
 const OF_TEN_DEAR_LINES: &[Case] = &[
     (
         FIRST_PRICES,
@@ -53,6 +61,16 @@ const OF_TEN_DEAR_LINES: &[Case] = &[
             "quote 10\nrefused 69 Overflow at 5: ",
             "-809999999999999998200000000000000000..-809999999999999998200000000000000000",
             " from lo_extendedprice 900000000000000000..900000000000000000, lo_discount 2..2\n",
+        ),
+    ),
+    (
+        TWO_TABLES,
+        10,
+        "",
+        concat!(
+            "quote 10\nrefused 69 Overflow at 6: ",
+            "1793700000000000000000..1797300000000000000000",
+            " from d_year 1993..1997, lo_extendedprice 900000000000000000..900000000000000000\n",
         ),
     ),
 ];
@@ -80,8 +98,9 @@ const OF_ELEVEN_DEAR_LINES: &[Case] = &[
 
 fn dear_agree(alloc: Global, count: u64, cases: &[Case]) -> Result<(), Fail> {
     let lines = dear_lines(alloc, count)?;
+    let parts = [lines.as_bytes()];
     let dear = Texts {
-        lineorder: lines.as_bytes(),
+        lineorder: &parts,
         ..sample()
     };
     all_agree(alloc, &dear, cases)
@@ -110,8 +129,9 @@ const OF_A_GREAT_PRICE: &[Case] = &[(
 fn tells_ranges_that_leave_64_bits(rt: HostRuntime) -> Result<(), Fail> {
     dear_agree(rt.alloc(), 10, OF_TEN_DEAR_LINES)?;
     dear_agree(rt.alloc(), 11, OF_ELEVEN_DEAR_LINES)?;
+    let parts = [GREAT_PRICE.as_bytes()];
     let great = Texts {
-        lineorder: GREAT_PRICE.as_bytes(),
+        lineorder: &parts,
         ..sample()
     };
     all_agree(rt.alloc(), &great, OF_A_GREAT_PRICE)

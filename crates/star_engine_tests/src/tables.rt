@@ -1,13 +1,13 @@
 // The sample with some of it changed.
 
 use star_engine::{Texts, sample};
-use star_fixtures::samples::replaced;
+use star_fixtures::samples::{orders_of, replaced};
 use std::alloc::{AllocError, Global};
 use std::fmt::Write;
 use std::test::Fail;
 
-// The sample with other orders.
-pub(crate) fn with_orders(lineorder: &[u8]) -> Texts<'_> {
+// The sample with other orders, in parts.
+pub(crate) fn with_orders<'a>(lineorder: &'a [&'a [u8]]) -> Texts<'a> {
     Texts {
         lineorder,
         ..sample()
@@ -31,7 +31,7 @@ pub(crate) fn dear_lines(alloc: Global, count: u64) -> Result<String, AllocError
 pub(crate) fn great_price(alloc: Global) -> Result<String, Fail> {
     replaced(
         alloc,
-        sample().lineorder,
+        orders_of(&sample()),
         "|50|3000|",
         "|50|999999999999999999|",
     )

@@ -172,7 +172,8 @@ fn the_benchmark_goes_on_past_refusals(rt: HostRuntime) -> Result<(), Fail> {
     bench_agrees(&rt, rt.alloc(), &sample(), 5, &[])?;
     bench_agrees(&rt, rt.alloc(), &sample(), 4, &COSTLY)?;
     let orders = great_price(rt.alloc())?;
-    let dear = with_orders(orders.as_bytes());
+    let parts = [orders.as_bytes()];
+    let dear = with_orders(&parts);
     bench_agrees(&rt, rt.alloc(), &dear, MOST_VISITS, DEAR)
 }
 
@@ -181,7 +182,7 @@ fn the_benchmark_goes_on_past_refusals(rt: HostRuntime) -> Result<(), Fail> {
 #[test]
 fn faults_of_the_benchmark_are_told(rt: HostRuntime) -> Result<(), Fail> {
     let alloc = rt.alloc();
-    let (unread, read) = benched(alloc, &with_orders(b"x"), Limits::widest(), AMPLE)?;
+    let (unread, read) = benched(alloc, &with_orders(&[b"x"]), Limits::widest(), AMPLE)?;
     unread.agree(b"", b"", "load 4 FieldCount table lineorder record 1")?;
     assert!(rt; !read);
     let whole = bench_text(alloc, &[])?;

@@ -67,6 +67,15 @@ pub const REVENUES: &str = concat!(
     "sort aggregate 0 descending\n",
 );
 
+/// One put into a rollup of six numbers.
+pub const SIX_NUMBERS: &str = concat!(
+    "star program 1\nregisters 2\n",
+    "group 0 rollup number number number number number number : sum count\n",
+    "r0 = const 1\nr1 = const 7\nput 0 r0 r0 r0 r0 r0 r0 : r1\n",
+    "report 0\nshow a key 0\nshow b key 1\nshow c key 2\nshow d key 3\nshow e key 4\n",
+    "show f key 5\nshow s aggregate 0\nshow n aggregate 1\n",
+);
+
 /// Twice by how much a sum of prices is below 9,000,000,000,000,000,000.
 pub const BELOW_NINE: &str = concat!(
     "star program 1\nregisters 10\ngroup 0 plain : sum\ngroup 1 plain : max\n",
@@ -106,7 +115,7 @@ pub const NO_TEXTS: Texts<'static> = Texts {
     customer: b"",
     supplier: b"",
     part: b"",
-    lineorder: b"",
+    lineorder: &[],
 };
 
 /// A program that is read, or its text's fault. Want of memory is an error of the test. The program

@@ -35,6 +35,14 @@ pub fn outcome(alloc: Global, texts: &Texts<'_>) -> Result<Result<u32, LoadFault
     outcome_within(alloc, texts, 200_000)
 }
 
+/// The lines of orders of texts that have them in one part, as the sample has.
+pub fn orders_of<'a>(texts: &Texts<'a>) -> &'a [u8] {
+    match texts.lineorder {
+        [orders] => orders,
+        _ => b"",
+    }
+}
+
 /// A text with the first OLD in it made NEW.
 pub fn replaced(alloc: Global, text: &[u8], old: &str, new: &str) -> Result<String, Fail> {
     match str::from_utf8(text)?.split_once(old) {

@@ -1,7 +1,7 @@
 -- From the rows of a map to the content of a store.
-use Rattle.std.proofs.Common.{◌≡◌, ℕ, zero, suc, ◌+◌, ◌<◌, ◌≤◌, Bool, true, false, ◌||◌, ℤ, List, [], ◌∷◌, Option, Some, None, Result, Ok, Err, OnOk, IfErr, IfOk, length, get_or, ap, sym, ◌∙◌, subst, refl, cond, arith, inl, inr}
+use Rattle.std.proofs.Common.{◌≡◌, ℕ, zero, suc, ◌+◌, ◌<◌, ◌≤◌, Bool, true, false, ◌||◌, ℤ, List, [], ◌∷◌, Option, Some, None, Result, Ok, Err, OnOk, IfErr, IfOk, length, get_or, ap, sym, ◌∙◌, subst, refl, cond, arith, inl, inr, true≢false}
 use Rattle.std.specs.List.{AllByRecursion}
-use Rattle.std.proofs.lemmas.Bool.{or_right}
+use Rattle.std.proofs.lemmas.Bool.{false_from_ne_true, or_right}
 use Rattle.star_common.specs.Memory.{UnlessMemory}
 use Rattle.star_schema.specs.declared.group.Aggregate.{Aggregate}
 use Rattle.star_schema.specs.declared.group.Aggregate.TheVariants.{Count}
@@ -9,7 +9,7 @@ use Rattle.star_schema.specs.declared.group.Shape.{Shape}
 use Rattle.star_schema.specs.Groups.{aggregate, members, numbers_for}
 use Rattle.star_program.specs.declared.key.KeyValue.{KeyValue}
 use Rattle.star_program.specs.Keys.{key_value_cmp}
-use Rattle.star_program.specs.Puts.{own_groups, some_leaves, leaves}
+use Rattle.star_program.specs.Puts.{some_leaves, leaves}
 use Rattle.star_group.specs.Cells.{held}
 use Rattle.star_group.specs.Base.{key_of, row_at}
 use Rattle.star_group.specs.declared.eager.EagerStore.{EagerStore}
@@ -26,7 +26,7 @@ use Rattle.star_group.proofs.OnePut.{PutStays, PutLeaves}
 use Rattle.star_group.proofs.OwnKeyLemmas.{all_padded}
 use Rattle.star_group.proofs.MergedPuts.{holds_more, leaves_more, stays_more}
 use Rattle.star_group.proofs.GroupKeys.{IsOwn, in_places, own_mask, own_belongs, members_at, changes_belongs, own_at}
-use Rattle.star_group.proofs.OwnGroups.{any_false, all_more, groups_own, own_any}
+use Rattle.star_group.proofs.OwnGroups.{any_own, own_any}
 use Rattle.star_group.proofs.Totals.{some_aggregate}
 
 pub on_ok : {T E : Type 0} (P Q : Type 0) (r : Result T E) → (P → Q) → OnOk r P → OnOk r Q
@@ -36,6 +36,11 @@ on_ok P Q (Err e) f h = tt
 pub if_ok : {T E : Type 0} (P Q : T → Type 0) (r : Result T E) → ((x : T) → P x → Q x) → IfOk r P → IfOk r Q
 if_ok P Q (Ok x) f h = f x h
 if_ok P Q (Err e) f h = tt
+
+pub if_leaves : {T E : Type 0} (memory : E) (P Q : Type 0) (r : Result T E) → (P → Q) → IfErr r (λ e. UnlessMemory memory e P) → IfErr r (λ e. UnlessMemory memory e Q)
+if_leaves memory P Q (Ok x) f h = tt
+if_leaves memory P Q (Err e) f (inl none) = inl none
+if_leaves memory P Q (Err e) f (inr some) = inr (f some)
 
 -- ---- which aggregates leave 64 bits
 
@@ -80,23 +85,24 @@ module _ (d : Group) (us : List Put) (u : Put) (few : d.count ≤ 6) (fits : len
           rw zeros (ap (leaves (aggregate_at d a)) (sym (held_is d us u m few fits own fit a)) ∙ s.stays (in_places 6 m) a (row_of_group m own) lt)
 
   pub stays_all : PutStays d us u → overflows d us u ≡ false
-  stays_all s = any_false (λ m. some_leaves d.aggregates 0 (members key_value_cmp m (u ∷ us))) (own_groups d.shape u.keys)
-      (all_more (λ m. IsOwn d m u) (λ m. some_leaves d.aggregates 0 (members key_value_cmp m (u ∷ us)) ≡ false) (none_leaves s) (own_groups d.shape u.keys) (groups_own d u fits))
+  stays_all s = false_from_ne_true (overflows d us u) (λ over.
+      let found = any_own d u fits (λ m. some_leaves d.aggregates 0 (members key_value_cmp m (u ∷ us))) over in
+      true≢false (sym found.passes ∙ none_leaves s found.group found.kind))
 
   pub overflows_some : PutLeaves d us u → overflows d us u ≡ true
   overflows_some l =
       let at = own_at d l.key u fits few l.own in
       let is : aggregate (aggregate_at d l.place) (numbers_for l.place (members key_value_cmp at.keys (u ∷ us))) ≡ held_at d (u ∷ us) l.key l.place = sym (held_is d us u at.keys few fits at.own fit l.place) ∙ ap (λ k. held_at d (u ∷ us) k l.place) (sym at.is) in
-      own_any d at.keys u fits at.own (λ m. some_leaves d.aggregates 0 (members key_value_cmp m (u ∷ us)))
+      own_any d u fits at.keys at.own (λ m. some_leaves d.aggregates 0 (members key_value_cmp m (u ∷ us)))
       (one_leaves d.aggregates 0 (members key_value_cmp at.keys (u ∷ us)) l.place l.declared
       (let zeros : 0 + l.place ≡ l.place = omega arith in rw zeros (ap (leaves (aggregate_at d l.place)) is ∙ l.over)))
 
 -- ---- one more put into an eager store, whose shape is known
 
-abbrev PutsIn : EagerStore → Put → Shape → List Aggregate → List (Option ℤ) → List (List KeyPart × List (Option ℤ)) → List (Option ℤ) → Type 0
+abbrev pub PutsIn : EagerStore → Put → Shape → List Aggregate → List (Option ℤ) → List (List KeyPart × List (Option ℤ)) → List (Option ℤ) → Type 0
 PutsIn s u shape gs row es total = PutsRows (own_keys shape (length u.keys) (padded 6 u.keys)) gs row (look_in shape (entries_of s.rows) s.total) (look_in shape es total)
 
-abbrev LeavesIn : EagerStore → Put → Shape → List Aggregate → List (Option ℤ) → Type 0
+abbrev pub LeavesIn : EagerStore → Put → Shape → List Aggregate → List (Option ℤ) → Type 0
 LeavesIn s u shape gs row = SomeLeaves (look_in shape (entries_of s.rows) s.total) (own_keys shape (length u.keys) (padded 6 u.keys)) gs row
 
 module _ (s : EagerStore) (u : Put) (shape : Shape) (gs : List Aggregate) (row : List (Option ℤ))

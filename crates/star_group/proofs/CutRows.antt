@@ -1,5 +1,5 @@
 -- Flat lists cut into rows.
-use Rattle.std.proofs.Common.{◌≡◌, ℕ, zero, suc, ◌+◌, ◌*◌, ◌<◌, ◌≤◌, List, [], ◌∷◌, ◌++◌, length, get_or, set, take, drop, ap, sym, ◌∙◌, arith}
+use Rattle.std.proofs.Common.{◌≡◌, ℕ, zero, suc, ◌+◌, ◌-◌, ◌*◌, ◌<◌, ◌≤◌, List, [], ◌∷◌, ◌++◌, length, get_or, set, take, drop, ap, sym, ◌∙◌, arith, refl}
 use borrow.Rule.Slice.PartMut.{put_mid}
 use Rattle.std.proofs.lemmas.List.{append_assoc, drop-append-le, drop-drop, length-append, length-drop, length-take-le, take-append-drop, take-append-le, take_all}
 use Rattle.std.proofs.lemmas.Slice.{drop-put_mid, take-put_mid}
@@ -26,6 +26,24 @@ module _ {T : Type 0} (w : ℕ) where
   cut_wide zero ps i long h = absurd (omega (arith, h))
   cut_wide (suc n) ps zero long h = length-take-le w ps (enough n ps long)
   cut_wide (suc n) ps (suc i) long h = cut_wide n (drop w ps) i (fewer n ps long) (omega (arith, h))
+
+  -- the rows from one on
+  pub cut_from : (n i : ℕ) (ps : List T) → i ≤ n → cut w (n - i) (drop (i * w) ps) ≡ drop i (cut w n ps)
+  unfolding cut
+  cut_from n zero ps h = let all : n - 0 ≡ n = omega arith in rw (all, zero-mul w) refl
+  cut_from zero (suc i) ps h = absurd (omega (arith, h))
+  cut_from (suc n) (suc i) ps h =
+      let less : suc n - suc i ≡ n - i = omega arith in
+      let more : suc i * w ≡ w + i * w = omega (arith, suc-mul i w) in
+      (λ k. cut w (less k) ((ap (λ m. drop m ps) more ∙ sym (drop-drop (i * w) w ps)) k)) ∙ cut_from n i (drop w ps) (omega (arith, h))
+
+  pub length-from : (n i : ℕ) (ps : List T) → i ≤ n → length ps ≡ n * w → length (drop (i * w) ps) ≡ (n - i) * w
+  length-from n zero ps h long = let all : n - 0 ≡ n = omega arith in rw (all, zero-mul w) long
+  length-from zero (suc i) ps h long = absurd (omega (arith, h))
+  length-from (suc n) (suc i) ps h long =
+      let less : suc n - suc i ≡ n - i = omega arith in
+      let more : suc i * w ≡ w + i * w = omega (arith, suc-mul i w) in
+      ap length (ap (λ m. drop m ps) more ∙ sym (drop-drop (i * w) w ps)) ∙ length-from n i (drop w ps) (omega (arith, h)) (fewer n ps long) ∙ ap (λ m. m * w) (sym less)
 
   pub cut_more : (n : ℕ) (ps row : List T) → length ps ≡ n * w → length row ≡ w → cut w (suc n) (ps ++ row) ≡ cut w n ps ++ row ∷ []
   unfolding cut

@@ -1,5 +1,5 @@
 -- Rows in flat storage with their keys: what stands at a number, one row more, and one changed.
-use Rattle.std.proofs.Common.{◌≡◌, ℕ, zero, suc, ◌<◌, ◌≤◌, Bool, true, false, ℤ, List, [], ◌∷◌, ◌++◌, Option, Some, None, Result, Ok, Err, OnOk, cond, length, get_or, get_or-set_same, set, slice_get, take, drop, ap, sym, ◌∙◌, subst, refl, arith}
+use Rattle.std.proofs.Common.{◌≡◌, ℕ, zero, suc, ◌-◌, ◌*◌, ◌<◌, ◌≤◌, Bool, true, false, ℤ, List, [], ◌∷◌, ◌++◌, Option, Some, None, Result, Ok, Err, OnOk, cond, length, get_or, get_or-set_same, set, slice_get, take, drop, ap, sym, ◌∙◌, subst, refl, arith}
 use Rattle.std.specs.List.{AllByRecursion, IsDistinct}
 use Rattle.std.specs.Map.{keys_of}
 use Rattle.std.proofs.lemmas.List.{get_or-take, length-set, length-take-le, take-append-drop}
@@ -22,7 +22,7 @@ use Rattle.std.specs.Vec.{with_items}
 use Rattle.std.proofs.lemmas.Bool.{false_from_ne_true}
 use Rattle.star_group.specs.Private.Tries.{IsHeld, IsMissing}
 use Rattle.star_program.proofs.Rows.{length-cut}
-use Rattle.star_group.proofs.CutRows.{cut_wide, dropped, taken}
+use Rattle.star_group.proofs.CutRows.{cut_from, cut_wide, dropped, taken}
 use Rattle.star_group.proofs.GroupKeys.{key_decides}
 use Rattle.star_group.proofs.Passes.{IsOnceAt}
 use Rattle.star_group.proofs.Rolling.{row_there}
@@ -41,6 +41,14 @@ keyed_at [] cs i e h = absurd (omega (arith, h))
 keyed_at (k ∷ ks) [] i e h = absurd (omega (arith, e))
 keyed_at (k ∷ ks) (c ∷ cs) zero e h = refl
 keyed_at (k ∷ ks) (c ∷ cs) (suc i) e h = keyed_at ks cs i (omega (arith, e)) (omega (arith, h))
+
+-- those from one on
+pub keyed_from : (ks : List (List KeyPart)) (cs : List (List (Option ℤ))) (i : ℕ) → length ks ≡ length cs → keyed (drop i ks) (drop i cs) ≡ drop i (keyed ks cs)
+unfolding keyed
+keyed_from ks cs zero e = refl
+keyed_from [] cs (suc i) e = refl
+keyed_from (k ∷ ks) [] (suc i) e = absurd (omega (arith, e))
+keyed_from (k ∷ ks) (c ∷ cs) (suc i) e = keyed_from ks cs i (omega (arith, e))
 
 keyed_more : (ks : List (List KeyPart)) (cs : List (List (Option ℤ))) (k : List KeyPart) (c : List (Option ℤ)) → length ks ≡ length cs → keyed (ks ++ k ∷ []) (cs ++ c ∷ []) ≡ keyed ks cs ++ (filled k, c) ∷ []
 unfolding keyed
@@ -218,6 +226,15 @@ module _ (rows : KeyedRows) where
 
   pub entry_at : (number : ℕ) → number < length (entries_of rows) → get_or (entries_of rows) number ([], []) ≡ (filled (get_or ks number []), get_or cs number [])
   entry_at number h = keyed_at ks cs number same (omega (arith, h, row_count, key_count))
+
+  -- the rows from one on, listed
+  pub rows_from : (from : ℕ) → from ≤ length (entries_of rows) → (js : List KeyPart) (ds : List (Option ℤ)) → js ≡ drop (from * rows.trie.width) rows.trie.keys.items → ds ≡ drop (from * rows.many) rows.cells.items
+      → keyed (cut rows.trie.width (rows.trie.len - from) js) (cut rows.many (rows.trie.len - from) ds) ≡ drop from (entries_of rows)
+  rows_from from within js ds keys cells =
+      let few : from ≤ rows.trie.len = omega (arith, within, row_count) in
+      (λ i. keyed ((ap (cut rows.trie.width (rows.trie.len - from)) keys ∙ cut_from rows.trie.width rows.trie.len from rows.trie.keys.items few) i)
+      ((ap (cut rows.many (rows.trie.len - from)) cells ∙ cut_from rows.many rows.trie.len from rows.cells.items few) i))
+      ∙ keyed_from ks cs from same
 
   pub cells_wide : (number : ℕ) → number < length (entries_of rows) → length (get_or cs number []) ≡ rows.many
   cells_wide number h = cut_wide rows.many rows.trie.len rows.cells.items number rows.long (omega (arith, h, row_count))

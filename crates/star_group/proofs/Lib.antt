@@ -1,3 +1,4 @@
+pub mod HiddenKeys
 pub mod OwnKeyLemmas
 pub mod OnePut
 pub mod PutSteps

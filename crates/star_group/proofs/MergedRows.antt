@@ -13,6 +13,8 @@ use Rattle.star_group.specs.declared.keyed.KeyedRows.{KeyedRows}
 use Rattle.star_group.specs.declared.keyed.trie.Place.{Place}
 use Rattle.star_group.specs.declared.keyed.trie.Place.TheVariants.{Held, Missing}
 use Rattle.star_group.specs.Base.{key_of, row_at}
+use Rattle.star_group.specs.Entries.{entries_of}
+use Rattle.star_group.specs.Keyed.{filled}
 use Rattle.star_group.specs.OwnKeys.{key_eq}
 use Rattle.star_group.specs.Private.Merged.{IsMergedAt, IsMergedInto, MergeLeaves, MergeStays, RowsStay}
 use Rattle.star_group.specs.Private.Numbers.{AreNarrow, IsGrown, IsNarrow, IsPlace, IsPlaceAmong, IsWithin, keys_in}
@@ -21,7 +23,7 @@ use Rattle.star_group.specs.Private.Rows.{AllStay, IsBlank, MergesAll, SomeLeave
 use Rattle.star_group.proofs.Bases.{other_row, own_row}
 use Rattle.star_program.proofs.Rows.{length-cut}
 use Rattle.star_group.proofs.GroupKeys.{key_decides, key_equiv}
-use Rattle.star_group.proofs.KeyedRows.{row_count}
+use Rattle.star_group.proofs.KeyedRows.{entry_at, row_count}
 
 -- ---- one more key of a list without repeats
 
@@ -127,6 +129,17 @@ module _ (rows : KeyedRows) where
   place_in key (Held number) held = omega (arith, held.within, length-cut rows.trie.width rows.trie.len rows.trie.keys.items, row_count rows)
 
 -- ---- rows that have grown
+
+-- the same rows
+pub grown_same : (rows : KeyedRows) → IsGrown rows rows
+grown_same rows = record { widths = record { width = refl; many = refl }; held = λ key number h. h; more = omega arith; keys = λ e. refl; links = λ e. refl }
+
+-- a row keeps its key
+pub grown_keys : (old new : KeyedRows) → IsGrown old new → (number : ℕ) → number < length (entries_of old) → (get_or (entries_of new) number ([], [])).0 ≡ (get_or (entries_of old) number ([], [])).0
+grown_keys old new grown number h =
+    let many : (rows : KeyedRows) → length (keys_in rows) ≡ length (entries_of rows) = λ rows. length-cut rows.trie.width rows.trie.len rows.trie.keys.items ∙ sym (row_count rows) in
+    let held = grown.held (get_or (keys_in old) number []) number (record { within = omega (arith, h, many old); is = refl }) in
+    ap (λ (e : List KeyPart × List (Option ℤ)). e.0) (entry_at new number (omega (arith, held.within, many new))) ∙ ap filled held.is ∙ sym (ap (λ (e : List KeyPart × List (Option ℤ)). e.0) (entry_at old number h))
 
 pub grown_more : (a b c : KeyedRows) → IsGrown a b → IsGrown b c → IsGrown a c
 grown_more a b c ab bc = record {

@@ -1,13 +1,17 @@
 -- How the keys of an update's rows are made.
-use Rattle.std.proofs.Common.{◌≡◌, ℕ, zero, suc, ◌<◌, ◌≤◌, List, [], ◌∷◌, ◌++◌, Option, Some, None, take, drop, set, length, get_or, map, ap, sym, ◌∙◌, subst, refl, arith, take-append-drop}
-use Rattle.std.proofs.Math.Seq.{drop-cons}
+use Rattle.std.proofs.Common.{◌≡◌, ℕ, zero, suc, ◌+◌, ◌<◌, ◌≤◌, Bool, true, false, cond, true≢false, List, [], ◌∷◌, ◌++◌, Option, Some, None, take, drop, set, length, get_or, map, ap, sym, ◌∙◌, subst, refl, arith, append_assoc, take-append-drop}
+use Rattle.std.specs.List.{AllByRecursion, IsDistinct, filter}
+use Rattle.std.proofs.Math.Seq.{drop-cons, take-suc}
+use Rattle.std.proofs.Math.ListN.{get_or-append}
+use Rattle.std.proofs.lemmas.Bool.{false_from_ne_true}
+use Rattle.std.proofs.lemmas.List.Elements.{filter-append}
 use Rattle.std.proofs.lemmas.List.{drop-set-lt, map-append, map-set}
 use Rattle.star_program.specs.declared.key.KeyValue.{KeyValue}
 use Rattle.star_group.specs.declared.keyed.key.KeyPart.{KeyPart}
 use Rattle.star_group.specs.declared.keyed.key.KeyPart.TheVariants.{All}
 use Rattle.star_group.specs.Base.{key_of, value_of}
 use Rattle.star_group.specs.OwnKeys.{padded, vary}
-use Rattle.star_group.specs.Private.Numbers.{AreNarrow}
+use Rattle.star_group.specs.Private.Numbers.{AreNarrow, IsNarrow}
 
 pub padded-set : (n : ℕ) (ks : List KeyValue) (i : ℕ) (d : KeyValue) → i < length ks → length ks ≤ n → set (padded n (take i ks)) i (Some (get_or ks i d)) ≡ padded n (take (suc i) ks)
 unfolding padded
@@ -66,13 +70,63 @@ pub length-key : (key : List KeyPart) → length (key_of key) ≡ length key
 length-key [] = refl
 length-key (part ∷ key) = ap suc (length-key key)
 
-module _ (p : ℕ) where
-  hidden_keys : (xs : List (List KeyPart)) → map key_of (map (λ key. set key p All) xs) ≡ map (λ key. set key p None) (map key_of xs)
-  hidden_keys [] = refl
-  hidden_keys (x ∷ xs) = λ i. map-set value_of x p All i ∷ hidden_keys xs i
+-- one key more, with ALL at a place, where it passes
+pub next_hidden : (P : List KeyPart → Bool) (p i : ℕ) (xs now : List (List KeyPart)) (d : List KeyPart) → i < length xs → now ≡ xs ++ filter P (map (λ key. set key p All) (take i xs))
+    → now ++ filter P (set (get_or now i d) p All ∷ []) ≡ xs ++ filter P (map (λ key. set key p All) (take (i + 1) xs))
+next_hidden P p i xs now d h e =
+    let so_far : List (List KeyPart) = map (λ key. set key p All) (take i xs) in
+    let next : i + 1 ≡ suc i = omega arith in
+    let here : get_or now i d ≡ get_or xs i d = ap (λ l. get_or l i d) e ∙ get_or-append xs (filter P so_far) d i h in
+    (λ j. e j ++ filter P (set (here j) p All ∷ []))
+    ∙ append_assoc xs (filter P so_far) (filter P (set (get_or xs i d) p All ∷ []))
+    ∙ ap (λ l. xs ++ l) (sym (filter-append P so_far (set (get_or xs i d) p All ∷ []))
+    ∙ ap (filter P) (sym (map-append (λ key. set key p All) (take i xs) (get_or xs i d ∷ []))
+    ∙ ap (map (λ key. set key p All)) (sym (take-suc xs i d h) ∙ ap (λ n. take n xs) (sym next))))
 
-  pub doubled : (xs ys : List (List KeyPart)) → ys ≡ xs ++ map (λ key. set key p All) xs → map key_of ys ≡ map key_of xs ++ map (λ key. set key p None) (map key_of xs)
-  doubled xs ys e = ap (map key_of) e ∙ map-append key_of xs (map (λ key. set key p All) xs) ∙ ap (λ zs. map key_of xs ++ zs) (hidden_keys xs)
+module _ (G : List (Option KeyValue) → Bool) (p : ℕ) where
+  hidden_keys : (xs : List (List KeyPart)) → map key_of (filter (λ key. G (key_of key)) (map (λ key. set key p All) xs)) ≡ filter G (map (λ key. set key p None) (map key_of xs))
+  hidden_keys [] = refl
+  hidden_keys (x ∷ xs) = by (G (key_of (set x p All))) (hidden_keys xs) ∙ (λ i. cond (G (map-set value_of x p All i)) (map-set value_of x p All i ∷ rest) rest)
+    where
+      rest : List (List (Option KeyValue))
+      rest = filter G (map (λ key. set key p None) (map key_of xs))
+
+      by : (b : Bool) → map key_of (filter (λ key. G (key_of key)) (map (λ key. set key p All) xs)) ≡ filter G (map (λ key. set key p None) (map key_of xs))
+          → map key_of (cond b (set x p All ∷ filter (λ key. G (key_of key)) (map (λ key. set key p All) xs)) (filter (λ key. G (key_of key)) (map (λ key. set key p All) xs)))
+          ≡ cond b (key_of (set x p All) ∷ filter G (map (λ key. set key p None) (map key_of xs))) (filter G (map (λ key. set key p None) (map key_of xs)))
+      by true e = ap (λ l. key_of (set x p All) ∷ l) e
+      by false e = e
+
+  pub doubled : (xs ys : List (List KeyPart)) → ys ≡ xs ++ filter (λ key. G (key_of key)) (map (λ key. set key p All) xs) → map key_of ys ≡ map key_of xs ++ filter G (map (λ key. set key p None) (map key_of xs))
+  doubled xs ys e = ap (map key_of) e ∙ map-append key_of xs _ ∙ ap (λ zs. map key_of xs ++ zs) (hidden_keys xs)
+
+-- what a filter leaves
+module _ {A : Type 0} where
+  pub all_kept : (Q : A → Type 0) (P : A → Bool) (xs : List A) → AllByRecursion Q xs → AllByRecursion Q (filter P xs)
+  all_kept Q P [] h = tt
+  all_kept Q P (x ∷ xs) h = by (P x) (all_kept Q P xs h.1)
+    where
+      by : (b : Bool) → AllByRecursion Q (filter P xs) → AllByRecursion Q (cond b (x ∷ filter P xs) (filter P xs))
+      by true rest = (h.0, rest)
+      by false rest = rest
+
+  pub distinct_kept : (eq : A → A → Bool) (P : A → Bool) (xs : List A) → IsDistinct eq xs → IsDistinct eq (filter P xs)
+  unfolding IsDistinct
+  distinct_kept eq P [] h = tt
+  distinct_kept eq P (x ∷ xs) h = by (P x) (distinct_kept eq P xs h.1) (all_kept (λ y. eq x y ≡ false) P xs h.0)
+    where
+      by : (b : Bool) → IsDistinct eq (filter P xs) → AllByRecursion (λ y. eq x y ≡ false) (filter P xs) → IsDistinct eq (cond b (x ∷ filter P xs) (filter P xs))
+      by true rest apart = (apart, rest)
+      by false rest apart = rest
+
+  -- what the filter left out, the filter leaves out after this step, too
+  pub kept_before : (G : A → Bool) (f : A → A) (xs : List A) → AllByRecursion (λ x. G (f x) ≡ true → G x ≡ true) xs → filter G (map f xs) ≡ filter G (map f (filter G xs))
+  kept_before G f [] h = refl
+  kept_before G f (x ∷ xs) h = by (G x) refl (kept_before G f xs h.1)
+    where
+      by : (b : Bool) → G x ≡ b → filter G (map f xs) ≡ filter G (map f (filter G xs)) → filter G (map f (x ∷ xs)) ≡ filter G (map f (cond b (x ∷ filter G xs) (filter G xs)))
+      by true e rest = ap (λ l. cond (G (f x)) (f x ∷ l) l) rest
+      by false e rest = ap (λ b. cond b (f x ∷ filter G (map f xs)) (filter G (map f xs))) (false_from_ne_true (G (f x)) (λ t. true≢false (sym (h.0 t) ∙ e))) ∙ rest
 
 module _ (width p : ℕ) (h : p < width) where
   narrow_hidden : (xs : List (List KeyPart)) → AreNarrow width xs → AreNarrow width (map (λ key. set key p All) xs)
@@ -83,5 +137,6 @@ module _ (width p : ℕ) (h : p < width) where
   narrow_both [] ys a b = b
   narrow_both (x ∷ xs) ys a b = (a.0, narrow_both xs ys a.1 b)
 
-  pub narrow_doubled : (xs ys : List (List KeyPart)) → ys ≡ xs ++ map (λ key. set key p All) xs → AreNarrow width xs → AreNarrow width ys
-  narrow_doubled xs ys e are = subst (AreNarrow width) (sym e) (narrow_both xs (map (λ key. set key p All) xs) are (narrow_hidden xs are))
+  pub narrow_doubled : (P : List KeyPart → Bool) (xs ys : List (List KeyPart)) → ys ≡ xs ++ filter P (map (λ key. set key p All) xs) → AreNarrow width xs → AreNarrow width ys
+  narrow_doubled P xs ys e are = subst (AreNarrow width) (sym e) (narrow_both xs (filter P (map (λ key. set key p All) xs)) are
+      (all_kept (IsNarrow width) P (map (λ key. set key p All) xs) (narrow_hidden xs are)))

@@ -3,7 +3,7 @@ use Rattle.std.proofs.Common.{◌≡◌, ℕ, zero, suc, ◌<◌, ◌^◌, true,
 use Rattle.std.specs.List.{IsDistinct}
 use Rattle.star_schema.specs.declared.group.Aggregate.{Aggregate}
 use Rattle.star_schema.specs.declared.group.Aggregate.TheVariants.{Sum, Count, Min, Max}
-use Rattle.star_schema.specs.declared.group.Shape.TheVariants.{Plain, Cube}
+use Rattle.star_schema.specs.declared.group.Shape.TheVariants.{Plain, Cube, Rollup}
 use Rattle.star_schema.specs.Groups.{aggregate, numbers_for}
 use Rattle.star_interval.specs.Range.{is_i64}
 use Rattle.star_program.specs.declared.group.GroupKey.TheVariants as declared
@@ -69,19 +69,26 @@ abbrev all_hidden : List (Option KeyValue)
 all_hidden = None ∷ None ∷ None ∷ None ∷ None ∷ None ∷ []
 
 plain_keys : own_keys Plain 2 (padded 6 two_keys)
-    ≡ (Some (Number (pos 7)) ∷ Some (Code 2) ∷ None ∷ None ∷ None ∷ None ∷ []) ∷ all_hidden ∷ []
-unfolding padded
+    ≡ all_hidden ∷ (Some (Number (pos 7)) ∷ Some (Code 2) ∷ None ∷ None ∷ None ∷ None ∷ []) ∷ []
+unfolding padded vary
 plain_keys = refl
 
 -- with no keys both are one row
-no_keys : own_keys Plain 0 (padded 6 []) ≡ all_hidden ∷ []
-unfolding padded
+no_keys : own_keys Plain 0 (padded 6 []) ≡ all_hidden ∷ all_hidden ∷ []
+unfolding padded vary
 no_keys = refl
 
 cube_keys : own_keys Cube 1 (padded 6 (Code 2 ∷ []))
-    ≡ (Some (Code 2) ∷ None ∷ None ∷ None ∷ None ∷ None ∷ []) ∷ all_hidden ∷ []
+    ≡ all_hidden ∷ (Some (Code 2) ∷ None ∷ None ∷ None ∷ None ∷ None ∷ []) ∷ all_hidden ∷ []
 unfolding padded vary
 cube_keys = refl
+
+-- those of the prefixes, each once, and that of all puts
+rollup_keys : own_keys Rollup 3 (padded 6 (Code 2 ∷ Number (pos 7) ∷ Code 5 ∷ []))
+    ≡ all_hidden ∷ (Some (Code 2) ∷ Some (Number (pos 7)) ∷ Some (Code 5) ∷ None ∷ None ∷ None ∷ []) ∷ (Some (Code 2) ∷ Some (Number (pos 7)) ∷ None ∷ None ∷ None ∷ None ∷ [])
+    ∷ (Some (Code 2) ∷ None ∷ None ∷ None ∷ None ∷ None ∷ []) ∷ all_hidden ∷ []
+unfolding padded vary
+rollup_keys = refl
 
 -- ---- puts
 

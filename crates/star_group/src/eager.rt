@@ -2,7 +2,7 @@
 
 ghost use Rattle.std.specs.Prelude.{◌≡◌, ◌≤◌, vec_len};
 
-mod cube;
+mod hiding;
 mod own;
 mod plain;
 mod store;
@@ -20,7 +20,7 @@ use std::alloc::Global;
 ///
 /// A put into a plain group changes one row beside the total, which stands by itself; rows that
 /// were made lately are mostly found with one look. A put into a cube changes the row of each
-/// subset of its keys, that of none of them among the others.
+/// subset of its keys, one into a rollup that of each prefix, that of none of them among the others.
 #[derive(Drop)]
 pub struct EagerStore {
     alloc: Global,
@@ -31,7 +31,7 @@ pub struct EagerStore {
     // Of a plain group.
     newest: Newest,
     total: Row,
-    // Of a cube: the keys of a put's rows, and where they are.
+    // Where rows hide keys: the keys of a put's rows, and where they are.
     own: Vec<OrderedKey>,
     places: Vec<Place>,
     ghost wide: { count ≤ rows.trie.width },

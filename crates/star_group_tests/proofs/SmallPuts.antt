@@ -25,6 +25,10 @@ pub eight_more : AddUp (pos 8 ∷ pos 7 ∷ [])
 unfolding above_zero below_zero
 eight_more = record { above = omega arith; below = omega arith }
 
+pub five_more : AddUp (pos 5 ∷ pos 7 ∷ [])
+unfolding above_zero below_zero
+five_more = record { above = omega arith; below = omega arith }
+
 pub big : AddUp (pos 9000000000000000000 ∷ [])
 unfolding above_zero below_zero
 big = record { above = omega arith; below = omega arith }

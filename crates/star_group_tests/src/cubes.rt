@@ -4,7 +4,7 @@ ghost use Rattle.std.specs.Prelude.{◌≡◌, ◌≤◌, ◌∷◌, [], IfOk};
 ghost use Rattle.star_schema.specs.declared.group.Aggregate.TheVariants.{Sum};
 ghost use Rattle.star_group.specs.Stores.{AddUp};
 
-use star_group::{DeferredStore, EagerStore, GroupStore, KeyValue};
+use star_group::{DeferredStore, EagerStore, GroupRows, GroupStore, KeyValue};
 use star_program::{Aggregates, GroupDecl, GroupKey, GroupKeys};
 use star_schema::{Aggregate, Shape};
 use std::alloc::{AllocError, Global};
@@ -31,25 +31,41 @@ fn sums<S: GroupStore>(alloc: Global, shape: Shape, keys: usize) -> Result<S, Al
     S::new(alloc, &declared)
 }
 
-// How many rows a cube of six keys and one put has.
-fn rows_of_one_put<S: GroupStore>(alloc: Global) -> Result<usize, AllocError> {
-    let mut cube = sums::<S>(alloc, Shape::Cube, 6)?;
-    cube.put(&[ONE; 6], &[7])?;
-    Ok(cube.into_rows()?.len())
+// How many rows a group of this shape, six keys and one put has.
+fn rows_of_one_put<S: GroupStore>(alloc: Global, shape: Shape) -> Result<usize, AllocError> {
+    let mut store = sums::<S>(alloc, shape, 6)?;
+    store.put(&[ONE; 6], &[7])?;
+    Ok(store.into_rows()?.len())
 }
 
 #[test]
 fn cube_of_six_keys_and_one_put_has_64_rows(rt: HostRuntime) -> Result<(), Fail> {
-    assert_eq!(rt; rows_of_one_put::<EagerStore>(rt.alloc())?, 64);
-    assert_eq!(rt; rows_of_one_put::<DeferredStore>(rt.alloc())?, 64);
+    assert_eq!(rt; rows_of_one_put::<EagerStore>(rt.alloc(), Shape::Cube)?, 64);
+    assert_eq!(rt;
+        rows_of_one_put::<DeferredStore>(rt.alloc(), Shape::Cube)?,
+        64
+    );
     Ok(())
 }
 
-// Whether a cube of no puts has one row, in which all keys are ALL and the sum is NULL, and nothing
-// stands behind it.
-fn is_null_alone<S: GroupStore>(alloc: Global) -> Result<bool, AllocError> {
-    let cube = sums::<S>(alloc, Shape::Cube, 2)?;
-    let rows = cube.into_rows()?;
+#[test]
+fn rollup_of_six_keys_and_one_put_has_7_rows(rt: HostRuntime) -> Result<(), Fail> {
+    assert_eq!(rt;
+        rows_of_one_put::<EagerStore>(rt.alloc(), Shape::Rollup)?,
+        7
+    );
+    assert_eq!(rt;
+        rows_of_one_put::<DeferredStore>(rt.alloc(), Shape::Rollup)?,
+        7
+    );
+    Ok(())
+}
+
+// Whether a group of this shape, two keys and no puts has one row, in which all keys are ALL and
+// the sum is NULL, and nothing stands behind it.
+fn is_null_alone<S: GroupStore>(alloc: Global, shape: Shape) -> Result<bool, AllocError> {
+    let store = sums::<S>(alloc, shape, 2)?;
+    let rows = store.into_rows()?;
     Ok(
         rows.len() == 1
             && rows.keys(0) == [None, None].as_slice()
@@ -61,8 +77,53 @@ fn is_null_alone<S: GroupStore>(alloc: Global) -> Result<bool, AllocError> {
 
 #[test]
 fn cube_of_no_puts_has_one_row(rt: HostRuntime) -> Result<(), Fail> {
-    assert!(rt; is_null_alone::<EagerStore>(rt.alloc())?);
-    assert!(rt; is_null_alone::<DeferredStore>(rt.alloc())?);
+    assert!(rt; is_null_alone::<EagerStore>(rt.alloc(), Shape::Cube)?);
+    assert!(rt; is_null_alone::<DeferredStore>(rt.alloc(), Shape::Cube)?);
+    Ok(())
+}
+
+#[test]
+fn rollup_of_no_puts_has_one_row(rt: HostRuntime) -> Result<(), Fail> {
+    assert!(rt; is_null_alone::<EagerStore>(rt.alloc(), Shape::Rollup)?);
+    assert!(rt; is_null_alone::<DeferredStore>(rt.alloc(), Shape::Rollup)?);
+    Ok(())
+}
+
+// The rows of a rollup by 1, 2 with 7 and by 1, 1 with 5: of both, of each prefix, and of none of
+// the second key alone.
+const OF_TWO_PUTS: [([Option<KeyValue>; 2], i64); 4] = [
+    ([Some(ONE), Some(TWO)], 7),
+    ([Some(ONE), Some(ONE)], 5),
+    ([Some(ONE), None], 12),
+    ([None, None], 12),
+];
+
+// Whether the rows are some of these.
+fn are_among(rows: &GroupRows, expected: &[([Option<KeyValue>; 2], i64)]) -> bool {
+    for row in 0..rows.len() {
+        let is_there = expected.iter().any(|(keys, sum)| {
+            rows.keys(row) == keys.as_slice() && rows.aggregates(row) == [Some(*sum)].as_slice()
+        });
+        if !is_there {
+            return false;
+        }
+    }
+    true
+}
+
+// Whether a rollup of two puts has these four rows.
+fn has_prefixes<S: GroupStore>(alloc: Global) -> Result<bool, AllocError> {
+    let mut store = sums::<S>(alloc, Shape::Rollup, 2)?;
+    store.put(&[ONE, TWO], &[7])?;
+    store.put(&[ONE, ONE], &[5])?;
+    let rows = store.into_rows()?;
+    Ok(rows.len() == 4 && are_among(&rows, &OF_TWO_PUTS))
+}
+
+#[test]
+fn rollup_of_two_puts_has_each_prefix_once(rt: HostRuntime) -> Result<(), Fail> {
+    assert!(rt; has_prefixes::<EagerStore>(rt.alloc())?);
+    assert!(rt; has_prefixes::<DeferredStore>(rt.alloc())?);
     Ok(())
 }
 

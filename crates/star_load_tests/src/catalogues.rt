@@ -5,7 +5,7 @@ ghost use Rattle.star_schema.specs.Schema.{kind_of};
 
 use crate::asserts::{check_load, check_same};
 use star_catalogue::{Catalogue, LoadFault, Texts, sample};
-use star_fixtures::samples::{loaded, outcome_within, replaced};
+use star_fixtures::samples::{loaded, orders_of, outcome_within, replaced};
 use star_schema::{ColumnId, Kind, Sizes, TableId, table_of};
 use std::alloc::{AllocError, Global};
 use std::process::Abort;
@@ -151,9 +151,10 @@ fn check_changed(
     expected: Result<u32, LoadFault>,
 ) -> Result<(), Fail> {
     let texts = sample();
-    let lineorder = replaced(alloc, texts.lineorder, old, new)?;
+    let lineorder = replaced(alloc, orders_of(&texts), old, new)?;
+    let parts = [lineorder.as_bytes()];
     let changed = Texts {
-        lineorder: lineorder.as_bytes(),
+        lineorder: &parts,
         ..texts
     };
     check_load(rt, alloc, &changed, expected, new)?;
@@ -177,9 +178,10 @@ fn bits_of_price(catalogue: &Catalogue) -> u32 {
 fn a_great_price_is_kept_in_64_bits(rt: HostRuntime) -> Result<(), Fail> {
     let alloc = rt.alloc();
     let texts = sample();
-    let lineorder = replaced(alloc, texts.lineorder, "50|3000", "50|999999999999999999")?;
+    let lineorder = replaced(alloc, orders_of(&texts), "50|3000", "50|999999999999999999")?;
+    let parts = [lineorder.as_bytes()];
     let changed = Texts {
-        lineorder: lineorder.as_bytes(),
+        lineorder: &parts,
         ..texts
     };
     let catalogue = loaded(alloc, &changed)?;
@@ -300,7 +302,7 @@ fn tables_are_checked_in_their_order(rt: HostRuntime) -> Result<(), Fail> {
         customer: customer.as_bytes(),
         supplier: supplier.as_bytes(),
         part: part.as_bytes(),
-        lineorder: b"x",
+        lineorder: &[b"x"],
     };
     check_order(&rt, rt.alloc(), &texts)?;
     // The late dates have another fault than the early ones.
@@ -356,7 +358,7 @@ fn empty_tables_are_loaded(rt: HostRuntime) -> Result<(), Fail> {
         customer: b"",
         supplier: b"",
         part: b"",
-        lineorder: b"",
+        lineorder: &[],
     };
     let catalogue = loaded(rt.alloc(), &empty)?;
     check_empty(&rt, &catalogue);

@@ -73,7 +73,7 @@ fn keys_of_the_sample_lead_to_their_rows(rt: HostRuntime) -> Result<(), Fail> {
 }
 
 // Texts with one row each, but for lineorder.
-fn one_row_each(lineorder: &[u8]) -> Texts<'_> {
+fn one_row_each<'a>(lineorder: &'a [&'a [u8]]) -> Texts<'a> {
     Texts {
         date: b"1|a|b|c|1|1|d|1|1|1|1|1|e|1|1|1|1",
         customer: b"1|a|b|c|d|e|f|g",
@@ -113,7 +113,8 @@ fn check_lines(
     requires { step < 2 ^ 32 }
 {
     let lines = lines_of(alloc, step, rows)?;
-    let texts = one_row_each(lines.as_bytes());
+    let parts = [lines.as_bytes()];
+    let texts = one_row_each(&parts);
     check_load(rt, alloc, &texts, expected, order)
 }
 
@@ -161,7 +162,7 @@ fn many_keys_are_found(rt: HostRuntime) -> Result<(), Fail> {
     let customers = many_customers(rt.alloc())?;
     let texts = Texts {
         customer: customers.as_bytes(),
-        ..one_row_each(b"")
+        ..one_row_each(&[])
     };
     let catalogue = loaded(rt.alloc(), &texts)?;
     check_many_customers(&rt, &catalogue);
@@ -179,7 +180,7 @@ const FAR_APART: &str = concat!(
 fn keys_far_apart_are_found(rt: HostRuntime) -> Result<(), Fail> {
     let texts = Texts {
         customer: FAR_APART.as_bytes(),
-        ..one_row_each(b"")
+        ..one_row_each(&[])
     };
     let catalogue = loaded(rt.alloc(), &texts)?;
     for (key, row) in [
@@ -199,7 +200,7 @@ fn a_duplicate_of_keys_far_apart_is_told(rt: HostRuntime) -> Result<(), Fail> {
     let again = replaced(rt.alloc(), FAR_APART.as_bytes(), "\n5|", "\n0999999999999|")?;
     let texts = Texts {
         customer: again.as_bytes(),
-        ..one_row_each(b"")
+        ..one_row_each(&[])
     };
     let fault = LoadFault::DuplicateKey {
         table: TableId::Customer,

@@ -15,6 +15,10 @@ mod flat_texts;
 #[cfg(test)]
 mod intervals;
 #[cfg(test)]
+mod join_indexes;
+#[cfg(test)]
 mod keys;
+#[cfg(test)]
+mod masks;
 #[cfg(test)]
 mod tables;

@@ -3,7 +3,7 @@
 ghost use Rattle.std.specs.Prelude.{◌≡◌, ◌<◌, length};
 ghost use Rattle.star_schema.specs.Schema.{kind_of, table_of};
 
-use star_reader::{RawTable, ReadFault, read_table};
+use star_reader::{RawTable, ReadFault, read_parts, read_table};
 use star_schema::{ColumnId, Kind, Limits, TableId, place_of};
 use std::alloc::{AllocError, Global};
 use std::fmt::Write;
@@ -22,6 +22,19 @@ fn read_suppliers(
     limits: Limits,
 ) -> Result<Result<u32, ReadFault>, AllocError> {
     match read_table(alloc, text, TableId::Supplier, limits) {
+        Ok(raw) => Ok(Ok(raw.rows())),
+        Err(ReadFault::OutOfMemory) => Err(AllocError),
+        Err(fault) => Ok(Err(fault)),
+    }
+}
+
+// How many suppliers some parts have, or their fault.
+fn read_supplier_parts(
+    alloc: Global,
+    parts: &[&[u8]],
+    limits: Limits,
+) -> Result<Result<u32, ReadFault>, AllocError> {
+    match read_parts(alloc, parts, TableId::Supplier, limits) {
         Ok(raw) => Ok(Ok(raw.rows())),
         Err(ReadFault::OutOfMemory) => Err(AllocError),
         Err(fault) => Ok(Err(fault)),
@@ -84,6 +97,50 @@ fn tells_the_first_fault(rt: HostRuntime) -> Result<(), Fail> {
     Ok(())
 }
 
+const ONE: &[u8] = b"1|a|b|c|d|e|f";
+
+const TWO: &[u8] = b"2|a|b|c|d|e|f|\n3|a|b|c|d|e|f|\n";
+
+const MARKED: &[u8] = b"\xef\xbb\xbf1|a|b|c|d|e|f";
+
+#[test]
+fn reads_parts(rt: HostRuntime) -> Result<(), Fail> {
+    let limits = Limits::new(3, 0).ok_or("limits")?;
+    let number = |at_row| ReadFault::BadNumber { at_row, field: 1 };
+    let count = |at_row| ReadFault::FieldCount { at_row };
+    let cases: [(&[&[u8]], Result<u32, ReadFault>); 15] = [
+        (&[], Ok(0)),
+        (&[b"", b"\n"], Ok(0)),
+        (&[ONE, b"", TWO], Ok(3)),
+        (&[TWO, ONE], Ok(3)),
+        (&[TWO, b"", TWO], Err(ReadFault::TooManyRows)),
+        // A record ends with its part.
+        (&[b"1|a|b|c|d|e|f\n2|a|b", b"|c|d|e|f\n"], Err(count(2))),
+        (&[b"1|a|b|c|d|e", b"f"], Err(count(1))),
+        // Records count through the parts.
+        (&[TWO, b"x|a|b|c|d|e|f"], Err(number(3))),
+        (&[ONE, b"", ONE, b"x"], Err(count(3))),
+        // The mark of a part: behind the faults of the parts before, before its own.
+        (&[ONE, MARKED], Err(ReadFault::ByteOrderMark)),
+        (&[b"x|a|b|c|d|e|f", MARKED], Err(number(1))),
+        (&[TWO, ONE, MARKED], Err(ReadFault::ByteOrderMark)),
+        (&[TWO, TWO, MARKED], Err(ReadFault::TooManyRows)),
+        (
+            &[ONE, b"\n\xef\xbb\xbf1|a|b|c|d|e|f"],
+            Err(ReadFault::BadByte {
+                at_row: 2,
+                field: 1,
+            }),
+        ),
+        (&[MARKED, b"x"], Err(ReadFault::ByteOrderMark)),
+    ];
+    for (parts, expected) in cases {
+        let got = read_supplier_parts(rt.alloc(), parts, limits)?;
+        assert_eq!(rt; got, expected, "{parts:?}");
+    }
+    Ok(())
+}
+
 const MANY: u32 = 100_000;
 
 fn many_suppliers(alloc: Global) -> Result<String, AllocError> {
@@ -141,5 +198,29 @@ fn reads_many_rows_back(rt: HostRuntime) -> Result<(), Fail> {
     let few = Limits::new(MANY - 1, 0).ok_or("limits")?;
     let refused = read_suppliers(rt.alloc(), text.as_bytes(), few)?;
     assert_eq!(rt; refused, Err(ReadFault::TooManyRows));
+    Ok(())
+}
+
+// The keys of three suppliers, in the order of the parts.
+#[tactic(auto, unfolding(star_schema::specs::Schema::column_of))]
+fn check_three(rt: &impl Abort, raw: &RawTable) {
+    assert_eq!(rt; raw.table(), TableId::Supplier);
+    for row in 0..raw.rows() {
+        assert_eq!(rt; number_of(raw, ColumnId::SSuppkey, row), i64::from(row) + 1);
+    }
+    assert_eq!(rt; count_of(raw, ColumnId::SSuppkey), 3);
+}
+
+#[test]
+fn rows_come_in_the_order_of_the_parts(rt: HostRuntime) -> Result<(), Fail> {
+    match read_parts(
+        rt.alloc(),
+        &[ONE, b"", TWO],
+        TableId::Supplier,
+        Limits::widest(),
+    ) {
+        Ok(raw) => check_three(&rt, &raw),
+        Err(fault) => return Err(Fail::from(format_args!("{fault:?}"))),
+    }
     Ok(())
 }

@@ -5,7 +5,7 @@ use Rattle.star_schema.specs.declared.column.ColumnId.TheVariants.{CRegion}
 use Rattle.star_schema.specs.declared.group.Aggregate.TheVariants.{Count, Max, Min, Sum}
 use Rattle.star_schema.specs.declared.group.GroupColumn.TheVariants as column
 use Rattle.star_schema.specs.declared.group.Direction.TheVariants.{Ascending}
-use Rattle.star_schema.specs.declared.group.Shape.TheVariants.{Cube, Plain}
+use Rattle.star_schema.specs.declared.group.Shape.TheVariants.{Cube, Plain, Rollup}
 use Rattle.star_schema.specs.declared.table.TableId.TheVariants.{Customer}
 use Rattle.star_schema.specs.Schema.{column_of}
 use Rattle.star_interval.specs.Range.{is_i64}
@@ -206,11 +206,15 @@ reads_of_none = refl
 one_for_each_aggregate : aligned (pos 1) (Sum ∷ Count ∷ Max ∷ Count ∷ []) (pos 5 ∷ pos 6 ∷ []) ≡ pos 5 ∷ pos 1 ∷ pos 6 ∷ pos 1 ∷ []
 one_for_each_aggregate = refl
 
-four_groups_of_a_cube : own_groups Cube (pos 3 ∷ pos 4 ∷ [])
-    ≡ (Some (pos 3) ∷ Some (pos 4) ∷ []) ∷ (Some (pos 3) ∷ None ∷ []) ∷ (None ∷ Some (pos 4) ∷ []) ∷ (None ∷ None ∷ []) ∷ []
-four_groups_of_a_cube = refl
+groups_of_a_cube_and_all : own_groups Cube (pos 3 ∷ pos 4 ∷ [])
+    ≡ (None ∷ None ∷ []) ∷ (Some (pos 3) ∷ Some (pos 4) ∷ []) ∷ (Some (pos 3) ∷ None ∷ []) ∷ (None ∷ Some (pos 4) ∷ []) ∷ (None ∷ None ∷ []) ∷ []
+groups_of_a_cube_and_all = refl
 
-its_group_and_all : own_groups Plain (pos 3 ∷ pos 4 ∷ []) ≡ (Some (pos 3) ∷ Some (pos 4) ∷ []) ∷ (None ∷ None ∷ []) ∷ []
+groups_of_a_rollup_and_all : own_groups Rollup (pos 3 ∷ pos 4 ∷ [])
+    ≡ (None ∷ None ∷ []) ∷ (Some (pos 3) ∷ Some (pos 4) ∷ []) ∷ (Some (pos 3) ∷ None ∷ []) ∷ (None ∷ None ∷ []) ∷ []
+groups_of_a_rollup_and_all = refl
+
+its_group_and_all : own_groups Plain (pos 3 ∷ pos 4 ∷ []) ≡ (None ∷ None ∷ []) ∷ (Some (pos 3) ∷ Some (pos 4) ∷ []) ∷ []
 its_group_and_all = refl
 
 abbrev summing : GroupDecl

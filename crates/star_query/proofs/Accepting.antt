@@ -7,8 +7,8 @@ use Rattle.star_query.specs.declared.token.Relation.{Relation}
 use Rattle.star_query.specs.declared.token.Relation.TheVariants as r
 use Rattle.star_query.specs.Symbols.{keyword, sign, additive}
 use Rattle.star_query.specs.Tree.{Name}
-use Rattle.star_query.specs.Grammar.{Several, one, more, Expr, lone_term, joined, Term, lone_factor, times, Factor, column, constant, negative, parens, Lit, whole, negated, quoted, Cond, lone_conj, or_conj, Conj, lone_unit, and_unit, Unary, not_unit, group, pair, compare, between, Agg, folded, counted, Item, plain, aggregate, Key, unmarked, ascending, descending, Groups, ungrouped, grouped, cubed, Query, Mark, at, ident, expr_marks, term_marks, factor_marks, lit_marks, cond_marks, conj_marks, unit_marks, agg_marks, item_marks, table_marks, column_marks, key_marks, several_marks, where_marks, groups_marks, keys_marks, end_marks, query_marks}
-use Rattle.star_query.specs.Private.Machine.{extended, ExprHole, in_fold, in_parens, TermHole, first_term, next_term, FactorHole, first_factor, next_factor, CondHole, in_where, in_group, ConjHole, first_conj, next_conj, UnitHole, first_unit, next_unit, under_not, LitHole, compared, low, high, Filtered, Grouped, filtered_by, grouped_by, query_of, expr_depth, term_depth, factor_depth, cond_depth, conj_depth, unit_depth, lit_depth, State, begin, item_wanted, fold_named, count_named, count_opened, count_starred, factor_wanted, factor_negative, term_had, agg_had, alias_wanted, items_had, table_wanted, tables_had, unit_wanted, unit_named, equal_had, lit_wanted, lit_negative, conj_had, group_had, by_had, cube_had, column_wanted, columns_had, grouped_had, order_had, key_wanted, key_named, keys_had, ended, to, give_factor, expr_had, give_unit, cond_had, give_lit, behind_relation, step, at_end}
+use Rattle.star_query.specs.Grammar.{Several, one, more, Expr, lone_term, joined, Term, lone_factor, times, Factor, column, constant, negative, parens, Lit, whole, negated, quoted, Cond, lone_conj, or_conj, Conj, lone_unit, and_unit, Unary, not_unit, group, pair, compare, between, Agg, folded, counted, Item, plain, aggregate, Key, unmarked, ascending, descending, Groups, ungrouped, grouped, hiding, Query, Mark, at, ident, expr_marks, term_marks, factor_marks, lit_marks, cond_marks, conj_marks, unit_marks, agg_marks, item_marks, table_marks, column_marks, key_marks, several_marks, where_marks, groups_marks, keys_marks, end_marks, query_marks, Hiding, cube, rollup, hiding_word}
+use Rattle.star_query.specs.Private.Machine.{extended, ExprHole, in_fold, in_parens, TermHole, first_term, next_term, FactorHole, first_factor, next_factor, CondHole, in_where, in_group, ConjHole, first_conj, next_conj, UnitHole, first_unit, next_unit, under_not, LitHole, compared, low, high, Filtered, Grouped, filtered_by, grouped_by, query_of, expr_depth, term_depth, factor_depth, cond_depth, conj_depth, unit_depth, lit_depth, State, begin, item_wanted, fold_named, count_named, count_opened, count_starred, factor_wanted, factor_negative, term_had, agg_had, alias_wanted, items_had, table_wanted, tables_had, unit_wanted, unit_named, equal_had, lit_wanted, lit_negative, conj_had, group_had, by_had, hiding_had, column_wanted, columns_had, grouped_had, order_had, key_wanted, key_named, keys_had, ended, to, give_factor, expr_had, give_unit, cond_had, give_lit, behind_relation, step, at_end}
 
 -- from this state the marks are read, and the query is whole
 abbrev pub Accepts : State → List Mark → Query → Type 0
@@ -149,23 +149,27 @@ where_goes None is ts rest q g = g (tables_had is ts) (record { groups = refl; o
 where_goes (Some a) is ts rest q g =
     (unit_wanted (first_unit (first_conj (in_where is ts))), refl, cond_goes a (in_where is ts) rest q (g (cond_had a (in_where is ts)) (cond_acts a is ts)))
 
-columns_goes : (is : Several Name) (f : Filtered) (rest : List Mark) (q : Query) → Accepts (columns_had f true is) rest q → Accepts (column_wanted f true None) (several_marks column_marks is rest) q
-columns_goes (one i) f rest q g = (columns_had f true (one i), refl, g)
-columns_goes (more is i) f rest q g =
-    columns_goes is f (at 0 (sign s.Comma) ∷ column_marks i rest) q (column_wanted f true (Some is), refl, (columns_had f true (more is i), refl, g))
+columns_goes : (h : Hiding) (is : Several Name) (f : Filtered) (rest : List Mark) (q : Query) → Accepts (columns_had f (Some h) is) rest q → Accepts (column_wanted f (Some h) None) (several_marks column_marks is rest) q
+columns_goes h (one i) f rest q g = (columns_had f (Some h) (one i), refl, g)
+columns_goes h (more is i) f rest q g =
+    columns_goes h is f (at 0 (sign s.Comma) ∷ column_marks i rest) q (column_wanted f (Some h) (Some is), refl, (columns_had f (Some h) (more is i), refl, g))
 
-by_goes : (is : Several Name) (f : Filtered) (rest : List Mark) (q : Query) → Accepts (columns_had f false is) rest q → Accepts (by_had f) (several_marks column_marks is rest) q
-by_goes (one i) f rest q g = (columns_had f false (one i), refl, g)
+by_goes : (is : Several Name) (f : Filtered) (rest : List Mark) (q : Query) → Accepts (columns_had f None is) rest q → Accepts (by_had f) (several_marks column_marks is rest) q
+by_goes (one i) f rest q g = (columns_had f None (one i), refl, g)
 by_goes (more is i) f rest q g =
-    by_goes is f (at 0 (sign s.Comma) ∷ column_marks i rest) q (column_wanted f false (Some is), refl, (columns_had f false (more is i), refl, g))
+    by_goes is f (at 0 (sign s.Comma) ∷ column_marks i rest) q (column_wanted f None (Some is), refl, (columns_had f None (more is i), refl, g))
 
 groups_goes : (gs : Groups) (f : Filtered) (from : State) → ActsFiltered from f → (rest : List Mark) (q : Query) → ((from : State) → ActsGrouped from (grouped_by f gs) → Accepts from rest q) → Accepts from (groups_marks gs rest) q
 groups_goes ungrouped f from acts rest q g = g from (record { order = acts.order; semicolon = acts.semicolon; whole = acts.whole })
 groups_goes (grouped is) f from acts rest q g =
-    (group_had f, acts.groups, (by_had f, refl, by_goes is f rest q (g (columns_had f false is) (record { order = refl; semicolon = refl; whole = refl }))))
-groups_goes (cubed is) f from acts rest q g =
-    let had = grouped_had (grouped_by f (cubed is)) in
-    (group_had f, acts.groups, (by_had f, refl, (cube_had f, refl, (column_wanted f true None, refl, columns_goes is f (at 0 (sign s.Close) ∷ rest) q (had, refl, g had (record { order = refl; semicolon = refl; whole = refl }))))))
+    (group_had f, acts.groups, (by_had f, refl, by_goes is f rest q (g (columns_had f None is) (record { order = refl; semicolon = refl; whole = refl }))))
+groups_goes (hiding h is) f from acts rest q g =
+    let had = grouped_had (grouped_by f (hiding h is)) in
+    (group_had f, acts.groups, (by_had f, refl, (hiding_had f h, on_word h, (column_wanted f (Some h) None, refl, columns_goes h is f (at 0 (sign s.Close) ∷ rest) q (had, refl, g had (record { order = refl; semicolon = refl; whole = refl }))))))
+  where
+    on_word : (h : Hiding) → step (by_had f) (keyword (hiding_word h)) ≡ to (hiding_had f h) (at 0 (keyword (hiding_word h)))
+    on_word cube = refl
+    on_word rollup = refl
 
 key_goes : (i : Key) (g : Grouped) (b : Option (Several Key)) (rest : List Mark) (q : Query) → ((from : State) → ActsKeys from g (extended b i) → Accepts from rest q) → Accepts (key_wanted g b) (key_marks i rest) q
 key_goes (unmarked i) g b rest q go =

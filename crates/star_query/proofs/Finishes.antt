@@ -1,14 +1,14 @@
 -- A query begins with what was read on the way to any state, and is what was read where it ends.
-use Rattle.std.proofs.Common.{◌≡◌, ◌∙◌, ◌+◌, Bool, true, false, List, [], ◌∷◌, Option, Some, None, refl, sym, ap}
+use Rattle.std.proofs.Common.{◌≡◌, ◌∙◌, ◌+◌, true, false, List, [], ◌∷◌, Option, Some, None, refl, sym, ap}
 use Rattle.star_query.specs.declared.token.Keyword.TheVariants as k
 use Rattle.star_query.specs.declared.token.Sign.TheVariants as s
 use Rattle.star_query.specs.declared.token.Relation.TheVariants as r
 use Rattle.star_query.specs.declared.counts.Part.TheVariants as part
 use Rattle.star_query.specs.Symbols.{keyword, relation, sign, number}
 use Rattle.star_query.specs.Tree.{Name}
-use Rattle.star_query.specs.Grammar.{Several, one, Expr, lone_term, joined, Term, lone_factor, times, Factor, constant, negative, parens, Lit, whole, negated, Cond, lone_conj, or_conj, Conj, lone_unit, and_unit, Unary, not_unit, group, pair, compare, between, folded, counted, Item, plain, aggregate, Key, unmarked, ungrouped, grouped, cubed, Query, Mark, at, first, ident, expr_marks, term_marks, factor_marks, lit_marks, cond_marks, conj_marks, unit_marks, item_marks, table_marks, column_marks, key_marks, several_marks, keys_marks, query_marks}
-use Rattle.star_query.specs.Private.Machine.{extended, ExprHole, in_fold, in_parens, TermHole, first_term, next_term, FactorHole, first_factor, next_factor, CondHole, in_where, in_group, ConjHole, first_conj, next_conj, UnitHole, first_unit, next_unit, under_not, LitHole, compared, low, high, Filtered, Grouped, filtered_by, grouped_by, query_of, expr_depth, term_depth, factor_depth, cond_depth, conj_depth, unit_depth, lit_depth, State, begin, item_wanted, fold_named, count_named, count_opened, count_starred, factor_wanted, factor_negative, term_had, agg_had, alias_wanted, items_had, table_wanted, tables_had, unit_wanted, unit_named, equal_had, lit_wanted, lit_negative, low_had, conj_had, filtered_had, group_had, by_had, cube_had, column_wanted, columns_had, grouped_had, order_had, key_wanted, key_named, keys_had, done, ended, joined_cond, around_conj, cond_end, at_end}
-use Rattle.star_query.proofs.Passed.{before_marks, select_passed, items_passed, by_passed, cube_passed, grouped_passed, order_passed, expr_passed, term_passed, factor_passed, cond_passed, conj_passed, unit_passed, between_passed, lit_passed, passed, several-extended, joined_cond_passed}
+use Rattle.star_query.specs.Grammar.{Several, one, Expr, lone_term, joined, Term, lone_factor, times, Factor, constant, negative, parens, Lit, whole, negated, Cond, lone_conj, or_conj, Conj, lone_unit, and_unit, Unary, not_unit, group, pair, compare, between, folded, counted, Item, plain, aggregate, Key, unmarked, ungrouped, grouped, hiding, Query, Mark, at, first, ident, expr_marks, term_marks, factor_marks, lit_marks, cond_marks, conj_marks, unit_marks, item_marks, table_marks, column_marks, key_marks, several_marks, keys_marks, query_marks, Hiding}
+use Rattle.star_query.specs.Private.Machine.{extended, ExprHole, in_fold, in_parens, TermHole, first_term, next_term, FactorHole, first_factor, next_factor, CondHole, in_where, in_group, ConjHole, first_conj, next_conj, UnitHole, first_unit, next_unit, under_not, LitHole, compared, low, high, Filtered, Grouped, filtered_by, grouped_by, query_of, expr_depth, term_depth, factor_depth, cond_depth, conj_depth, unit_depth, lit_depth, State, begin, item_wanted, fold_named, count_named, count_opened, count_starred, factor_wanted, factor_negative, term_had, agg_had, alias_wanted, items_had, table_wanted, tables_had, unit_wanted, unit_named, equal_had, lit_wanted, lit_negative, low_had, conj_had, filtered_had, group_had, by_had, hiding_had, column_wanted, columns_had, grouped_had, order_had, key_wanted, key_named, keys_had, done, ended, joined_cond, around_conj, cond_end, at_end}
+use Rattle.star_query.proofs.Passed.{before_marks, select_passed, items_passed, by_passed, hiding_passed, grouped_passed, order_passed, expr_passed, term_passed, factor_passed, cond_passed, conj_passed, unit_passed, between_passed, lit_passed, passed, several-extended, joined_cond_passed}
 
 -- some query is written so, with more behind
 abbrev pub Finishes : (List Mark → List Mark) → Type 0
@@ -69,14 +69,14 @@ lit_finishes (high h i m) l = unit_finishes h (between i m l)
 grouped_finishes : (g : Grouped) (ks : Option (Several Key)) → Finishes (λ more. grouped_passed g (keys_marks ks more))
 grouped_finishes g ks = (query_of g ks false, [], refl)
 
-columns_finish : (f : Filtered) (cube : Bool) (is : Several Name) → Finishes (λ more. by_passed f (cube_passed cube (several_marks column_marks is more)))
-columns_finish f false is = (query_of (grouped_by f (grouped is)) None false, [], refl)
-columns_finish f true is = (query_of (grouped_by f (cubed is)) None false, at 0 (sign s.Close) ∷ [], refl)
+columns_finish : (f : Filtered) (h : Option Hiding) (is : Several Name) → Finishes (λ more. by_passed f (hiding_passed h (several_marks column_marks is more)))
+columns_finish f None is = (query_of (grouped_by f (grouped is)) None false, [], refl)
+columns_finish f (Some h) is = (query_of (grouped_by f (hiding h is)) None false, at 0 (sign s.Close) ∷ [], refl)
 
-column_finishes : (f : Filtered) (cube : Bool) (b : Option (Several Name)) → Finishes (λ more. by_passed f (cube_passed cube (before_marks column_marks b more)))
-column_finishes f cube b =
-    let r = columns_finish f cube (extended b someone) in
-    (r.0, column_marks someone r.1, r.2 ∙ ap (λ l. by_passed f (cube_passed cube l)) (several-extended column_marks b someone r.1))
+column_finishes : (f : Filtered) (h : Option Hiding) (b : Option (Several Name)) → Finishes (λ more. by_passed f (hiding_passed h (before_marks column_marks b more)))
+column_finishes f h b =
+    let r = columns_finish f h (extended b someone) in
+    (r.0, column_marks someone r.1, r.2 ∙ ap (λ l. by_passed f (hiding_passed h l)) (several-extended column_marks b someone r.1))
 
 key_finishes : (g : Grouped) (b : Option (Several Key)) (i : Key) → Finishes (λ more. order_passed g (before_marks key_marks b (key_marks i more)))
 key_finishes g b i =
@@ -117,11 +117,11 @@ state_finishes (low_had h i l) = lit_finishes (low h i) l
 state_finishes (conj_had c h) = conj_finishes h c
 state_finishes (filtered_had f) = (query_of (grouped_by f ungrouped) None false, [], refl)
 state_finishes (group_had f) =
-    behind _ (λ more. at 0 (keyword k.By) ∷ column_marks someone more) (columns_finish f false (one someone))
-state_finishes (by_had f) = behind _ (column_marks someone) (columns_finish f false (one someone))
-state_finishes (cube_had f) = behind _ (λ more. at 0 (sign s.Open) ∷ column_marks someone more) (columns_finish f true (one someone))
-state_finishes (column_wanted f cube b) = column_finishes f cube b
-state_finishes (columns_had f cube is) = columns_finish f cube is
+    behind _ (λ more. at 0 (keyword k.By) ∷ column_marks someone more) (columns_finish f None (one someone))
+state_finishes (by_had f) = behind _ (column_marks someone) (columns_finish f None (one someone))
+state_finishes (hiding_had f h) = behind _ (λ more. at 0 (sign s.Open) ∷ column_marks someone more) (columns_finish f (Some h) (one someone))
+state_finishes (column_wanted f h b) = column_finishes f h b
+state_finishes (columns_had f h is) = columns_finish f h is
 state_finishes (grouped_had g) = (query_of g None false, [], refl)
 state_finishes (order_had g) =
     behind _ (λ more. at 0 (keyword k.By) ∷ key_marks (unmarked someone) more) (grouped_finishes g (Some (one (unmarked someone))))
@@ -135,17 +135,17 @@ cond_end_passed : (a : Cond) (h : CondHole) (q : Query) → cond_end a h ≡ Som
 cond_end_passed a (in_where is ts) q e = let same : with_filter is ts (Some a) ≡ q = cc in ap query_marks same
 cond_end_passed a (in_group h) q e = cc
 
-columns_end_passed : (f : Filtered) (cube : Bool) (is : Several Name) (q : Query) → at_end (columns_had f cube is) ≡ Some q → passed (columns_had f cube is) [] ≡ query_marks q
-columns_end_passed f false is q e =
+columns_end_passed : (f : Filtered) (h : Option Hiding) (is : Several Name) (q : Query) → at_end (columns_had f h is) ≡ Some q → passed (columns_had f h is) [] ≡ query_marks q
+columns_end_passed f None is q e =
     let same : query_of (grouped_by f (grouped is)) None false ≡ q = cc in ap query_marks same
-columns_end_passed f true is q e = cc
+columns_end_passed f (Some h) is q e = cc
 
 -- what was read where a query ends
 pub end_passed : (from : State) (q : Query) → at_end from ≡ Some q → passed from [] ≡ query_marks q
 end_passed (tables_had is ts) q e = let same : with_filter is ts None ≡ q = cc in ap query_marks same
 end_passed (conj_had c h) q e = sym (joined_cond_passed h c []) ∙ cond_end_passed (joined_cond c h) (around_conj h) q e
 end_passed (filtered_had f) q e = let same : query_of (grouped_by f ungrouped) None false ≡ q = cc in ap query_marks same
-end_passed (columns_had f cube is) q e = columns_end_passed f cube is q e
+end_passed (columns_had f h is) q e = columns_end_passed f h is q e
 end_passed (grouped_had g) q e = let same : query_of g None false ≡ q = cc in ap query_marks same
 end_passed (key_named g b i) q e =
     let same : query_of g (Some (extended b (unmarked i))) false ≡ q = cc in

@@ -1,5 +1,5 @@
 -- What was read on the way to a state, and that each step reads one symbol more.
-use Rattle.std.proofs.Common.{◌≡◌, ◌∙◌, ℕ, ◌+◌, Bool, true, false, List, [], ◌∷◌, Option, Some, None, refl, ap, subst}
+use Rattle.std.proofs.Common.{◌≡◌, ◌∙◌, ℕ, ◌+◌, List, [], ◌∷◌, Option, Some, None, refl, ap, subst}
 use Rattle.star_query.specs.declared.token.Keyword.TheVariants as k
 use Rattle.star_query.specs.declared.token.Sign.TheVariants as s
 use Rattle.star_query.specs.declared.token.Additive.TheVariants.{Minus}
@@ -8,8 +8,8 @@ use Rattle.star_query.specs.declared.token.Relation.TheVariants as r
 use Rattle.star_query.specs.declared.counts.Part.TheVariants as part
 use Rattle.star_query.specs.Symbols.{Symbol, keyword, fold, count, relation, sign, additive, name, number, text}
 use Rattle.star_query.specs.Tree.{Name}
-use Rattle.star_query.specs.Grammar.{Several, Expr, Term, Factor, parens, Lit, Cond, Conj, Unary, not_unit, group, compare, between, Agg, Item, aggregate, Key, unmarked, ascending, descending, ungrouped, grouped, Mark, at, first, ident, function, expr_marks, term_marks, factor_marks, lit_marks, cond_marks, conj_marks, unit_marks, agg_marks, item_marks, table_marks, column_marks, key_marks, several_marks, where_marks, groups_marks, keys_marks}
-use Rattle.star_query.specs.Private.Machine.{extended, ExprHole, in_fold, in_parens, TermHole, first_term, next_term, FactorHole, first_factor, next_factor, CondHole, in_where, in_group, ConjHole, first_conj, next_conj, UnitHole, first_unit, next_unit, under_not, LitHole, compared, low, high, Filtered, Grouped, filtered_by, grouped_by, expr_depth, term_depth, factor_depth, cond_depth, conj_depth, unit_depth, lit_depth, State, begin, item_wanted, fold_named, count_named, count_opened, count_starred, factor_wanted, factor_negative, term_had, agg_had, alias_wanted, items_had, table_wanted, tables_had, unit_wanted, unit_named, equal_had, lit_wanted, lit_negative, low_had, conj_had, filtered_had, group_had, by_had, cube_had, column_wanted, columns_had, grouped_had, order_had, key_wanted, key_named, keys_had, done, ended, Step, give_factor, joined_expr, around_term, give_unit, joined_cond, around_conj, give_lit, behind_relation, closed_expr, on_begin, on_item, on_fold, on_count, on_count_opened, on_count_starred, on_factor, on_negative, on_term, on_items, on_agg, on_alias, on_table, on_done, on_grouped, on_filtered, on_tables, on_unit, on_named, on_lit, on_equal, on_lit_negative, on_low, closed_cond, on_cond, on_conj, on_group, on_column, on_by, on_cube, on_cubed, on_columns, on_order, on_key, on_keys, on_key_named, step}
+use Rattle.star_query.specs.Grammar.{Several, Expr, Term, Factor, parens, Lit, Cond, Conj, Unary, not_unit, group, compare, between, Agg, Item, aggregate, Key, unmarked, ascending, descending, ungrouped, grouped, Mark, at, first, ident, function, expr_marks, term_marks, factor_marks, lit_marks, cond_marks, conj_marks, unit_marks, agg_marks, item_marks, table_marks, column_marks, key_marks, several_marks, where_marks, groups_marks, keys_marks, Hiding, hiding_word}
+use Rattle.star_query.specs.Private.Machine.{extended, ExprHole, in_fold, in_parens, TermHole, first_term, next_term, FactorHole, first_factor, next_factor, CondHole, in_where, in_group, ConjHole, first_conj, next_conj, UnitHole, first_unit, next_unit, under_not, LitHole, compared, low, high, Filtered, Grouped, filtered_by, grouped_by, expr_depth, term_depth, factor_depth, cond_depth, conj_depth, unit_depth, lit_depth, State, begin, item_wanted, fold_named, count_named, count_opened, count_starred, factor_wanted, factor_negative, term_had, agg_had, alias_wanted, items_had, table_wanted, tables_had, unit_wanted, unit_named, equal_had, lit_wanted, lit_negative, low_had, conj_had, filtered_had, group_had, by_had, hiding_had, column_wanted, columns_had, grouped_had, order_had, key_wanted, key_named, keys_had, done, ended, Step, give_factor, joined_expr, around_term, give_unit, joined_cond, around_conj, give_lit, behind_relation, closed_expr, on_begin, on_item, on_fold, on_count, on_count_opened, on_count_starred, on_factor, on_negative, on_term, on_items, on_agg, on_alias, on_table, on_done, on_grouped, on_filtered, on_tables, on_unit, on_named, on_lit, on_equal, on_lit_negative, on_low, closed_cond, on_cond, on_conj, on_group, on_column, on_by, on_hiding, on_hidden, on_columns, on_order, on_key, on_keys, on_key_named, step}
 
 abbrev pub before_marks : {A : Type 0} → (A → List Mark → List Mark) → Option (Several A) → List Mark → List Mark
 before_marks marks None rest = rest
@@ -30,9 +30,9 @@ filtered_passed f rest = tables_passed f.items f.tables (where_marks f.condition
 abbrev pub by_passed : Filtered → List Mark → List Mark
 by_passed f rest = filtered_passed f (at 0 (keyword k.Group) ∷ at 0 (keyword k.By) ∷ rest)
 
-abbrev pub cube_passed : Bool → List Mark → List Mark
-cube_passed false rest = rest
-cube_passed true rest = at 0 (keyword k.Cube) ∷ at 0 (sign s.Open) ∷ rest
+abbrev pub hiding_passed : Option Hiding → List Mark → List Mark
+hiding_passed None rest = rest
+hiding_passed (Some h) rest = at 0 (keyword (hiding_word h)) ∷ at 0 (sign s.Open) ∷ rest
 
 abbrev pub grouped_passed : Grouped → List Mark → List Mark
 grouped_passed g rest = filtered_passed g.filtered (groups_marks g.groups rest)
@@ -104,9 +104,9 @@ passed (conj_had c h) rest = conj_passed h (conj_marks (conj_depth h) c rest)
 passed (filtered_had f) rest = filtered_passed f rest
 passed (group_had f) rest = filtered_passed f (at 0 (keyword k.Group) ∷ rest)
 passed (by_had f) rest = by_passed f rest
-passed (cube_had f) rest = by_passed f (at 0 (keyword k.Cube) ∷ rest)
-passed (column_wanted f cube b) rest = by_passed f (cube_passed cube (before_marks column_marks b rest))
-passed (columns_had f cube is) rest = by_passed f (cube_passed cube (several_marks column_marks is rest))
+passed (hiding_had f h) rest = by_passed f (at 0 (keyword (hiding_word h)) ∷ rest)
+passed (column_wanted f h b) rest = by_passed f (hiding_passed h (before_marks column_marks b rest))
+passed (columns_had f h is) rest = by_passed f (hiding_passed h (several_marks column_marks is rest))
 passed (grouped_had g) rest = grouped_passed g rest
 passed (order_had g) rest = grouped_passed g (at 0 (keyword k.Order) ∷ rest)
 passed (key_wanted g b) rest = order_passed g (before_marks key_marks b rest)
@@ -306,27 +306,28 @@ group_moves : (f : Filtered) (x : Symbol) → IfStep (on_group f x) (Moves (grou
 group_moves f (keyword k.By) = moves _ _ _ _ refl (λ rest. refl)
 group_moves f _ = tt
 
-column_moves : (f : Filtered) (cube : Bool) (b : Option (Several Name)) (x : Symbol) → IfStep (on_column f cube b x) (Moves (column_wanted f cube b) x)
-column_moves f cube b (name t p) = moves _ _ _ _ refl (λ rest. ap (λ l. by_passed f (cube_passed cube l)) (several-extended column_marks b _ rest))
-column_moves f cube b _ = tt
+column_moves : (f : Filtered) (h : Option Hiding) (b : Option (Several Name)) (x : Symbol) → IfStep (on_column f h b x) (Moves (column_wanted f h b) x)
+column_moves f h b (name t p) = moves _ _ _ _ refl (λ rest. ap (λ l. by_passed f (hiding_passed h l)) (several-extended column_marks b _ rest))
+column_moves f h b _ = tt
 
 by_moves : (f : Filtered) (x : Symbol) → IfStep (on_by f x) (Moves (by_had f) x)
 by_moves f (keyword k.Cube) = moves _ _ _ _ refl (λ rest. refl)
-by_moves f x = moves_along (by_had f) (column_wanted f false None) x (on_by f x) (λ rest. refl) (column_moves f false None x)
+by_moves f (keyword k.Rollup) = moves _ _ _ _ refl (λ rest. refl)
+by_moves f x = moves_along (by_had f) (column_wanted f None None) x (on_by f x) (λ rest. refl) (column_moves f None None x)
 
-cube_moves : (f : Filtered) (x : Symbol) → IfStep (on_cube f x) (Moves (cube_had f) x)
-cube_moves f (sign s.Open) = moves _ _ _ _ refl (λ rest. refl)
-cube_moves f _ = tt
+hiding_moves : (f : Filtered) (h : Hiding) (x : Symbol) → IfStep (on_hiding f h x) (Moves (hiding_had f h) x)
+hiding_moves f h (sign s.Open) = moves _ _ _ _ refl (λ rest. refl)
+hiding_moves f h _ = tt
 
-cubed_moves : (f : Filtered) (is : Several Name) (x : Symbol) → IfStep (on_cubed f is x) (Moves (columns_had f true is) x)
-cubed_moves f is (sign s.Close) = moves _ _ _ _ refl (λ rest. refl)
-cubed_moves f is _ = tt
+hidden_moves : (f : Filtered) (h : Hiding) (is : Several Name) (x : Symbol) → IfStep (on_hidden f h is x) (Moves (columns_had f (Some h) is) x)
+hidden_moves f h is (sign s.Close) = moves _ _ _ _ refl (λ rest. refl)
+hidden_moves f h is _ = tt
 
-columns_moves : (f : Filtered) (cube : Bool) (is : Several Name) (x : Symbol) → IfStep (on_columns f cube is x) (Moves (columns_had f cube is) x)
-columns_moves f cube is (sign s.Comma) = moves _ _ _ _ refl (λ rest. refl)
-columns_moves f true is x = cubed_moves f is x
-columns_moves f false is x =
-    moves_along (columns_had f false is) (grouped_had (grouped_by f (grouped is))) x (on_columns f false is x) (λ rest. refl) (grouped_moves (grouped_by f (grouped is)) x)
+columns_moves : (f : Filtered) (h : Option Hiding) (is : Several Name) (x : Symbol) → IfStep (on_columns f h is x) (Moves (columns_had f h is) x)
+columns_moves f h is (sign s.Comma) = moves _ _ _ _ refl (λ rest. refl)
+columns_moves f (Some h) is x = hidden_moves f h is x
+columns_moves f None is x =
+    moves_along (columns_had f None is) (grouped_had (grouped_by f (grouped is))) x (on_columns f None is x) (λ rest. refl) (grouped_moves (grouped_by f (grouped is)) x)
 
 order_moves : (g : Grouped) (x : Symbol) → IfStep (on_order g x) (Moves (order_had g) x)
 order_moves g (keyword k.By) = moves _ _ _ _ refl (λ rest. refl)
@@ -371,9 +372,9 @@ all_moves (conj_had c h) x = conj_moves c h x
 all_moves (filtered_had f) x = filtered_moves f x
 all_moves (group_had f) x = group_moves f x
 all_moves (by_had f) x = by_moves f x
-all_moves (cube_had f) x = cube_moves f x
-all_moves (column_wanted f cube b) x = column_moves f cube b x
-all_moves (columns_had f cube is) x = columns_moves f cube is x
+all_moves (hiding_had f h) x = hiding_moves f h x
+all_moves (column_wanted f h b) x = column_moves f h b x
+all_moves (columns_had f h is) x = columns_moves f h is x
 all_moves (grouped_had g) x = grouped_moves g x
 all_moves (order_had g) x = order_moves g x
 all_moves (key_wanted g b) x = key_moves g b x

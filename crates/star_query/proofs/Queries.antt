@@ -25,18 +25,19 @@ use Rattle.star_query.specs.declared.tree.Aggregate.{Aggregate}
 use Rattle.star_query.specs.declared.tree.Item.{Item}
 use Rattle.star_query.specs.declared.tree.Item.TheVariants as items
 use Rattle.star_query.specs.declared.tree.Grouping.{Grouping}
-use Rattle.star_schema.specs.declared.group.Shape.TheVariants.{Plain, Cube}
+use Rattle.star_schema.specs.declared.group.Shape.{Shape}
+use Rattle.star_schema.specs.declared.group.Shape.TheVariants.{Plain}
 use Rattle.star_query.specs.declared.tree.SortKey.{SortKey}
 use Rattle.star_schema.specs.declared.group.Direction.TheVariants.{Ascending, Descending}
 use Rattle.star_query.specs.declared.tree.Tree.{Tree}
 use Rattle.star_query.specs.Symbols.{Symbol, keyword, sign, name}
 use Rattle.star_query.specs.Tree as tree
 use Rattle.star_query.specs.Grammar as grammar
-use Rattle.star_query.specs.Grammar.{Several, one, more, Agg, folded, counted, Cond, lone_conj, or_conj, Key, unmarked, ascending, descending, grouped, cubed, Query, first, ident, cond_tree, agg_tree, item_tree, key_tree, listed, names, groups_tree}
-use Rattle.star_query.specs.Private.Machine.{extended, in_fold, in_where, first_factor, first_term, first_unit, first_conj, Filtered, Grouped, filtered_by, grouped_by, query_of, State, begin, item_wanted, fold_named, count_named, count_opened, count_starred, factor_wanted, expr_had, cond_had, agg_had, alias_wanted, items_had, table_wanted, tables_had, unit_wanted, filtered_had, by_had, cube_had, column_wanted, columns_had, grouped_had, order_had, key_wanted, key_named, keys_had, done, ended, to, step, at_end, Whole, Bad, after, ends, run}
+use Rattle.star_query.specs.Grammar.{Several, one, more, Agg, folded, counted, Cond, lone_conj, or_conj, Key, unmarked, ascending, descending, grouped, hiding, Query, at, first, ident, cond_tree, agg_tree, item_tree, key_tree, listed, names, groups_tree, Hiding, cube, rollup, hiding_word, shape_of}
+use Rattle.star_query.specs.Private.Machine.{extended, in_fold, in_where, first_factor, first_term, first_unit, first_conj, Filtered, Grouped, filtered_by, grouped_by, query_of, State, begin, item_wanted, fold_named, count_named, count_opened, count_starred, factor_wanted, expr_had, cond_had, agg_had, alias_wanted, items_had, table_wanted, tables_had, unit_wanted, filtered_had, by_had, hiding_had, column_wanted, columns_had, grouped_had, order_had, key_wanted, key_named, keys_had, done, ended, to, step, at_end, Whole, Bad, after, ends, run}
 use Rattle.star_query.specs.Views.{name_view, condition_view, measure_view, aggregate_view, item_view, grouping_view}
 use Rattle.star_query.specs.Private.Reads.{Spot, spot_of, head_of, No, verdict, EndsBad, Takes, NoName, ReadsName, ReadsExpr, ReadsCond, NoLogic}
-use Rattle.star_query.specs.Private.Clauses.{function_symbol, function_named, function_parts, ReadsFolded, ReadsCounted, ReadsMeasure, ReadsAlias, ReadsAggregate, ReadsItem, NoComma, ReadsItems, ReadsTable, ReadsTables, ReadsFilter, ReadsColumn, ReadsColumns, ReadsGroups, ReadsGrouping, ReadsKey, ReadsKeyList, ReadsKeys, ReadsEnd, ReadsQuery}
+use Rattle.star_query.specs.Private.Clauses.{function_symbol, function_named, function_parts, ReadsFolded, ReadsCounted, ReadsMeasure, ReadsAlias, ReadsAggregate, ReadsItem, NoComma, ReadsItems, ReadsTable, ReadsTables, ReadsFilter, ReadsColumn, ReadsColumns, ReadsHidden, ReadsGroups, ReadsGrouping, ReadsKey, ReadsKeyList, ReadsKeys, ReadsEnd, ReadsQuery}
 use Rattle.star_query.specs.Private.Lists.{PassesComma, bad_along}
 use Rattle.star_query.proofs.Accepting.{fold_closes}
 use Rattle.star_query.proofs.Descent.{takes, stuck, bad_name, refused, same_from, head_no_name}
@@ -164,13 +165,13 @@ read_no_filter old new no_comma no_where same =
     (None, refl, λ h u. same_from old (tables_had h.0 h.1) (filtered_had (filtered_by h.0 h.1 None)) refl (λ x head. tables_step h.0 h.1 x (λ q. no_comma (head ∙ ap Some q)) (λ q. no_where (head ∙ ap Some q))) ∙ ap (λ s. verdict s (filtered_had (filtered_by h.0 h.1 None))) (sym same))
 
 -- columns
-only_column : (f : Filtered) (cube : Bool) (b : Option (Several tree.Name)) (x : Symbol) → NoName (x ∷ []) → step (column_wanted f cube b) x ≡ None
-only_column f cube b (name t p) none = absurd none
-only_column f cube b _ none = refl
+only_column : (f : Filtered) (h : Option Hiding) (b : Option (Several tree.Name)) (x : Symbol) → NoName (x ∷ []) → step (column_wanted f h b) x ≡ None
+only_column f h b (name t p) none = absurd none
+only_column f h b _ none = refl
 
-bad_column_name : (f : Filtered) (cube : Bool) (b : Option (Several tree.Name)) (old new : Spot) (e : ParseError) → ReadsName (part.GroupColumn ∷ []) old new (Err e) → EndsBad e new (verdict old (column_wanted f cube b))
-bad_column_name f cube b old new e reads =
-    bad_name (part.GroupColumn ∷ []) 0 (column_wanted f cube b) old new e zero_deep (λ t p. (columns_had f cube (extended b (record { text = t; place = p })), refl)) (λ none. stuck old (column_wanted f cube b) refl (λ x head. only_column f cube b x (head_no_name old.left x head none))) reads
+bad_column_name : (f : Filtered) (h : Option Hiding) (b : Option (Several tree.Name)) (old new : Spot) (e : ParseError) → ReadsName (part.GroupColumn ∷ []) old new (Err e) → EndsBad e new (verdict old (column_wanted f h b))
+bad_column_name f h b old new e reads =
+    bad_name (part.GroupColumn ∷ []) 0 (column_wanted f h b) old new e zero_deep (λ t p. (columns_had f h (extended b (record { text = t; place = p })), refl)) (λ none. stuck old (column_wanted f h b) refl (λ x head. only_column f h b x (head_no_name old.left x head none))) reads
 
 pub read_column : (old new : Spot) (r : Result Name ParseError) → ReadsName (part.GroupColumn ∷ []) old new r → ReadsColumn old new r
 read_column old new (Ok n) t =
@@ -178,42 +179,65 @@ read_column old new (Ok n) t =
 read_column old new (Err e) bad = λ h u. bad_column_name h.0.0 h.0.1 h.1 old new e bad
 
 -- groups
-cube_ends : (f : Filtered) (is : Several tree.Name) (x : Symbol) → (x ≡ sign s.Comma → ⊥) → (x ≡ sign s.Close → ⊥) → step (columns_had f true is) x ≡ None
-cube_ends f is (sign s.Comma) a b = absurd (a refl)
-cube_ends f is (sign s.Close) a b = absurd (b refl)
-cube_ends f is _ a b = refl
+hidden_ends : (f : Filtered) (h : Hiding) (is : Several tree.Name) (x : Symbol) → (x ≡ sign s.Comma → ⊥) → (x ≡ sign s.Close → ⊥) → step (columns_had f (Some h) is) x ≡ None
+hidden_ends f h is (sign s.Comma) a b = absurd (a refl)
+hidden_ends f h is (sign s.Close) a b = absurd (b refl)
+hidden_ends f h is _ a b = refl
 
-pub read_cube : (old a b c new : Spot) (v : _) → Takes old a (keyword k.Cube) [] → Takes a b (sign s.Open) [] → ReadsColumns b c (Ok v) → Takes c new (sign s.Close) [] → ReadsGroups old new (Ok (record { shape = Cube; columns = v }))
-read_cube old a b c new v cube opened reads closed =
-    (cubed reads.0, ap (λ x. record { shape = Cube; columns = x }) reads.1, λ f u. takes old a _ [] 0 (by_had f) (cube_had f) cube zero_deep refl ∙ takes a b _ [] 0 (cube_had f) (column_wanted f true None) opened zero_deep refl ∙ reads.2 (f, true) tt ∙ takes c new _ [] 0 (columns_had f true reads.0) (grouped_had (grouped_by f (cubed reads.0))) closed zero_deep refl)
+opens : (old a : Spot) (f : Filtered) (h : Hiding) → Takes old a (sign s.Open) [] → verdict old (hiding_had f h) ≡ verdict a (column_wanted f (Some h) None)
+opens old a f h opened = takes old a _ [] 0 (hiding_had f h) (column_wanted f (Some h) None) opened zero_deep refl
 
-by_step : (f : Filtered) (x : Symbol) → (x ≡ keyword k.Cube → ⊥) → step (by_had f) x ≡ step (column_wanted f false None) x
-by_step f (keyword k.Cube) other = absurd (other refl)
-by_step f _ other = refl
+pub read_hidden : (shape : Shape) (old a b new : Spot) (v : _) → Takes old a (sign s.Open) [] → ReadsColumns a b (Ok v) → Takes b new (sign s.Close) [] → ReadsHidden shape old new (Ok (record { shape = shape; columns = v }))
+read_hidden shape old a b new v opened reads closed =
+    (reads.0, ap (λ x. record { shape = shape; columns = x }) reads.1, λ h u. opens old a h.0 h.1 opened ∙ reads.2 (h.0, Some h.1) tt ∙ takes b new _ [] 0 (columns_had h.0 (Some h.1) reads.0) (grouped_had (grouped_by h.0 (hiding h.1 reads.0))) closed zero_deep refl)
 
-plain_step : (f : Filtered) (is : Several tree.Name) (x : Symbol) → (x ≡ sign s.Comma → ⊥) → step (columns_had f false is) x ≡ step (grouped_had (grouped_by f (grouped is))) x
+bad_hidden : (shape : Shape) (old new : Spot) (r : Result Grouping ParseError) (e : ParseError) → r ≡ Err e → ((f : Filtered) (h : Hiding) → EndsBad e new (verdict old (hiding_had f h))) → ReadsHidden shape old new r
+bad_hidden shape old new r e is bad =
+    refused grouping_view (λ is. record { shape = shape; columns = names is }) (λ h. Unit {0}) (λ (h : Filtered × Hiding). hiding_had h.0 h.1) (λ is h. grouped_had (grouped_by h.0 (hiding h.1 is))) old new r e is (λ h u. bad h.0 h.1)
+
+pub bad_hidden_columns : (shape : Shape) (old a new : Spot) (r : Result Grouping ParseError) (e : ParseError) → r ≡ Err e → Takes old a (sign s.Open) [] → ReadsColumns a new (Err e) → ReadsHidden shape old new r
+bad_hidden_columns shape old a new r e is opened bad =
+    bad_hidden shape old new r e is (λ f h. bad_along e new _ _ (opens old a f h opened) (bad (f, Some h) tt))
+
+pub bad_hidden_close : (shape : Shape) (old a b new : Spot) (v : _) (r : Result Grouping ParseError) (e : ParseError) → r ≡ Err e → Takes old a (sign s.Open) [] → ReadsColumns a b (Ok v) → NoComma b → (e ≡ errors.Fault Unexpected) × No (sign s.Close) b × (new ≡ b) → ReadsHidden shape old new r
+bad_hidden_close shape old a b new v r e is opened reads no_comma bad =
+    bad_hidden shape old new r e is (λ f h. bad_along e new _ _ (opens old a f h opened ∙ reads.2 (f, Some h) tt) (not_next (sign s.Close) b new (columns_had f (Some h) reads.0) e refl (λ y head other. hidden_ends f h reads.0 y (λ q. no_comma (head ∙ ap Some q)) other) bad))
+
+on_word : (f : Filtered) (h : Hiding) → step (by_had f) (keyword (hiding_word h)) ≡ to (hiding_had f h) (at 0 (keyword (hiding_word h)))
+on_word f cube = refl
+on_word f rollup = refl
+
+word_taken : (h : Hiding) (old here a : Spot) (f : Filtered) → here ≡ old → Takes here a (keyword (hiding_word h)) [] → verdict old (by_had f) ≡ verdict a (hiding_had f h)
+word_taken h old here a f same word = ap (λ s. verdict s (by_had f)) (sym same) ∙ takes here a _ [] 0 (by_had f) (hiding_had f h) word zero_deep (on_word f h)
+
+pub read_hiding : (h : Hiding) (old here a new : Spot) (r : Result Grouping ParseError) → here ≡ old → Takes here a (keyword (hiding_word h)) [] → ReadsHidden (shape_of h) a new r → ReadsGroups old new r
+read_hiding h old here a new (Ok v) same word reads =
+    (hiding h reads.0, reads.1, λ f u. word_taken h old here a f same word ∙ reads.2 (f, h) tt)
+read_hiding h old here a new (Err e) same word bad =
+    λ f u. bad_along e new _ _ (word_taken h old here a f same word) (bad (f, h) tt)
+
+by_step : (f : Filtered) (x : Symbol) → (x ≡ keyword k.Cube → ⊥) → (x ≡ keyword k.Rollup → ⊥) → step (by_had f) x ≡ step (column_wanted f None None) x
+by_step f (keyword k.Cube) no_cube no_rollup = absurd (no_cube refl)
+by_step f (keyword k.Rollup) no_cube no_rollup = absurd (no_rollup refl)
+by_step f _ no_cube no_rollup = refl
+
+plain_step : (f : Filtered) (is : Several tree.Name) (x : Symbol) → (x ≡ sign s.Comma → ⊥) → step (columns_had f None is) x ≡ step (grouped_had (grouped_by f (grouped is))) x
 plain_step f is (sign s.Comma) other = absurd (other refl)
 plain_step f is _ other = refl
 
-by_columns : (old here : Spot) (f : Filtered) → here ≡ old → No (keyword k.Cube) old → verdict old (by_had f) ≡ verdict here (column_wanted f false None)
-by_columns old here f same none =
-    same_from old (by_had f) (column_wanted f false None) refl (λ x head. by_step f x (λ q. none (head ∙ ap Some q))) ∙ ap (λ s. verdict s (column_wanted f false None)) (sym same)
+by_columns : (old mid here : Spot) (f : Filtered) → No (keyword k.Cube) old × (mid ≡ old) → No (keyword k.Rollup) mid × (here ≡ mid) → verdict old (by_had f) ≡ verdict here (column_wanted f None None)
+by_columns old mid here f no_cube no_rollup =
+    ap (λ s. verdict s (by_had f)) (sym no_cube.1)
+    ∙ same_from mid (by_had f) (column_wanted f None None) refl (λ x head. by_step f x (λ q. no_cube.0 (ap (λ s. head_of s.left) (sym no_cube.1) ∙ head ∙ ap Some q)) (λ q. no_rollup.0 (head ∙ ap Some q)))
+    ∙ ap (λ s. verdict s (column_wanted f None None)) (sym no_rollup.1)
 
-pub read_plain : (old here new : Spot) (v : _) → here ≡ old → No (keyword k.Cube) old → ReadsColumns here new (Ok v) → NoComma new → ReadsGroups old new (Ok (record { shape = Plain; columns = v }))
-read_plain old here new v same none reads no_comma =
-    (grouped reads.0, ap (λ x. record { shape = Plain; columns = x }) reads.1, λ f u. by_columns old here f same none ∙ reads.2 (f, false) tt ∙ same_from new (columns_had f false reads.0) (grouped_had (grouped_by f (grouped reads.0))) refl (λ x head. plain_step f reads.0 x (λ q. no_comma (head ∙ ap Some q))))
+pub read_plain : (old mid here new : Spot) (v : _) → No (keyword k.Cube) old × (mid ≡ old) → No (keyword k.Rollup) mid × (here ≡ mid) → ReadsColumns here new (Ok v) → NoComma new → ReadsGroups old new (Ok (record { shape = Plain; columns = v }))
+read_plain old mid here new v no_cube no_rollup reads no_comma =
+    (grouped reads.0, ap (λ x. record { shape = Plain; columns = x }) reads.1, λ f u. by_columns old mid here f no_cube no_rollup ∙ reads.2 (f, None) tt ∙ same_from new (columns_had f None reads.0) (grouped_had (grouped_by f (grouped reads.0))) refl (λ x head. plain_step f reads.0 x (λ q. no_comma (head ∙ ap Some q))))
 
-pub bad_plain : (old here new : Spot) (r : Result Grouping ParseError) (e : ParseError) → r ≡ Err e → here ≡ old → No (keyword k.Cube) old → ReadsColumns here new (Err e) → ReadsGroups old new r
-bad_plain old here new r e is same none b =
-    refused grouping_view groups_tree (λ h. Unit {0}) by_had (λ g f. grouped_had (grouped_by f g)) old new r e is (λ f u. bad_along e new _ _ (by_columns old here f same none) (b (f, false) tt))
-
-pub bad_cube_columns : (old a b new : Spot) (r : Result Grouping ParseError) (e : ParseError) → r ≡ Err e → Takes old a (keyword k.Cube) [] → Takes a b (sign s.Open) [] → ReadsColumns b new (Err e) → ReadsGroups old new r
-bad_cube_columns old a b new r e is cube opened bad =
-    refused grouping_view groups_tree (λ h. Unit {0}) by_had (λ g f. grouped_had (grouped_by f g)) old new r e is (λ f u. bad_along e new _ _ (takes old a _ [] 0 (by_had f) (cube_had f) cube zero_deep refl ∙ takes a b _ [] 0 (cube_had f) (column_wanted f true None) opened zero_deep refl) (bad (f, true) tt))
-
-pub bad_cube_close : (old a b c new : Spot) (v : _) (r : Result Grouping ParseError) (e : ParseError) → r ≡ Err e → Takes old a (keyword k.Cube) [] → Takes a b (sign s.Open) [] → ReadsColumns b c (Ok v) → NoComma c → (e ≡ errors.Fault Unexpected) × No (sign s.Close) c × (new ≡ c) → ReadsGroups old new r
-bad_cube_close old a b c new v r e is cube opened reads no_comma bad =
-    refused grouping_view groups_tree (λ h. Unit {0}) by_had (λ g f. grouped_had (grouped_by f g)) old new r e is (λ f u. bad_along e new _ _ (takes old a _ [] 0 (by_had f) (cube_had f) cube zero_deep refl ∙ takes a b _ [] 0 (cube_had f) (column_wanted f true None) opened zero_deep refl ∙ reads.2 (f, true) tt) (not_next (sign s.Close) c new (columns_had f true reads.0) e refl (λ y head other. cube_ends f reads.0 y (λ q. no_comma (head ∙ ap Some q)) other) bad))
+pub bad_plain : (old mid here new : Spot) (r : Result Grouping ParseError) (e : ParseError) → r ≡ Err e → No (keyword k.Cube) old × (mid ≡ old) → No (keyword k.Rollup) mid × (here ≡ mid) → ReadsColumns here new (Err e) → ReadsGroups old new r
+bad_plain old mid here new r e is no_cube no_rollup b =
+    refused grouping_view groups_tree (λ h. Unit {0}) by_had (λ g f. grouped_had (grouped_by f g)) old new r e is (λ f u. bad_along e new _ _ (by_columns old mid here f no_cube no_rollup) (b (f, None) tt))
 
 -- sort keys
 key_step : (g : Grouped) (b : Option (Several Key)) (i : tree.Name) (x : Symbol) → (x ≡ keyword k.Asc → ⊥) → (x ≡ keyword k.Desc → ⊥) → step (key_named g b i) x ≡ step (keys_had g (extended b (unmarked i))) x

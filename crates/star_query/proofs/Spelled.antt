@@ -12,7 +12,7 @@ use Rattle.star_query.specs.Cut.{begins_with_letter, is_word_byte}
 use Rattle.star_query.specs.Symbols.{keyword, additive, sign}
 use Rattle.star_query.specs.Tree as tree
 use Rattle.star_query.specs.Tree.{Name, Tree}
-use Rattle.star_query.specs.Grammar.{Several, one, more, Expr, lone_term, joined, Term, lone_factor, times, Factor, column, constant, negative, parens, Lit, whole, negated, quoted, Cond, lone_conj, or_conj, Conj, lone_unit, and_unit, Unary, not_unit, group, pair, compare, between, Agg, folded, counted, plain, aggregate, Key, unmarked, ascending, descending, Groups, ungrouped, grouped, cubed, Query, Mark, at, ident, expr_marks, term_marks, factor_marks, lit_marks, cond_marks, conj_marks, unit_marks, agg_marks, item_marks, table_marks, column_marks, key_marks, several_marks, where_marks, groups_marks, keys_marks, end_marks, query_marks, combined, expr_tree, term_tree, factor_tree, lit_tree, cond_tree, conj_tree, unit_tree, agg_tree, item_tree, key_tree, listed, groups_tree, keys_tree, query_tree}
+use Rattle.star_query.specs.Grammar.{Several, one, more, Expr, lone_term, joined, Term, lone_factor, times, Factor, column, constant, negative, parens, Lit, whole, negated, quoted, Cond, lone_conj, or_conj, Conj, lone_unit, and_unit, Unary, not_unit, group, pair, compare, between, Agg, folded, counted, plain, aggregate, Key, unmarked, ascending, descending, Groups, ungrouped, grouped, hiding, Query, Mark, at, ident, expr_marks, term_marks, factor_marks, lit_marks, cond_marks, conj_marks, unit_marks, agg_marks, item_marks, table_marks, column_marks, key_marks, several_marks, where_marks, groups_marks, keys_marks, end_marks, query_marks, combined, expr_tree, term_tree, factor_tree, lit_tree, cond_tree, conj_tree, unit_tree, agg_tree, item_tree, key_tree, listed, groups_tree, keys_tree, query_tree}
 use Rattle.star_query.specs.Derives.{IsShort, Means, symbols_at}
 use Rattle.star_query.specs.Spelled.{is_name, is_number, literal_is_spelled, expression_is_spelled, condition_is_spelled, where_is_spelled, measure_is_spelled, alias_is_spelled, item_is_spelled, IsSpelledQuery}
 use Rattle.star_query.proofs.Spelling.{token_is_spelled, cut_spelled}
@@ -151,7 +151,7 @@ where_good (Some c) rest all = cond_good 0 c rest all.1
 groups_good : (g : Groups) (rest : List Mark) → Good (groups_marks g rest) → (list_all (λ n. is_name n.text) (groups_tree g).columns ≡ true) × Good rest
 groups_good ungrouped rest all = (refl, all)
 groups_good (grouped is) rest all = several_good column_marks (λ i. i) (λ n. is_name n.text) column_good is rest all.1.1
-groups_good (cubed is) rest all =
+groups_good (hiding h is) rest all =
     let inner = several_good column_marks (λ i. i) (λ n. is_name n.text) column_good is (at 0 (sign s.Close) ∷ rest) all.1.1.1.1 in (inner.0, inner.1.1)
 
 keys_good : (ks : Option (Several Key)) (rest : List Mark) → Good (keys_marks ks rest) → list_all (λ n. is_name n.name.text) (keys_tree ks) ≡ true

@@ -12,7 +12,7 @@ use Rattle.star_query.specs.declared.token.Additive.TheVariants.{Plus, Minus}
 use Rattle.star_query.specs.Symbols.{Symbol, keyword, additive, sign}
 use Rattle.star_query.specs.Tree as tree
 use Rattle.star_query.specs.Tree.{Name}
-use Rattle.star_query.specs.Grammar.{Several, one, more, Expr, lone_term, joined, Term, lone_factor, times, Factor, column, constant, negative, parens, Lit, whole, negated, quoted, Cond, lone_conj, or_conj, Conj, lone_unit, and_unit, Unary, not_unit, group, pair, compare, between, Agg, folded, counted, Item, plain, aggregate, Key, unmarked, ascending, descending, Groups, ungrouped, grouped, cubed, Query, Mark, at, expr_marks, term_marks, factor_marks, lit_marks, cond_marks, conj_marks, unit_marks, agg_marks, item_marks, table_marks, column_marks, key_marks, several_marks, where_marks, groups_marks, keys_marks, end_marks, query_marks, combined, expr_tree, term_tree, factor_tree, cond_tree, conj_tree, unit_tree, item_tree, key_tree, ident, agg_tree, listed, names, groups_tree, keys_tree, query_tree}
+use Rattle.star_query.specs.Grammar.{Several, one, more, Expr, lone_term, joined, Term, lone_factor, times, Factor, column, constant, negative, parens, Lit, whole, negated, quoted, Cond, lone_conj, or_conj, Conj, lone_unit, and_unit, Unary, not_unit, group, pair, compare, between, Agg, folded, counted, Item, plain, aggregate, Key, unmarked, ascending, descending, Groups, ungrouped, grouped, hiding, Query, Mark, at, expr_marks, term_marks, factor_marks, lit_marks, cond_marks, conj_marks, unit_marks, agg_marks, item_marks, table_marks, column_marks, key_marks, several_marks, where_marks, groups_marks, keys_marks, end_marks, query_marks, combined, expr_tree, term_tree, factor_tree, cond_tree, conj_tree, unit_tree, item_tree, key_tree, ident, agg_tree, listed, names, groups_tree, keys_tree, query_tree}
 use Rattle.star_query.specs.Maxima.{limit}
 use Rattle.star_query.specs.Derives.{count_of, Derives}
 use Rattle.star_query.specs.Limits.{operands_of, measure_operands, item_operands, aggregates_in, comparisons_of, where_comparisons, IsQueryWithinLimits}
@@ -181,7 +181,7 @@ columns_grow is p rest = several_grow column_marks p (λ i more. omega arith) is
 groups_grow : (g : Groups) (p : Part) (rest : List Mark) → count_of p rest ≤ count_of p (groups_marks g rest)
 groups_grow ungrouped p rest = omega arith
 groups_grow (grouped is) p rest = omega (arith, columns_grow is p rest)
-groups_grow (cubed is) p rest = omega (arith, columns_grow is p (at 0 (sign s.Close) ∷ rest))
+groups_grow (hiding h is) p rest = omega (arith, columns_grow is p (at 0 (sign s.Close) ∷ rest))
 
 where_weighs : (c : Option Cond) (rest : List Mark) → where_comparisons (option_map cond_tree c) + count_of part.Comparison rest ≤ count_of part.Comparison (where_marks c rest)
 where_weighs None rest = omega arith
@@ -190,7 +190,7 @@ where_weighs (Some c) rest = omega (arith, cond_comparisons 0 c rest)
 groups_weigh : (g : Groups) (rest : List Mark) → length (groups_tree g).columns + count_of part.GroupColumn rest ≤ count_of part.GroupColumn (groups_marks g rest)
 groups_weigh ungrouped rest = omega arith
 groups_weigh (grouped is) rest = omega (arith, ones (names is), several_weigh column_marks (λ i. i) (λ i. 1) part.GroupColumn one_column is rest)
-groups_weigh (cubed is) rest = omega (arith, ones (names is), several_weigh column_marks (λ i. i) (λ i. 1) part.GroupColumn one_column is (at 0 (sign s.Close) ∷ rest))
+groups_weigh (hiding h is) rest = omega (arith, ones (names is), several_weigh column_marks (λ i. i) (λ i. 1) part.GroupColumn one_column is (at 0 (sign s.Close) ∷ rest))
 
 keys_weigh : (ks : Option (Several Key)) (rest : List Mark) → length (keys_tree ks) + count_of part.SortKey rest ≤ count_of part.SortKey (keys_marks ks rest)
 keys_weigh None rest = omega arith

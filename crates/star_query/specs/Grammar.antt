@@ -1,5 +1,6 @@
 -- The grammar of queries (this project's profile of SQL): its phrases, how each is written, and what it means.
 use Rattle.std.specs.Prelude.{ℕ, ◌+◌, Bool, true, false, List, [], ◌∷◌, ◌++◌, Option, Some, None, pos, neg_ℤ, option_map}
+use Rattle.star_query.specs.declared.token.Keyword.{Keyword}
 use Rattle.star_query.specs.declared.token.Keyword.TheVariants as k
 use Rattle.star_query.specs.declared.token.Sign.TheVariants as s
 use Rattle.star_query.specs.declared.token.Additive.{Additive}
@@ -7,7 +8,8 @@ use Rattle.star_query.specs.declared.token.Additive.TheVariants.{Plus, Minus}
 use Rattle.star_query.specs.declared.token.Fold.{Fold}
 use Rattle.star_query.specs.declared.token.Relation.{Relation}
 use Rattle.star_query.specs.declared.token.Relation.TheVariants as r
-use Rattle.star_schema.specs.declared.group.Shape.TheVariants.{Plain, Cube}
+use Rattle.star_schema.specs.declared.group.Shape.{Shape}
+use Rattle.star_schema.specs.declared.group.Shape.TheVariants.{Plain, Cube, Rollup}
 use Rattle.star_schema.specs.declared.group.Direction.TheVariants.{Ascending, Descending}
 use Rattle.star_query.specs.declared.counts.Part.{Part}
 use Rattle.star_query.specs.declared.counts.Part.TheVariants as part
@@ -72,10 +74,15 @@ pub data Item : Type 0 where
 pub data Key : Type 0 where
   unmarked ascending descending : Name → Key
 
--- [group by names | group by cube ( names )]
+-- cube | rollup
+pub data Hiding : Type 0 where
+  cube rollup : Hiding
+
+-- [group by names | group by cube ( names ) | group by rollup ( names )]
 pub data Groups : Type 0 where
   ungrouped : Groups
-  grouped cubed : Several Name → Groups
+  grouped : Several Name → Groups
+  hiding : Hiding → Several Name → Groups
 
 -- query = select item {, item} from name {, name} [where cond] [group by ..] [order by key {, key}] [;]
 pub record Query : Type 0 where
@@ -175,11 +182,15 @@ abbrev pub where_marks : Option Cond → List Mark → List Mark
 where_marks None rest = rest
 where_marks (Some c) rest = at 0 (keyword k.Where) ∷ cond_marks 0 c rest
 
+abbrev pub hiding_word : Hiding → Keyword
+hiding_word cube = k.Cube
+hiding_word rollup = k.Rollup
+
 abbrev pub groups_marks : Groups → List Mark → List Mark
 groups_marks ungrouped rest = rest
 groups_marks (grouped is) rest = at 0 (keyword k.Group) ∷ at 0 (keyword k.By) ∷ several_marks column_marks is rest
-groups_marks (cubed is) rest =
-    at 0 (keyword k.Group) ∷ at 0 (keyword k.By) ∷ at 0 (keyword k.Cube) ∷ at 0 (sign s.Open) ∷ several_marks column_marks is (at 0 (sign s.Close) ∷ rest)
+groups_marks (hiding h is) rest =
+    at 0 (keyword k.Group) ∷ at 0 (keyword k.By) ∷ at 0 (keyword (hiding_word h)) ∷ at 0 (sign s.Open) ∷ several_marks column_marks is (at 0 (sign s.Close) ∷ rest)
 
 abbrev pub keys_marks : Option (Several Key) → List Mark → List Mark
 keys_marks None rest = rest
@@ -254,10 +265,14 @@ listed f (more xs x) = listed f xs ++ f x ∷ []
 abbrev pub names : Several Name → List Name
 names is = listed (λ i. i) is
 
+abbrev pub shape_of : Hiding → Shape
+shape_of cube = Cube
+shape_of rollup = Rollup
+
 abbrev pub groups_tree : Groups → tree.Grouping
 groups_tree ungrouped = record { shape = Plain; columns = [] }
 groups_tree (grouped is) = record { shape = Plain; columns = names is }
-groups_tree (cubed is) = record { shape = Cube; columns = names is }
+groups_tree (hiding h is) = record { shape = shape_of h; columns = names is }
 
 abbrev pub keys_tree : Option (Several Key) → List tree.SortKey
 keys_tree None = []

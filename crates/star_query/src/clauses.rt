@@ -2,7 +2,7 @@
 
 ghost use Rattle.std.specs.Prelude.{◌≡◌, ◌≤◌, Some, length, IfSome, IfNone};
 ghost use Rattle.star_query.specs.Private.Reads.{spot_of, head_of};
-ghost use Rattle.star_query.specs.Private.Clauses.{function_symbol, NoFunction, ReadsFunction, ReadsFolded, ReadsCounted, ReadsMeasure, ReadsAlias, ReadsAggregate, ReadsItem, NoComma, ReadsFilter, ReadsGroups, ReadsGrouping, ReadsKey, ReadsKeys, ReadsEnd, ReadsQuery};
+ghost use Rattle.star_query.specs.Private.Clauses.{function_symbol, NoFunction, ReadsFunction, ReadsFolded, ReadsCounted, ReadsMeasure, ReadsAlias, ReadsAggregate, ReadsItem, NoComma, ReadsFilter, ReadsHidden, ReadsGroups, ReadsGrouping, ReadsKey, ReadsKeys, ReadsEnd, ReadsQuery};
 
 use crate::counts::Part;
 use crate::fault::{Fault, ParseError};
@@ -140,18 +140,25 @@ impl<'a> Parser<'a> {
         Ok(None)
     }
 
-    // names | cube ( names ), behind `group by`
+    // ( names ), behind the word of this shape
+    fn hidden(&mut self, shape: Shape) -> Result<Grouping, ParseError>
+        ensures { ReadsHidden shape (spot_of self.old) (spot_of self.new) result }
+    {
+        self.expect(Sign::Open)?;
+        let columns = self.several::<Columns>()?;
+        self.expect(Sign::Close)?;
+        Ok(Grouping { shape, columns })
+    }
+
+    // names | cube ( names ) | rollup ( names ), behind `group by`
     fn groups(&mut self) -> Result<Grouping, ParseError>
         ensures { ReadsGroups (spot_of self.old) (spot_of self.new) result }
     {
         if self.take(Keyword::Cube) {
-            self.expect(Sign::Open)?;
-            let columns = self.several::<Columns>()?;
-            self.expect(Sign::Close)?;
-            return Ok(Grouping {
-                shape: Shape::Cube,
-                columns,
-            });
+            return self.hidden(Shape::Cube);
+        }
+        if self.take(Keyword::Rollup) {
+            return self.hidden(Shape::Rollup);
         }
         let columns = self.several::<Columns>()?;
         Ok(Grouping {

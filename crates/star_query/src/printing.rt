@@ -59,11 +59,11 @@ pub fn write_grouping<T: fmt::Display, W: fmt::Write>(
     shape: Shape,
     columns: &[T],
 ) -> fmt::Result {
-    match shape {
-        Shape::Plain => write_list(f, " group by ", ", ", columns),
-        Shape::Cube => {
-            write_list(f, " group by cube(", ", ", columns)?;
-            f.write_char(')')
-        }
-    }
+    let (word, end) = match shape {
+        Shape::Plain => (" group by ", ""),
+        Shape::Cube => (" group by cube(", ")"),
+        Shape::Rollup => (" group by rollup(", ")"),
+    };
+    write_list(f, word, ", ", columns)?;
+    f.write_str(end)
 }

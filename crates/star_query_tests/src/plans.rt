@@ -58,6 +58,10 @@ const RESOLVED: &[(&str, &str)] = &[
         "select lo_tax, lo_tax, sum(lo_tax) as lo_discount from lineorder group by cube(lo_quantity, lo_tax) order by lo_quantity desc, lo_quantity",
         "select lo_tax, lo_tax, sum(lo_tax) as lo_discount from lineorder group by cube(lo_quantity, lo_tax) order by lo_quantity desc, lo_quantity asc",
     ),
+    (
+        "select count(*) from lineorder group by ROLLUP(lo_tax, LO_quantity)",
+        "select count(*) as count1 from lineorder group by rollup(lo_tax, lo_quantity)",
+    ),
 ];
 
 #[test]

@@ -15,10 +15,25 @@ fn program_of(alloc: Global, text: &str) -> Result<Vec<u8>, Fail> {
 }
 
 // Each query beside its program.
-const PROGRAMS: [(&str, &str); 2] = [
+const PROGRAMS: [(&str, &str); 3] = [
     (
         "select sum(lo_extendedprice*lo_discount) as revenue from lineorder, date where lo_orderdate = d_datekey and d_year = 1993 and lo_discount between 1 and 3 and lo_quantity < 25;",
         DISCOUNTED_REVENUE,
+    ),
+    (
+        "select count(*) from lineorder group by rollup(lo_tax, lo_quantity)",
+        concat!(
+            "star program 1\n",
+            "registers 3\n",
+            "group 0 rollup number number : count\n",
+            "scan lineorder r0\n",
+            "  r1 = load lo_tax r0\n",
+            "  r2 = load lo_quantity r0\n",
+            "  put 0 r1 r2 :\n",
+            "end\n",
+            "report 0\n",
+            "show count1 aggregate 0\n",
+        ),
     ),
     (
         "select count(*), max(lo_revenue - lo_supplycost) as most, c_nation from lineorder, customer, supplier where lo_custkey = c_custkey and lo_suppkey = s_suppkey and (c_region = 'ASIA' or s_region <> 'ASIA') and not c_city <= 'B' and lo_tax > 2 and s_city > 'C' and lo_quantity >= 5 and c_mktsegment between 'A' and 'B' group by cube(c_nation, lo_tax) order by most desc, c_nation;",

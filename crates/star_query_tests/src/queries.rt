@@ -102,11 +102,16 @@ fn operators_group_as_the_grammar_says(rt: HostRuntime) -> Result<(), Fail> {
 }
 
 // The same, of texts in other cases and with other white space.
-const SPACED: [(&str, &str, &[usize]); 3] = [
+const SPACED: [(&str, &str, &[usize]); 4] = [
     (
         "SELECT D_Year,\tsum( A )\r\nAs Rev FROM T , u group By CUBE( d_year, e ) Order by rev DESC, d_year asc, e ;",
         "select d_year, sum(a) as rev from t, u group by cube(d_year, e) order by rev desc, d_year asc, e asc",
         &[7, 15, 20, 28, 37, 41, 58, 66, 79, 89, 101],
+    ),
+    (
+        "select _a from t group by RollUp(_a ,b)",
+        "select _a from t group by rollup(_a, b)",
+        &[7, 15, 33, 37],
     ),
     (
         "select _a from t group by _a,b order by b",
@@ -203,7 +208,7 @@ fn a_token_that_no_query_goes_on_with_is_told_at_its_place(rt: HostRuntime) -> R
             54,
         ),
         ("select count(*) from lineorder group by cube lo_tax", 45),
-        ("select count(*) from lineorder group by rollup(lo_tax)", 40),
+        ("select count(*) from lineorder group by rollup lo_tax", 47),
         (
             "select count(*) from lineorder order by lo_tax asc desc",
             51,
@@ -237,11 +242,12 @@ fn faults_of_tokens_come_first_from_the_left(rt: HostRuntime) -> Result<(), Fail
 }
 
 // At this count of the middle the text is a query, and one more is too many.
-const LIMITS: [(&str, &str, u16, &str); 12] = [
+const LIMITS: [(&str, &str, u16, &str); 13] = [
     ("select a", ", a", 15, " from t"),
     ("select count(*)", ", count(*)", 7, " from t"),
     ("select count(*) from t group by a", ", b", 5, ""),
     ("select count(*) from t group by cube(a", ", b", 5, ")"),
+    ("select count(*) from t group by rollup(a", ", b", 5, ")"),
     ("select count(*) from t order by a", ", b desc", 15, ""),
     ("select count(*) from t where a = b", " and a = 1", 255, ""),
     (

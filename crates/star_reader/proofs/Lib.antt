@@ -9,9 +9,11 @@ pub mod ColumnLemmas
 pub mod PassedOn
 pub mod Law
 pub mod TableSteps
+pub mod PartSteps
 pub mod Fronts
 pub mod FrontNumbers
 pub mod FrontTexts
 pub mod LineSteps
-pub mod Parts
+pub mod ZeroPieces
 pub mod RowPlaces
+pub mod WorkedParts

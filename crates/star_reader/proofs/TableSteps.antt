@@ -5,7 +5,7 @@ use Rattle.std.specs.List.{starts_with}
 use Rattle.std.proofs.lemmas.Bool.{and_parts, cases_Bool, eqb-true, le-ltb, lt-ltb, true≢false}
 use Rattle.std.proofs.Math.ListN.{get_or-map}
 use Rattle.std.proofs.Math.Seq.{take-append_seam}
-use Rattle.std.proofs.lemmas.List.{append-nil, length-map}
+use Rattle.std.proofs.lemmas.List.{length-map}
 use Rattle.std.proofs.lemmas.List.Elements.{All-map}
 use Rattle.csv.specs.Reading.{is_bom, strip_bom}
 use Rattle.csv.specs.declared.reader.Reader.{Reader}
@@ -45,88 +45,98 @@ no_mark (a ∷ b ∷ c ∷ rest) h =
       | inr plain ↦ rw plain refl
     ]
 
-pub start : (table : TableId) (most : ℕ) (all : List (List ℕ)) (columns : List RawColumn)
-    (reader : Reader (Bor (List ℕ))) → AreColumnsOf table 0 columns → HasLeft reader all
-    → HasRead table most all 0 columns reader
-unfolding first_rows
-start table most all columns reader empty left =
-    record { lines = all; left = left; no_fault = refl; of_table = empty; so_far = refl }
+pub start : (table : TableId) (most from : ℕ) (all : List (List ℕ)) (columns : List RawColumn)
+    (reader : Reader (Bor (List ℕ))) → AreColumnsOf table from columns → HasLeft reader all
+    → HasRead table most from (first_rows from (map values columns)) all from columns reader
+start table most from all columns reader full left =
+    record {
+      lines = all;
+      left = left;
+      no_fault = refl;
+      rows = record { counted = refl; of_table = full; so_far = refl };
+    }
 
 -- the next record's fault is the first
-pub faulty : {table : TableId} {most : ℕ} {all : List (List ℕ)} {count : ℕ}
-    {columns : List RawColumn} {old new : Reader (Bor (List ℕ))} {parts : List (List ℕ)}
-    {f : ReadFault}
-    → (h : HasRead table most all count columns old) → (next : TakesFirst h.lines parts new)
-    → count < most
+pub faulty : {table : TableId} {most from : ℕ} {before : List (List Value)} {all : List (List ℕ)}
+    {count : ℕ} {columns : List RawColumn} {old new : Reader (Bor (List ℕ))}
+    {pieces : List (List ℕ)} {f : ReadFault}
+    → (h : HasRead table most from before all count columns old)
+    → (next : TakesFirst h.lines pieces new) → count < most
     → record_fault (map kind_of columns) (count + 1) (fields_of next.line) ≡ Some f
-    → records_fault table most 1 all ≡ Some f
+    → records_fault table most (from + 1) all ≡ Some f
 unfolding first_answer
-faulty {table} {most} {all} {count} {columns} {old} {new} {parts} {f} h next within e =
+faulty {table} {most} {from} {before} {all} {count} {columns} {old} {new} {pieces} {f} h next within e =
     let room = le-ltb most (count + 1) (omega arith) in
     let here : record_fault (kinds_of table) (count + 1) (fields_of next.line) ≡ Some f =
-    rw h.of_table.kinds at e in
+    rw h.rows.of_table.kinds at e in
     h.no_fault ∙ rw (next.was, room, here) refl
 
 -- the next record has no fault
-pub more : {table : TableId} {most : ℕ} {all : List (List ℕ)} {count : ℕ}
-    {columns later : List RawColumn} {old new : Reader (Bor (List ℕ))} {parts : List (List ℕ)}
-    → (h : HasRead table most all count columns old) → (next : TakesFirst h.lines parts new)
+pub more : {table : TableId} {most from : ℕ} {before : List (List Value)} {all : List (List ℕ)}
+    {count : ℕ} {columns later : List RawColumn} {old new : Reader (Bor (List ℕ))}
+    {pieces : List (List ℕ)}
+    → (h : HasRead table most from before all count columns old)
+    → (next : TakesFirst h.lines pieces new)
     → count < most → AddsRecord (count + 1) (fields_of next.line) columns later
-    → HasRead table most all (count + 1) later new
+    → HasRead table most from before all (count + 1) later new
 unfolding first_answer
-more {table} {most} {all} {count} {columns} {later} {old} {new} {parts} h next within adds =
+more {table} {most} {from} {before} {all} {count} {columns} {later} {old} {new} {pieces} h next within adds =
     let room = le-ltb most (count + 1) (omega arith) in
+    let was = h.rows in
     let here : record_fault (kinds_of table) (count + 1) (fields_of next.line) ≡ None =
-    rw h.of_table.kinds at adds.no_fault in
+    rw was.of_table.kinds at adds.no_fault in
     let row : values_of (map kind_of columns)
     (cells_of (length (map kind_of columns)) (fields_of next.line))
-    ≡ row_of table next.line = rw (h.of_table.kinds, width_kinds table) refl in
+    ≡ row_of table next.line = rw (was.of_table.kinds, width_kinds table) refl in
     let holds : map values later ≡ extended (map values columns) (row_of table next.line) =
     rw row at adds.columns in
     let width : length (row_of table next.line) ≡ length (map values columns) =
     rw row at adds.width ∙ sym (length-map columns values) in
     let full : All (λ (c : List Value). length c ≡ count) (map values columns) =
-    All-map (λ (c : List Value). length c ≡ count) values columns h.of_table.full in
+    All-map (λ (c : List Value). length c ≡ count) values columns was.of_table.full in
     let longer : All (λ (c : List Value). length c ≡ count + 1) (map values later) =
     rw holds (extended_full (map values columns) (row_of table next.line) count full width) in
+    let counted : count + length (next.line ∷ next.others) ≡ from + length all =
+    rw next.was at was.counted in
     record {
       lines = next.others;
       left = next.rest;
       no_fault = h.no_fault ∙ rw (next.was, room, here) refl;
-      of_table = record {
-        kinds = adds.kinds ∙ h.of_table.kinds;
-        full = λ k d within. let here : k < length (map values later) =
-            omega (arith, within, length-map later values) in
-            rw (← get_or-map values later k d) (longer k (values d) here);
+      rows = record {
+        counted = omega (arith, counted);
+        of_table = record {
+          kinds = adds.kinds ∙ was.of_table.kinds;
+          full = λ k d within. let here : k < length (map values later) =
+              omega (arith, within, length-map later values) in
+              rw (← get_or-map values later k d) (longer k (values d) here);
+        };
+        so_far = rw (
+          holds,
+          first_rows-extended (map values columns) (row_of table next.line) count full width,
+        )
+            (append_assoc (first_rows count (map values columns)) (row_of table next.line ∷ []) _
+            ∙ rw next.was at was.so_far);
       };
-      so_far = rw (
-        holds,
-        first_rows-extended (map values columns) (row_of table next.line) count full width,
-      )
-          (append_assoc (first_rows count (map values columns)) (row_of table next.line ∷ []) _
-          ∙ rw next.was at h.so_far);
     }
 
 -- there is no other record
-pub whole : {table : TableId} {most : ℕ} {all : List (List ℕ)} {count : ℕ}
-    {columns : List RawColumn} {reader : Reader (Bor (List ℕ))}
-    → (h : HasRead table most all count columns reader) → h.lines ≡ []
-    → HasRows table most all count columns
+pub whole : {table : TableId} {most from : ℕ} {before : List (List Value)} {all : List (List ℕ)}
+    {count : ℕ} {columns : List RawColumn} {reader : Reader (Bor (List ℕ))}
+    → (h : HasRead table most from before all count columns reader) → h.lines ≡ []
+    → (records_fault table most (from + 1) all ≡ None)
+    × HasRows table from before all [] count columns
 unfolding first_answer
-whole {table} {most} {all} {count} {columns} {reader} h none =
-    record {
-      no_fault = h.no_fault ∙ rw none refl;
-      of_table = h.of_table;
-      rows = sym (append-nil (first_rows count (map values columns))) ∙ rw none at h.so_far;
-    }
+whole {table} {most} {from} {before} {all} {count} {columns} {reader} h none =
+    (h.no_fault ∙ rw none refl, rw none at h.rows)
 
 -- one record is too many
-pub too_many : {table : TableId} {most : ℕ} {all : List (List ℕ)} {count : ℕ}
-    {columns : List RawColumn} {old new : Reader (Bor (List ℕ))} {parts : List (List ℕ)}
-    → (h : HasRead table most all count columns old) → TakesFirst h.lines parts new → most ≤ count
-    → records_fault table most 1 all ≡ Some fault.TooManyRows
+pub too_many : {table : TableId} {most from : ℕ} {before : List (List Value)}
+    {all : List (List ℕ)} {count : ℕ} {columns : List RawColumn}
+    {old new : Reader (Bor (List ℕ))} {pieces : List (List ℕ)}
+    → (h : HasRead table most from before all count columns old) → TakesFirst h.lines pieces new
+    → most ≤ count → records_fault table most (from + 1) all ≡ Some fault.TooManyRows
 unfolding first_answer
-too_many {table} {most} {all} {count} {columns} {old} {new} {parts} h next full =
+too_many {table} {most} {from} {before} {all} {count} {columns} {old} {new} {pieces} h next full =
     let over = lt-ltb most (count + 1) (omega arith) in
     h.no_fault ∙ rw (next.was, over) refl
 

@@ -1,6 +1,7 @@
 -- The first fault of a text that is no table.
-use Rattle.std.specs.Prelude.{◌∷◌, ◌==◌, if◌then◌else◌, not, ℕ, List, [], Option, Some, None, length, nat_eq, nat_lt}
+use Rattle.std.specs.Prelude.{◌∷◌, ◌+◌, ◌==◌, if◌then◌else◌, not, ℕ, List, [], Option, Some, None, length, nat_eq, nat_lt}
 use Rattle.std.specs.List.{enumerate_from, list_all, starts_with, zip}
+use Rattle.std.specs.Option.{option_or}
 use Rattle.star_schema.specs.declared.table.TableId.{TableId}
 use Rattle.star_schema.specs.declared.column.Kind.{Kind}
 use Rattle.star_common.specs.First.{first_answer}
@@ -44,9 +45,20 @@ records_fault table most from lines =
 abbrev pub byte_order_mark : List ℕ
 byte_order_mark = 0xEF ∷ 0xBB ∷ 0xBF ∷ []
 
--- the first fault of a text
-unfoldable pub text_fault : TableId → ℕ → List ℕ → Option ReadFault
-text_fault table most text =
-    if starts_with nat_eq text byte_order_mark
+-- the first fault of a part of a text, whose records count from a number
+unfoldable pub part_fault : TableId → ℕ → ℕ → List ℕ → Option ReadFault
+part_fault table most from part =
+    if starts_with nat_eq part byte_order_mark
     then Some fault.ByteOrderMark
-    else records_fault table most 1 (records_of text)
+    else records_fault table most from (records_of part)
+
+-- the first fault of some parts, one after another: the records of a later part count on
+unfoldable pub parts_fault : TableId → ℕ → ℕ → List (List ℕ) → Option ReadFault
+parts_fault table most from [] = None
+parts_fault table most from (part ∷ later) =
+    option_or (part_fault table most from part)
+    (parts_fault table most (from + length (records_of part)) later)
+
+-- the first fault of a text in parts, whose records count from 1
+abbrev pub text_fault : TableId → ℕ → List (List ℕ) → Option ReadFault
+text_fault table most parts = parts_fault table most 1 parts

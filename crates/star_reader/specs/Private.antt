@@ -1,5 +1,5 @@
 pub mod Fronts
-pub mod Parts
+pub mod Zeros
 pub mod Extended
 pub mod Lines
 pub mod Steps

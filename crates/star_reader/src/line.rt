@@ -7,7 +7,7 @@ ghost use Rattle.star_schema.specs.Records.{fields_of};
 ghost use Rattle.star_reader.specs.Columns.{kind_of};
 ghost use Rattle.star_reader.specs.Faults.{record_fault};
 ghost use Rattle.star_reader.specs.Private.Fronts.{behind_zeros};
-ghost use Rattle.star_reader.specs.Private.Parts.{parts_of};
+ghost use Rattle.star_reader.specs.Private.Zeros.{pieces_of};
 ghost use Rattle.star_reader.specs.Private.Steps.{AddsRecord};
 
 use crate::column::RawColumn;
@@ -105,17 +105,17 @@ fn add_line(
     }
 }
 
-// The parts of a line, each behind a zero.
+// The pieces of a line, each behind a zero.
 #[cold]
-fn joined(alloc: Global, parts: &ByteRecord) -> Result<Vec<u8>, AllocError>
-    ensures { IfOk result (λ line. line.items ≡ behind_zeros (fields_read parts.now)) }
+fn joined(alloc: Global, pieces: &ByteRecord) -> Result<Vec<u8>, AllocError>
+    ensures { IfOk result (λ line. line.items ≡ behind_zeros (fields_read pieces.now)) }
 {
     let mut line = Vec::new(alloc);
-    for place in 0..parts.len() {
-        match field_at(parts, place) {
-            Some(part) => {
+    for place in 0..pieces.len() {
+        match field_at(pieces, place) {
+            Some(piece) => {
                 line.push(0)?;
-                line.extend_from_slice(part)?;
+                line.extend_from_slice(piece)?;
             }
             None => unreachable!(),
         }
@@ -133,28 +133,28 @@ fn behind_first(bytes: &[u8]) -> &[u8]
     }
 }
 
-/// Adds the values of a record to the columns of its table. It comes as the parts of its line
-/// between zeros, which is one part wherever each cell is printable. After a fault the columns may
+/// Adds the values of a record to the columns of its table. It comes as the pieces of its line
+/// between zeros, which is one piece wherever each cell is printable. After a fault the columns may
 /// differ in length.
 pub(crate) fn add_record(
     alloc: Global,
     columns: &mut [RawColumn],
     at_row: u32,
-    parts: &ByteRecord,
+    pieces: &ByteRecord,
 ) -> Result<(), ReadFault>
     requires { length columns.old ≤ 17 }
-    ensures { (line : List ℕ) → fields_read parts.now ≡ parts_of line → MatchResult result
+    ensures { (line : List ℕ) → fields_read pieces.now ≡ pieces_of line → MatchResult result
         (λ _. AddsRecord at_row (fields_of line) columns.old columns.new)
         (λ fault. UnlessMemory ReadFault.OutOfMemory fault
         (record_fault (map kind_of columns.old) at_row (fields_of line) ≡ Some fault)) }
 {
-    if parts.len() == 1 {
-        match field_at(parts, 0) {
+    if pieces.len() == 1 {
+        match field_at(pieces, 0) {
             Some(line) => add_line(alloc, columns, at_row, line),
             None => unreachable!(),
         }
     } else {
-        let line = joined(alloc, parts)?;
+        let line = joined(alloc, pieces)?;
         add_line(alloc, columns, at_row, behind_first(line.as_slice()))
     }
 }

@@ -1,17 +1,16 @@
 // A table as it was read.
 
-ghost use Rattle.std.specs.Prelude.{◌≡◌, ◌<◌, ◌≤◌, ℕ, List, [], None, Some, IfOk, IfErr, MatchResult, length, map, slice_get};
+ghost use Rattle.std.specs.Prelude.{◌≡◌, ◌<◌, ◌≤◌, ◌+◌, ◌∷◌, ℕ, List, [], None, Some, IfOk, IfErr, MatchResult, length, map, slice_get};
 ghost use Rattle.std.specs.Option.{option_map};
 ghost use Rattle.star_common.specs.Memory.{UnlessMemory};
 ghost use Rattle.star_schema.specs.Bounds.{numbers_at};
-ghost use Rattle.csv.specs.Reading.{strip_bom};
-ghost use Rattle.star_schema.specs.Records.{records_of};
+ghost use Rattle.star_schema.specs.Records.{records_in, records_of};
 ghost use Rattle.star_schema.specs.Schema.{kinds_of};
 ghost use Rattle.star_schema.specs.declared.table.TableId.{TableId};
 ghost use Rattle.star_schema.specs.Tables.{IsTable, Number, Text, rows_of, value_at};
 ghost use Rattle.star_schema.specs.Texts.{texts_at};
 ghost use Rattle.star_reader.specs.Columns.{AreColumnsOf, first_rows, values};
-ghost use Rattle.star_reader.specs.Faults.{records_fault, text_fault};
+ghost use Rattle.star_reader.specs.Faults.{part_fault, records_fault, text_fault};
 ghost use Rattle.star_reader.specs.Private.Lines.{HasLeft};
 ghost use Rattle.star_reader.specs.Private.Steps.{HasRows};
 
@@ -129,23 +128,26 @@ fn empty_columns(alloc: Global, table: TableId) -> Result<Vec<RawColumn>, AllocE
     Ok(empty)
 }
 
-// Adds the values of all records that are left to the columns of a table without rows, and says how
-// many records there were. After a fault the columns may differ in length.
+// Adds the values of all records that are left to the columns of a table with so many rows, and says
+// how many rows there are then. After a fault the columns may differ in length.
 fn read_records(
     alloc: Global,
     reader: &mut Reader<&[u8]>,
     line: &mut ByteRecord,
     columns: &mut [RawColumn],
+    start: u32,
     most: u32,
 ) -> Result<u32, ReadFault>
-    requires { length columns.old ≤ 17 }
+    requires few { length columns.old ≤ 17 }
+    requires within { start ≤ most }
     ensures { (table : TableId) (lines : List (List ℕ)) → HasLeft reader.old lines
-        → AreColumnsOf table 0 columns.old → MatchResult result
-        (λ rows. HasRows table most lines rows columns.new)
+        → AreColumnsOf table start columns.old → MatchResult result
+        (λ rows. (records_fault table most (start + 1) lines ≡ None)
+        × HasRows table start (first_rows start (map values columns.old)) lines [] rows columns.new)
         (λ fault. UnlessMemory ReadFault.OutOfMemory fault
-        (records_fault table most 1 lines ≡ Some fault)) }
+        (records_fault table most (start + 1) lines ≡ Some fault)) }
 {
-    for rows in 0..most {
+    for rows in start..most {
         if !read_next(reader, line)? {
             return Ok(rows);
         }
@@ -157,29 +159,92 @@ fn read_records(
     Ok(most)
 }
 
-// Reads the records of a text without a byte order mark so. The reader is let go here, at one
-// place.
+// Adds the rows of a part to the columns of a table with so many rows, and says how many there are
+// then. The reader is let go here, at one place.
+fn read_part(
+    alloc: Global,
+    part: &[u8],
+    table: TableId,
+    columns: &mut [RawColumn],
+    start: u32,
+    most: u32,
+) -> Result<u32, ReadFault>
+    requires within { start ≤ most }
+    requires full { AreColumnsOf table start columns.old }
+    ensures { MatchResult result
+        (λ rows. (part_fault table most (start + 1) part.now ≡ None)
+        × HasRows table start (first_rows start (map values columns.old)) (records_of part.now) []
+        rows columns.new)
+        (λ fault. UnlessMemory ReadFault.OutOfMemory fault
+        (part_fault table most (start + 1) part.now ≡ Some fault)) }
+{
+    if part.starts_with(&BYTE_ORDER_MARK) {
+        return Err(ReadFault::ByteOrderMark);
+    }
+    let mut reader = records_reader(alloc, part);
+    let mut line = ByteRecord::new(alloc);
+    read_records(alloc, &mut reader, &mut line, columns, start, most)
+}
+
+// The part at a place.
+fn part_at<'a>(parts: &[&'a [u8]], place: usize) -> &'a [u8]
+    requires { place < length parts.now }
+    ensures { slice_get (map (λ part. part.now) parts.now) place ≡ Some result.now }
+{
+    parts[place]
+}
+
+// Adds the rows of some parts to the columns of a table without rows, and says how many there are.
 fn read_columns(
     alloc: Global,
-    text: &[u8],
+    parts: &[&[u8]],
     table: TableId,
     columns: &mut [RawColumn],
     most: u32,
 ) -> Result<u32, ReadFault>
-    requires plain { strip_bom text.now ≡ text.now }
     requires empty { AreColumnsOf table 0 columns.old }
     ensures { MatchResult result
-        (λ rows. HasRows table most (records_of text.now) rows columns.new)
+        (λ rows. (text_fault table most (map (λ part. part.now) parts.now) ≡ None)
+        × HasRows table 0 [] (records_in (map (λ part. part.now) parts.now)) [] rows columns.new)
         (λ fault. UnlessMemory ReadFault.OutOfMemory fault
-        (records_fault table most 1 (records_of text.now) ≡ Some fault)) }
+        (text_fault table most (map (λ part. part.now) parts.now) ≡ Some fault)) }
 {
-    let mut reader = records_reader(alloc, text);
-    let mut line = ByteRecord::new(alloc);
-    read_records(alloc, &mut reader, &mut line, columns, most)
+    let mut rows = 0;
+    for place in 0..parts.len() {
+        rows = read_part(alloc, part_at(parts, place), table, columns, rows, most)?;
+    }
+    Ok(rows)
 }
 
-/// The table that a text is, with a row for each record, or the first fault: 2 before all, then by
-/// record, and in a record 3, 4, and then cell by cell from the left 5, 6, 7.
+/// Reads the table that `parts` are, one after another, with a row for each record, at most
+/// `limits.rows`; else answers the first fault: part by part, in a part 2 before all, then by
+/// record, and in a record 3, 4, and then cell by cell from the left 5, 6, 7. A record ends with its
+/// part, and records count on through the parts. No parts are a table without rows.
+pub fn read_parts(
+    alloc: Global,
+    parts: &[&[u8]],
+    table: TableId,
+    limits: Limits,
+) -> Result<RawTable, ReadFault>
+    ensures read { IfOk result
+        (λ raw. IsTable table limits.rows (map (λ part. part.now) parts.now)
+        × (raw.table ≡ table) × (raw.rows ≡ rows_of table (map (λ part. part.now) parts.now))) }
+    ensures refused { IfErr result
+        (λ fault. UnlessMemory ReadFault.OutOfMemory fault
+        ((text_fault table limits.rows (map (λ part. part.now) parts.now) ≡ Some fault)
+        × ¬ IsTable table limits.rows (map (λ part. part.now) parts.now))) }
+{
+    let mut columns = empty_columns(alloc, table)?;
+    let rows = read_columns(alloc, parts, table, columns.as_mut_slice(), limits.rows)?;
+    Ok(RawTable {
+        table,
+        rows,
+        columns,
+    })
+}
+
+/// Reads the table that `text` is, at most `limits.rows` rows, or answers its first fault, as
+/// `read_parts` does of this one part.
 pub fn read_table(
     alloc: Global,
     text: &[u8],
@@ -187,21 +252,12 @@ pub fn read_table(
     limits: Limits,
 ) -> Result<RawTable, ReadFault>
     ensures read { IfOk result
-        (λ raw. IsTable table limits.rows text.now × (raw.table ≡ table)
-        × (raw.rows ≡ rows_of table text.now)) }
+        (λ raw. IsTable table limits.rows (text.now ∷ []) × (raw.table ≡ table)
+        × (raw.rows ≡ rows_of table (text.now ∷ []))) }
     ensures refused { IfErr result
         (λ fault. UnlessMemory ReadFault.OutOfMemory fault
-        ((text_fault table limits.rows text.now ≡ Some fault)
-        × ¬ IsTable table limits.rows text.now)) }
+        ((text_fault table limits.rows (text.now ∷ []) ≡ Some fault)
+        × ¬ IsTable table limits.rows (text.now ∷ []))) }
 {
-    if text.starts_with(&BYTE_ORDER_MARK) {
-        return Err(ReadFault::ByteOrderMark);
-    }
-    let mut columns = empty_columns(alloc, table)?;
-    let rows = read_columns(alloc, text, table, columns.as_mut_slice(), limits.rows)?;
-    Ok(RawTable {
-        table,
-        rows,
-        columns,
-    })
+    read_parts(alloc, &[text], table, limits)
 }

@@ -1,12 +1,12 @@
 -- The texts of a table stand in one field of a line.
-use Rattle.std.proofs.Common.{◌≡◌, ◌&&◌, ◌||◌, ℕ, zero, suc, All, Bool, true, false, IsTrue, List, [], ◌∷◌, filter, map, not, refl, take, if◌then◌else◌}
+use Rattle.std.proofs.Common.{◌≡◌, ◌++◌, ◌&&◌, ◌||◌, ℕ, zero, suc, All, Bool, true, false, IsTrue, List, [], ◌∷◌, filter, map, not, refl, take, if◌then◌else◌}
 use Rattle.std.specs.List.{AllByRecursion, list_all}
 use Rattle.std.proofs.lemmas.List.Elements.{All-from_recursion}
 use Rattle.std.proofs.lemmas.Bool.{and_from, not_from_false}
 use Rattle.star_schema.specs.declared.column.Kind.{Kind}
 use Rattle.star_schema.specs.declared.column.Kind.TheVariants as kind
 use Rattle.star_schema.specs.declared.table.TableId.{TableId}
-use Rattle.star_schema.specs.Records.{ends_line, fields_of, is_bar, is_filled, pieces, records_of, with_first}
+use Rattle.star_schema.specs.Records.{ends_line, fields_of, is_bar, is_filled, pieces, records_in, records_of, with_first}
 use Rattle.star_schema.specs.Schema.{kinds_of, width_of}
 use Rattle.star_schema.specs.Tables.{cells_of, ends_in_bar, row_of, rows_of, values_of}
 use Rattle.star_report.specs.Columns.{IsFieldValue, is_field}
@@ -113,12 +113,32 @@ row_is t line h =
     values_are (kinds_of t) (cells_of (width_of t) (fields_of line))
     (cells_are (width_of t) (fields_of line) (fields_are line h))
 
-pub table_texts_are_fields : (t : TableId) (text : List ℕ) → All (All IsFieldValue) (rows_of t text)
-table_texts_are_fields t text =
+-- ---- records
+
+append_each : {X : Type 0} (P : X → Type 0) (xs ys : List X) → AllByRecursion P xs
+    → AllByRecursion P ys → AllByRecursion P (xs ++ ys)
+append_each P [] ys h k = k
+append_each P (x ∷ xs) ys h k = (h.0, append_each P xs ys h.1 k)
+
+-- the records of a part
+records_are : (part : List ℕ) → AllByRecursion (Passes (λ b. not (ends_line b))) (records_of part)
+records_are part =
+    filter_each (Passes (λ b. not (ends_line b))) is_filled (pieces ends_line part)
+    (pieces_pass ends_line (λ b. not (ends_line b)) part (each_in_line part))
+
+-- the records of all parts
+records_in_are : (parts : List (List ℕ))
+    → AllByRecursion (Passes (λ b. not (ends_line b))) (records_in parts)
+records_in_are [] = tt
+records_in_are (part ∷ later) =
+    append_each (Passes (λ b. not (ends_line b))) (records_of part) (records_in later)
+    (records_are part) (records_in_are later)
+
+pub table_texts_are_fields : (t : TableId) (parts : List (List ℕ))
+    → All (All IsFieldValue) (rows_of t parts)
+table_texts_are_fields t parts =
     let P : List ℕ → Type 0 = Passes (λ b. not (ends_line b)) in
-    let lines = pieces_pass ends_line (λ b. not (ends_line b)) text (each_in_line text) in
-    let records = filter_each P is_filled (pieces ends_line text) lines in
-    let rows = map_each P (AllByRecursion IsFieldValue) (row_of t) (row_is t)
-    (records_of text) records in
-    All-from_recursion (All IsFieldValue) (rows_of t text)
-    (each_all IsFieldValue (rows_of t text) rows)
+    let rows = map_each P (AllByRecursion IsFieldValue) (row_of t) (row_is t) (records_in parts)
+    (records_in_are parts) in
+    All-from_recursion (All IsFieldValue) (rows_of t parts)
+    (each_all IsFieldValue (rows_of t parts) rows)

@@ -22,7 +22,7 @@ pub fn one_text_has_one_meaning()
 /// No text of a table has a bar or an end of a line: texts of tables are such as the law above asks
 /// for.
 pub fn texts_of_tables_are_fields()
-    ensures { (t : TableId) (text : List ℕ) → All (All IsFieldValue) (rows_of t text) }
+    ensures { (t : TableId) (parts : List (List ℕ)) → All (All IsFieldValue) (rows_of t parts) }
 {}
 
 /// What a program has done has one outcome, and so one printed text: no two of its rows have the

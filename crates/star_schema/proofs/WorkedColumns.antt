@@ -3,6 +3,7 @@ use Rattle.std.proofs.Common.{◌≡◌, ℕ, Bool, true, false, List, [], ◌�
 use Rattle.std.specs.Prelude.{codes, filter, map}
 use Rattle.star_schema.specs.declared.column.Kind.{Kind}
 use Rattle.star_schema.specs.declared.column.Kind.TheVariants as kind
+use Rattle.star_schema.specs.declared.column.TheConstants.{COLUMNS}
 use Rattle.star_schema.specs.declared.table.TableId.{TableId}
 use Rattle.star_schema.specs.declared.table.TableId.TheVariants.{Customer, Date, Lineorder, Part, Supplier}
 use Rattle.star_schema.specs.Records.{fields_of, pieces}
@@ -21,6 +22,11 @@ numbers t = map column_name (filter (λ c. holds_numbers (kind_of c)) (columns_o
 the_tables : map table_name (Date ∷ Customer ∷ Supplier ∷ Part ∷ Lineorder ∷ []) ≡ fields_of (codes "date|customer|supplier|part|lineorder")
 unfolding table_name pieces
 the_tables = refl
+
+-- the order of all columns, which a report of bounds and a refusal list them in
+all_columns : map column_name COLUMNS ≡ fields_of (codes "d_datekey|d_date|d_dayofweek|d_month|d_year|d_yearmonthnum|d_yearmonth|d_daynuminweek|d_daynuminmonth|d_daynuminyear|d_monthnuminyear|d_weeknuminyear|d_sellingseason|d_lastdayinweekfl|d_lastdayinmonthfl|d_holidayfl|d_weekdayfl|c_custkey|c_name|c_address|c_city|c_nation|c_region|c_phone|c_mktsegment|s_suppkey|s_name|s_address|s_city|s_nation|s_region|s_phone|p_partkey|p_name|p_mfgr|p_category|p_brand1|p_color|p_type|p_size|p_container|lo_orderkey|lo_linenumber|lo_custkey|lo_partkey|lo_suppkey|lo_orderdate|lo_orderpriority|lo_shippriority|lo_quantity|lo_extendedprice|lo_ordtotalprice|lo_discount|lo_revenue|lo_supplycost|lo_tax|lo_commitdate|lo_shipmode")
+unfolding pieces column_of
+all_columns = refl
 
 date_columns : (names Date ≡ fields_of (codes "d_datekey|d_date|d_dayofweek|d_month|d_year|d_yearmonthnum|d_yearmonth|d_daynuminweek|d_daynuminmonth|d_daynuminyear|d_monthnuminyear|d_weeknuminyear|d_sellingseason|d_lastdayinweekfl|d_lastdayinmonthfl|d_holidayfl|d_weekdayfl")) × (numbers Date ≡ fields_of (codes "d_datekey|d_year|d_yearmonthnum|d_daynuminweek|d_daynuminmonth|d_daynuminyear|d_monthnuminyear|d_weeknuminyear|d_lastdayinweekfl|d_lastdayinmonthfl|d_holidayfl|d_weekdayfl"))
 unfolding pieces columns_of column_of

@@ -6,11 +6,11 @@ use Rattle.std.specs.declared.cmp.Ordering.TheVariants.{Less, Equal, Greater}
 use Rattle.star_schema.specs.declared.column.ColumnId.TheVariants.{CCustkey, CName, DDatekey, LoCommitdate, LoCustkey, LoLinenumber, LoOrderdate, LoOrderkey, LoPartkey, LoSuppkey, LoTax, PPartkey, SSuppkey}
 use Rattle.star_schema.specs.declared.group.Aggregate.TheVariants.{Sum, Count, Min, Max}
 use Rattle.star_schema.specs.declared.group.GroupColumn.TheVariants.{Key}
-use Rattle.star_schema.specs.declared.group.Shape.TheVariants.{Plain, Cube}
+use Rattle.star_schema.specs.declared.group.Shape.TheVariants.{Plain, Cube, Rollup}
 use Rattle.star_schema.specs.declared.table.Key.TheVariants.{One, Two}
 use Rattle.star_schema.specs.declared.table.TableId.TheVariants.{Customer, Date, Lineorder, Part, Supplier}
 use Rattle.star_schema.specs.Database.{Database, rows_in}
-use Rattle.star_schema.specs.Groups.{AreGroups, Entry, GroupRow, HasEmptySubset, IsGroup, IsMasked, aggregate, belongs, totals_of}
+use Rattle.star_schema.specs.Groups.{AreGroups, Entry, GroupRow, IsGroup, IsMasked, aggregate, belongs, is_grouping, totals_of}
 use Rattle.star_schema.specs.Loadable.{foreign_keys, key_numbers}
 use Rattle.star_schema.specs.Order.{column_cmp, key_cmp, value_cmp}
 use Rattle.star_schema.specs.Schema.{columns_of, column_of, key_of, place_of, references, width_of}
@@ -20,38 +20,69 @@ use Rattle.star_schema.specs.Tables.{Number, Text, Value}
 
 -- ---- keys of groups
 
-all_shown : IsMasked Plain (Some (pos 1) ∷ Some (pos 2) ∷ []) (pos 1 ∷ pos 2 ∷ [])
+-- over two keys: none, the second, the first and both hidden
+abbrev none_hidden : List (Option ℤ)
+none_hidden = Some (pos 1) ∷ Some (pos 2) ∷ []
+
+abbrev second_hidden : List (Option ℤ)
+second_hidden = Some (pos 1) ∷ None ∷ []
+
+abbrev first_hidden : List (Option ℤ)
+first_hidden = None ∷ Some (pos 2) ∷ []
+
+abbrev both_hidden : List (Option ℤ)
+both_hidden = None ∷ None ∷ []
+
+all_keys_in_a_plain_group : (is_grouping Plain none_hidden ≡ true) × (is_grouping Plain second_hidden ≡ false) × (is_grouping Plain first_hidden ≡ false) × (is_grouping Plain both_hidden ≡ false)
+all_keys_in_a_plain_group = (refl, refl, refl, refl)
+
+any_keys_in_a_cube : (is_grouping Cube none_hidden ≡ true) × (is_grouping Cube second_hidden ≡ true) × (is_grouping Cube first_hidden ≡ true) × (is_grouping Cube both_hidden ≡ true)
+any_keys_in_a_cube = (refl, refl, refl, refl)
+
+prefixes_in_a_rollup : (is_grouping Rollup none_hidden ≡ true) × (is_grouping Rollup second_hidden ≡ true) × (is_grouping Rollup first_hidden ≡ false) × (is_grouping Rollup both_hidden ≡ true)
+prefixes_in_a_rollup = (refl, refl, refl, refl)
+
+no_gap_in_a_rollup : is_grouping Rollup (Some (pos 1) ∷ None ∷ None ∷ Some (pos 2) ∷ []) ≡ false
+no_gap_in_a_rollup = refl
+
+no_key_is_a_grouping : (is_grouping {K = ℤ} Plain [] ≡ true) × (is_grouping {K = ℤ} Cube [] ≡ true) × (is_grouping {K = ℤ} Rollup [] ≡ true)
+no_key_is_a_grouping = (refl, refl, refl)
+
+all_shown : IsMasked none_hidden (pos 1 ∷ pos 2 ∷ [])
 all_shown = (refl, (refl, tt))
 
-first_hidden : IsMasked Cube (None ∷ Some (pos 2) ∷ []) (pos 1 ∷ pos 2 ∷ [])
-first_hidden = (refl, tt)
+one_hidden : IsMasked first_hidden (pos 1 ∷ pos 2 ∷ [])
+one_hidden = (refl, tt)
 
-not_hidden_in_a_plain_group : IsMasked Plain (None ∷ []) (pos 1 ∷ []) → ⊥
-not_hidden_in_a_plain_group h = h
-
-not_another_key : IsMasked Cube (None ∷ Some (pos 1) ∷ []) (pos 1 ∷ pos 2 ∷ []) → ⊥
+not_another_key : IsMasked (None ∷ Some (pos 1) ∷ []) (pos 1 ∷ pos 2 ∷ []) → ⊥
 not_another_key h = let e : pos 1 ≡ pos 2 = h.0 in absurd (cc)
 
-not_a_key_less : IsMasked Cube [] (pos 1 ∷ []) → ⊥
+not_a_key_less : IsMasked [] (pos 1 ∷ []) → ⊥
 not_a_key_less h = h
-
-empty_in_a_cube : HasEmptySubset Cube 2
-empty_in_a_cube = tt
-
-empty_of_no_key : HasEmptySubset Plain 0
-empty_of_no_key = refl
-
-not_empty_of_a_key : HasEmptySubset Plain 1 → ⊥
-not_empty_of_a_key h = let e : 1 ≡ 0 = h in omega (arith, e)
 
 abbrev rows : List (Entry ℤ)
 rows = record { keys = pos 1 ∷ pos 2 ∷ []; values = pos 7 ∷ pos 1 ∷ [] } ∷ []
 
 of_its_row : IsGroup Cube 2 rows (Some (pos 1) ∷ None ∷ [])
-of_its_row = inl (record { keys = pos 1 ∷ pos 2 ∷ []; values = pos 7 ∷ pos 1 ∷ [] }, (0, omega arith, refl), (refl, tt))
+of_its_row = (refl, inl (record { keys = pos 1 ∷ pos 2 ∷ []; values = pos 7 ∷ pos 1 ∷ [] }, (0, omega arith, refl), (refl, tt)))
 
-of_no_row : IsGroup {K = ℤ} Cube 2 [] (None ∷ None ∷ [])
-of_no_row = inr (tt, refl)
+a_prefix_of_its_row : IsGroup Rollup 2 rows (Some (pos 1) ∷ None ∷ [])
+a_prefix_of_its_row = (refl, inl (record { keys = pos 1 ∷ pos 2 ∷ []; values = pos 7 ∷ pos 1 ∷ [] }, (0, omega arith, refl), (refl, tt)))
+
+not_a_suffix_of_its_row : IsGroup Rollup 2 rows (None ∷ Some (pos 2) ∷ []) → ⊥
+not_a_suffix_of_its_row h = let shown : false ≡ true = h.0 in cc shown
+
+of_no_row : IsGroup {K = ℤ} Cube 2 [] (None ∷ None ∷ []) × IsGroup {K = ℤ} Rollup 2 [] (None ∷ None ∷ [])
+of_no_row = ((refl, inr refl), (refl, inr refl))
+
+of_no_row_and_no_key : IsGroup {K = ℤ} Plain 0 [] []
+of_no_row_and_no_key = (refl, inr refl)
+
+not_of_no_row : IsGroup {K = ℤ} Plain 2 [] (None ∷ None ∷ []) → ⊥
+not_of_no_row h = let shown : false ≡ true = h.0 in cc shown
+
+not_hidden_in_a_plain_group : IsGroup Plain 2 rows (Some (pos 1) ∷ None ∷ []) → ⊥
+not_hidden_in_a_plain_group h = let shown : false ≡ true = h.0 in cc shown
 
 -- a group's totals are those of its rows, and each group of a cube is there
 abbrev seven : List (Entry ℤ)
@@ -61,7 +92,7 @@ its_totals : (totals : List (Option ℤ)) → AreGroups int_cmp Plain 1 (Sum ∷
 its_totals totals h = (h.each (record { keys = Some (pos 1) ∷ []; totals = totals }) (0, omega arith, refl)).1
 
 all_is_there : (groups : List (GroupRow ℤ)) → AreGroups int_cmp Cube 1 (Sum ∷ []) seven groups → (group : GroupRow ℤ) × Contains groups group × (group.keys ≡ None ∷ [])
-all_is_there groups h = h.all (None ∷ []) (inr (tt, refl))
+all_is_there groups h = h.all (None ∷ []) (refl, inr refl)
 
 not_another_group : (totals : List (Option ℤ)) → AreGroups int_cmp Plain 1 (Sum ∷ []) seven (record { keys = None ∷ []; totals = totals } ∷ []) → IsGroup Plain 1 seven (None ∷ [])
 not_another_group totals h = (h.each (record { keys = None ∷ []; totals = totals }) (0, omega arith, refl)).0

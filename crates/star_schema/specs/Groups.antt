@@ -1,10 +1,12 @@
 -- Groups of rows and their aggregates, over any kind of keys (Gray et al. 1997, sections 3 and 4).
-use Rattle.std.specs.Prelude.{◌≡◌, ◌⊎◌, ℕ, ◌+◌, ℤ, pos, ◌+ℤ◌, Bool, true, false, ◌&&◌, List, [], ◌∷◌, Contains, length, map, filter, replicate, slice_index_or, Option, Some, None}
+use Rattle.std.specs.Prelude.{◌≡◌, ◌⊎◌, ℕ, ◌+◌, ℤ, pos, ◌+ℤ◌, IsTrue, Bool, true, false, ◌&&◌, List, [], ◌∷◌, Contains, length, map, filter, replicate, slice_index_or, Option, Some, None}
 use Rattle.std.specs.Int.{int_min, int_max}
+use Rattle.std.specs.List.{list_all}
+use Rattle.std.specs.Option.{is_none, is_some}
 use Rattle.std.specs.Ordering.{is_eq}
 use Rattle.std.specs.declared.cmp.Ordering.{Ordering}
 use Rattle.star_schema.specs.declared.group.Shape.{Shape}
-use Rattle.star_schema.specs.declared.group.Shape.TheVariants.{Plain, Cube}
+use Rattle.star_schema.specs.declared.group.Shape.TheVariants.{Plain, Cube, Rollup}
 use Rattle.star_schema.specs.declared.group.Aggregate.{Aggregate}
 use Rattle.star_schema.specs.declared.group.Aggregate.TheVariants.{Sum, Count, Min, Max}
 
@@ -15,24 +17,28 @@ pub record Entry (K : Type 0) : Type 0 where
 
 -- ---- groups
 
--- the keys of a row as a group of its shows them: all of them, or in a cube some of them hidden by
--- ALL, which is None
-abbrev pub IsMasked : {K : Type 0} → Shape → List (Option K) → List K → Type 0
-IsMasked s [] [] = Unit {0}
-IsMasked s (Some m ∷ ms) (k ∷ ks) = (m ≡ k) × IsMasked s ms ks
-IsMasked Cube (None ∷ ms) (k ∷ ks) = IsMasked Cube ms ks
-IsMasked s ms ks = ⊥
+-- which keys a grouping of a shape shows, where the others are hidden by ALL, which is None: all of
+-- them; in a cube any; in a rollup those before the first that is hidden
+abbrev pub is_grouping : {K : Type 0} → Shape → List (Option K) → Bool
+is_grouping Plain ms = list_all is_some ms
+is_grouping Cube ms = true
+is_grouping Rollup [] = true
+is_grouping Rollup (Some m ∷ ms) = is_grouping Rollup ms
+is_grouping Rollup (None ∷ ms) = list_all is_none ms
 
--- the grouping by no key has its one group over no rows too
-abbrev pub HasEmptySubset : Shape → ℕ → Type 0
-HasEmptySubset Cube count = Unit {0}
-HasEmptySubset Plain count = count ≡ 0
+-- the keys of a row, some of them hidden
+abbrev pub IsMasked : {K : Type 0} → List (Option K) → List K → Type 0
+IsMasked [] [] = Unit {0}
+IsMasked (Some m ∷ ms) (k ∷ ks) = (m ≡ k) × IsMasked ms ks
+IsMasked (None ∷ ms) (k ∷ ks) = IsMasked ms ks
+IsMasked _ _ = ⊥
 
--- the keys of a group of some rows with so many keys: those of a row of it, or ALL in each place
+-- the keys of a group of some rows with so many keys: a grouping of those of a row; the grouping by
+-- no key has its one group over no rows too
 abbrev pub IsGroup : {K : Type 0} → Shape → ℕ → List (Entry K) → List (Option K) → Type 0
 IsGroup {K} s count rows keys =
-    ((row : Entry K) × Contains rows row × IsMasked s keys row.keys)
-    ⊎ (HasEmptySubset s count × (keys ≡ replicate count None))
+    IsTrue (is_grouping s keys)
+    × (((row : Entry K) × Contains rows row × IsMasked keys row.keys) ⊎ (keys ≡ replicate count None))
 
 -- a row belongs to a group: each key of the group is ALL or the row's own
 abbrev pub belongs : {K : Type 0} → (K → K → Ordering) → List (Option K) → List K → Bool

@@ -1,5 +1,6 @@
 pub mod Schema
 pub mod Sizes
+pub mod Most
 pub mod Records
 pub mod Tables
 pub mod Bounds

@@ -1,12 +1,13 @@
 // Groups of rows: how rows are grouped, which aggregates a group has, and by what its rows are
 // sorted.
 
-/// The groupings of some keys (Gray et al. 1997, sections 3 and 4): by all keys, or by every subset
-/// of them, in which a key outside the subset has the value ALL.
+/// The groupings of some keys (Gray et al. 1997, sections 3 and 4): by all keys, by every subset of
+/// them, or by every prefix of their list; a key outside has the value ALL.
 #[derive(Clone, Copy, PartialEq, Eq)]
 pub enum Shape {
     Plain,
     Cube,
+    Rollup,
 }
 
 /// What is computed over the rows of a group. `Count` counts them; the others are NULL where there

@@ -1,7 +1,7 @@
 // How much a load and a run may take.
 
 ghost use Rattle.std.specs.Prelude.{◌≡◌, ◌≤◌, ◌↔◌, IsSome, IfSome};
-ghost use Rattle.star_schema.specs.declared.limits.TheConstants.{MOST_ROWS, MOST_VISITS};
+ghost use Rattle.star_schema.specs.Most.{most_rows, most_visits};
 
 /// The most rows of a table that any load allows.
 pub const MOST_ROWS: u32 = 1_000_000_000;
@@ -14,14 +14,14 @@ pub const MOST_VISITS: u64 = 1_000_000_000_000_000;
 pub struct Limits {
     pub rows: u32,
     pub visits: u64,
-    ghost rows_in_range: { rows ≤ MOST_ROWS },
-    ghost visits_in_range: { visits ≤ MOST_VISITS },
+    ghost rows_in_range: { rows ≤ most_rows },
+    ghost visits_in_range: { visits ≤ most_visits },
 }
 
 impl Limits {
     /// These limits, if neither is over what any load or run allows.
     pub fn new(rows: u32, visits: u64) -> Option<Limits>
-        ensures allowed { IsSome result ↔ ((rows ≤ MOST_ROWS) × (visits ≤ MOST_VISITS)) }
+        ensures allowed { IsSome result ↔ ((rows ≤ most_rows) × (visits ≤ most_visits)) }
         ensures given { IfSome result (λ limits. (limits.rows ≡ rows) × (limits.visits ≡ visits)) }
     {
         if rows <= MOST_ROWS && visits <= MOST_VISITS {
@@ -33,8 +33,8 @@ impl Limits {
 
     /// The widest limits.
     pub fn widest() -> Limits
-        ensures rows { result.rows ≡ MOST_ROWS }
-        ensures visits { result.visits ≡ MOST_VISITS }
+        ensures rows { result.rows ≡ most_rows }
+        ensures visits { result.visits ≡ most_visits }
     {
         Limits {
             rows: MOST_ROWS,

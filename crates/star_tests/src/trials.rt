@@ -3,7 +3,7 @@
 use star_catalogue::{Catalogue, Texts, sample};
 use star_fixtures::programs::{
     ABOVE_AVERAGE, ABSENT_KEY, BELOW_NINE, DISCOUNTED_REVENUE, MISPLACED, NESTED, NO_TEXTS,
-    READ_INSIDE, REVENUES, UNSET, counting, read,
+    READ_INSIDE, REVENUES, SIX_NUMBERS, UNSET, counting, read,
 };
 use star_fixtures::samples::loaded;
 use star_machine::{Cell, Outcome, TrialFault, trial};
@@ -127,6 +127,16 @@ const WORKED: &[Case] = &[
         0,
         concat!(
             "a|b|s|n|\n1|2|7|1|\n1|ALL|7|1|\nALL|2|7|1|\nALL|ALL|7|1|\n",
+            "visits 0 lookups 0 updates 1",
+        ),
+    ),
+    (
+        SIX_NUMBERS,
+        0,
+        concat!(
+            "a|b|c|d|e|f|s|n|\n1|1|1|1|1|1|7|1|\n1|1|1|1|1|ALL|7|1|\n1|1|1|1|ALL|ALL|7|1|\n",
+            "1|1|1|ALL|ALL|ALL|7|1|\n1|1|ALL|ALL|ALL|ALL|7|1|\n1|ALL|ALL|ALL|ALL|ALL|7|1|\n",
+            "ALL|ALL|ALL|ALL|ALL|ALL|7|1|\n",
             "visits 0 lookups 0 updates 1",
         ),
     ),
@@ -302,8 +312,9 @@ fn dear_lines(alloc: Global) -> Result<String, Fail> {
 #[test]
 fn numbers_that_leave_64_bits_trap(rt: HostRuntime) -> Result<(), Fail> {
     let lines = dear_lines(rt.alloc())?;
+    let parts = [lines.as_bytes()];
     let dear = Texts {
-        lineorder: lines.as_bytes(),
+        lineorder: &parts,
         ..sample()
     };
     let catalogue = loaded(rt.alloc(), &dear)?;

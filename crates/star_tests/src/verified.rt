@@ -7,7 +7,7 @@ use star_fixtures::programs::{
 use star_fixtures::samples::loaded;
 use star_program::{Program, TextFault};
 use star_run::run;
-use star_schema::{Limits, MOST_ROWS};
+use star_schema::{Limits, MOST_ROWS, Sizes};
 use star_verify::{Refusal, Refused, Verified, quote, verify};
 use std::alloc::{AllocError, Global};
 use std::test::Fail;
@@ -96,5 +96,26 @@ fn runs_what_is_verified(rt: HostRuntime) -> Result<(), Fail> {
         assert_eq!(rt; quote(&program, &catalogue.sizes()), expected.0);
         assert!(rt; ran(rt.alloc(), &catalogue, text)? == expected, "{text}");
     }
+    Ok(())
+}
+
+// Scans of lineorder, each in the one before.
+const TRIPLES: &str =
+    "scan lineorder r0\nscan lineorder r1\nscan lineorder r2\nput 0 :\nend\nend\nend\n";
+
+#[test]
+fn quotes_the_largest_tables(rt: HostRuntime) -> Result<(), Fail> {
+    let program = parsed(rt.alloc(), counting(rt.alloc(), TRIPLES)?.as_str())?;
+    let largest = Sizes {
+        date: u32::MAX,
+        customer: u32::MAX,
+        supplier: u32::MAX,
+        part: u32::MAX,
+        lineorder: u32::MAX,
+    };
+    assert_eq!(rt;
+        quote(&program, &largest),
+        79_228_162_477_370_849_454_714_781_695
+    );
     Ok(())
 }

@@ -9,7 +9,7 @@ use Rattle.star_schema.specs.Tables.{Value}
 use Rattle.star_query.specs.declared.fault.QueryFault.{QueryFault}
 use Rattle.star_query.specs.declared.token.Fold.TheVariants.{Sum}
 use Rattle.star_query.specs.declared.token.Relation.TheVariants.{AtLeast, AtMost, Equal, Less}
-use Rattle.star_schema.specs.declared.group.Shape.TheVariants.{Plain, Cube}
+use Rattle.star_schema.specs.declared.group.Shape.TheVariants.{Plain, Cube, Rollup}
 use Rattle.star_schema.specs.declared.group.Direction.TheVariants.{Ascending, Descending}
 use Rattle.star_query.specs.Symbols.{Placed, spelling, reserved_words}
 use Rattle.star_query.specs.Cut.{cut_of, cut_from, reserved}
@@ -24,7 +24,7 @@ use Rattle.star_program.specs.declared.outcome.Cell.{Cell}
 use Rattle.star_program.specs.declared.outcome.Cell.TheVariants as cell
 use Rattle.star_report.specs.Report.{cell_text, line_text, report_text}
 use Rattle.star_answers.specs.Answers.{IsAnswer}
-use Rattle.star_worked.proofs.Checks.{are_groups, checked_groups, checked_order, each_mask, has_empty_subset, in_order, is_group, is_masked, is_right, is_there, same_each, same_value}
+use Rattle.star_worked.proofs.Checks.{are_groups, checked_groups, checked_order, each_mask, in_order, is_group, is_masked, is_right, is_there, is_there_where, same_each, same_value}
 use Rattle.star_worked.proofs.Sample.{number, text, sample}
 
 -- a name, and where it stands
@@ -75,7 +75,7 @@ unfolding cut_from reserved reserved_words spelling
 first_means = record { short = lit≤ tt; tokens = tokens_in (cut_of first_text); cut = refl; derives = derives _ _ refl }
 
 first_answer : IsAnswer sample first_query (codes "revenue" ∷ []) ((integer 2000 ∷ []) ∷ [])
-unfolding column_of columns_of place_of pieces table_name column_called table_called are_groups each_mask has_empty_subset in_order is_group is_masked is_right is_there same_each same_value
+unfolding column_of columns_of place_of pieces table_name column_called table_called are_groups each_mask in_order is_group is_masked is_right is_there is_there_where same_each same_value
 first_answer = record {
   headed = refl;
   groups = group [] (Some (pos 2000) ∷ []) ∷ [];
@@ -131,7 +131,7 @@ second_rows =
     ∷ (integer 495 ∷ integer 1994 ∷ cell.Text (codes "MFGR#121") ∷ []) ∷ []
 
 second_answer : IsAnswer sample second_query second_names second_rows
-unfolding column_of columns_of place_of pieces table_name column_called table_called are_groups each_mask has_empty_subset in_order is_group is_masked is_right is_there same_each same_value function_word digits
+unfolding column_of columns_of place_of pieces table_name column_called table_called are_groups each_mask in_order is_group is_masked is_right is_there is_there_where same_each same_value function_word digits
 second_answer = record {
   headed = refl;
   groups =
@@ -188,7 +188,7 @@ cube_rows =
 
 -- the rows of 495 stand by their keys, of which ALL is the last
 cube_answer : IsAnswer sample cube_query cube_names cube_rows
-unfolding column_of columns_of place_of pieces table_name column_called table_called are_groups each_mask has_empty_subset in_order is_group is_masked is_right is_there same_each same_value
+unfolding column_of columns_of place_of pieces table_name column_called table_called are_groups each_mask in_order is_group is_masked is_right is_there is_there_where same_each same_value
 cube_answer = record {
   headed = refl;
   groups =
@@ -213,6 +213,52 @@ cube_report : report_text cube_names cube_rows
 unfolding report_text line_text cell_text digits
 cube_report = refl
 
+-- ---- the same query of a rollup: no row of a region alone
+
+abbrev rollup_text : List ℕ
+rollup_text = codes "select d_year, s_region, sum(lo_revenue) as revenue, count(*) as n from lineorder, date, supplier where lo_orderdate = d_datekey and lo_suppkey = s_suppkey group by rollup(d_year, s_region) order by revenue desc"
+
+abbrev rollup_query : Tree
+rollup_query = record cube_query {
+  grouping = record { shape = Rollup; columns = called (codes "d_year") 172 ∷ called (codes "s_region") 180 ∷ [] };
+  keys = record { name = called (codes "revenue") 199; direction = Descending } ∷ [];
+}
+
+rollup_means : Means rollup_text rollup_query
+unfolding cut_from reserved reserved_words spelling
+rollup_means = record { short = lit≤ tt; tokens = tokens_in (cut_of rollup_text); cut = refl; derives = derives _ _ refl }
+
+abbrev rollup_rows : List (List Cell)
+rollup_rows =
+    (cell.All ∷ cell.All ∷ integer 7045 ∷ integer 5 ∷ [])
+    ∷ (integer 1997 ∷ cell.All ∷ integer 3630 ∷ integer 2 ∷ [])
+    ∷ (integer 1997 ∷ cell.Text (codes "AMERICA") ∷ integer 3000 ∷ integer 1 ∷ [])
+    ∷ (integer 1993 ∷ cell.All ∷ integer 2920 ∷ integer 2 ∷ [])
+    ∷ (integer 1993 ∷ cell.Text (codes "EUROPE") ∷ integer 1940 ∷ integer 1 ∷ [])
+    ∷ (integer 1993 ∷ cell.Text (codes "AMERICA") ∷ integer 980 ∷ integer 1 ∷ [])
+    ∷ (integer 1997 ∷ cell.Text (codes "EUROPE") ∷ integer 630 ∷ integer 1 ∷ [])
+    ∷ (integer 1994 ∷ cell.Text (codes "AMERICA") ∷ integer 495 ∷ integer 1 ∷ [])
+    ∷ (integer 1994 ∷ cell.All ∷ integer 495 ∷ integer 1 ∷ []) ∷ []
+
+rollup_answer : IsAnswer sample rollup_query cube_names rollup_rows
+unfolding column_of columns_of place_of pieces table_name column_called table_called are_groups each_mask in_order is_group is_masked is_right is_there is_there_where same_each same_value
+rollup_answer = record {
+  headed = refl;
+  groups =
+      group (None ∷ None ∷ []) (Some (pos 7045) ∷ Some (pos 5) ∷ [])
+      ∷ group (Some (number 1997) ∷ None ∷ []) (Some (pos 3630) ∷ Some (pos 2) ∷ [])
+      ∷ group (Some (number 1997) ∷ Some (text (codes "AMERICA")) ∷ []) (Some (pos 3000) ∷ Some (pos 1) ∷ [])
+      ∷ group (Some (number 1993) ∷ None ∷ []) (Some (pos 2920) ∷ Some (pos 2) ∷ [])
+      ∷ group (Some (number 1993) ∷ Some (text (codes "EUROPE")) ∷ []) (Some (pos 1940) ∷ Some (pos 1) ∷ [])
+      ∷ group (Some (number 1993) ∷ Some (text (codes "AMERICA")) ∷ []) (Some (pos 980) ∷ Some (pos 1) ∷ [])
+      ∷ group (Some (number 1997) ∷ Some (text (codes "EUROPE")) ∷ []) (Some (pos 630) ∷ Some (pos 1) ∷ [])
+      ∷ group (Some (number 1994) ∷ Some (text (codes "AMERICA")) ∷ []) (Some (pos 495) ∷ Some (pos 1) ∷ [])
+      ∷ group (Some (number 1994) ∷ None ∷ []) (Some (pos 495) ∷ Some (pos 1) ∷ []) ∷ [];
+  each_group = checked_groups _ _ _ _ _ refl;
+  in_order = checked_order _ _ refl;
+  cells = refl;
+}
+
 -- ---- over no rows
 
 abbrev no_tables : Tables
@@ -220,7 +266,7 @@ no_tables t = []
 
 -- the group of all rows is there, its sum is NULL and its count 0
 cube_of_nothing : IsAnswer no_tables cube_query cube_names ((cell.All ∷ cell.All ∷ cell.Null ∷ integer 0 ∷ []) ∷ [])
-unfolding column_of columns_of place_of pieces table_name column_called table_called are_groups each_mask has_empty_subset in_order is_group is_masked is_right is_there same_each same_value
+unfolding column_of columns_of place_of pieces table_name column_called table_called are_groups each_mask in_order is_group is_masked is_right is_there is_there_where same_each same_value
 cube_of_nothing = record {
   headed = refl;
   groups = group (None ∷ None ∷ []) (None ∷ Some (pos 0) ∷ []) ∷ [];
@@ -229,9 +275,19 @@ cube_of_nothing = record {
   cells = refl;
 }
 
--- and without a cube no group is
+rollup_of_nothing : IsAnswer no_tables rollup_query cube_names ((cell.All ∷ cell.All ∷ cell.Null ∷ integer 0 ∷ []) ∷ [])
+unfolding column_of columns_of place_of pieces table_name column_called table_called are_groups each_mask in_order is_group is_masked is_right is_there is_there_where same_each same_value
+rollup_of_nothing = record {
+  headed = refl;
+  groups = group (None ∷ None ∷ []) (None ∷ Some (pos 0) ∷ []) ∷ [];
+  each_group = checked_groups _ _ _ _ _ refl;
+  in_order = checked_order _ _ refl;
+  cells = refl;
+}
+
+-- and where no key is hidden no group is
 groups_of_nothing : IsAnswer no_tables second_query second_names []
-unfolding column_of columns_of place_of pieces table_name column_called table_called are_groups each_mask has_empty_subset in_order is_group is_masked is_right is_there same_each same_value function_word digits
+unfolding column_of columns_of place_of pieces table_name column_called table_called are_groups each_mask in_order is_group is_masked is_right is_there is_there_where same_each same_value function_word digits
 groups_of_nothing = record { headed = refl; groups = []; each_group = checked_groups _ _ _ _ _ refl; in_order = checked_order _ _ refl; cells = refl }
 
 -- ---- another query of the benchmark: a dimension stands first in FROM, and texts of no row are asked for
@@ -282,7 +338,7 @@ cities_rows =
     ∷ (cell.Text (codes "UNITED KI1") ∷ cell.Text (codes "UNITED KI5") ∷ integer 1997 ∷ integer 630 ∷ []) ∷ []
 
 cities_answer : IsAnswer sample cities_query cities_names cities_rows
-unfolding column_of columns_of place_of pieces table_name column_called table_called are_groups each_mask has_empty_subset in_order is_group is_masked is_right is_there same_each same_value
+unfolding column_of columns_of place_of pieces table_name column_called table_called are_groups each_mask in_order is_group is_masked is_right is_there is_there_where same_each same_value
 cities_answer = record {
   headed = refl;
   groups =

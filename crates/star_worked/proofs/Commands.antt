@@ -2,8 +2,8 @@
 use Rattle.std.proofs.Common.{◌≡◌, ℕ, Bool, true, false, List, [], ◌∷◌, Result, Ok, Err, ap, inl, inr, refl, true≢false}
 use Rattle.std.specs.Prelude.{is_ok, map}
 use Rattle.star_schema.specs.declared.limits.Limits.{Limits}
-use Rattle.star_schema.specs.declared.limits.TheConstants.{MOST_ROWS, MOST_VISITS}
-use Rattle.star_schema.specs.declared.table.TableId.{TableId}
+use Rattle.star_schema.specs.Most.{most_rows, most_visits}
+use Rattle.star_schema.specs.Database.{TableTexts}
 use Rattle.star_catalogue.specs.Load.{text_of}
 use Rattle.star_engine.specs.declared.fault.EngineFault.{EngineFault}
 use Rattle.star_engine.specs.declared.fault.EngineFault.TheVariants as engine
@@ -43,11 +43,11 @@ no_whole_answer_is_false IsAnswer (Err fault, is, same) = let first : true ≡ f
 
 -- ---- the benchmark's queries, alone and behind a listing
 
-module _ {S : Type 0} (out : Change S) (texts : TableId → List ℕ) where
-  each_query_fits : IsBenched out texts (Ok true) → AllFit MOST_VISITS texts
+module _ {S : Type 0} (out : Change S) (texts : TableTexts) where
+  each_query_fits : IsBenched out texts (Ok true) → AllFit most_visits texts
   each_query_fits benched = benched.all_fit refl
 
-  some_query_does_not : IsBenched out texts (Ok false) → SomeIsUnfit MOST_VISITS texts
+  some_query_does_not : IsBenched out texts (Ok false) → SomeIsUnfit most_visits texts
   some_query_does_not benched = benched.some_unfit refl
 
   a_listing_that_stops : (fault : EngineFault) → IsListed out texts (Err fault) → IsListedAndBenched out texts (Err fault)
@@ -63,13 +63,13 @@ module _ {S : Type 0} (out : Change S) (texts : TableId → List ℕ) where
 
 -- ---- the limits of the calls: rows and visits
 
-module _ {S N : Type 0} (out : Change S) (notes : Change N) (texts : TableId → List ℕ) (file : List ℕ) where
-  of_a_query : (answer : Answer) → IsNoted out notes (IsQueryQuote MOST_ROWS texts file) (IsQueryTold MOST_ROWS MOST_VISITS texts file)
-      (IsUnanswered MOST_ROWS MOST_VISITS texts file) answer → IsQueried out notes texts file answer
+module _ {S N : Type 0} (out : Change S) (notes : Change N) (texts : TableTexts) (file : List ℕ) where
+  of_a_query : (answer : Answer) → IsNoted out notes (IsQueryQuote most_rows texts file) (IsQueryTold most_rows most_visits texts file)
+      (IsUnanswered most_rows most_visits texts file) answer → IsQueried out notes texts file answer
   of_a_query answer noted = noted
 
-  of_a_program : (answer : Answer) → IsNoted out notes (IsQuoteOf MOST_ROWS texts file) (IsToldOf MOST_ROWS MOST_VISITS texts file)
-      (IsUntold MOST_ROWS MOST_VISITS texts file) answer → IsExecuted out notes texts file answer
+  of_a_program : (answer : Answer) → IsNoted out notes (IsQuoteOf most_rows texts file) (IsToldOf most_rows most_visits texts file)
+      (IsUntold most_rows most_visits texts file) answer → IsExecuted out notes texts file answer
   of_a_program answer noted = noted
 
   of_a_trial : (limits : Limits) (answer : Answer) → IsAnswered out (IsTrialReport limits.rows texts file limits.visits)

@@ -1,7 +1,7 @@
 -- What a call answers that writes a text, why it stops before any run, and what its reader begins with.
 use Rattle.std.proofs.Common.{◌≡◌, ◌<◌, ℕ, true, false, List, Some, Ok, Err, arith, length}
-use Rattle.star_schema.specs.declared.table.TableId.{TableId}
 use Rattle.star_schema.specs.Loadable.{IsLoadable}
+use Rattle.star_schema.specs.Database.{TableTexts}
 use Rattle.star_catalogue.specs.declared.fault.LoadFault.{LoadFault}
 use Rattle.star_program.specs.declared.spelling.fault.TextFault.{TextFault}
 use Rattle.star_program.specs.declared.program.Parts.{Parts}
@@ -63,7 +63,7 @@ module _ {S : Type 0} (A : Type 0) (sink : Change S) (IsText : List ℕ → Type
 
 -- ---- why it stops before any run
 
-module _ (most : ℕ) (texts : TableId → List ℕ) where
+module _ (most : ℕ) (texts : TableTexts) where
   tables_that_cannot_be_loaded : (fault : LoadFault) → IsLoadFault most texts fault → IsUnloaded most texts (Load fault)
   tables_that_cannot_be_loaded fault first = first
 

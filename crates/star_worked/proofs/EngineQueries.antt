@@ -2,8 +2,7 @@
 use Rattle.std.proofs.Common.{◌≡◌, ℕ, List, Some, arith, refl, ◌+◌}
 use Rattle.std.specs.Prelude.{codes}
 use Rattle.std.specs.Fmt.{digits}
-use Rattle.star_schema.specs.declared.table.TableId.{TableId}
-use Rattle.star_schema.specs.Database.{rows_in}
+use Rattle.star_schema.specs.Database.{TableTexts, rows_in}
 use Rattle.star_schema.specs.Loadable.{IsLoadable, database_of}
 use Rattle.star_query.specs.declared.fault.QueryFault.{QueryFault}
 use Rattle.star_plan.specs.declared.fault.PlanFault.{PlanFault}
@@ -46,7 +45,7 @@ a_fault_of_the_text query fault first = first
 no_fault_of_tables : (query : List ℕ) (fault : LoadFault) → IsNoQuery query (engine.Load fault) → ⊥
 no_fault_of_tables query fault none = none
 
-module _ (rows : ℕ) (texts : TableId → List ℕ) (query : List ℕ) where
+module _ (rows : ℕ) (texts : TableTexts) (query : List ℕ) where
   a_query_over_no_tables : (fault : LoadFault) → IsQuery query → IsLoadFault rows texts fault → IsUnasked rows texts query (engine.Load fault)
   a_query_over_no_tables fault is first = (is, first)
 
@@ -61,7 +60,7 @@ module _ (rows : ℕ) (texts : TableId → List ℕ) (query : List ℕ) where
 
 -- ---- why a query that doesn't fit is refused
 
-module _ (most : ℕ) (texts : TableId → List ℕ) (query : List ℕ) (refusal : Refusal) where
+module _ (most : ℕ) (texts : TableTexts) (query : List ℕ) (refusal : Refusal) where
   -- as many rows as may be visited are not too many
   as_many_rows_as_may_be : (p : Plan) → IsPlanOf query p → (FitsTables most (rows_in (database_of texts)) p → ⊥) → fact_rows texts ≡ most
       → IsOverflow (refusal_shown refusal) → refusal_shown refusal ≡ first_refusal (world_of (database_of texts)) most (compiled p)
@@ -81,7 +80,7 @@ module _ (most : ℕ) (texts : TableId → List ℕ) (query : List ℕ) (refusal
   one_row_more_is_too_many : fact_rows texts ≡ most + 1 → IsUnfit most texts query refusal → refusal_shown refusal ≡ Some (TooCostly (fact_rows texts))
   one_row_more_is_too_many many unfit = unfit.costly (omega arith)
 
-module _ (rows visits : ℕ) (texts : TableId → List ℕ) (query : List ℕ) where
+module _ (rows visits : ℕ) (texts : TableTexts) (query : List ℕ) where
   a_query_that_does_not_fit : (refusal : Refusal) → IsLoadable rows texts → IsUnfit visits texts query refusal → IsUnanswered rows visits texts query (engine.Refused refusal)
   a_query_that_does_not_fit refusal loadable unfit = (loadable, unfit)
 
@@ -106,6 +105,6 @@ module _ (rows visits : ℕ) (texts : TableId → List ℕ) (query : List ℕ) w
     done = refl;
   }
 
-every_row_visited_of_a_report : (texts : TableId → List ℕ) (query : List ℕ) (p : Plan) (s : Store) → s.visits ≡ fact_rows texts
+every_row_visited_of_a_report : (texts : TableTexts) (query : List ℕ) (p : Plan) (s : Store) → s.visits ≡ fact_rows texts
     → PrintsTheReport texts query p s → HasReported texts query p s
 every_row_visited_of_a_report texts query p s all printed = record { visits = omega arith; printed = printed }

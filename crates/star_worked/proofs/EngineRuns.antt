@@ -1,7 +1,6 @@
 -- What is told of a program over tables, at the limit on visits, and how a trial of it ends.
 use Rattle.std.proofs.Common.{◌≡◌, ◌≤◌, ℕ, List, Some, arith, refl, ◌+◌}
-use Rattle.star_schema.specs.declared.table.TableId.{TableId}
-use Rattle.star_schema.specs.Database.{Database}
+use Rattle.star_schema.specs.Database.{Database, TableTexts}
 use Rattle.star_schema.specs.Loadable.{IsLoadable, database_of}
 use Rattle.star_program.specs.declared.outcome.Outcome.{Outcome}
 use Rattle.star_program.specs.declared.program.Parts.{Parts}
@@ -50,7 +49,7 @@ module _ (database : Database) (program : Parts) where
     done = refl;
   }
 
-module _ (texts : TableId → List ℕ) (file : List ℕ) where
+module _ (texts : TableTexts) (file : List ℕ) where
   -- over so many rows, of which so many may be visited
   a_refused_program : (rows visits : ℕ) (refusal : Refusal) → IsRefusalOf rows visits texts file refusal → IsUntold rows visits texts file (Refused refusal)
   a_refused_program rows visits refusal refused = refused

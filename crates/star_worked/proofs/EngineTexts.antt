@@ -4,10 +4,10 @@ use Rattle.std.specs.Prelude.{codes, map, neg_ℤ, pos}
 use Rattle.std.specs.Fmt.{digits}
 use Rattle.star_schema.specs.declared.column.ColumnId.TheVariants.{DDate, DDatekey, DYear, LoTax}
 use Rattle.star_schema.specs.declared.column.Kind.TheVariants.{Number, Text}
-use Rattle.star_schema.specs.declared.table.TableId.{TableId}
 use Rattle.star_schema.specs.declared.table.TableId.TheVariants.{Date}
 use Rattle.star_schema.specs.Bounds.{greatest, least, numbers_at}
 use Rattle.star_schema.specs.Schema.{column_of, place_of, table_name}
+use Rattle.star_schema.specs.Database.{TableTexts}
 use Rattle.star_program.specs.declared.spelling.fault.TextFault.{TextFault}
 use Rattle.star_program.specs.Text.Places.{text_fault}
 use Rattle.star_query.specs.declared.fault.QueryFault.{QueryFault}
@@ -55,7 +55,7 @@ line_of_a_refusal : refusal_line (TooCostly 10) ≡ codes "refused 71 TooCostly 
 unfolding refusal_text digits
 line_of_a_refusal = refl
 
-module _ (most : ℕ) (texts : TableId → List ℕ) where
+module _ (most : ℕ) (texts : TableTexts) where
   the_report_of_a_query_that_fits : (query report : List ℕ) → FitsTexts most texts query → IsReport texts query report → IsFinding most texts query report
   the_report_of_a_query_that_fits query report fits is = inl (fits, is)
 
@@ -89,7 +89,7 @@ kinds_of_files : map is_program_file (a_program ∷ codes "star program " ∷ co
     ≡ true ∷ true ∷ false ∷ false ∷ false ∷ false ∷ false ∷ []
 kinds_of_files = refl
 
-module _ (rows : ℕ) (texts : TableId → List ℕ) where
+module _ (rows : ℕ) (texts : TableTexts) where
   the_quote_of_a_program : (text : List ℕ) → IsQuoteOf rows texts a_program text → IsQuoteText rows texts a_program text
   the_quote_of_a_program text quoted = quoted
 

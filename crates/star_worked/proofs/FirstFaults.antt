@@ -127,12 +127,19 @@ something_behind_the_end : IsFirstFault something_behind_the_end_text (Unexpecte
 unfolding cut_from reserved reserved_words spelling
 something_behind_the_end = (drop 8 (tokens_of something_behind_the_end_text), stops _ _ 8 (lit≤ tt) refl refl, refl)
 
-abbrev rollup_has_no_use_text : List ℕ
-rollup_has_no_use_text = codes "select count(*) from t group by rollup(a)"
+abbrev a_rollup_without_parentheses_text : List ℕ
+a_rollup_without_parentheses_text = codes "select count(*) from t group by rollup a"
 
-rollup_has_no_use : IsFirstFault rollup_has_no_use_text (Unexpected 32)
+a_rollup_without_parentheses : IsFirstFault a_rollup_without_parentheses_text (Unexpected 39)
 unfolding cut_from reserved reserved_words spelling
-rollup_has_no_use = (drop 9 (tokens_of rollup_has_no_use_text), stops _ _ 9 (lit≤ tt) refl refl, refl)
+a_rollup_without_parentheses = (drop 10 (tokens_of a_rollup_without_parentheses_text), stops _ _ 10 (lit≤ tt) refl refl, refl)
+
+abbrev an_open_rollup_text : List ℕ
+an_open_rollup_text = codes "select count(*) from t group by rollup(a, b order by a"
+
+an_open_rollup : IsFirstFault an_open_rollup_text (Unexpected 44)
+unfolding cut_from reserved reserved_words spelling
+an_open_rollup = (drop 14 (tokens_of an_open_rollup_text), stops _ _ 14 (lit≤ tt) refl refl, refl)
 
 abbrev an_open_cube_text : List ℕ
 an_open_cube_text = codes "select count(*) from t group by cube(a, b order by a"
@@ -273,6 +280,13 @@ a_column_of_a_cube_too_many_text = codes "select count(*) from t group by cube("
 a_column_of_a_cube_too_many : IsFirstFault a_column_of_a_cube_too_many_text TooMany
 unfolding cut_from reserved reserved_words spelling
 a_column_of_a_cube_too_many = (drop 23 (tokens_of a_column_of_a_cube_too_many_text), stops _ _ 23 (lit≤ tt) refl refl)
+
+abbrev a_column_of_a_rollup_too_many_text : List ℕ
+a_column_of_a_rollup_too_many_text = codes "select count(*) from t group by rollup(" ++ times 6 (codes "a, ") ++ codes "a"
+
+a_column_of_a_rollup_too_many : IsFirstFault a_column_of_a_rollup_too_many_text TooMany
+unfolding cut_from reserved reserved_words spelling
+a_column_of_a_rollup_too_many = (drop 23 (tokens_of a_column_of_a_rollup_too_many_text), stops _ _ 23 (lit≤ tt) refl refl)
 
 abbrev sixteen_keys_text : List ℕ
 sixteen_keys_text = codes "select count(*) from t order by " ++ times 15 (codes "a, ") ++ codes "a"

@@ -40,6 +40,7 @@ mod EngineQueries
 mod EngineRuns
 mod EngineTexts
 mod Benchmark
+mod PlansOfTexts
 mod Commands
 mod CommandFaults
 mod CommandFailures

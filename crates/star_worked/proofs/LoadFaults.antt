@@ -1,19 +1,19 @@
 -- What is wrong with the texts of tables: of a cell, a record, a text, keys and foreign keys, and
 -- which of it comes first.
 use Rattle.std.proofs.Common.{◌≡◌, ◌++◌, ℕ, zero, suc, List, [], ◌∷◌, Option, Some, None, refl}
-use Rattle.std.specs.Prelude.{codes, map, pos}
-use Rattle.star_schema.specs.declared.table.TableId.{TableId}
+use Rattle.std.specs.Prelude.{◌-◌, codes, length, map, pos, take}
 use Rattle.star_schema.specs.declared.table.TableId.TheVariants.{Date, Customer, Supplier, Part, Lineorder}
 use Rattle.star_schema.specs.declared.column.ColumnId.TheVariants.{LoCommitdate, LoCustkey, LoOrderdate, LoPartkey, LoSuppkey, LoTax}
 use Rattle.star_schema.specs.declared.column.Kind.{Kind}
 use Rattle.star_schema.specs.declared.column.Kind.TheVariants as kind
+use Rattle.star_schema.specs.Database.{TableTexts}
 use Rattle.star_schema.specs.Loadable.{database_of, foreign_keys, keys_of}
 use Rattle.star_schema.specs.Records.{pieces}
 use Rattle.star_schema.specs.Schema.{column_of, columns_of, place_of}
 use Rattle.star_reader.specs.declared.fault.ReadFault.{ReadFault}
 use Rattle.star_reader.specs.declared.fault.ReadFault.TheVariants as read
 use Rattle.star_reader.specs.Faults as reader
-use Rattle.star_reader.specs.Faults.{record_fault, records_fault, text_fault}
+use Rattle.star_reader.specs.Faults.{part_fault, parts_fault, record_fault, records_fault, text_fault}
 use Rattle.star_common.specs.First.{first_answer}
 use Rattle.star_catalogue.specs.declared.fault.LoadFault.TheVariants as load
 use Rattle.star_catalogue.specs.Load.{absent_fault, cell_fault, fault_of_read, first_repeat, load_fault, same_key, tables_fault}
@@ -79,9 +79,9 @@ last_of_two = refl
 abbrev marked : List ℕ → List ℕ
 marked text = 239 ∷ 187 ∷ 191 ∷ text
 
-texts : map (text_fault Supplier 1) ([] ∷ supplier ∷ marked supplier ∷ marked [] ∷ (239 ∷ 187 ∷ []) ∷ codes "x" ∷ (supplier ++ codes "\nx") ∷ [])
+texts : map (λ text. text_fault Supplier 1 (text ∷ [])) ([] ∷ supplier ∷ marked supplier ∷ marked [] ∷ (239 ∷ 187 ∷ []) ∷ codes "x" ∷ (supplier ++ codes "\nx") ∷ [])
     ≡ None ∷ None ∷ Some read.ByteOrderMark ∷ Some read.ByteOrderMark ∷ Some (read.FieldCount 1) ∷ Some (read.FieldCount 1) ∷ Some read.TooManyRows ∷ []
-unfolding text_fault record_fault first_answer column_of columns_of place_of pieces
+unfolding part_fault parts_fault record_fault first_answer column_of columns_of place_of pieces
 texts = refl
 
 -- ---- keys: the first record whose key an earlier one has
@@ -129,25 +129,31 @@ two = codes "2"
 abbrev good : List ℕ
 good = line one one one one one day day
 
-abbrev five : (date customer supplier part lineorder : List ℕ) → TableId → List ℕ
-five d c s p l Date = d
-five d c s p l Customer = c
-five d c s p l Supplier = s
-five d c s p l Part = p
-five d c s p l Lineorder = l
+abbrev in_parts : (date customer supplier part : List ℕ) (lineorder : List (List ℕ)) → TableTexts
+in_parts d c s p ls Date = d ∷ []
+in_parts d c s p ls Customer = c ∷ []
+in_parts d c s p ls Supplier = s ∷ []
+in_parts d c s p ls Part = p ∷ []
+in_parts d c s p ls Lineorder = ls
 
-abbrev with_lines : List ℕ → TableId → List ℕ
+abbrev five : (date customer supplier part lineorder : List ℕ) → TableTexts
+five d c s p l = in_parts d c s p (l ∷ [])
+
+abbrev with_lines : List ℕ → TableTexts
 with_lines = five date customer supplier part
+
+abbrev with_parts : List (List ℕ) → TableTexts
+with_parts = in_parts date customer supplier part
 
 good_texts : map (λ lines. load_fault 3 (with_lines lines)) ([] ∷ good ∷ (good ++ line one two one one one day day) ∷ [])
     ≡ None ∷ None ∷ None ∷ []
-unfolding tables_fault absent_fault keys_of foreign_keys first_repeat text_fault record_fault first_answer column_of columns_of place_of pieces
+unfolding tables_fault absent_fault keys_of foreign_keys first_repeat part_fault parts_fault record_fault first_answer column_of columns_of place_of pieces
 good_texts = refl
 
 -- two rows of a key, the second of them by its number
 keys_come_again : map (λ lines. load_fault 3 (with_lines lines)) ((good ++ good) ∷ (good ++ (line one two one one one day day ++ line one two two one one day day)) ∷ [])
     ≡ Some (load.DuplicateKey Lineorder 2) ∷ Some (load.DuplicateKey Lineorder 3) ∷ []
-unfolding tables_fault absent_fault keys_of foreign_keys first_repeat text_fault record_fault first_answer column_of columns_of place_of pieces
+unfolding tables_fault absent_fault keys_of foreign_keys first_repeat part_fault parts_fault record_fault first_answer column_of columns_of place_of pieces
 keys_come_again = refl
 
 -- a key that is absent, by record and then by column: lo_commitdate of the first before lo_custkey of the second
@@ -159,7 +165,7 @@ absent_keys : map (λ lines. load_fault 3 (with_lines lines))
     ∷ line one one one one two day day
     ∷ [])
     ≡ Some (load.AbsentKey 1 LoCustkey) ∷ Some (load.AbsentKey 1 LoCommitdate) ∷ Some (load.AbsentKey 2 LoCustkey) ∷ Some (load.AbsentKey 1 LoPartkey) ∷ Some (load.AbsentKey 1 LoSuppkey) ∷ []
-unfolding tables_fault absent_fault keys_of foreign_keys first_repeat text_fault record_fault first_answer column_of columns_of place_of pieces
+unfolding tables_fault absent_fault keys_of foreign_keys first_repeat part_fault parts_fault record_fault first_answer column_of columns_of place_of pieces
 absent_keys = refl
 
 -- the tables in their order, in each its records and then its keys, and after all five the foreign keys
@@ -172,13 +178,13 @@ orders : map (load_fault 3)
     ∷ five (codes "x") (codes "x") supplier part good
     ∷ [])
     ≡ Some (load.DuplicateKey Lineorder 2) ∷ Some (load.DuplicateKey Part 2) ∷ Some (load.FieldCount Supplier 1) ∷ Some (load.FieldCount Customer 1) ∷ Some (load.FieldCount Date 3) ∷ Some (load.FieldCount Date 1) ∷ []
-unfolding tables_fault absent_fault keys_of foreign_keys first_repeat text_fault record_fault first_answer column_of columns_of place_of pieces
+unfolding tables_fault absent_fault keys_of foreign_keys first_repeat part_fault parts_fault record_fault first_answer column_of columns_of place_of pieces
 orders = refl
 
 -- the limit is that of the rows of each table
 limits : map (λ most. load_fault most (with_lines good)) (1 ∷ 0 ∷ [])
     ≡ None ∷ Some (load.TooManyRows Date) ∷ []
-unfolding tables_fault absent_fault keys_of foreign_keys first_repeat text_fault record_fault first_answer column_of columns_of place_of pieces
+unfolding tables_fault absent_fault keys_of foreign_keys first_repeat part_fault parts_fault record_fault first_answer column_of columns_of place_of pieces
 limits = refl
 
 -- a column that refers to no table is never absent
@@ -186,3 +192,45 @@ foreign : map (λ c. cell_fault (database_of (with_lines good)) 4 [] c) (LoTax �
     ≡ None ∷ Some (load.AbsentKey 4 LoOrderdate) ∷ []
 unfolding keys_of column_of columns_of place_of pieces
 foreign = refl
+
+-- ---- lineorder in parts
+
+abbrev second : List ℕ
+second = line one two one one one day day
+
+-- no part, an empty one between two, a line end that the first doesn't have
+good_parts : map (λ parts. load_fault 2 (with_parts parts)) ([] ∷ ([] ∷ []) ∷ (take (length good - 1) good ∷ [] ∷ second ∷ []) ∷ [])
+    ≡ None ∷ None ∷ None ∷ []
+unfolding tables_fault absent_fault keys_of foreign_keys first_repeat part_fault parts_fault record_fault first_answer column_of columns_of place_of pieces
+good_parts = refl
+
+-- a record ends with its part; records count on; the limit is that of all parts
+records_of_parts : map (λ parts. load_fault 3 (with_parts parts))
+    ((good ∷ second ∷ codes "1|3" ∷ codes "|1|1\n" ∷ [])
+    ∷ (good ∷ second ∷ line (codes "x") one one one one day day ∷ [])
+    ∷ ((good ++ second) ∷ (codes "x" ++ (10 ∷ good)) ∷ [])
+    ∷ (good ∷ second ∷ line one (codes "3") one one one day day ∷ line one (codes "4") one one one day day ∷ [])
+    ∷ [])
+    ≡ Some (load.FieldCount Lineorder 3) ∷ Some (load.BadNumber Lineorder 3 1) ∷ Some (load.FieldCount Lineorder 3) ∷ Some (load.TooManyRows Lineorder) ∷ []
+unfolding tables_fault absent_fault keys_of foreign_keys first_repeat part_fault parts_fault record_fault first_answer column_of columns_of place_of pieces
+records_of_parts = refl
+
+-- the mark of a part comes behind the faults of the parts before, and before a record over the limit of its own
+marks_of_parts : map (λ parts. load_fault 2 (with_parts parts))
+    ((good ∷ line one (codes "x") one one one day day ∷ marked second ∷ [])
+    ∷ (good ∷ second ∷ marked second ∷ [])
+    ∷ (good ∷ second ∷ second ∷ marked second ∷ [])
+    ∷ (good ∷ (10 ∷ marked second) ∷ [])
+    ∷ [])
+    ≡ Some (load.BadNumber Lineorder 2 2) ∷ Some (load.ByteOrderMark Lineorder) ∷ Some (load.TooManyRows Lineorder) ∷ Some (load.BadByte Lineorder 2 1) ∷ []
+unfolding tables_fault absent_fault keys_of foreign_keys first_repeat part_fault parts_fault record_fault first_answer column_of columns_of place_of pieces
+marks_of_parts = refl
+
+-- a key comes again in another part, and a key is absent in one
+keys_of_parts : map (λ parts. load_fault 3 (with_parts parts))
+    ((good ∷ second ∷ good ∷ [])
+    ∷ (good ∷ [] ∷ line one two two one one day day ∷ [])
+    ∷ [])
+    ≡ Some (load.DuplicateKey Lineorder 3) ∷ Some (load.AbsentKey 2 LoCustkey) ∷ []
+unfolding tables_fault absent_fault keys_of foreign_keys first_repeat part_fault parts_fault record_fault first_answer column_of columns_of place_of pieces
+keys_of_parts = refl

@@ -2,13 +2,13 @@
 use Rattle.std.proofs.Common.{◌≡◌, ◌*◌, ◌<◌, ◌≤◌, ℕ, List, [], ◌∷◌, Ok, Err, arith, length, refl}
 use Rattle.std.specs.Prelude.{codes, map}
 use Rattle.star_schema.specs.declared.group.Direction.TheVariants.{Ascending, Descending}
-use Rattle.star_schema.specs.declared.group.Shape.TheVariants.{Cube, Plain}
+use Rattle.star_schema.specs.declared.group.Shape.TheVariants.{Cube, Plain, Rollup}
 use Rattle.star_query.specs.declared.fault.QueryFault.TheVariants as faults
 use Rattle.star_query.specs.declared.token.Relation.TheVariants.{AtLeast, Less}
 use Rattle.star_query.specs.Symbols.{Placed, Symbol, symbols, number, relation}
 use Rattle.star_query.specs.Cut.{cut_from, cut_of}
 use Rattle.star_query.specs.Derives.{Breaks, IsFirstFault, IsTooDeep, IsTooMany, place_of}
-use Rattle.star_query.specs.Grammar.{ascending, cubed, descending, grouped, groups_tree, key_tree, one, ungrouped, unmarked}
+use Rattle.star_query.specs.Grammar.{ascending, cube, descending, grouped, groups_tree, hiding, key_tree, one, rollup, ungrouped, unmarked}
 use Rattle.star_query.specs.Maxima.{most_bytes}
 use Rattle.star_query.specs.Tree as tree
 
@@ -27,7 +27,7 @@ signs = refl
 directions : (n : tree.Name) → map key_tree (unmarked n ∷ ascending n ∷ descending n ∷ []) ≡ record { name = n; direction = Ascending } ∷ record { name = n; direction = Ascending } ∷ record { name = n; direction = Descending } ∷ []
 directions n = refl
 
-groupings : (n : tree.Name) → map groups_tree (ungrouped ∷ grouped (one n) ∷ cubed (one n) ∷ []) ≡ record { shape = Plain; columns = [] } ∷ record { shape = Plain; columns = n ∷ [] } ∷ record { shape = Cube; columns = n ∷ [] } ∷ []
+groupings : (n : tree.Name) → map groups_tree (ungrouped ∷ grouped (one n) ∷ hiding cube (one n) ∷ hiding rollup (one n) ∷ []) ≡ record { shape = Plain; columns = [] } ∷ record { shape = Plain; columns = n ∷ [] } ∷ record { shape = Cube; columns = n ∷ [] } ∷ record { shape = Rollup; columns = n ∷ [] } ∷ []
 groupings n = refl
 
 -- ---- the first fault of a text

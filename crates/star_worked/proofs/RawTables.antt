@@ -34,5 +34,6 @@ past_the_end : row_at (map values two) 2 ≡ Number (pos 0) ∷ Number (pos 0) �
 past_the_end = refl
 
 texts_of_tables : (texts : five.Texts) → map (text_of texts) TABLES
-    ≡ texts.date.now ∷ texts.customer.now ∷ texts.supplier.now ∷ texts.part.now ∷ texts.lineorder.now ∷ []
+    ≡ (texts.date.now ∷ []) ∷ (texts.customer.now ∷ []) ∷ (texts.supplier.now ∷ []) ∷ (texts.part.now ∷ [])
+    ∷ map (λ part. part.now) texts.lineorder.now ∷ []
 texts_of_tables texts = refl

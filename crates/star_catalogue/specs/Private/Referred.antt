@@ -1,6 +1,5 @@
 -- What is kept of the rows that foreign keys refer to.
-use Rattle.std.specs.Prelude.{◌≡◌, ◌<◌, ◌^◌, ◌∷◌, [], ℕ, ℤ, List, All, Some, length, map, slice_get, slice_index_or}
-use Rattle.std.specs.Int.RustNames.{unsigned_abs}
+use Rattle.std.specs.Prelude.{◌≡◌, ◌∷◌, [], ℕ, ℤ, List, Some, length, map, slice_get, slice_index_or}
 use Rattle.star_schema.specs.declared.column.ColumnId.{ColumnId}
 use Rattle.star_schema.specs.declared.column.TheConstants.{COLUMNS}
 use Rattle.star_schema.specs.declared.table.TableId.{TableId}
@@ -10,25 +9,23 @@ use Rattle.star_schema.specs.Loadable.{keys_of}
 use Rattle.star_schema.specs.Schema.{index_of, references, table_of}
 use Rattle.star_catalogue.specs.declared.referred.Referred.{Referred}
 
-abbrev pub rows_kept : Referred → ColumnId → List ℤ
+abbrev pub rows_kept : Referred → ColumnId → List ℕ
 rows_kept kept c = slice_index_or kept.rows.items (index_of c) []
 
 -- these are the rows whose keys some numbers are
-pub record AreFound (keys : List (List ℤ)) (numbers rows : List ℤ) : Type 0 where
-  pub small : All (λ row. unsigned_abs row < 2 ^ 32) rows
-  pub found : map (λ row. slice_get keys (unsigned_abs row)) rows
-      ≡ map (λ number. Some (number ∷ [])) numbers
+pub record AreFound (keys : List (List ℤ)) (numbers : List ℤ) (rows : List ℕ) : Type 0 where
+  pub found : map (λ row. slice_get keys row) rows ≡ map (λ number. Some (number ∷ [])) numbers
 
 -- if a column refers to a table, these are the rows of it whose keys the column's numbers are
-abbrev pub AreRowsOf : Database → ColumnId → List ℤ → Type 0
+abbrev pub AreRowsOf : Database → ColumnId → List ℕ → Type 0
 AreRowsOf database c rows =
     (t : TableId) → references c ≡ Some t
     → AreFound (keys_of t (rows_in database t)) (numbers_of c (rows_in database (table_of c))) rows
 
 -- these are the rows of the first columns, in order
-pub record AreOfFirst (database : Database) (n : ℕ) (lists : List (List ℤ)) : Type 0 where
+pub record AreOfFirst (database : Database) (n : ℕ) (lists : List (List ℕ)) : Type 0 where
   pub all : length lists ≡ n
-  pub each : (i : ℕ) (c : ColumnId) (rows : List ℤ) → slice_get COLUMNS i ≡ Some c
+  pub each : (i : ℕ) (c : ColumnId) (rows : List ℕ) → slice_get COLUMNS i ≡ Some c
       → slice_get lists i ≡ Some rows → AreRowsOf database c rows
 
 -- for each column its rows

@@ -11,7 +11,7 @@ use Rattle.clap.specs.declared.builder.command.Command.{Command}
 use Rattle.clap.specs.declared.builder.command.Command.TheViews.{out-Command as fields_of}
 use Rattle.clap.specs.declared.builder.value_parser.ValueParser.TheVariants.{Signed}
 use Rattle.clap.specs.declared.parser.matches.ArgMatches.{ArgMatches}
-use Rattle.star_schema.specs.declared.limits.TheConstants.{MOST_VISITS}
+use Rattle.star_schema.specs.Most.{most_visits}
 
 -- a word of this name has to be there, and excludes no other
 pub record IsWord (name : List ℕ) (word : Arg) : Type 0 where
@@ -22,7 +22,7 @@ pub record IsWord (name : List ℕ) (word : Arg) : Type 0 where
 
 -- and it is a number of visits that may be allowed
 abbrev pub IsLimit : List ℕ → Arg → Type 0
-IsLimit name word = IsWord name word × (word.value_parser ≡ Some (Signed (pos 0) (pos MOST_VISITS)))
+IsLimit name word = IsWord name word × (word.value_parser ≡ Some (Signed (pos 0) (pos most_visits)))
 
 -- nothing is asked for yet
 pub record IsWordless (command : Command) : Type 0 where
@@ -49,7 +49,7 @@ pub record Asks (names : List (List ℕ)) (command : Command) : Type 0 where
 pub record AsksForLimit (command : Command) : Type 0 where
   pub asks : Asks (codes "FOLDER" ∷ codes "FILE" ∷ codes "LIMIT" ∷ []) command
   pub number : (word : Arg) → (slice_index_or asks.words 2 word).value_parser
-      ≡ Some (Signed (pos 0) (pos MOST_VISITS))
+      ≡ Some (Signed (pos 0) (pos most_visits))
 
 -- the words that were parsed have one of this name
 abbrev pub HasWord : ArgMatches → List ℕ → Type 0
@@ -59,4 +59,4 @@ HasWord matches name = is_some (first_value (found_of matches) name) ≡ true
 abbrev pub HasLimit : ArgMatches → List ℕ → Type 0
 HasLimit matches name = (text : List ℕ)
     × (one_text (found_of matches) name ≡ Some (without_minus text))
-    × IsSignedIn (pos 0) (pos MOST_VISITS) text
+    × IsSignedIn (pos 0) (pos most_visits) text

@@ -1,7 +1,6 @@
 -- What the steps of `bench` make.
 use Rattle.std.specs.Prelude.{◌≡◌, ◌++◌, ◌&&◌, ℕ, Bool, true, false, List, [], ◌∷◌}
-use Rattle.star_schema.specs.declared.table.TableId.{TableId}
-use Rattle.star_schema.specs.Database.{Database}
+use Rattle.star_schema.specs.Database.{Database, TableTexts}
 use Rattle.star_program.specs.declared.outcome.Outcome.{Outcome}
 use Rattle.star_program.specs.declared.program.Parts.{Parts}
 use Rattle.star_report.specs.Report.{report_text}
@@ -45,6 +44,6 @@ ArePartsOver database most (x ∷ xs) fit text =
     × (fit ≡ one && others) × (text ≡ part ++ rest)
 
 -- what it means that all queries of the benchmark fit, or not
-abbrev pub IsVerdict : ℕ → (TableId → List ℕ) → (fit : Bool) → Type 0
+abbrev pub IsVerdict : ℕ → TableTexts → (fit : Bool) → Type 0
 IsVerdict most texts true = AllFit most texts
 IsVerdict most texts false = SomeIsUnfit most texts

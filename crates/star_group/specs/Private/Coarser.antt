@@ -1,30 +1,34 @@
--- The rows of a cube in which keys are ALL, made from those in which fewer are.
-use Rattle.std.specs.Prelude.{◌≡◌, ℕ, ◌-◌, ◌≤◌, ℤ, List, Option, ◌++◌, drop, filter, length, map, take}
+-- The rows in which keys are ALL, made from those in which fewer are.
+use Rattle.std.specs.Prelude.{◌≡◌, ℕ, ◌-◌, ◌<◌, ◌≤◌, Bool, false, ◌&&◌, MatchBool, ℤ, List, [], Option, None, ◌++◌, drop, filter, length, map, slice_index_or, slice_set, take}
 use Rattle.std.specs.List.{list_any, AllByRecursion, IsDistinct}
 use Rattle.std.specs.Map.{keys_of}
 use Rattle.star_schema.specs.declared.group.Aggregate.{Aggregate}
 use Rattle.star_schema.specs.declared.group.Shape.{Shape}
-use Rattle.star_schema.specs.declared.group.Shape.TheVariants.{Plain, Cube}
+use Rattle.star_schema.specs.declared.group.Shape.TheVariants.{Plain, Rollup}
+use Rattle.star_schema.specs.Groups.{is_grouping}
 use Rattle.star_program.specs.declared.key.KeyValue.{KeyValue}
 use Rattle.star_group.specs.declared.keyed.key.KeyPart.{KeyPart}
 use Rattle.star_group.specs.Base.{IsRowOver, key_of, row_at}
 use Rattle.star_group.specs.OwnKeys.{key_eq, padded, vary}
 use Rattle.star_group.specs.Stores.{Group, HasRoom, Put}
 use Rattle.star_group.specs.Private.BasePut.{group_with}
+use Rattle.star_group.specs.Private.Merged.{IsMergedAt}
 
 -- the keys of a put's rows, with each of its keys from this place on as it is or ALL
 abbrev pub keys_from : ℕ → ℕ → List KeyValue → List (List (Option KeyValue))
 keys_from place count ks = map (λ rest. take place (padded 6 ks) ++ rest) (vary (count - place) (drop place (padded 6 ks)))
 
+-- the key is that of one of the put's rows, in which no key before this place is ALL: a grouping of its keys
+abbrev pub is_among : Shape → ℕ → ℕ → List (Option KeyValue) → List KeyValue → Bool
+is_among s place count q ks = is_grouping s (take count q) && list_any (key_eq q) (keys_from place count ks)
+
 -- the rows are those of these puts in which no key before this place is ALL
 pub record IsRolledUp (d : Group) (place : ℕ) (entries : List (List KeyPart × List (Option ℤ))) (puts : List Put) : Type 0 where
   pub fit : AllByRecursion (λ put. length put.keys ≡ d.count) puts
-  pub rows : (q : List (Option KeyValue)) → IsRowOver d (filter (λ put. list_any (key_eq q) (keys_from place d.count put.keys)) puts) (row_at entries q)
+  pub rows : (q : List (Option KeyValue)) → IsRowOver d (filter (λ put. is_among d.shape place d.count q put.keys) puts) (row_at entries q)
 
 -- they are those of some puts that have room
-pub record IsRolledUpWithRoom (gs : List Aggregate) (place : ℕ) (entries : List (List KeyPart × List (Option ℤ))) : Type 0 where
-  pub shape : Shape
-  pub count : ℕ
+pub record IsRolledUpWithRoom (shape : Shape) (count : ℕ) (gs : List Aggregate) (place : ℕ) (entries : List (List KeyPart × List (Option ℤ))) : Type 0 where
   pub puts : List Put
   pub below : place ≤ count
   pub few : count ≤ 6
@@ -32,16 +36,32 @@ pub record IsRolledUpWithRoom (gs : List Aggregate) (place : ℕ) (entries : Lis
   pub room : HasRoom (group_with shape count gs) puts
 
 -- whichever puts the rows were those of, they now have those in which keys from the later place on are ALL too
-abbrev pub RollsUp : List Aggregate → ℕ → List (List KeyPart × List (Option ℤ)) → ℕ → List (List KeyPart × List (Option ℤ)) → Type 0
-RollsUp gs place entries place' entries' = (shape : Shape) (count : ℕ) (puts : List Put)
+abbrev pub RollsUp : Shape → ℕ → List Aggregate → ℕ → List (List KeyPart × List (Option ℤ)) → ℕ → List (List KeyPart × List (Option ℤ)) → Type 0
+RollsUp shape count gs place entries place' entries' = (puts : List Put)
     → place ≤ count → count ≤ 6
     → IsRolledUp (group_with shape count gs) place entries puts
     → IsRolledUp (group_with shape count gs) place' entries' puts
 
+-- a row is merged into that of its coarser key, where that is a grouping; else nothing changes
+abbrev pub IsMergedWhere : Shape → ℕ → List Aggregate → List (Option KeyValue) → List (Option ℤ) → List (List KeyPart × List (Option ℤ)) → List (List KeyPart × List (Option ℤ)) → Type 0
+IsMergedWhere shape count gs key more entries entries' =
+    MatchBool (is_grouping shape (take count key)) (IsMergedAt gs key more entries entries') (entries' ≡ entries)
+
+-- of the rows before this one none has a coarser key, with ALL at this place, that is a grouping
+abbrev pub NoneCoarser : Shape → ℕ → ℕ → ℕ → List (List KeyPart × List (Option ℤ)) → Type 0
+NoneCoarser shape count place from entries = (number : ℕ) → number < from
+    → is_grouping shape (take count (slice_set (key_of (slice_index_or entries number ([], [])).0) place None)) ≡ false
+
 -- the first place that may be ALL in a row of these groups
 abbrev pub first_hidden : Shape → ℕ → ℕ
-first_hidden Cube count = 0
 first_hidden Plain count = count
+first_hidden _ count = 0
+
+-- the first row of which a pass makes a coarser one, where there were so many before the pass before it:
+-- the rows of a rollup are made each of those that were made last
+abbrev pub first_finer : Shape → ℕ → ℕ
+first_finer Rollup many = many
+first_finer _ many = 0
 
 -- the rows with their keys as they are shown
 abbrev pub shown_entries : List (List KeyPart × List (Option ℤ)) → List (List (Option KeyValue) × List (Option ℤ))

@@ -1,10 +1,10 @@
 -- Rows by their keys, and one more row merged into some of them.
-use Rattle.std.specs.Prelude.{◌≡◌, ℕ, true, false, ℤ, List, [], Option, None, slice_index_or}
+use Rattle.std.specs.Prelude.{◌≡◌, ℕ, true, false, ℤ, List, [], Option, None, replicate, slice_index_or}
 use Rattle.std.specs.List.{list_any}
 use Rattle.std.specs.Option.{unwrap_or}
 use Rattle.star_schema.specs.declared.group.Aggregate.{Aggregate}
 use Rattle.star_schema.specs.declared.group.Shape.{Shape}
-use Rattle.star_schema.specs.declared.group.Shape.TheVariants.{Plain, Cube}
+use Rattle.star_schema.specs.declared.group.Shape.TheVariants.{Plain}
 use Rattle.star_program.specs.declared.key.KeyValue.{KeyValue}
 use Rattle.star_group.specs.declared.keyed.key.KeyPart.{KeyPart}
 use Rattle.star_group.specs.Base.{key_of}
@@ -12,14 +12,18 @@ use Rattle.star_group.specs.Keyed.{all_hidden}
 use Rattle.star_group.specs.OwnKeys.{key_eq}
 use Rattle.star_group.specs.Private.Merged.{IsMergedInto, IsWithRow, MergeLeaves, MergeStays}
 
+-- so many keys, all of them hidden
+abbrev pub hides : ℕ → List (Option KeyValue)
+hides count = replicate count None
+
 -- a row over no puts
 abbrev pub IsBlank : List (Option ℤ) → Type 0
 IsBlank row = (place : ℕ) → slice_index_or row place None ≡ None
 
--- the rows over no puts: of a cube there is that of all puts
+-- the rows over no puts: where rows hide keys there is that of all puts
 abbrev pub AreFirst : Shape → List (List KeyPart × List (Option ℤ)) → Type 0
 AreFirst Plain entries = entries ≡ []
-AreFirst Cube entries = (row : List (Option ℤ)) × IsBlank row × IsWithRow (key_of all_hidden) row [] entries
+AreFirst _ entries = (row : List (Option ℤ)) × IsBlank row × IsWithRow (key_of all_hidden) row [] entries
 
 -- with one more row merged in no row of these keys leaves 64 bits
 pub record AllStay (look : List (Option KeyValue) → Option (List (Option ℤ))) (own : List (List (Option KeyValue))) (gs : List Aggregate) (more : List (Option ℤ)) : Type 0 where

@@ -1,40 +1,74 @@
-// The rows of a cube in which keys are ALL, made from those in which fewer are.
+// The rows in which keys are ALL, made from those in which fewer are.
 
-ghost use Rattle.std.specs.Prelude.{◌≡◌, ◌≤◌, ◌<◌, ◌+◌, List, length, IfOk, OnOk};
-ghost use Rattle.star_group.specs.Base.{HasBaseWithRoom, IsBase, row_at};
+ghost use Rattle.std.specs.Prelude.{◌≡◌, ◌≤◌, ◌<◌, ◌+◌, true, List, length, take, IfOk, OnOk};
+ghost use Rattle.star_schema.specs.Groups as groups;
+ghost use Rattle.star_group.specs.Base.{HasBaseWithRoom, IsBase, key_of, row_at};
 ghost use Rattle.star_group.specs.Entries.{entries_of};
 ghost use Rattle.star_group.specs.Held.{Holds};
 ghost use Rattle.star_group.specs.Private.BasePut.{group_with};
 ghost use Rattle.star_group.specs.Private.Coarser as spec;
-ghost use Rattle.star_group.specs.Private.Coarser.{IsRolledUpWithRoom, RollsUp};
-ghost use Rattle.star_group.specs.Private.Numbers.{AreAsWide};
+ghost use Rattle.star_group.specs.Private.Coarser.{IsMergedWhere, IsRolledUpWithRoom, NoneCoarser, RollsUp};
+ghost use Rattle.star_group.specs.Private.Merged.{RowsStay};
+ghost use Rattle.star_group.specs.Private.Numbers.{AreAsWide, FitsIn, IsGrown, IsNarrow};
 ghost use Rattle.star_group.specs.Stores.{Put};
 
 use crate::cell::Row;
 use crate::keyed::KeyedRows;
-use crate::keyed::key::{ALL_HIDDEN, hidden};
+use crate::keyed::key::{ALL_HIDDEN, OrderedKey, hidden, is_grouping};
 use star_schema::{Aggregate, Shape};
 use std::alloc::{AllocError, Global};
 
-// For each row one more with ALL at this place, made of all rows that differ only there.
+// A row merged into that of its coarser key, where that is a grouping.
+fn merge_coarser(
+    rows: &mut KeyedRows,
+    shape: Shape,
+    count: usize,
+    key: &OrderedKey,
+    aggregates: &[Aggregate],
+    more: &[Option<i64>],
+) -> Result<(), AllocError>
+    requires count { count ≤ 6 }
+    requires narrow { IsNarrow rows.old.trie.width key.now }
+    requires fits { FitsIn rows.old aggregates.now more.now }
+    requires stays { groups.is_grouping shape (take count (key_of key.now)) ≡ true
+        → RowsStay aggregates.now (row_at (entries_of rows.old) (key_of key.now)) more.now }
+    ensures ok { OnOk result (IsMergedWhere shape count aggregates.now (key_of key.now) more.now
+        (entries_of rows.old) (entries_of rows.new)) }
+    ensures grown { IsGrown rows.old rows.new }
+{
+    if !is_grouping(shape, count, key) {
+        return Ok(());
+    }
+    let found = rows.place(key);
+    rows.merge(key, found, aggregates, more)
+}
+
+// For each row from this one on one more with ALL at this place, where that is a grouping, made of
+// all rows that differ only there. The rows before have none.
 fn add_hidden(
     alloc: Global,
     rows: &mut KeyedRows,
+    shape: Shape,
+    count: usize,
     place: usize,
+    from: usize,
     aggregates: &[Aggregate],
 ) -> Result<(), AllocError>
-    requires place { place < rows.old.trie.width }
+    requires count { count ≤ rows.old.trie.width }
+    requires place { place < count }
     requires many { length aggregates.now ≡ rows.old.many }
-    requires room { ∥ IsRolledUpWithRoom aggregates.now (place + 1) (entries_of rows.old) ∥₁ }
-    ensures rows { OnOk result
-        (RollsUp aggregates.now (place + 1) (entries_of rows.old) place (entries_of rows.new)) }
-    ensures widths { AreAsWide rows.old rows.new }
+    requires room { ∥ IsRolledUpWithRoom shape count aggregates.now (place + 1)
+        (entries_of rows.old) ∥₁ }
+    requires from { from ≤ length (entries_of rows.old) }
+    requires none { NoneCoarser shape count place from (entries_of rows.old) }
+    ensures rows { OnOk result (RollsUp shape count aggregates.now
+        (place + 1) (entries_of rows.old) place (entries_of rows.new)) }
+    ensures grown { IsGrown rows.old rows.new }
 {
-    let finer = rows.listed(alloc)?;
+    let finer = rows.listed(alloc, from)?;
     for index in 0..finer.len() {
         let key = hidden(&finer.key(index), place);
-        let found = rows.place(&key);
-        rows.merge(&key, found, aggregates, finer.row(index))?;
+        merge_coarser(rows, shape, count, &key, aggregates, finer.row(index))?;
     }
     Ok(())
 }
@@ -45,8 +79,19 @@ fn first_hidden(shape: Shape, count: usize) -> usize
     ensures within { result ≤ count }
 {
     match shape {
-        Shape::Cube => 0,
+        Shape::Cube | Shape::Rollup => 0,
         Shape::Plain => count,
+    }
+}
+
+// The first row of which a pass makes a coarser one, where there were so many before the pass before
+// it. The coarser rows of a rollup are a chain: each is made of those that were made last.
+fn first_finer(shape: Shape, many: usize) -> usize
+    ensures { result ≡ spec.first_finer shape many }
+{
+    match shape {
+        Shape::Rollup => many,
+        Shape::Cube | Shape::Plain => 0,
     }
 }
 
@@ -60,16 +105,20 @@ fn add_coarser(
 ) -> Result<(), AllocError>
     requires count { count ≤ rows.old.trie.width }
     requires many { length aggregates.now ≡ rows.old.many }
-    requires room { ∥ IsRolledUpWithRoom aggregates.now count (entries_of rows.old) ∥₁ }
-    ensures rows { OnOk result (RollsUp aggregates.now count (entries_of rows.old)
+    requires room { ∥ IsRolledUpWithRoom shape count aggregates.now count
+        (entries_of rows.old) ∥₁ }
+    ensures rows { OnOk result (RollsUp shape count aggregates.now count (entries_of rows.old)
         (spec.first_hidden shape count) (entries_of rows.new)) }
     ensures widths { AreAsWide rows.old rows.new }
 {
     let first = first_hidden(shape, count);
+    let mut from = 0;
     let mut place = count;
     while place > first {
         place -= 1;
-        add_hidden(alloc, rows, place, aggregates)?;
+        let many = rows.len();
+        add_hidden(alloc, rows, shape, count, place, from, aggregates)?;
+        from = first_finer(shape, many);
     }
     Ok(())
 }

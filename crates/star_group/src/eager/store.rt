@@ -9,7 +9,7 @@ ghost use Rattle.star_group.specs.Keyed.{all_hidden};
 ghost use Rattle.star_group.specs.Private.Rows.{AreFirst};
 
 use super::EagerStore;
-use super::cube::put_cube;
+use super::hiding::put_hiding;
 use super::plain::put_plain;
 use crate::cell::{BLANK, Row, shown};
 use crate::given::rows_given;
@@ -44,18 +44,18 @@ fn first_rows(
     let mut rows = KeyedRows::new(alloc, count, many)?;
     match shape {
         Shape::Plain => Ok(rows),
-        Shape::Cube => {
+        Shape::Cube | Shape::Rollup => {
             rows.insert(&ALL_HIDDEN, &BLANK[..many])?;
             Ok(rows)
         }
     }
 }
 
-// What remembers the rows that are made: a cube's are not looked up by it.
+// What remembers the rows that are made: where rows hide keys they are not looked up by it.
 fn newest_of(alloc: Global, shape: Shape) -> Result<Newest, AllocError> {
     match shape {
         Shape::Plain => Newest::new(alloc),
-        Shape::Cube => Ok(Newest::none(alloc)),
+        Shape::Cube | Shape::Rollup => Ok(Newest::none(alloc)),
     }
 }
 
@@ -69,7 +69,7 @@ fn all_row<'a>(rows: &'a KeyedRows, shape: Shape, total: &'a Row) -> Option<&'a 
 {
     match shape {
         Shape::Plain => Some(&total[..]),
-        Shape::Cube => match rows.find(&ALL_HIDDEN) {
+        Shape::Cube | Shape::Rollup => match rows.find(&ALL_HIDDEN) {
             Some(number) => Some(rows.row(number)),
             None => None,
         },
@@ -89,7 +89,7 @@ fn all_rows(rows: KeyedRows, shape: Shape, total: &[Option<i64>]) -> Result<Keye
             all.insert(&ALL_HIDDEN, total)?;
             Ok(all)
         }
-        Shape::Cube => Ok(all),
+        Shape::Cube | Shape::Rollup => Ok(all),
     }
 }
 
@@ -152,10 +152,11 @@ impl TryPut for EagerStore {
                 keys,
                 &more,
             ),
-            Shape::Cube => put_cube(
+            Shape::Cube | Shape::Rollup => put_hiding(
                 &mut self.rows,
                 &mut self.own,
                 &mut self.places,
+                self.shape,
                 aggregates,
                 keys,
                 &more,

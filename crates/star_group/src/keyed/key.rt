@@ -1,12 +1,17 @@
 // The keys of rows by their keys.
 
-ghost use Rattle.std.specs.Prelude.{◌≡◌, ◌≤◌, ◌<◌, Some, None, List, length, map, slice_set};
+ghost use Rattle.std.specs.Prelude.{◌≡◌, ◌≤◌, ◌<◌, Some, None, List, length, map, slice_set, take};
+ghost use Rattle.std.specs.List.{list_all};
+ghost use Rattle.std.specs.Option.{is_some};
+ghost use Rattle.star_schema.specs.declared.group.Shape.TheVariants.{Rollup};
+ghost use Rattle.star_schema.specs.Groups as spec;
 ghost use Rattle.star_group.specs.OwnKeys.{padded};
 ghost use Rattle.star_group.specs.Base.{key_of, value_of};
 ghost use Rattle.star_group.specs.Keyed.{filled};
 
 use crate::KeyValue;
 use crate::group_row::{ALL, Key};
+use star_schema::Shape;
 
 // One place of a row's key.
 #[derive(Clone, Copy, PartialEq, Eq)]
@@ -71,6 +76,49 @@ pub(crate) fn hidden(parts: &OrderedKey, place: usize) -> OrderedKey
     let mut coarser = *parts;
     coarser[place] = KeyPart::All;
     coarser
+}
+
+fn is_shown(part: &KeyPart) -> bool
+    ensures { result ≡ is_some (value_of part.now) }
+{
+    match *part {
+        KeyPart::All => false,
+        _ => true,
+    }
+}
+
+// Whether none of these parts is ALL.
+fn are_shown(parts: &[KeyPart]) -> bool
+    ensures { result ≡ list_all (λ part. is_some (value_of part)) parts.now }
+{
+    parts.iter().all(is_shown)
+}
+
+// Whether no part that isn't ALL stands behind one that is.
+fn are_shown_first(parts: &[KeyPart]) -> bool
+    ensures { result ≡ spec.is_grouping Rollup (key_of parts.now) }
+{
+    let mut hides = false;
+    for part in parts {
+        let shown = is_shown(part);
+        if shown && hides {
+            return false;
+        }
+        hides = !shown;
+    }
+    true
+}
+
+// Whether so many keys, of which some are hidden here, are a grouping of this shape.
+pub(crate) fn is_grouping(shape: Shape, count: usize, parts: &OrderedKey) -> bool
+    requires { count ≤ 6 }
+    ensures { result ≡ spec.is_grouping shape (take count (key_of parts.now)) }
+{
+    match shape {
+        Shape::Plain => are_shown(&parts[..count]),
+        Shape::Cube => true,
+        Shape::Rollup => are_shown_first(&parts[..count]),
+    }
 }
 
 // The key as a row shows it.

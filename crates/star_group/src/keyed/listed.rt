@@ -1,6 +1,6 @@
 // Rows with their keys, one after another, with nothing to find them by.
 
-ghost use Rattle.std.specs.Prelude.{◌≡◌, ◌<◌, [], length, slice_index_or, IfOk};
+ghost use Rattle.std.specs.Prelude.{◌≡◌, ◌≤◌, ◌<◌, ◌*◌, [], drop, length, slice_index_or, IfOk};
 ghost use Rattle.star_group.specs.Entries.{entries_of};
 ghost use Rattle.star_group.specs.Private.Listed.{listed_entries};
 ghost use Rattle.star_group.specs.Private.Numbers.{IsNarrow};
@@ -10,19 +10,29 @@ use super::{KeyedRows, ListedRows};
 use star_program::row_of;
 use std::alloc::{AllocError, Global};
 
+// What is left of rows of so many items each behind the first ones.
+fn rows_from<T>(items: &[T], width: usize, from: usize) -> &[T]
+    requires { from * width ≤ length items.now }
+    ensures { result.now ≡ drop (from * width) items.now }
+{
+    &items[from * width..]
+}
+
 impl KeyedRows {
-    // A copy of the rows.
-    pub(crate) fn listed(&self, alloc: Global) -> Result<ListedRows, AllocError>
-        ensures rows { IfOk result (λ rows. listed_entries rows ≡ entries_of self.now) }
+    // A copy of the rows from this one on.
+    pub(crate) fn listed(&self, alloc: Global, from: usize) -> Result<ListedRows, AllocError>
+        requires { from ≤ length (entries_of self.now) }
+        ensures rows { IfOk result (λ rows. listed_entries rows ≡ drop from (entries_of self.now)) }
         ensures width { IfOk result (λ rows. rows.width ≡ self.now.trie.width) }
         ensures many { IfOk result (λ rows. rows.many ≡ self.now.many) }
     {
+        let width = self.trie.width;
         Ok(ListedRows {
-            width: self.trie.width,
-            len: self.trie.len,
-            keys: Vec::from_slice(alloc, self.trie.keys.as_slice())?,
+            width,
+            len: self.trie.len - from,
+            keys: Vec::from_slice(alloc, rows_from(self.trie.keys.as_slice(), width, from))?,
             many: self.many,
-            cells: Vec::from_slice(alloc, self.cells.as_slice())?,
+            cells: Vec::from_slice(alloc, rows_from(self.cells.as_slice(), self.many, from))?,
         })
     }
 

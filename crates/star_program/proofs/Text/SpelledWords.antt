@@ -280,11 +280,13 @@ pub shape_read : (s : Shape) → shape_of (shape_name s) ≡ Some s
 unfolding shape_of shape_name
 shape_read shape.Plain = refl
 shape_read shape.Cube = refl
+shape_read shape.Rollup = refl
 
 pub shape_word : (s : Shape) → is_word (shape_name s) ≡ true
 unfolding shape_name
 shape_word shape.Plain = refl
 shape_word shape.Cube = refl
+shape_word shape.Rollup = refl
 
 pub aggregate_read : (a : Aggregate) → aggregate_of (aggregate_name a) ≡ Some a
 unfolding aggregate_of aggregate_name

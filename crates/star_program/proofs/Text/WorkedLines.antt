@@ -9,7 +9,7 @@ use Rattle.star_schema.specs.declared.column.ColumnId.TheVariants.{CRegion, LoQu
 use Rattle.star_schema.specs.declared.group.Aggregate.TheVariants.{Count, Max, Min, Sum}
 use Rattle.star_schema.specs.declared.group.Direction.TheVariants.{Ascending, Descending}
 use Rattle.star_schema.specs.declared.group.GroupColumn.TheVariants as column
-use Rattle.star_schema.specs.declared.group.Shape.TheVariants.{Cube, Plain}
+use Rattle.star_schema.specs.declared.group.Shape.TheVariants.{Cube, Plain, Rollup}
 use Rattle.star_schema.specs.declared.table.TableId.TheVariants.{Customer, Lineorder}
 use Rattle.star_program.specs.declared.group.GroupKey.TheVariants as key
 use Rattle.star_program.specs.declared.op.Edge.TheVariants.{High, Low}
@@ -50,7 +50,8 @@ whole = record {
   registers = 15;
   groups =
       record { shape = Cube; keys = key.Number ∷ key.Text CRegion ∷ []; aggregates = Sum ∷ Count ∷ Min ∷ Max ∷ [] }
-      ∷ record { shape = Plain; keys = []; aggregates = Count ∷ [] } ∷ [];
+      ∷ record { shape = Plain; keys = []; aggregates = Count ∷ [] }
+      ∷ record { shape = Rollup; keys = key.Number ∷ key.Text CRegion ∷ []; aggregates = Sum ∷ Count ∷ [] } ∷ [];
   body = to 1 (Const (negsuc 4)) (Each Lineorder 0 outer (to 1 (Edge Low CRegion (codes "a'b")) (to 1 (Edge High CRegion []) (to 1 (Read 1 0 (pos 7)) Stop))));
   report = 0;
   shows = record { name = codes "a_1"; column = column.Key 1 } ∷ record { name = codes "b"; column = column.Aggregate 2 } ∷ [];
@@ -58,7 +59,7 @@ whole = record {
 }
 
 abbrev whole_text : List ℕ
-whole_text = codes "star program 1\nregisters 15\ngroup 0 cube number c_region : sum count min max\ngroup 1 plain : count\nr1 = const -5\nscan lineorder r0\n  r10 = load lo_quantity r0\n  r11 = find customer r10\n  r12 = within r10 r11 r1\n  r13 = not r12\n  put 0 r10 r11 : r10 r1 r2\n  scan customer r14\n    r2 = add r1 r0\n    r3 = sub r1 r0\n    r4 = mul r1 r0\n    r5 = lt r1 r0\n    r6 = le r1 r0\n    r7 = eq r1 r0\n    r8 = and r5 r6\n    r9 = or r5 r6\n    keep r9\n  end\nend\nr1 = low c_region 'a''b'\nr1 = high c_region ''\nr1 = read 1 0 7\nreport 0\nshow a_1 key 1\nshow b aggregate 2\nsort aggregate 0 descending\nsort key 0 ascending\n"
+whole_text = codes "star program 1\nregisters 15\ngroup 0 cube number c_region : sum count min max\ngroup 1 plain : count\ngroup 2 rollup number c_region : sum count\nr1 = const -5\nscan lineorder r0\n  r10 = load lo_quantity r0\n  r11 = find customer r10\n  r12 = within r10 r11 r1\n  r13 = not r12\n  put 0 r10 r11 : r10 r1 r2\n  scan customer r14\n    r2 = add r1 r0\n    r3 = sub r1 r0\n    r4 = mul r1 r0\n    r5 = lt r1 r0\n    r6 = le r1 r0\n    r7 = eq r1 r0\n    r8 = and r5 r6\n    r9 = or r5 r6\n    keep r9\n  end\nend\nr1 = low c_region 'a''b'\nr1 = high c_region ''\nr1 = read 1 0 7\nreport 0\nshow a_1 key 1\nshow b aggregate 2\nsort aggregate 0 descending\nsort key 0 ascending\n"
 
 is_written : text_of whole ≡ whole_text
 unfolding quoted text_of line_text lines_of_code digits group_text key_text shape_name aggregate_name op_text assigned_text target_text mnemonic_name register_text column_text show_text sort_text direction_name table_name schema.column_of
@@ -123,8 +124,8 @@ quotes = refl
 
 -- ---- lines that say nothing
 
-says_nothing : map said (codes "star program" ∷ codes "star programs 1" ∷ codes "registers" ∷ codes "registers 1 2" ∷ codes "group 0 plain count" ∷ codes "group 0 plane : count" ∷ codes "group 0 plain d_year : count" ∷ codes "group 0 plain : mean" ∷ [])
-    ≡ replicate 8 None
+says_nothing : map said (codes "star program" ∷ codes "star programs 1" ∷ codes "registers" ∷ codes "registers 1 2" ∷ codes "group 0 plain count" ∷ codes "group 0 plane : count" ∷ codes "group 0 rollups : count" ∷ codes "group 0 plain d_year : count" ∷ codes "group 0 plain : mean" ∷ [])
+    ≡ replicate 9 None
 unfolding said by_words by_keyword words_of pieces_of keyword_of keyword_name count_of shape_of aggregate_of group_key_of column_of schema.column_of
 says_nothing = refl
 

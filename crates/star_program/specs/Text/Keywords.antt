@@ -70,11 +70,13 @@ table_of word = find (λ t. same (table_name t) word) TABLES
 unfoldable pub shape_name : Shape → List ℕ
 shape_name shape.Plain = codes "plain"
 shape_name shape.Cube = codes "cube"
+shape_name shape.Rollup = codes "rollup"
 
 unfoldable pub shape_of : List ℕ → Option Shape
 shape_of word =
     if same word (codes "plain") then Some shape.Plain
     else if same word (codes "cube") then Some shape.Cube
+    else if same word (codes "rollup") then Some shape.Rollup
     else None
 
 unfoldable pub aggregate_name : Aggregate → List ℕ

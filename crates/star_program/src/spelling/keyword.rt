@@ -151,6 +151,7 @@ pub(crate) fn shape_name(shape: Shape) -> &'static str
     match shape {
         Shape::Plain => "plain",
         Shape::Cube => "cube",
+        Shape::Rollup => "rollup",
     }
 }
 
@@ -162,6 +163,8 @@ pub(crate) fn read_shape(word: &[u8]) -> Option<Shape>
         Some(Shape::Plain)
     } else if word == "cube".as_bytes() {
         Some(Shape::Cube)
+    } else if word == "rollup".as_bytes() {
+        Some(Shape::Rollup)
     } else {
         None
     }

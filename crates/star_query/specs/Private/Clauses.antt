@@ -19,11 +19,12 @@ use Rattle.star_query.specs.declared.tree.Item.{Item}
 use Rattle.star_query.specs.declared.tree.Grouping.{Grouping}
 use Rattle.star_query.specs.declared.tree.SortKey.{SortKey}
 use Rattle.star_query.specs.declared.tree.Tree.{Tree}
+use Rattle.star_schema.specs.declared.group.Shape.{Shape}
 use Rattle.star_query.specs.Symbols.{Symbol, fold, count, sign}
 use Rattle.star_query.specs.Tree as tree
 use Rattle.star_query.specs.Grammar as grammar
-use Rattle.star_query.specs.Grammar.{Several, Expr, Agg, folded, counted, Key, Groups, Query, expr_tree, cond_tree, agg_tree, item_tree, key_tree, listed, names, groups_tree, keys_tree, query_tree}
-use Rattle.star_query.specs.Private.Machine.{extended, Filtered, Grouped, filtered_by, grouped_by, query_of, State, begin, item_wanted, fold_named, count_named, agg_had, items_had, table_wanted, tables_had, filtered_had, by_had, column_wanted, columns_had, grouped_had, key_wanted, keys_had, done, Whole}
+use Rattle.star_query.specs.Grammar.{Several, Expr, Agg, folded, counted, Key, Hiding, Groups, hiding, Query, expr_tree, cond_tree, agg_tree, item_tree, key_tree, listed, names, groups_tree, keys_tree, query_tree}
+use Rattle.star_query.specs.Private.Machine.{extended, Filtered, Grouped, filtered_by, grouped_by, query_of, State, begin, item_wanted, fold_named, count_named, agg_had, items_had, table_wanted, tables_had, filtered_had, by_had, hiding_had, column_wanted, columns_had, grouped_had, key_wanted, keys_had, done, Whole}
 use Rattle.star_query.specs.Views.{name_view, condition_view, measure_view, aggregate_view, item_view, grouping_view, key_view, tree_view}
 use Rattle.star_query.specs.Private.Reads.{Spot, No, verdict, EndsBad, Takes, IsBeyond, ReadsPhrase}
 
@@ -112,11 +113,16 @@ ReadsFilter =
 
 abbrev pub ReadsColumn : Spot → Spot → Result Name ParseError → Type 0
 ReadsColumn =
-    ReadsPhrase {P = tree.Name} {H = (Filtered × Bool) × Option (Several tree.Name)} name_view (λ n. n) Anywhere (λ h. column_wanted h.0.0 h.0.1 h.1) (λ n h. columns_had h.0.0 h.0.1 (extended h.1 n))
+    ReadsPhrase {P = tree.Name} {H = (Filtered × Option Hiding) × Option (Several tree.Name)} name_view (λ n. n) Anywhere (λ h. column_wanted h.0.0 h.0.1 h.1) (λ n h. columns_had h.0.0 h.0.1 (extended h.1 n))
 
 abbrev pub ReadsColumns : Spot → Spot → Result (Vec Name Global) ParseError → Type 0
 ReadsColumns =
-    ReadsPhrase {P = Several tree.Name} {H = Filtered × Bool} (λ v. map name_view v.items) names Anywhere (λ h. column_wanted h.0 h.1 None) (λ is h. columns_had h.0 h.1 is)
+    ReadsPhrase {P = Several tree.Name} {H = Filtered × Option Hiding} (λ v. map name_view v.items) names Anywhere (λ h. column_wanted h.0 h.1 None) (λ is h. columns_had h.0 h.1 is)
+
+-- ( names ), behind the word of this shape
+abbrev pub ReadsHidden : Shape → Spot → Spot → Result Grouping ParseError → Type 0
+ReadsHidden shape =
+    ReadsPhrase {P = Several tree.Name} {H = Filtered × Hiding} grouping_view (λ is. record { shape = shape; columns = names is }) Anywhere (λ h. hiding_had h.0 h.1) (λ is h. grouped_had (grouped_by h.0 (hiding h.1 is)))
 
 abbrev pub ReadsGroups : Spot → Spot → Result Grouping ParseError → Type 0
 ReadsGroups =

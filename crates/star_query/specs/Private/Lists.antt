@@ -1,5 +1,5 @@
 -- Lists with commas, by the machine.
-use Rattle.std.specs.Prelude.{◌≡◌, Bool, List, [], ◌∷◌, ◌++◌, map, Option, Some, None, Result, Ok, Err}
+use Rattle.std.specs.Prelude.{◌≡◌, List, [], ◌∷◌, ◌++◌, map, Option, Some, None, Result, Ok, Err}
 use Rattle.std.proofs.Common.{sym, ap, ◌∙◌, refl}
 use Rattle.std.proofs.lemmas.List.{map-append}
 use Rattle.std.specs.declared.alloc.Global.{Global}
@@ -8,7 +8,7 @@ use Rattle.star_query.specs.declared.token.Sign.TheVariants as s
 use Rattle.star_query.specs.declared.fault.ParseError.{ParseError}
 use Rattle.star_query.specs.declared.fault.ParseError.TheVariants as errors
 use Rattle.star_query.specs.Symbols.{sign}
-use Rattle.star_query.specs.Grammar.{Several, one, more, first, item_tree, key_tree, listed}
+use Rattle.star_query.specs.Grammar.{Several, one, more, first, Hiding, item_tree, key_tree, listed}
 use Rattle.star_query.specs.Private.Machine.{Filtered, Grouped, State, Verdict, columns_had, column_wanted, extended, item_wanted, items_had, key_wanted, keys_had, step, table_wanted, tables_had, to}
 use Rattle.star_query.specs.Views.{item_view, key_view, name_view}
 use Rattle.star_query.specs.Private.Reads.{EndsBad, ReadsPhrase, Spot, verdict}
@@ -68,7 +68,7 @@ pub tables_listed : IsListOf ReadsTable ReadsTables
 tables_listed = listing name_view (λ n. n) (λ is b. (is, b)) (λ h. table_wanted h.0 h.1) (λ n h. tables_had h.0 (extended h.1 n)) (λ ts is. tables_had is ts) (λ is b p. refl) (λ is ps. refl)
 
 pub columns_listed : IsListOf ReadsColumn ReadsColumns
-columns_listed = listing name_view (λ n. n) (λ (g : Filtered × Bool) b. (g, b)) (λ h. column_wanted h.0.0 h.0.1 h.1) (λ n h. columns_had h.0.0 h.0.1 (extended h.1 n)) (λ is g. columns_had g.0 g.1 is) (λ g b p. refl) (λ g ps. refl)
+columns_listed = listing name_view (λ n. n) (λ (g : Filtered × Option Hiding) b. (g, b)) (λ h. column_wanted h.0.0 h.0.1 h.1) (λ n h. columns_had h.0.0 h.0.1 (extended h.1 n)) (λ is g. columns_had g.0 g.1 is) (λ g b p. refl) (λ g ps. refl)
 
 pub keys_listed : IsListOf ReadsKey ReadsKeyList
 keys_listed = listing key_view key_tree (λ (g : Grouped) b. (g, b)) (λ h. key_wanted h.0 h.1) (λ k h. keys_had h.0 (extended h.1 k)) (λ ks g. keys_had g ks) (λ g b p. refl) (λ g ps. refl)

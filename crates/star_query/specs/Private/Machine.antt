@@ -14,7 +14,7 @@ use Rattle.star_query.specs.declared.fault.Fault.{Fault}
 use Rattle.star_query.specs.declared.fault.Fault.TheVariants.{Unexpected, TooDeep, TooMany}
 use Rattle.star_query.specs.Symbols.{Symbol, keyword, fold, count, relation, sign, additive, name, number, text}
 use Rattle.star_query.specs.Tree.{Name}
-use Rattle.star_query.specs.Grammar.{Several, one, more, Expr, lone_term, joined, Term, lone_factor, times, Factor, column, constant, negative, parens, Lit, whole, negated, quoted, Cond, lone_conj, or_conj, Conj, lone_unit, and_unit, Unary, not_unit, group, pair, compare, between, Agg, folded, counted, Item, plain, aggregate, Key, unmarked, ascending, descending, Groups, ungrouped, grouped, cubed, Query, Mark, at, first, function}
+use Rattle.star_query.specs.Grammar.{Several, one, more, Expr, lone_term, joined, Term, lone_factor, times, Factor, column, constant, negative, parens, Lit, whole, negated, quoted, Cond, lone_conj, or_conj, Conj, lone_unit, and_unit, Unary, not_unit, group, pair, compare, between, Agg, folded, counted, Item, plain, aggregate, Key, unmarked, ascending, descending, Groups, ungrouped, grouped, Hiding, cube, rollup, hiding, Query, Mark, at, first, function}
 use Rattle.star_query.specs.Maxima.{limit, most_name_bytes, most_nestings}
 
 -- one more behind these, if there are any
@@ -125,9 +125,10 @@ pub data State : Type 0 where
   lit_wanted lit_negative : LitHole → State
   low_had : UnitHole → Name → Lit → State
   conj_had : Conj → ConjHole → State
-  filtered_had group_had by_had cube_had : Filtered → State
-  column_wanted : Filtered → (cube : Bool) → Option (Several Name) → State
-  columns_had : Filtered → (cube : Bool) → Several Name → State
+  filtered_had group_had by_had : Filtered → State
+  hiding_had : Filtered → Hiding → State
+  column_wanted : Filtered → Option Hiding → Option (Several Name) → State
+  columns_had : Filtered → Option Hiding → Several Name → State
   grouped_had order_had : Grouped → State
   key_wanted : Grouped → Option (Several Key) → State
   key_named : Grouped → Option (Several Key) → Name → State
@@ -316,26 +317,27 @@ abbrev pub on_group : Filtered → Symbol → Option Step
 on_group f (keyword k.By) = to (by_had f) (at 0 (keyword k.By))
 on_group f x = None
 
-abbrev pub on_column : Filtered → Bool → Option (Several Name) → Symbol → Option Step
-on_column f cube b (name t p) = to (columns_had f cube (extended b (named t p))) (first (part.GroupColumn ∷ []) 0 (name t p))
-on_column f cube b x = None
+abbrev pub on_column : Filtered → Option Hiding → Option (Several Name) → Symbol → Option Step
+on_column f h b (name t p) = to (columns_had f h (extended b (named t p))) (first (part.GroupColumn ∷ []) 0 (name t p))
+on_column f h b x = None
 
 abbrev pub on_by : Filtered → Symbol → Option Step
-on_by f (keyword k.Cube) = to (cube_had f) (at 0 (keyword k.Cube))
-on_by f x = on_column f false None x
+on_by f (keyword k.Cube) = to (hiding_had f cube) (at 0 (keyword k.Cube))
+on_by f (keyword k.Rollup) = to (hiding_had f rollup) (at 0 (keyword k.Rollup))
+on_by f x = on_column f None None x
 
-abbrev pub on_cube : Filtered → Symbol → Option Step
-on_cube f (sign s.Open) = to (column_wanted f true None) (at 0 (sign s.Open))
-on_cube f x = None
+abbrev pub on_hiding : Filtered → Hiding → Symbol → Option Step
+on_hiding f h (sign s.Open) = to (column_wanted f (Some h) None) (at 0 (sign s.Open))
+on_hiding f h x = None
 
-abbrev pub on_cubed : Filtered → Several Name → Symbol → Option Step
-on_cubed f is (sign s.Close) = to (grouped_had (grouped_by f (cubed is))) (at 0 (sign s.Close))
-on_cubed f is x = None
+abbrev pub on_hidden : Filtered → Hiding → Several Name → Symbol → Option Step
+on_hidden f h is (sign s.Close) = to (grouped_had (grouped_by f (hiding h is))) (at 0 (sign s.Close))
+on_hidden f h is x = None
 
-abbrev pub on_columns : Filtered → Bool → Several Name → Symbol → Option Step
-on_columns f cube is (sign s.Comma) = to (column_wanted f cube (Some is)) (at 0 (sign s.Comma))
-on_columns f true is x = on_cubed f is x
-on_columns f false is x = on_grouped (grouped_by f (grouped is)) x
+abbrev pub on_columns : Filtered → Option Hiding → Several Name → Symbol → Option Step
+on_columns f h is (sign s.Comma) = to (column_wanted f h (Some is)) (at 0 (sign s.Comma))
+on_columns f (Some h) is x = on_hidden f h is x
+on_columns f None is x = on_grouped (grouped_by f (grouped is)) x
 
 abbrev pub on_order : Grouped → Symbol → Option Step
 on_order g (keyword k.By) = to (key_wanted g None) (at 0 (keyword k.By))
@@ -379,9 +381,9 @@ step (conj_had c h) x = on_conj c h x
 step (filtered_had f) x = on_filtered f x
 step (group_had f) x = on_group f x
 step (by_had f) x = on_by f x
-step (cube_had f) x = on_cube f x
-step (column_wanted f cube b) x = on_column f cube b x
-step (columns_had f cube is) x = on_columns f cube is x
+step (hiding_had f h) x = on_hiding f h x
+step (column_wanted f h b) x = on_column f h b x
+step (columns_had f h is) x = on_columns f h is x
 step (grouped_had g) x = on_grouped g x
 step (order_had g) x = on_order g x
 step (key_wanted g b) x = on_key g b x
@@ -399,7 +401,7 @@ abbrev pub at_end : State → Option Query
 at_end (tables_had is ts) = Some (query_of (grouped_by (filtered_by is ts None) ungrouped) None false)
 at_end (conj_had c h) = cond_end (joined_cond c h) (around_conj h)
 at_end (filtered_had f) = Some (query_of (grouped_by f ungrouped) None false)
-at_end (columns_had f false is) = Some (query_of (grouped_by f (grouped is)) None false)
+at_end (columns_had f None is) = Some (query_of (grouped_by f (grouped is)) None false)
 at_end (grouped_had g) = Some (query_of g None false)
 at_end (key_named g b i) = Some (query_of g (Some (extended b (unmarked i))) false)
 at_end (keys_had g ks) = Some (query_of g (Some ks) false)

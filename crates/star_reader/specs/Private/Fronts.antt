@@ -29,7 +29,7 @@ pub record AreDigits (text : List ℕ) (count value : ℕ) : Type 0 where
 abbrev pub left_of : List ℕ → ℕ → List (List ℕ)
 left_of line at = if nat_le at (length line) then fields_of (drop at line) else []
 
--- some parts, each behind a zero
+-- some pieces, each behind a zero
 unfoldable pub behind_zeros : List (List ℕ) → List ℕ
 behind_zeros [] = []
-behind_zeros (part ∷ parts) = 0 ∷ (part ++ behind_zeros parts)
+behind_zeros (piece ∷ later) = 0 ∷ (piece ++ behind_zeros later)

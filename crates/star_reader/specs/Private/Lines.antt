@@ -8,7 +8,7 @@ use Rattle.csv.specs.declared.parser.State.TheVariants as st
 use Rattle.csv.specs.declared.reader.Reader.{Reader}
 use Rattle.csv.specs.declared.reader.Trim.TheVariants as trim
 use Rattle.star_schema.specs.Records.{records_of}
-use Rattle.star_reader.specs.Private.Parts.{parts_of, zeros}
+use Rattle.star_reader.specs.Private.Zeros.{pieces_of, zeros}
 
 -- a state between records
 abbrev pub IsBetween : State → Type 0
@@ -25,15 +25,15 @@ pub record HasLeft (reader : Reader (Bor (List ℕ))) (lines : List (List ℕ)) 
   pub source : source_of (λ (s : Bor (List ℕ)). Some s.now) reader ≡ Some bytes
   pub left : records_of bytes ≡ lines
 
--- a read gave the parts of the first record, and the others are left
-pub record TakesFirst (lines : List (List ℕ)) (parts : List (List ℕ))
+-- a read gave the pieces of the first record, and the others are left
+pub record TakesFirst (lines : List (List ℕ)) (pieces : List (List ℕ))
     (reader : Reader (Bor (List ℕ))) : Type 0 where
   pub line : List ℕ
   pub others : List (List ℕ)
   pub was : lines ≡ line ∷ others
-  pub parts_are : parts ≡ parts_of line
+  pub pieces_are : pieces ≡ pieces_of line
   pub rest : HasLeft reader others
 
 -- a read gave the first record, or there was none
 abbrev pub ReadsFirst : Bool → List (List ℕ) → List (List ℕ) → Reader (Bor (List ℕ)) → Type 0
-ReadsFirst found lines parts reader = MatchBool found (TakesFirst lines parts reader) (lines ≡ [])
+ReadsFirst found lines pieces reader = MatchBool found (TakesFirst lines pieces reader) (lines ≡ [])

@@ -1,4 +1,4 @@
-use Rattle.std.proofs.Common.{◌<◌, ◌^◌, FitsSigned, refl, rules, w64, to_z-of_z, arith}
+use Rattle.std.proofs.Common.{FitsSigned, refl, rules, w64, to_z-of_z}
 use Rattle.star_schema.specs.Loadable.{keys_of}
 use Rattle.star_catalogue.proofs.ReferredRows.{absent_one, found_more}
 use Rattle.star_catalogue.proofs.referred.find_all.Goals as goal
@@ -13,9 +13,12 @@ returns-in-None c =
 pub loop-row-preserved : goal.loop-row-preserved
 loop-row-preserved c =
     let fits : FitsSigned w64 c.at.result = search rules in
-    let row_fits : FitsSigned w64 c.from.result = search rules in
-    let few : c.in-Some.found < 2 ^ 32 = omega arith in
     let key = rw (to_z-of_z fits) at ((c.in-Some.ensures c.in-Some.found).0 refl) in
-    found_more (keys_of c.args.table.now.table c.args.table.now.rows) c.args.numbers.now
-    c.loop-row.rows c.push.new.self c.loop-row.row c.at.result c.in-Some.found
-    c.loop-row.invariant (rw (to_z-of_z row_fits, c.from.ensures) at c.in_ok-push-in-Some.ensures.ok) (rw c.view-lent.ensures at c.at.ensures) few key
+    record {
+      found = found_more (keys_of c.args.table.now.table c.args.table.now.rows) c.args.numbers.now
+          c.loop-row.rows.items c.push_reserved.new.self.items c.loop-row.row c.at.result
+          c.in-Some.found c.loop-row.invariant.found c.push_reserved.ensures.items
+          (rw c.view-lent.ensures at c.at.ensures) key;
+      pushed = search rules;
+      room = search rules;
+    }

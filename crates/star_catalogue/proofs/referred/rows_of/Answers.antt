@@ -10,7 +10,7 @@ numbers-requires c =
 
 pub returns-in-Some : goal.returns-in-Some
 returns-in-Some c =
-    IfOk-weaker c.find_all.result _ _
+    IfOk-weaker c.join_index.result _ _
     (of_table c.args.tables.now c.args.column c.in-Some.table
     (sym c.references.ensures ∙ c.in-Some.is))
-    (rw (c.table.ensures.table, c.table.ensures.rows, c.numbers.ensures) at c.find_all.ensures)
+    (rw (c.table.ensures.table, c.table.ensures.rows, c.numbers.ensures) at c.join_index.ensures)

@@ -1,5 +1,5 @@
-use Rattle.std.proofs.Common.{◌≡◌, ◌∙◌, ap, inl, inr, length, sym}
-use Rattle.std.proofs.lemmas.Result.{MatchResult-weaker}
+use Rattle.std.proofs.Common.{◌≡◌, ◌∙◌, ℤ, List, ap, length, position, subst, sym}
+use Rattle.std.specs.Ordering.{int_eq}
 use Rattle.star_schema.specs.declared.table.Key.TheVariants.{One, Two}
 use Rattle.star_schema.specs.Bounds.{numbers_at}
 use Rattle.star_schema.specs.Loadable.{keys_of}
@@ -9,8 +9,9 @@ use Rattle.star_reader.proofs.RowPlaces.{length-numbers_at}
 use Rattle.star_reader.proofs.PassedOn.{passed_on}
 use Rattle.star_catalogue.proofs.Apart.{numbers_apart}
 use Rattle.star_catalogue.proofs.KeyLists.{apart_of_one, apart_of_two, fault_of_one, fault_of_two, keys_of_one, length_of_two}
-use Rattle.star_catalogue.specs.Private.Keys.{row_in}
+use Rattle.star_catalogue.specs.Private.Places.{ArePlaces}
 use Rattle.star_catalogue.proofs.Found.{kept_one, none_among_two}
+use Rattle.star_catalogue.proofs.Positions.{positions_are_places}
 use Rattle.star_catalogue.proofs.keys.KeyIndex.build.Goals as goal
 use Rattle.star_catalogue.proofs.keys.KeyIndex.build.Goals.{After-as_slice}
 
@@ -28,27 +29,39 @@ keys_are c =
     c.as_slice.ensures.value ∙ c.in_ok-keys-in-One.ensures ∙ c.numbers.ensures.numbers
     ∙ ap (λ place. numbers_at place c.args.raw.now.rows) c.place_of.ensures.place
 
-pub of_keys-requires : goal.of_keys-requires
-of_keys-requires c =
+pub build-requires : goal.build-requires
+build-requires c =
     rw (keys_are c, length-numbers_at (place_of c.in-One.column) c.args.raw.now.rows) c.requires
 
-pub returns-in_ok-keys-in-One : goal.returns-in_ok-keys-in-One
-returns-in_ok-keys-in-One c =
+pub returns-in_err-index-in-One : goal.returns-in_err-index-in-One
+returns-in_err-index-in-One c =
+    let table = c.args.raw.now.table in
+    let rows = c.args.raw.now.rows in
+    let key : key_of table ≡ One c.in-One.column =
+    ap key_of (sym c.table-table.ensures) ∙ sym c.in-One.ensures in
+    let are = keys_are (goal.at.returns-in_err-index-in-One c).After-as_slice in
+    passed_on _ _ _ c.in_err-index-in-One.ensures c.from_residual-in_err-index-in-One.ensures.1
+    (λ first. fault_of_one table c.in-One.column rows key
+    ∙ rw (c.table-table.ensures, are) at first)
+
+pub returns-in_ok-index-in-One : goal.returns-in_ok-index-in-One
+returns-in_ok-index-in-One c =
     let table = c.args.raw.now.table in
     let rows = c.args.raw.now.rows in
     let key : key_of table ≡ One c.in-One.column =
     ap key_of (sym c.table-table.ensures) ∙ sym c.in-One.ensures in
     let numbers = numbers_at (place_of c.in-One.column) rows in
-    let are = keys_are (goal.at.returns-in_ok-keys-in-One c).After-as_slice in
-    MatchResult-weaker c.of_keys.result c.of_keys.ensures (λ index built. (
-      kept_one (row_in index) numbers _ (rw are at built.0)
+    let index = c.in_ok-index-in-One.index in
+    let are = keys_are (goal.at.returns-in_ok-index-in-One c).After-as_slice in
+    let is : index ≡ numbers = c.in_ok-index-in-One.ensures.0 ∙ are in
+    let apart = numbers_apart numbers (rw are at c.in_ok-index-in-One.ensures.1) in
+    let places : ArePlaces int_eq (λ n. position (int_eq n) index) numbers =
+    subst (λ (ks : List ℤ). ArePlaces int_eq (λ n. position (int_eq n) ks) numbers) (sym is)
+    (positions_are_places numbers apart) in (
+      kept_one (λ n. position (int_eq n) index) numbers _ places
           (keys_of_one table c.in-One.column rows key),
-      apart_of_one table c.in-One.column rows key (numbers_apart numbers (rw are at built.1)),
-    )) (λ fault refused. elim refused [
-      | inl memory ↦ inl memory
-      | inr first ↦ inr (fault_of_one table c.in-One.column rows key
-          ∙ rw (c.table-table.ensures, are) at first)
-    ])
+      apart_of_one table c.in-One.column rows key apart,
+    )
 
 pub numbers-firsts-requires : goal.numbers-firsts-requires
 numbers-firsts-requires c =

@@ -1,7 +1,8 @@
-use Rattle.std.proofs.Common.{◌∙◌, FitsSigned, w64, to_z-of_z, rules}
+use Rattle.std.proofs.Common.{FitsSigned, w64, rules, to_z-of_z}
 use Rattle.star_catalogue.proofs.keys.KeyIndex.find.Goals as goal
 
-pub returns-in-Tree : goal.returns-in-Tree
-returns-in-Tree c =
+pub returns-in-Dimension : goal.returns-in-Dimension
+returns-in-Dimension c =
     let fits : FitsSigned w64 c.args.key = search rules in
-    rw c.in-Tree.is (c.copied.ensures ∙ rw to_z-of_z at c.get.ensures.value)
+    let found = rw (to_z-of_z fits) at c.find.ensures in
+    rw c.in-Dimension.is found

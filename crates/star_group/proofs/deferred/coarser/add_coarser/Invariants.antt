@@ -1,6 +1,6 @@
-use Rattle.std.proofs.Common.{◌≤◌}
+use Rattle.std.proofs.Common.{◌≡◌, ◌≤◌, ◌+◌, ℕ, length}
 use Rattle.star_group.specs.Entries.{entries_of}
-use Rattle.star_group.specs.Private.Coarser.{RollsUp}
+use Rattle.star_group.specs.Private.Coarser.{NoneCoarser, RollsUp}
 use Rattle.star_group.specs.Private.Numbers.{AreAsWide}
 use Rattle.star_group.proofs.deferred.coarser.add_coarser.Given as goal
 
@@ -8,8 +8,10 @@ abbrev pub invariant-loop-place : goal.invariant-loop-place
 invariant-loop-place l = record {
   above : l.first ≤ l.place;
   below : l.place ≤ l.count;
-  rolls : RollsUp l.aggregates l.count (entries_of l.fn.rows) l.place (entries_of l.rows);
+  rolls : RollsUp l.shape l.count l.aggregates l.count (entries_of l.fn.rows) l.place (entries_of l.rows);
   widths : AreAsWide l.fn.rows l.rows;
+  within : l.from ≤ length (entries_of l.rows);
+  none : (place : ℕ) → place + 1 ≡ l.place → NoneCoarser l.shape l.count place l.from (entries_of l.rows);
 }
 
 abbrev pub decreases-loop-place : goal.decreases-loop-place

@@ -4,6 +4,7 @@ use Rattle.star_group.specs.Base.{key_of, row_at}
 use Rattle.star_group.specs.Eager.{look_in, with_total}
 use Rattle.star_group.specs.Entries.{entries_of}
 use Rattle.star_group.specs.Keyed.{all_hidden}
+use Rattle.star_group.proofs.HiddenKeys.{hiding_case}
 use Rattle.star_group.proofs.KeyedRows.{entry_at, number_among, row_held}
 use Rattle.star_group.proofs.OwnKeyLemmas.{all_padded}
 use Rattle.star_group.proofs.PlainPuts.{total_here}
@@ -23,6 +24,6 @@ pub returns-in-Some-clause-row : goal.returns-in-Some-clause-row
 returns-in-Some-clause-row c =
     let s = c.args.rows.now in
     let within = number_among s all_hidden refl refl c.in-Some.number c.in-Some.ensures in
-    subst (λ shape. look_in shape (entries_of s) c.args.total.now (key_of all_hidden) ≡ Some c.row.result.now) (sym c.in-Cube.is)
-    (row_held s all_hidden refl refl c.in-Some.number c.in-Some.ensures
-    ∙ ap Some (sym (c.row.ensures.row ∙ ap (λ (e : List KeyPart × List (Option ℤ)). e.1) (entry_at s c.in-Some.number within))))
+    let found : row_at (entries_of s) (key_of all_hidden) ≡ Some c.row.result.now = row_held s all_hidden refl refl c.in-Some.number c.in-Some.ensures
+    ∙ ap Some (sym (c.row.ensures.row ∙ ap (λ (e : List KeyPart × List (Option ℤ)). e.1) (entry_at s c.in-Some.number within))) in
+    hiding_case (λ shape. look_in shape (entries_of s) c.args.total.now (key_of all_hidden) ≡ Some c.row.result.now) found found c.args.shape c.in-Cube.is

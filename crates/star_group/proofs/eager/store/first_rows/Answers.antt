@@ -4,6 +4,8 @@ use Rattle.star_group.specs.Entries.{entries_of}
 use Rattle.star_group.specs.Keyed.{all_hidden}
 use Rattle.star_group.specs.Private.Merged.{IsWithRow}
 use Rattle.star_group.specs.Private.Rows.{AreFirst}
+use Rattle.star_schema.specs.declared.group.Shape.TheVariants.{Cube}
+use Rattle.star_group.proofs.HiddenKeys.{hiding_case}
 use Rattle.star_group.proofs.MergedRows.{blank_taken}
 use Rattle.star_group.proofs.PutSteps.{blank_none}
 use Rattle.star_group.proofs.eager.store.first_rows.Goals as goal
@@ -14,8 +16,9 @@ returns-in-Plain-clause-rows c = subst (λ shape. AreFirst shape (entries_of c.i
 pub returns-in_ok-insert-in-Cube-clause-rows : goal.returns-in_ok-insert-in-Cube-clause-rows
 returns-in_ok-insert-in-Cube-clause-rows c =
     let none = None ∷ None ∷ None ∷ None ∷ None ∷ None ∷ None ∷ None ∷ [] in
-    subst (λ shape. AreFirst shape (entries_of c.insert.new.self)) (sym c.in-Cube.is) (
+    let first : AreFirst Cube (entries_of c.insert.new.self) = (
       take c.args.many none,
       blank_taken c.args.many none blank_none,
       subst (λ es. IsWithRow (key_of all_hidden) (take c.args.many none) es (entries_of c.insert.new.self)) c.in_ok-rows.ensures.empty c.in_ok-insert-in-Cube.ensures.ok,
-    )
+    ) in
+    hiding_case (λ shape. AreFirst shape (entries_of c.insert.new.self)) first first c.args.shape c.in-Cube.is

@@ -1,28 +1,24 @@
-use Rattle.std.proofs.Common.{◌∙◌, ap, Err}
+use Rattle.std.proofs.Common.{◌∙◌, ap, refl, Err}
 use Rattle.std.proofs.lemmas.Result.{err_from_is_err_and}
+use Rattle.star_query.specs.Grammar.{cube, rollup}
 use Rattle.star_query.specs.Private.Reads.{spot_of}
-use Rattle.star_query.proofs.Queries.{read_cube, read_plain, bad_plain, bad_cube_columns, bad_cube_close}
+use Rattle.star_query.proofs.Queries.{read_hiding, read_plain, bad_plain}
 use Rattle.star_query.proofs.parser.Parser.groups.Goals as goal
 
 pub returns-then-take : goal.returns-then-take
 returns-then-take c =
-    read_cube (spot_of c.args.self.now) (spot_of c.take.new.self) (spot_of c.expect.new.self) (spot_of c.several.new.self) (spot_of c.expect-then-take.new.self) c.in_ok-columns.columns c.if-take.ensures.taken c.in_ok-expect.ensures.reads c.in_ok-columns.ensures.reads c.in_ok-expect-2.ensures.reads
+    let old = spot_of c.args.self.now in
+    read_hiding cube old old (spot_of c.take.new.self) (spot_of c.hidden.new.self) c.hidden.result refl c.if-take.ensures.taken c.hidden.ensures
+
+pub returns-then-take-2 : goal.returns-then-take-2
+returns-then-take-2 c =
+    read_hiding rollup (spot_of c.args.self.now) (spot_of c.take.new.self) (spot_of c.take-2.new.self) (spot_of c.hidden-then-take-2.new.self) c.hidden-then-take-2.result c.if-take.ensures.other.1 c.if-take-2.ensures.taken c.hidden-then-take-2.ensures
 
 pub returns : goal.returns
 returns c =
-    read_plain (spot_of c.args.self.now) (spot_of c.take.new.self) (spot_of c.several-2.new.self) c.in_ok-columns-2.columns c.if-take.ensures.other.1 c.if-take.ensures.other.0 c.in_ok-columns-2.ensures.reads c.in_ok-columns-2.ensures.ends
+    read_plain (spot_of c.args.self.now) (spot_of c.take.new.self) (spot_of c.take-2.new.self) (spot_of c.several.new.self) c.in_ok-columns.columns c.if-take.ensures.other c.if-take-2.ensures.other c.in_ok-columns.ensures.reads c.in_ok-columns.ensures.ends
 
 pub returns-in_err-columns : goal.returns-in_err-columns
 returns-in_err-columns c =
-    let e = err_from_is_err_and c.from_residual-in_err-columns.result c.from_residual-in_err-columns.ensures.1 in
-    bad_cube_columns (spot_of c.args.self.now) (spot_of c.take.new.self) (spot_of c.expect.new.self) (spot_of c.several.new.self) c.from_residual-in_err-columns.result _ (e.1 ∙ ap Err e.2) c.if-take.ensures.taken c.in_ok-expect.ensures.reads c.in_err-columns.ensures.reads
-
-pub returns-in_err-expect-2 : goal.returns-in_err-expect-2
-returns-in_err-expect-2 c =
-    let e = err_from_is_err_and c.from_residual-in_err-expect-2.result c.from_residual-in_err-expect-2.ensures.1 in
-    bad_cube_close (spot_of c.args.self.now) (spot_of c.take.new.self) (spot_of c.expect.new.self) (spot_of c.several.new.self) (spot_of c.expect-then-take.new.self) c.in_ok-columns.columns c.from_residual-in_err-expect-2.result _ (e.1 ∙ ap Err e.2) c.if-take.ensures.taken c.in_ok-expect.ensures.reads c.in_ok-columns.ensures.reads c.in_ok-columns.ensures.ends c.in_err-expect-2.ensures.reads
-
-pub returns-in_err-columns-2 : goal.returns-in_err-columns-2
-returns-in_err-columns-2 c =
-    let e = err_from_is_err_and c.from_residual-in_err-columns-2.result c.from_residual-in_err-columns-2.ensures.1 in
-    bad_plain (spot_of c.args.self.now) (spot_of c.take.new.self) (spot_of c.several-2.new.self) c.from_residual-in_err-columns-2.result _ (e.1 ∙ ap Err e.2) c.if-take.ensures.other.1 c.if-take.ensures.other.0 c.in_err-columns-2.ensures.reads
+    let e = err_from_is_err_and c.from_residual.result c.from_residual.ensures.1 in
+    bad_plain (spot_of c.args.self.now) (spot_of c.take.new.self) (spot_of c.take-2.new.self) (spot_of c.several.new.self) c.from_residual.result _ (e.1 ∙ ap Err e.2) c.if-take.ensures.other c.if-take-2.ensures.other c.in_err-columns.ensures.reads

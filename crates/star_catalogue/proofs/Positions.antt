@@ -1,0 +1,65 @@
+-- Keys that all differ stand at their positions.
+use Rattle.std.proofs.Common.{◌≡◌, ◌≢◌, ◌<◌, ◌∙◌, ℕ, ℤ, List, AllPairs, Bool, true, false, Option, Some, None, get_or, length, refl, sym, ap, inl, inr, arith, cond, nat_lt, position}
+use Rattle.std.specs.List.{slice_get, position_or_len}
+use Rattle.std.specs.Ordering.{int_eq}
+use Rattle.std.proofs.lemmas.Bool.{cases_Bool}
+use Rattle.std.proofs.lemmas.Bool.Decides.{Decides-int_eq, nat_tests}
+use Rattle.std.proofs.lemmas.List.{get_or_default}
+use Rattle.std.proofs.lemmas.List.Quantifiers.{position-Some}
+use Rattle.std.proofs.lemmas.List.Sums.{position_or_len_is}
+use Rattle.std.proofs.lemmas.Option.{get_or_from_slice_get, slice_get-get_or, slice_get_within}
+use Rattle.star_catalogue.specs.Private.Places.{ArePlaces, StandsAt}
+
+stands_at_position : (keys : List ℤ) (key : ℤ) (place : ℕ) → position (int_eq key) keys ≡ Some place
+    → StandsAt int_eq keys place key
+stands_at_position keys key place is =
+    let some = position-Some (int_eq key) keys place key is in
+    record {
+      stored = get_or keys place key;
+      there = slice_get-get_or keys place key some.0;
+      equal = some.1;
+    }
+
+position_of_standing : (keys : List ℤ) → AllPairs (λ a b. a ≢ b) keys → (key : ℤ) (place : ℕ)
+    → StandsAt int_eq keys place key → position (int_eq key) keys ≡ Some place
+position_of_standing keys apart key place stands =
+    let within : place < length keys = slice_get_within keys place stands.stored stands.there in
+    let read : get_or keys place key ≡ stands.stored =
+    get_or_from_slice_get keys place stands.stored key stands.there in
+    let is : key ≡ get_or keys place key =
+    (Decides-int_eq key stands.stored).0 stands.equal ∙ sym read in
+    let first : position_or_len (int_eq key) keys ≡ place =
+    position_or_len_is (int_eq key) keys place key (omega arith)
+    (λ k earlier. elim (cases_Bool (int_eq key (get_or keys k key))) [
+      | inl equal ↦
+          absurd (apart k place key earlier within
+          (sym ((Decides-int_eq key (get_or keys k key)).0 equal) ∙ is))
+      | inr other ↦ other
+    ])
+    (λ some. (Decides-int_eq key (get_or keys place key)).1 is) in
+    let few : nat_lt place (length keys) ≡ true = grind (arith, nat_tests) in
+    rw (first, few) refl
+
+pub positions_are_places : (keys : List ℤ) → AllPairs (λ a b. a ≢ b) keys
+    → ArePlaces int_eq (λ key. position (int_eq key) keys) keys
+positions_are_places keys apart = record {
+  found = λ key place.
+      (stands_at_position keys key place, position_of_standing keys apart key place);
+}
+
+some_is : (f g : ℤ → Option ℕ) (keys : List ℤ) → ArePlaces int_eq f keys → ArePlaces int_eq g keys
+    → (key : ℤ) (place : ℕ) → f key ≡ Some place → g key ≡ Some place
+some_is f g keys hf hg key place is = (hg.found key place).1 ((hf.found key place).0 is)
+
+-- what leads each key to where it stands is one
+pub one_place : (f g : ℤ → Option ℕ) (keys : List ℤ) → ArePlaces int_eq f keys
+    → ArePlaces int_eq g keys → (key : ℤ) → f key ≡ g key
+one_place f g keys hf hg key = by_case (f key) (g key)
+    (λ place is. some_is f g keys hf hg key place is)
+    (λ place is. some_is g f keys hg hf key place is)
+  where
+    by_case : (a b : Option ℕ) → ((place : ℕ) → a ≡ Some place → b ≡ Some place)
+        → ((place : ℕ) → b ≡ Some place → a ≡ Some place) → a ≡ b
+    by_case None None there back = refl
+    by_case None (Some n) there back = let e : None ≡ Some n = back n refl in cc
+    by_case (Some n) b there back = sym (there n refl)

@@ -1,0 +1,64 @@
+use Rattle.std.proofs.Common.{◌≡◌, ◌∙◌, ◌<◌, ◌++◌, ◌∷◌, ℤ, [], Bool, pos, true, false, not, FitsSigned, Some, w64, cond, get_or, length, take, refl, sym, ap, inr, arith, rules, to_z-of_z}
+use Rattle.std.specs.List.{list_any, slice_get}
+use Rattle.std.specs.Option.{option_map}
+use Rattle.std.specs.Ordering.{int_eq}
+use Rattle.std.proofs.lemmas.Cmp.{int_eq_equiv}
+use Rattle.std.proofs.lemmas.List.{take_all}
+use Rattle.std.proofs.lemmas.Option.{slice_get-get_or}
+use Rattle.star_catalogue.specs.declared.fault.LoadFault.TheVariants.{DuplicateKey}
+use Rattle.star_catalogue.proofs.Copies.{copied_more}
+use Rattle.star_catalogue.proofs.Repeats.{new_more, none_yet_repeats, repeats_first, NoneRepeats}
+use Rattle.star_catalogue.proofs.dimension.indexed.Goals as goal
+
+was_there : (b : Bool) → false ≡ not b → b ≡ true
+was_there true e = refl
+was_there false e = cc
+
+was_new : (b : Bool) → true ≡ not b → b ≡ false
+was_new true e = cc
+was_new false e = refl
+
+pub loop-place-init : goal.loop-place-init
+loop-place-init c = record {
+  keys = c.in_ok-rows.ensures.empty;
+  none = none_yet_repeats int_eq int_eq_equiv c.args.keys.now;
+}
+
+pub returns-then-not-is_new : goal.returns-then-not-is_new
+returns-then-not-is_new c =
+    let keys = c.args.keys.now in
+    let place = c.loop-place.place in
+    let within : place < length keys = c.loop-place-test.true in
+    let key = get_or keys place (pos 0) in
+    let fits : FitsSigned w64 key = search rules in
+    let added : c.in_ok-is_new.is_new ≡ not (list_any (int_eq key) (take place keys)) =
+    rw (to_z-of_z fits, c.loop-place.invariant.keys) at c.in_ok-is_new.ensures.added in
+    let there = was_there (list_any (int_eq key) (take place keys))
+    (sym c.if-not-is_new.true ∙ added) in
+    inr (ap (option_map (DuplicateKey c.args.table))
+    (repeats_first int_eq int_eq_equiv keys place key c.loop-place.invariant.none
+    (slice_get-get_or keys place (pos 0) within) there))
+
+pub loop-place-preserved : goal.loop-place-preserved
+loop-place-preserved c =
+    let keys = c.args.keys.now in
+    let place = c.loop-place.place in
+    let within : place < length keys = c.loop-place-test.true in
+    let key = get_or keys place (pos 0) in
+    let fits : FitsSigned w64 key = search rules in
+    let at = slice_get-get_or keys place (pos 0) within in
+    let added : c.in_ok-is_new.is_new ≡ not (list_any (int_eq key) (take place keys)) =
+    rw (to_z-of_z fits, c.loop-place.invariant.keys) at c.in_ok-is_new.ensures.added in
+    let fresh = was_new (list_any (int_eq key) (take place keys))
+    (sym c.if-not-is_new.false ∙ added) in
+    let pushed : c.insert_full.new.self.keys ≡ take place keys ++ key ∷ [] =
+    rw (to_z-of_z fits, c.loop-place.invariant.keys, fresh) at c.in_ok-is_new.ensures.keys in
+    record {
+      keys = copied_more keys (take place keys) c.insert_full.new.self.keys place key refl pushed at;
+      none = new_more int_eq int_eq_equiv keys place key c.loop-place.invariant.none at fresh;
+    }
+
+pub returns : goal.returns
+returns c =
+    let whole = take_all c.loop-place.place c.args.keys.now c.loop-place-test.false in
+    (c.loop-place.invariant.keys ∙ whole, rw whole at c.loop-place.invariant.none.unique)

@@ -1,0 +1,25 @@
+-- Where keys stand.
+use Rattle.std.specs.Prelude.{◌≡◌, ◌↔◌, ◌-ℤ◌, if◌then◌else◌, ℕ, ℤ, Bool, true, List, Option, Some, None, nat_eq, slice_get}
+use Rattle.std.specs.Int.RustNames.{int_lt, unsigned_abs}
+
+-- a key stands at a place of some keys
+pub record StandsAt {K : Type 0} (same : K → K → Bool) (keys : List K) (place : ℕ)
+    (key : K) : Type 0 where
+  pub stored : K
+  pub there : slice_get keys place ≡ Some stored
+  pub equal : same key stored ≡ true
+
+-- each key leads to where it stands among some keys, and no other leads anywhere
+pub record ArePlaces {K : Type 0} (same : K → K → Bool) (place_of : K → Option ℕ)
+    (keys : List K) : Type 0 where
+  pub found : (key : K) (place : ℕ) → (place_of key ≡ Some place) ↔ StandsAt same keys place key
+
+-- what stands for a row: no table has so many that the greatest number of 32 bits is one
+abbrev pub row_of : Option ℕ → Option ℕ
+row_of None = None
+row_of (Some row) = if nat_eq row 4294967295 then None else Some row
+
+-- the row of a key, by the rows of the numbers from the least key on
+abbrev pub dense_at : ℤ → List ℕ → ℤ → Option ℕ
+dense_at least rows key =
+    if int_lt key least then None else row_of (slice_get rows (unsigned_abs (key -ℤ least)))

@@ -1,0 +1,4 @@
+pub mod Shifted
+pub mod EndedEarly
+pub mod Batches
+pub mod Behind

@@ -1,0 +1,175 @@
+// Join indexes over tables at the edges of each width of words: rows read back, and masks narrowed
+// by ranges of rows and by flags.
+
+ghost use Rattle.std.specs.Prelude.{◌≡◌, ◌<◌, ◌+◌, ◌≤◌, All, IfOk, length};
+
+use crate::asserts::check_same;
+use star_column::JoinIndex;
+use std::alloc::{AllocError, Global};
+use std::process::Abort;
+use std::test::Fail;
+
+// As many rows of a table, in turn the first, the one in the middle, and the last.
+fn rows_in(alloc: Global, table: u32, count: u32) -> Result<Vec<u32>, AllocError>
+    requires { 0 < table }
+    ensures { IfOk result (λ rows. All (λ row. row < table) rows.items) }
+{
+    let mut rows = Vec::new(alloc);
+    for row in 0..count {
+        rows.push(match row % 3 {
+            0 => 0,
+            1 => table / 2,
+            _ => table - 1,
+        })?;
+    }
+    Ok(rows)
+}
+
+// The row that a row refers to, if there is one.
+fn row_at(index: &JoinIndex, row: u32) -> Option<u32> {
+    if (row as usize) < index.len() {
+        Some(index.row(row))
+    } else {
+        None
+    }
+}
+
+#[test]
+fn rows_are_read_back(rt: HostRuntime) -> Result<(), Fail> {
+    let alloc = rt.alloc();
+    for table in [1, 2, 256, 257, 65_536, 65_537, u32::MAX] {
+        let rows = rows_in(alloc, table, 130)?;
+        let index = JoinIndex::build(alloc, rows.as_slice(), table)?;
+        check_same(&rt, index.len(), 130, &table);
+        for (row, expected) in [
+            (0, Some(0)),
+            (1, Some(table / 2)),
+            (2, Some(table.saturating_sub(1))),
+            (129, Some(0)),
+            (130, None),
+        ] {
+            check_same(&rt, row_at(&index, row), expected, &(table, row));
+        }
+    }
+    Ok(())
+}
+
+// Which of 64 rows from one on are among 130 and leave these remainders by 3, as bits.
+fn turns(first: u32, remainders: [bool; 3]) -> u64 {
+    let mut mask = 0;
+    let mut bit: u64 = 1;
+    for place in 0..64 {
+        let row = first.wrapping_add(place);
+        let passes = match row % 3 {
+            0 => remainders[0],
+            1 => remainders[1],
+            _ => remainders[2],
+        };
+        if passes && row < 130 {
+            mask |= bit;
+        }
+        bit = bit.wrapping_mul(2);
+    }
+    mask
+}
+
+// The same of 128 rows.
+fn two_turns(first: u32, remainders: [bool; 3]) -> Option<[u64; 2]> {
+    Some([
+        turns(first, remainders),
+        turns(first.wrapping_add(64), remainders),
+    ])
+}
+
+// Two masks of an index from a row on, narrowed by a range, if it reaches so far.
+fn in_range(index: &JoinIndex, first: u32, from: u32, to: u32) -> Option<[u64; 2]> {
+    let mut alive = [u64::MAX; 2];
+    if u64::from(first) + 64 <= index.len() as u64 {
+        index.narrow_range(first, from, to, &mut alive);
+        Some(alive)
+    } else {
+        None
+    }
+}
+
+// Two masks of an index from a row on, narrowed by flags, if it reaches so far and each row that it
+// has has one.
+fn by_flags(index: &JoinIndex, first: u32, flags: &[bool]) -> Option<[u64; 2]>
+    requires { All (λ row. row < length flags.now) index.now }
+{
+    let mut alive = [u64::MAX; 2];
+    if u64::from(first) + 64 <= index.len() as u64 {
+        index.narrow_flags(first, flags, &mut alive);
+        Some(alive)
+    } else {
+        None
+    }
+}
+
+#[test]
+fn masks_are_narrowed_by_ranges(rt: HostRuntime) -> Result<(), Fail> {
+    let alloc = rt.alloc();
+    for table in [3, 256, 257, 65_536, 65_537, u32::MAX] {
+        let rows = rows_in(alloc, table, 130)?;
+        let index = JoinIndex::build(alloc, rows.as_slice(), table)?;
+        let last = table.saturating_sub(1);
+        for (from, to, remainders) in [
+            (0, 0, [true, false, false]),
+            (0, last, [true, true, true]),
+            (1, last, [false, true, true]),
+            (last, last, [false, false, true]),
+            (last, u32::MAX, [false, false, true]),
+            (0, last.saturating_sub(1), [true, true, false]),
+            (1, last.saturating_sub(1), [false, true, false]),
+            (2, 1, [false, false, false]),
+        ] {
+            for first in [0, 1, 2, 63, 64, 65, 66] {
+                let got = in_range(&index, first, from, to);
+                let expected = two_turns(first, remainders);
+                check_same(&rt, got, expected, &(table, from, to, first));
+            }
+        }
+    }
+    Ok(())
+}
+
+// A flag for each row of a table: for the first row, the one in the middle, and the last.
+fn flags_of(alloc: Global, table: u32, set: [bool; 3]) -> Result<Vec<bool>, AllocError>
+    requires { 0 < table }
+    ensures { IfOk result (λ flags. length flags.items ≡ table) }
+{
+    let mut flags = vec![in alloc; false; table as usize]?;
+    flags[0] = set[0];
+    flags[(table / 2) as usize] = set[1];
+    flags[(table - 1) as usize] = set[2];
+    Ok(flags)
+}
+
+#[test]
+fn masks_are_narrowed_by_flags(rt: HostRuntime) -> Result<(), Fail> {
+    let alloc = rt.alloc();
+    for table in [3, 256, 257, 65_536, 65_537] {
+        let rows = rows_in(alloc, table, 130)?;
+        let index = JoinIndex::build(alloc, rows.as_slice(), table)?;
+        for remainders in [
+            [false, false, false],
+            [true, false, false],
+            [false, true, false],
+            [false, false, true],
+            [true, false, true],
+            [true, true, true],
+        ] {
+            let flags = flags_of(alloc, table, remainders)?;
+            for first in [0, 1, 2, 63, 64, 65, 66] {
+                let got = by_flags(&index, first, flags.as_slice());
+                check_same(
+                    &rt,
+                    got,
+                    two_turns(first, remainders),
+                    &(table, remainders, first),
+                );
+            }
+        }
+    }
+    Ok(())
+}
