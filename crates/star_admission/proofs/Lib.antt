@@ -31,6 +31,7 @@ pub mod Nested
 mod Quoted
 mod Sizes
 mod NarrowRanges
+mod NarrowCode
 mod ToldBounds
 mod ToldColumns
 pub mod BeforePuts

@@ -7,7 +7,7 @@ use Rattle.std.proofs.lemmas.Bool.{eqb-true}
 use Rattle.star_schema.specs.declared.column.ColumnId.{ColumnId}
 use Rattle.star_schema.specs.declared.group.Aggregate.{Aggregate}
 use Rattle.star_schema.specs.declared.group.Aggregate.TheVariants.{Sum, Count, Min, Max}
-use Rattle.star_interval.specs.Range.{Range, FitsI64, fits_i64, only, hull}
+use Rattle.star_interval.specs.Range.{Range, FitsI64, FitsI128, fits_i64, only, hull, multiple_range}
 use Rattle.star_program.specs.declared.op.Op.{Op}
 use Rattle.star_program.specs.declared.op.Op.TheVariants.{Assign, Keep, Put}
 use Rattle.star_program.specs.declared.op.Operation.{Operation}
@@ -24,9 +24,9 @@ use Rattle.star_admission.specs.Bounds.{NamesI64}
 use Rattle.star_admission.specs.Contexts.{Context, put_known, put_share, result_known, after_op}
 use Rattle.star_admission.specs.Ranges.{Known, KnownNumber, KnownText, KnownPlace, KnownRow, KnownFlag, Table, range_at, given, loaded_known, answer_known}
 use Rattle.star_admission.specs.Refusals.{overflow_of, sum_overflow, sums_overflow, range_reason}
-use Rattle.star_admission.specs.Tallies.{Share, sum_range, most_of, hull_with, hull_of, read_range}
+use Rattle.star_admission.specs.Tallies.{Share, sum_range, most_of, hull_with, hull_of, read_range, widened}
 use Rattle.star_admission.proofs.Instructions.{not_refuses_none}
-use Rattle.star_admission.proofs.Sizes.{Small, small_more, sum_abs, difference_abs, product_abs, fits_small, i64_small, only_small, hull_small, corner_small}
+use Rattle.star_admission.proofs.Sizes.{Small, small_more, sum_abs, difference_abs, product_abs, fits_small, small_fits, i64_small, only_small, hull_small, corner_small, widened_small, multiple_small}
 
 -- ---- what is known where nothing is refused
 
@@ -38,7 +38,7 @@ abbrev IsNarrow : Known → Type 0
 IsNarrow (KnownNumber r reach origin) = Narrow r
 IsNarrow _ = Unit {0}
 
-abbrev AllNarrow : List Share → Type 0
+abbrev pub AllNarrow : List Share → Type 0
 AllNarrow ss = AllByRecursion (λ s. Narrow s.range) ss
 
 pub record Fits (parts : Parts) (x : Context) : Type 0 where
@@ -72,6 +72,12 @@ result_narrow w (KnownText c) e = tt
 result_narrow w (KnownPlace c) e = tt
 result_narrow w (KnownRow t) e = tt
 result_narrow w KnownFlag e = tt
+
+-- what an operation makes, where it isn't refused
+made_narrow : (w : World) (parts : Parts) (x : Context) (t : ℕ) (o : Operation)
+    → range_reason w parts x (Assign t o) ≡ None → IsNarrow (result_known w parts x (Assign t o))
+made_narrow w parts x t (Read g a n) e = fits_small _ (not_refuses_none _ _ e)
+made_narrow w parts x t o e = result_narrow w (result_known w parts x (Assign t o)) e
 
 -- ---- a put
 
@@ -120,13 +126,33 @@ share_narrow parts x g vs a fits =
     (aligned_narrow (group_at parts g).aggregates (map x.known vs)
     (mapped_narrow x.known vs fits.known))
 
+-- ---- what adds up
+
+-- so many numbers of 64 bits each add up to no more than this
+pub sum_small : (ss : List Share) → AllNarrow ss → Small (most_of ss * 2 ^ 63) (sum_range ss)
+sum_small [] all = only_small 0 (pos 0) (omega arith)
+sum_small (s ∷ ss) all =
+    corner_small ◌+ℤ◌ (most_of ss * 2 ^ 63) (s.met * 2 ^ 63) ((most_of ss + s.met) * 2 ^ 63) both
+    (sum_range ss) (multiple_range s.met (widened s.range)) (sum_small ss all.1)
+    (multiple_small s.met (2 ^ 63) (widened s.range) (widened_small (2 ^ 63) s.range all.0))
+  where
+    both : (x y : ℤ) → unsigned_abs x ≤ most_of ss * 2 ^ 63 → unsigned_abs y ≤ s.met * 2 ^ 63
+        → unsigned_abs (x +ℤ y) ≤ (most_of ss + s.met) * 2 ^ 63
+    both x y p q = let h = sum_abs x y (x +ℤ y) refl in omega (arith, h, p, q)
+
+-- so what can be put in a run adds up within 128 bits
+pub sum_fits : (ss : List Share) → AllNarrow ss → most_of ss ≤ 4096 * (1 + 10 ^ 15)
+    → FitsI128 (sum_range ss)
+sum_fits ss all few =
+    small_fits (most_of ss * 2 ^ 63) (sum_range ss) (omega (arith, few)) (sum_small ss all)
+
 -- ---- after an instruction
 
 pub after_narrow : (w : World) (parts : Parts) (x : Context) (op : Op) → Fits parts x
     → range_reason w parts x op ≡ None → Fits parts (after_op w parts x op)
 after_narrow w parts x (Assign t o) fits e = record {
   known = entry_narrow x.known t (result_known w parts x (Assign t o))
-      (result_narrow w (result_known w parts x (Assign t o)) e) fits.known;
+      (made_narrow w parts x t o e) fits.known;
   sums = fits.sums;
   each = fits.each;
 }

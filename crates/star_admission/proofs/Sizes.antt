@@ -5,9 +5,8 @@ use Rattle.std.specs.Int.{w128}
 use Rattle.std.proofs.lemmas.Bool.{ltb-true, and_parts}
 use Rattle.std.proofs.lemmas.Int.{ints, unsigned_abs-mul, fits_signed_from_abs}
 use Rattle.std.proofs.Math.Nat.{mul-le-mul_right, mul-le-mul_left}
-use Rattle.star_interval.specs.Range.{Range, FitsI64, is_i64, fits_i64, only, hull, corner_range, multiple_range}
+use Rattle.star_interval.specs.Range.{Range, FitsI64, FitsI128, is_i64, fits_i64, only, hull, corner_range, multiple_range}
 use Rattle.star_interval.proofs.Ranges as ranges
-use Rattle.star_admission.specs.Bounds.{FitsI128}
 use Rattle.star_admission.specs.Tallies.{widened}
 
 abbrev pub Small : ℕ → Range → Type 0

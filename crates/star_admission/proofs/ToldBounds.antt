@@ -4,11 +4,10 @@ use Rattle.std.specs.Prelude.{ℤ, pos, ◌+ℤ◌, nat_eq, nat_le, not, slice_i
 use Rattle.std.specs.Option.{option_map, option_or}
 use Rattle.std.proofs.lemmas.Bool.{eq-eqb, leb-true}
 use Rattle.std.proofs.Math.Nat.{mul-le-mul_right}
-use Rattle.star_schema.specs.declared.table.TableId.{TableId}
 use Rattle.star_schema.specs.declared.column.ColumnId.{ColumnId}
 use Rattle.star_schema.specs.declared.group.Aggregate.{Aggregate}
 use Rattle.star_schema.specs.declared.group.Aggregate.TheVariants.{Sum, Count, Min, Max}
-use Rattle.star_interval.specs.Range.{Range, FitsI64, fits_i64, only}
+use Rattle.star_interval.specs.Range.{Range, FitsI64, FitsI128, fits_i64, only}
 use Rattle.star_program.specs.declared.op.Op.{Op}
 use Rattle.star_program.specs.declared.op.Op.TheVariants.{Assign, Keep, Put}
 use Rattle.star_program.specs.declared.op.Operation.TheVariants.{Const, Edge, Load, Find, Binary, Within, Not, Read}
@@ -17,8 +16,7 @@ use Rattle.star_program.specs.Code.{Code, Stop, Then, Each, code_size}
 use Rattle.star_program.specs.declared.fault.Fault.{Fault}
 use Rattle.star_program.specs.Faults.{group_at}
 use Rattle.star_program.specs.World.{World, is_text}
-use Rattle.star_common.proofs.Firsts.{or_none}
-use Rattle.star_admission.specs.Bounds.{FitsI128, NamesI64, AllNameI64, AreI64}
+use Rattle.star_admission.specs.Bounds.{NamesI64, AllNameI64, AreI64}
 use Rattle.star_common.specs.First.{first_answer}
 use Rattle.star_program.specs.Limits.{IsWithinLimits}
 use Rattle.star_program.specs.Shown.{shown_fault}
@@ -36,7 +34,8 @@ use Rattle.star_admission.specs.Tallies.{Share, sum_range, most_of, widened}
 use Rattle.star_admission.proofs.Sound.{at_place_none}
 use Rattle.star_admission.proofs.Forward.{first_standing}
 use Rattle.star_admission.proofs.Sizes.{sum_abs, corner_small, widened_small, multiple_small, small_fits}
-use Rattle.star_admission.proofs.NarrowRanges.{Narrow, Fits, zero_narrow, entry_narrow, share_narrow, after_narrow, Wide, IsWide, Counts, result_wide}
+use Rattle.star_admission.proofs.NarrowRanges.{Narrow, Fits, share_narrow, Wide, IsWide, Counts, result_wide}
+use Rattle.star_admission.proofs.NarrowCode.{op_fits, in_fits, past_fits, end_fits, first_fits}
 
 -- ---- the range that a reason tells
 
@@ -133,6 +132,9 @@ range_told : (w : World) (parts : Parts) (x : Context) (op : Op) (r : Range)
     → range_reason w parts x op ≡ Some (Overflow r.low r.high columns) → Wide r
 range_told w parts x (Put g ks vs) r columns fits counts named bounds e =
     put_told w parts x g ks vs r columns fits counts e
+range_told w parts x (Assign t (Read g a n)) r columns fits counts named bounds e =
+    subst Wide (ap range_in (refused_as _ _ _ e))
+    (result_wide w parts x t (Read g a n) fits counts named bounds)
 range_told w parts x (Assign t o) r columns fits counts named bounds e =
     overflow_told w (result_known w parts x (Assign t o)) r columns
     (result_wide w parts x t o fits counts named bounds) e
@@ -175,44 +177,6 @@ op_told w parts pending x op r columns fits counts named bounds e =
     (either_first (source_reason pending x op) (range_reason w parts x op) (Overflow r.low r.high columns) h.1))
     (either_first (kind_reason parts x op)
     (option_or (source_reason pending x op) (range_reason w parts x op)) (Overflow r.low r.high columns) e)
-
--- ---- from instruction to instruction
-
-op_fits : (w : World) (parts : Parts) (pending : ℕ → Bool) (x : Context) (op : Op) → Fits parts x
-    → op_reason w parts pending x op ≡ None → Fits parts (after_op w parts x op)
-op_fits w parts pending x op fits e =
-    after_narrow w parts x op fits
-    (or_none (source_reason pending x op) (range_reason w parts x op)
-    (or_none (kind_reason parts x op) _ e).1).1
-
-in_fits : (w : World) (parts : Parts) (x : Context) (table : TableId) (r : ℕ)
-    → Fits parts x → Fits parts (in_scan w x table r)
-in_fits w parts x table r fits = record {
-  known = entry_narrow x.known r (KnownRow table) tt fits.known;
-  sums = fits.sums;
-  each = fits.each;
-}
-
-past_fits : (parts : Parts) (x end : Context) → Fits parts x → Fits parts end
-    → Fits parts (after_scan x end)
-past_fits parts x end fits ended =
-    record { known = fits.known; sums = ended.sums; each = ended.each }
-
-end_fits : (w : World) (parts : Parts) (c : Code) (pending : ℕ → Bool) (at : ℕ) (x : Context) → Fits parts x
-    → first_reason w parts pending x at c ≡ None → Fits parts (at_end w parts x c)
-end_fits w parts Stop pending at x fits e = fits
-end_fits w parts (Then op rest) pending at x fits e =
-    let p = or_none (at_place at (op_reason w parts (open_with pending rest) x op)) _ e in
-    end_fits w parts rest pending (at + 1) (after_op w parts x op)
-    (op_fits w parts (open_with pending rest) x op fits (at_place_none at _ p.0)) p.1
-end_fits w parts (Each table r body rest) pending at x fits e =
-    let inner = in_scan w x table r in
-    let p = or_none (at_place at (scan_reason parts x r)) _ e in
-    let within = open_with pending (Each table r body rest) in
-    let q = or_none (first_reason w parts within inner (at + 1) body) _ p.1 in
-    end_fits w parts rest pending (at + 1 + code_size body) (after_scan x (at_end w parts inner body))
-    (past_fits parts x (at_end w parts inner body) fits
-    (end_fits w parts body within (at + 1) inner (in_fits w parts x table r fits) q.0)) q.1
 
 -- ---- how many numbers are put
 
@@ -297,11 +261,6 @@ module _ (w : World) (parts : Parts)
       omega (arith, b, inside)) n r columns k.1)
       (either_first (first_reason w parts within inner (at + 1) body) _ (n, Overflow r.low r.high columns) h.1))
       (either_first (at_place at (scan_reason parts x q)) _ (n, Overflow r.low r.high columns) e)
-
--- at the first instruction
-first_fits : (parts : Parts) → Fits parts at_first
-first_fits parts =
-    record { known = λ r. zero_narrow; sums = λ g a same. zero_narrow; each = λ g a. tt }
 
 pub refused_instruction : (w : World) (most : ℕ) (parts : Parts) (refused : ℕ × Reason)
     → first_refusal w most parts ≡ Some (Refused refused)

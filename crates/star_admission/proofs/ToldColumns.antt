@@ -252,6 +252,9 @@ module _ (w : World) (parts : Parts)
   range_found x (Put g ks vs) h =
       sums_found (group_at parts g).aggregates 0 ((after_op w parts x (Put g ks vs)).so_far g)
       ((after_reaches w parts x (Put g ks vs) h).puts g)
+  range_found x (Assign t (Read g a n)) h =
+      refused_found _ (Overflow _ _ (reached w (reach_of (x.so_far g a))))
+      (reached_fit (reach_of (x.so_far g a)) (h.puts g a))
   range_found x (Assign t o) h =
       overflow_found (result_known w parts x (Assign t o)) (result_numbers w parts x (Assign t o) h)
   range_found x (Keep f) h = tt

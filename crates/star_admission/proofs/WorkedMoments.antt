@@ -1,6 +1,6 @@
 -- What a moment asks of registers and of what comes next, and what it refuses, by computation.
-use Rattle.std.proofs.Common.{◌≡◌, ℕ, zero, suc, ◌^◌, ◌+◌, ◌-◌, ◌<◌, true, false, [], ◌∷◌, Some, None, refl, arith}
-use Rattle.std.specs.Prelude.{pos, neg_ℤ}
+use Rattle.std.proofs.Common.{◌≡◌, ℕ, zero, suc, ◌^◌, ◌-◌, ◌<◌, true, false, [], ◌∷◌, Some, None, refl, arith}
+use Rattle.std.specs.Prelude.{pos}
 use Rattle.std.proofs.lemmas.Int.{ints}
 use Rattle.star_schema.specs.declared.table.TableId.TheVariants.{Date, Lineorder}
 use Rattle.star_schema.specs.declared.column.ColumnId.TheVariants.{CRegion, CNation, LoQuantity}
@@ -15,7 +15,7 @@ use Rattle.star_program.specs.Effects.{EndsTurn, empty_store}
 use Rattle.star_program.specs.Run.{Ended}
 use Rattle.star_program.specs.World.{World}
 use Rattle.star_program.proofs.Sample.{sample, plain}
-use Rattle.star_admission.specs.Bounds.{FitsI128, NamesI64, AllNameI64, AreI64}
+use Rattle.star_admission.specs.Bounds.{NamesI64, AllNameI64, AreI64}
 use Rattle.star_admission.specs.Fitting.{FitsValue, FitsAt}
 use Rattle.star_admission.specs.Laws.{EndsWithin, SumsFit, TotalLies}
 use Rattle.star_admission.specs.Moments.{IsMoment, AtEveryMoment, Onward, picked, sum_of}
@@ -124,19 +124,6 @@ row_undeclared : AtEveryMoment sample (over [] (Each Date 10 Stop Stop)) → ⊥
 row_undeclared h = let p = h.1 in omega (arith, p)
 
 -- ---- bounds
-
--- the ends of 128 bits
-widest_fits : FitsI128 (record { low = neg_ℤ (pos (2 ^ 127)); high = pos (2 ^ 127 - 1) })
-widest_fits = (record { sfits = omega arith }, record { sfits = omega arith })
-
-no_wider : FitsI128 (only (pos (2 ^ 127))) → ⊥
-no_wider h = let p = h.0.sfits in omega (arith, p)
-
-no_lower_end : FitsI128 (record { low = neg_ℤ (pos (2 ^ 127 + 1)); high = pos 0 }) → ⊥
-no_lower_end h = let p = h.0.sfits in omega (arith, p)
-
-no_higher_end : FitsI128 (record { low = pos 0; high = pos (2 ^ 127) }) → ⊥
-no_higher_end h = let p = h.1.sfits in omega (arith, p)
 
 constant_of_64_bits : NamesI64 (const 0 (pos (2 ^ 63 - 1)))
 constant_of_64_bits = record { sfits = omega arith }

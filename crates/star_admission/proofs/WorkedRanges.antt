@@ -176,6 +176,27 @@ great_default_read : refusal sample (Min ∷ []) (acts (read 0 0 0 (pos 92233720
 unfolding first_answer is_i64 reached
 great_default_read = refl
 
+-- with what the numbers are computed from that were put for its aggregate
+abbrev put_two : Code → Code
+put_two behind = Each Lineorder 0 (acts (load 1 LoQuantity 0 ∷ load 2 LoRevenue 0 ∷ put 0 [] (1 ∷ 2 ∷ []) ∷ []) Stop) behind
+
+read_reaches : refusal great (Min ∷ Count ∷ Sum ∷ []) (put_two (acts (read 3 0 2 (pos 9223372036854775808) ∷ []) Stop))
+    ≡ Some (Refused (5, Overflow (pos 0) (pos 9223372036854775808) (between LoRevenue (pos 5000000000) (pos 5000000000) ∷ [])))
+unfolding column_of first_answer is_i64 reached
+read_reaches = refl
+
+-- none for a COUNT
+count_reaches_nothing : refusal great (Min ∷ Count ∷ Sum ∷ []) (put_two (acts (read 3 0 1 (pos 9223372036854775808) ∷ []) Stop))
+    ≡ Some (Refused (5, leaves (pos 0) (pos 9223372036854775808)))
+unfolding column_of first_answer is_i64 reached
+count_reaches_nothing = refl
+
+-- what a read gives is computed from no column
+read_reached_no_further : refusal great (Max ∷ []) (Each Lineorder 0 (acts (load 1 LoTax 0 ∷ put 0 [] (1 ∷ []) ∷ []) Stop) (acts (read 2 0 0 (pos 0) ∷ add 3 2 2 ∷ add 4 3 2 ∷ []) Stop))
+    ≡ Some (Refused (6, leaves (neg_ℤ (pos 9000000000000000000)) (pos 12000000000000000000)))
+unfolding column_of first_answer is_i64 reached
+read_reached_no_further = refl
+
 greatest_default_read : refusal sample (Min ∷ []) (acts (read 0 0 0 (pos 9223372036854775807) ∷ []) Stop) ≡ None
 unfolding first_answer is_i64 reached
 greatest_default_read = refl

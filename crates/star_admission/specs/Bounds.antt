@@ -1,18 +1,14 @@
--- Bounds of 64 bits, of which those that a refusal tells are made, and bounds of 128 bits.
+-- Numbers of 64 bits in a program, and bounds of 64 bits of its columns.
 use Rattle.std.specs.Prelude.{◌≡◌, FitsSigned, false}
-use Rattle.std.specs.Int.{w64, w128}
+use Rattle.std.specs.Int.{w64}
 use Rattle.star_schema.specs.declared.column.ColumnId.{ColumnId}
-use Rattle.star_interval.specs.Range.{Range, FitsI64}
+use Rattle.star_interval.specs.Range.{FitsI64}
 use Rattle.star_program.specs.declared.op.Op.{Op}
 use Rattle.star_program.specs.declared.op.Op.TheVariants.{Assign}
 use Rattle.star_program.specs.declared.op.Operation.TheVariants.{Const, Read}
 use Rattle.star_program.specs.declared.program.Parts.{Parts}
 use Rattle.star_program.specs.Code.{Code, Stop, Then, Each}
 use Rattle.star_program.specs.World.{World, is_text}
-
--- both ends are numbers of 128 bits
-abbrev pub FitsI128 : Range → Type 0
-FitsI128 r = FitsSigned w128 r.low × FitsSigned w128 r.high
 
 -- a constant and the default of a read are numbers of 64 bits
 abbrev pub NamesI64 : Op → Type 0

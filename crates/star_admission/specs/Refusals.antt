@@ -7,7 +7,7 @@ use Rattle.star_schema.specs.declared.column.TheConstants.{COLUMNS}
 use Rattle.star_schema.specs.declared.group.Aggregate.{Aggregate}
 use Rattle.star_schema.specs.declared.group.Aggregate.TheVariants.{Sum}
 use Rattle.star_schema.specs.Schema.{is_table, references}
-use Rattle.star_interval.specs.Range.{Range, fits_i64}
+use Rattle.star_interval.specs.Range.{Range, fits_i64, only}
 use Rattle.star_program.specs.declared.op.Op.{Op}
 use Rattle.star_program.specs.declared.op.Op.TheVariants.{Assign, Put}
 use Rattle.star_program.specs.declared.op.Operation.TheVariants.{Find, Read}
@@ -17,8 +17,8 @@ use Rattle.star_program.specs.declared.fault.Fault.{Fault}
 use Rattle.star_program.specs.declared.fault.Fault.TheVariants.{BadRegister, WrittenTwice}
 use Rattle.star_program.specs.Faults.{unless, group_at, target_of, fault_of}
 use Rattle.star_admission.specs.Ranges.{Reach, Known, KnownNumber, origin_at, kinds_known}
-use Rattle.star_admission.specs.Tallies.{Share, reach_of, sum_range}
-use Rattle.star_admission.specs.Contexts.{Context, result_known, after_op}
+use Rattle.star_admission.specs.Tallies.{Share, reach_of, read_range, sum_range}
+use Rattle.star_admission.specs.Contexts.{Context, aggregate_at, result_known, after_op}
 use Rattle.star_admission.specs.declared.reason.Reached.{Reached}
 use Rattle.star_admission.specs.declared.reason.Reason.{Reason}
 use Rattle.star_admission.specs.declared.reason.Reason.TheVariants.{Faulty, NotAForeignKey, OpenGroup, Overflow}
@@ -86,10 +86,14 @@ source_reason pending x (Assign t (Find table k)) =
 source_reason pending x (Assign t (Read g a n)) = refuses (pending g) OpenGroup
 source_reason pending x _ = None
 
--- by the range of its result, or those of the sums that it puts to
+-- by the range of its result, or those of the sums that it puts to; a read tells what the numbers
+-- are computed from that are put for its aggregate
 abbrev pub range_reason : World → Parts → Context → Op → Option Reason
 range_reason w parts x (Put g ks vs) =
     sums_overflow w (group_at parts g).aggregates 0 ((after_op w parts x (Put g ks vs)).so_far g)
+range_reason w parts x (Assign t (Read g a n)) =
+    overflow w (read_range (aggregate_at parts g a) (x.so_far g a) (only n))
+    (reach_of (x.so_far g a))
 range_reason w parts x op = overflow_of w (result_known w parts x op)
 
 -- the first of these

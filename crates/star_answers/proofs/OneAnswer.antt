@@ -1,7 +1,6 @@
 -- A query has one answer over given tables, and so one printed text.
 use Rattle.std.proofs.Common.{◌≡◌, ◌∙◌, ℕ, List, ap, map, subst, sym}
-use Rattle.star_schema.specs.Database.{TableTexts, rows_in}
-use Rattle.star_schema.specs.Loadable.{database_of}
+use Rattle.star_schema.specs.Database.{Database, rows_in}
 use Rattle.star_schema.specs.Order.{row_cmp, value_cmp}
 use Rattle.star_query.specs.Tree.{Tree}
 use Rattle.star_query.proofs.Verdicts.{one_meaning}
@@ -21,10 +20,10 @@ one_answer ts q names others rows more h k =
     let same : h.groups ≡ k.groups = one_order (row_cmp value_cmp (sorts_of q)) (row_turned (sorts_of q)) h.groups k.groups h.in_order k.in_order there back in
     (h.headed ∙ sym k.headed, h.cells ∙ ap (map (λ group. map (cell_of group) (item_columns q))) same ∙ sym k.cells)
 
-pub one_report : (texts : TableTexts) (query a b : List ℕ) → IsReport texts query a → IsReport texts query b → a ≡ b
-one_report texts query a b h k =
+pub one_report : (database : Database) (query a b : List ℕ) → IsReport database query a → IsReport database query b → a ≡ b
+one_report database query a b h k =
     let same : h.tree ≡ k.tree = one_meaning query h.tree k.tree h.means k.means in
-    let ts = rows_in (database_of texts) in
+    let ts = rows_in database in
     let moved : IsAnswer ts k.tree h.names h.rows = subst (λ q. IsAnswer ts q h.names h.rows) same h.answer in
     let one = one_answer ts k.tree h.names k.names h.rows k.rows moved k.answer in
     h.printed ∙ (λ i. report_text (one.0 i) (one.1 i)) ∙ sym k.printed

@@ -5,9 +5,8 @@ ghost use Rattle.std.specs.List.Sorted.{IsPermutation};
 ghost use Rattle.star_schema.specs.declared.group.Aggregate.{Aggregate};
 ghost use Rattle.star_schema.specs.declared.group.Shape.{Shape};
 ghost use Rattle.star_schema.specs.declared.table.TableId.TheVariants.{Lineorder};
-ghost use Rattle.star_schema.specs.Database.{TableTexts, rows_in};
+ghost use Rattle.star_schema.specs.Database.{Database, rows_in};
 ghost use Rattle.star_schema.specs.Groups.{AreGroups, Entry, GroupRow, totals_of};
-ghost use Rattle.star_schema.specs.Loadable.{database_of};
 ghost use Rattle.star_schema.specs.Order.{value_cmp};
 ghost use Rattle.star_schema.specs.Schema.{table_of};
 ghost use Rattle.star_schema.specs.Tables.{Value};
@@ -67,18 +66,18 @@ pub fn one_query_has_one_answer()
         → (names ≡ others) × (rows ≡ more) }
 {}
 
-/// The bytes of a query have one report over the bytes of five tables.
+/// The bytes of a query have one report over the rows of five tables.
 pub fn one_text_has_one_report()
-    ensures { (texts : TableTexts) (query report other : List ℕ)
-        → IsReport texts query report → IsReport texts query other → report ≡ other }
+    ensures { (database : Database) (query report other : List ℕ)
+        → IsReport database query report → IsReport database query other → report ≡ other }
 {}
 
 /// The printed answer of a plan is the report of the text that the plan was made of: what is known
 /// of a parsed query and of its plan is all that is asked.
 pub fn plans_have_the_reports_of_their_texts()
-    ensures { (texts : TableTexts) (text report : List ℕ) (query : Tree) (p : Plan)
+    ensures { (database : Database) (text report : List ℕ) (query : Tree) (p : Plan)
         (names : List (List ℕ)) (rows : List (List Cell))
         → Means text query → IsWellNamed query → IsResolved query p
-        → IsPlanAnswer (rows_in (database_of texts)) p names rows
-        → report ≡ report_text names rows → IsReport texts text report }
+        → IsPlanAnswer (rows_in database) p names rows
+        → report ≡ report_text names rows → IsReport database text report }
 {}

@@ -1,9 +1,8 @@
 -- The rows that foreign keys refer to.
-use Rattle.std.proofs.Common.{◌≡◌, ◌+◌, ◌<◌, ◌≤◌, ◌^◌, ◌∷◌, ◌++◌, ◌∙◌, ℕ, ℤ, List, [], All, Contains, IsSome, MatchOption, Option, Some, None, ap, arith, get_or, inl, inr, length, pos, refl, sym, take}
+use Rattle.std.proofs.Common.{◌≡◌, ◌+◌, ◌<◌, ◌≤◌, ◌∷◌, ◌++◌, ◌∙◌, ℕ, ℤ, List, [], All, Contains, IsSome, MatchOption, Option, Some, None, ap, arith, get_or, inl, inr, length, refl, sym, take}
 use Rattle.std.specs.List.{slice_get}
 use Rattle.std.specs.Option.{option_map}
 use Rattle.std.proofs.lemmas.List.{length-append, length-map, map-append, take_all}
-use Rattle.std.proofs.lemmas.List.Elements.{All-get_or, All-nil, All-push}
 use Rattle.std.proofs.lemmas.Option.{get_or_from_slice_get, slice_get-get_or, slice_get-map, slice_get_within}
 use Rattle.star_schema.specs.declared.column.ColumnId.{ColumnId}
 use Rattle.star_schema.specs.declared.column.TheConstants.{COLUMNS}
@@ -86,17 +85,6 @@ found_keys keys numbers rows h i d within =
       slice_get_within keys row (get_or numbers i d ∷ []) key,
       get_or_from_slice_get keys row (get_or numbers i d ∷ []) (get_or numbers i d ∷ []) key,
     )
-
--- and each row is one
-pub found_within : (keys : List (List ℤ)) (numbers : List ℤ) (rows : List ℕ) (count : ℕ)
-    → AreFound keys numbers rows → count ≡ length keys → All (λ row. row < count) rows
-found_within keys numbers rows count h is i d within =
-    let number = get_or numbers i (pos 0) in
-    let at = slice_get-get_or numbers i (pos 0)
-    (omega (arith, within, found_count keys numbers rows h)) in
-    let (row, there, key) = row_there keys numbers rows i number h at in
-    let same : get_or rows i d ≡ row = get_or_from_slice_get rows i row d there in
-    omega (arith, same, is, slice_get_within keys row (number ∷ []) key)
 
 -- what was found of the table that a column refers to
 pub of_table : (database : Database) (c : ColumnId) (t : TableId) → references c ≡ Some t

@@ -210,9 +210,9 @@ impl Catalogue {
         }
     }
 
-    /// Which of 64 rows of a column, from a row on, have a value that lies from one number to
-    /// another: its number, or the code of its text. Bit i is set exactly where there is a row that
-    /// is i behind the first and its value lies so.
+    /// Tells which of 64 rows of a column have a value, its number or the code of its text, that
+    /// lies from `low` to `high`: bit i is set exactly where the column has a row that is i behind
+    /// `first`, and its value lies there.
     pub fn mask(&self, column: ColumnId, first: u32, low: i64, high: i64) -> u64
         requires { first ≤ length (rows_in self.now (table_of column)) }
         ensures numbers { kind_of column ≡ Kind.Number
@@ -248,8 +248,8 @@ impl Catalogue {
         self.referred_rows(column).row(row)
     }
 
-    /// The join index of a column that refers to a table: for each row of the column the row of that
-    /// table, from 0, whose key is the column's number. It was made at the load.
+    /// Lends the join index of a column that refers to a table, which was made at the load: for
+    /// each row of the column the row of that table, from 0, whose key is the column's number.
     pub fn referred_rows(&self, column: ColumnId) -> &JoinIndex
         requires { IsSome (references column) }
         ensures { AreReferredRows self.now column result.now }

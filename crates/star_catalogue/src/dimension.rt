@@ -19,8 +19,8 @@ use std::marker::Model;
 /// What stands where no row has the key: one more than any row's place.
 const NO_ROW: u32 = u32::MAX;
 
-/// So many numbers for each key, and some more, may lie between the least key and the greatest for
-/// a row to be kept for each of them.
+/// The numbers for each key, and those besides, that may lie between the least key and the greatest
+/// for a row to be kept for each number.
 const NUMBERS_FOR_EACH: u64 = 8;
 
 const NUMBERS_FREE: u64 = 131_072;
@@ -37,8 +37,8 @@ fn greatest_of(keys: &[i64]) -> Option<i64>
     keys.iter().copied().max()
 }
 
-/// The least key, and how many numbers there are from it to the greatest, where these are few for
-/// so many keys.
+/// Gives the least key, and how many numbers there are from it to the greatest, where these are few
+/// beside the count of `keys`.
 fn dense_range(keys: &[i64]) -> Option<(i64, usize)>
     requires { length keys.now < 2 ^ 32 }
     ensures least { IfSome result (λ range. All (λ key. range.0 ≤ℤ key) keys.now) }
@@ -56,7 +56,8 @@ fn dense_range(keys: &[i64]) -> Option<(i64, usize)>
     }
 }
 
-/// For each number from the least key on its place among the keys, which all differ.
+/// Makes, for each of the `span` numbers from the least key on, its place among the keys, which all
+/// differ.
 fn rows_from(alloc: Global, keys: &[i64], least: i64, span: usize) -> Result<Vec<u32>, AllocError>
     requires few { length keys.now < 2 ^ 32 }
     requires distinct { IsDistinct int_eq keys.now }
@@ -71,7 +72,7 @@ fn rows_from(alloc: Global, keys: &[i64], least: i64, span: usize) -> Result<Vec
     Ok(rows)
 }
 
-/// The row that a number leads to, if there is one, by the rows from the least key on.
+/// Finds the row with a key, if there is one, in the rows from the least key on.
 fn find_from(least: i64, rows: &[u32], key: i64) -> Option<u32>
     ensures { result ≡ dense_at least rows.now key }
 {
@@ -99,7 +100,7 @@ pub struct NearKeys {
 }
 
 impl NearKeys {
-    /// The short way to these keys, which all differ, if they lie close together.
+    /// Builds the short way to these keys, which all differ, if they lie close together.
     fn build(alloc: Global, keys: &[i64]) -> Result<Option<NearKeys>, AllocError>
         requires few { length keys.now < 2 ^ 32 }
         requires distinct { IsDistinct int_eq keys.now }
@@ -116,8 +117,8 @@ impl NearKeys {
     }
 }
 
-/// The keys of a dimension, each in the place of its row, or the first record whose key an earlier
-/// one has.
+/// Indexes the keys of a dimension, each in the place of its row, or answers the first record whose
+/// key an earlier one has.
 fn indexed(alloc: Global, table: TableId, keys: &[i64]) -> Result<IndexSet<i64, Seeded>, LoadFault>
     requires { length keys.now < 2 ^ 32 }
     ensures { MatchResult result
@@ -138,8 +139,8 @@ fn indexed(alloc: Global, table: TableId, keys: &[i64]) -> Result<IndexSet<i64, 
     Ok(rows)
 }
 
-/// The rows of a dimension by their keys, which all differ. A contract sees the keys in the order of
-/// their rows.
+/// The rows of a dimension by their keys, which all differ. A contract sees the keys in the order
+/// of their rows.
 #[derive(Drop)]
 pub struct DimensionKeys {
     rows: IndexSet<i64, Seeded>,
@@ -159,7 +160,8 @@ impl Model for DimensionKeys {
 }
 
 impl DimensionKeys {
-    /// The index of the keys of a dimension, or the first record whose key an earlier one has.
+    /// Builds the index of the keys of a dimension, or answers the first record whose key an
+    /// earlier one has.
     pub(crate) fn build(
         alloc: Global,
         table: TableId,
@@ -177,7 +179,7 @@ impl DimensionKeys {
         Ok(DimensionKeys { rows, near })
     }
 
-    /// The row that a number leads to, if there is one, by the index.
+    /// Finds the row with a key, if there is one, by the index.
     #[inline(never)]
     fn find_indexed(&self, key: i64) -> Option<u32>
         ensures { result ≡ position (int_eq key) self.now }
@@ -186,7 +188,7 @@ impl DimensionKeys {
         Some(row as u32)
     }
 
-    /// The row that a number leads to, if there is one. The short way is inlined into the loops over
+    /// Finds the row with a key, if there is one. The short way is inlined into the loops over
     /// foreign keys, and the index's is not.
     #[inline(always)]
     pub(crate) fn find(&self, key: i64) -> Option<u32>

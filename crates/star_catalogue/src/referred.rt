@@ -1,6 +1,6 @@
 // The rows that the foreign keys of lineorder refer to.
 
-ghost use Rattle.std.specs.Prelude.{◌≡◌, ◌<◌, ◌∷◌, [], All, Contains, IfOk, MatchOption, Some, length};
+ghost use Rattle.std.specs.Prelude.{◌≡◌, ◌<◌, ◌≤◌, ◌^◌, ◌∷◌, [], ℕ, All, Contains, IfOk, MatchOption, Some, length, map};
 ghost use Rattle.star_schema.specs.Loadable.{RefersTo, keys_of};
 ghost use Rattle.star_schema.specs.Schema.{index_of, references};
 ghost use Rattle.star_schema.specs.declared.column.ColumnId.{ColumnId};
@@ -20,29 +20,116 @@ pub struct Referred {
     rows: Vec<JoinIndex>,
 }
 
-/// The rows of a table that have these numbers as their keys, if each is the key of one.
-fn find_all(
+/// Keeps the number of a row in a word of some width.
+trait RowWord: Copy + Drop {
+    // Every row below it fits.
+    ghost limit: { ℕ };
+
+    ghost number: { Self → ℕ };
+
+    /// The word of the number of a row that fits.
+    fn of(row: u32) -> Self
+        requires { row < limit }
+        ensures { number result ≡ row };
+
+    /// The join index that these rows are.
+    fn index(rows: Vec<Self>) -> JoinIndex
+        ensures { result ≡ map number rows.items };
+}
+
+impl RowWord for u8 {
+    ghost limit = { 2 ^ 8 };
+
+    ghost number = { λ word. word };
+
+    fn of(row: u32) -> u8 {
+        row as u8
+    }
+
+    fn index(rows: Vec<u8>) -> JoinIndex
+        ensures { result ≡ rows.items }
+    {
+        JoinIndex::from(rows)
+    }
+}
+
+impl RowWord for u16 {
+    ghost limit = { 2 ^ 16 };
+
+    ghost number = { λ word. word };
+
+    fn of(row: u32) -> u16 {
+        row as u16
+    }
+
+    fn index(rows: Vec<u16>) -> JoinIndex
+        ensures { result ≡ rows.items }
+    {
+        JoinIndex::from(rows)
+    }
+}
+
+impl RowWord for u32 {
+    ghost limit = { 2 ^ 32 };
+
+    ghost number = { λ word. word };
+
+    fn of(row: u32) -> u32 {
+        row
+    }
+
+    fn index(rows: Vec<u32>) -> JoinIndex
+        ensures { result ≡ rows.items }
+    {
+        JoinIndex::from(rows)
+    }
+}
+
+/// The rows of a table that have these numbers as their keys, in words in which each row of the
+/// table fits, if each number is the key of one.
+fn find_all<W: RowWord>(
     alloc: Global,
     table: &LoadedTable,
     numbers: &PackedColumn,
-) -> Result<Option<Vec<u32>>, AllocError>
+) -> Result<Option<Vec<W>>, AllocError>
+    requires { length table.now.rows ≤ W.limit }
     ensures { let keys = keys_of table.now.table table.now.rows in IfOk result
         (λ found. MatchOption found
         (¬ All (λ number. Contains keys (number ∷ [])) numbers.now)
-        (λ rows. AreFound keys numbers.now rows.items)) }
+        (λ rows. AreFound keys numbers.now (map W.number rows.items))) }
 {
     let mut rows = Vec::with_capacity(alloc, numbers.len() as usize)?;
     let lent = numbers.view();
     for row in 0..numbers.len() {
         match table.find(lent.at(row)) {
-            Some(found) => rows.push_reserved(found),
+            Some(found) => rows.push_reserved(W::of(found)),
             None => return Ok(None),
         }
     }
     Ok(Some(rows))
 }
 
-/// The join index of numbers, if each is the key of a row of a table.
+/// The join index of numbers, in words in which each row of a table fits, if each number is the key
+/// of a row of it.
+fn index_in<W: RowWord>(
+    alloc: Global,
+    table: &LoadedTable,
+    numbers: &PackedColumn,
+) -> Result<Option<JoinIndex>, AllocError>
+    requires { length table.now.rows ≤ W.limit }
+    ensures { let keys = keys_of table.now.table table.now.rows in IfOk result
+        (λ found. MatchOption found
+        (¬ All (λ number. Contains keys (number ∷ [])) numbers.now)
+        (λ rows. AreFound keys numbers.now rows)) }
+{
+    match find_all::<W>(alloc, table, numbers)? {
+        Some(rows) => Ok(Some(W::index(rows))),
+        None => Ok(None),
+    }
+}
+
+/// The join index of numbers, if each is the key of a row of a table. Its words are of the least
+/// width in which each row of the table fits.
 fn join_index(
     alloc: Global,
     table: &LoadedTable,
@@ -53,9 +140,13 @@ fn join_index(
         (¬ All (λ number. Contains keys (number ∷ [])) numbers.now)
         (λ rows. AreFound keys numbers.now rows)) }
 {
-    match find_all(alloc, table, numbers)? {
-        Some(rows) => Ok(Some(JoinIndex::build(alloc, rows.as_slice(), table.rows())?)),
-        None => Ok(None),
+    let last = table.rows().saturating_sub(1);
+    if last <= u32::from(u8::MAX) {
+        index_in::<u8>(alloc, table, numbers)
+    } else if last <= u32::from(u16::MAX) {
+        index_in::<u16>(alloc, table, numbers)
+    } else {
+        index_in::<u32>(alloc, table, numbers)
     }
 }
 
@@ -74,7 +165,7 @@ fn rows_of(
 {
     match references(column) {
         Some(table) => join_index(alloc, tables.table(table), tables.numbers(column)),
-        None => Ok(Some(JoinIndex::build(alloc, &[], 0)?)),
+        None => Ok(Some(JoinIndex::from(Vec::<u8>::new(alloc)))),
     }
 }
 

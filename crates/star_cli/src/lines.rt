@@ -16,7 +16,7 @@ pub(crate) const MEMORY_LINE: &str = "memory\n";
 pub(crate) const MEMORY_STATUS: u8 = 7;
 
 /// Writes a text on a sink, as far as the sink takes it.
-pub(crate) fn tell<S: Sink>(sink: &mut S, text: &[u8])
+pub fn tell<S: Sink>(sink: &mut S, text: &[u8])
     ensures { IsTextTold (change S.contents S.is_failed sink.old sink.new) text.now }
 {
     let _ = write_whole(sink, text);
@@ -45,7 +45,7 @@ fn status_of(fault: &EngineFault) -> u8
 
 /// Writes the line of a fault, and gives its exit status; those of want of memory where there is
 /// none for the line.
-pub(crate) fn tell_fault<S: Sink>(alloc: Global, err: &mut S, fault: &EngineFault) -> u8
+pub fn tell_fault<S: Sink>(alloc: Global, err: &mut S, fault: &EngineFault) -> u8
     ensures { IsFaultTold (change S.contents S.is_failed err.old err.new) fault.now result }
 {
     match line_of(alloc, fault) {

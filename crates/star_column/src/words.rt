@@ -217,22 +217,6 @@ impl Words {
             Ok(Words::Bits32(values_at(alloc, places, values)?))
         }
     }
-
-    /// These rows of a table that has so many, in the least width in which each of the table's
-    /// fits.
-    pub(crate) fn of_rows(alloc: Global, rows: &[u32], count: u32) -> Result<Words, AllocError>
-        requires { All (λ row. row < count) rows.now }
-        ensures { IfOk result (λ words. numbers_in words ≡ rows.now) }
-    {
-        let span = count.saturating_sub(1);
-        if span <= u32::from(u8::MAX) {
-            Ok(Words::Bits8(same(alloc, rows)?))
-        } else if span <= u32::from(u16::MAX) {
-            Ok(Words::Bits16(same(alloc, rows)?))
-        } else {
-            Ok(Words::Bits32(same(alloc, rows)?))
-        }
-    }
 }
 
 /// How far each number lies above another.
@@ -264,18 +248,6 @@ fn values_at<W: Word>(alloc: Global, places: &[u32], values: &[u32]) -> Result<V
     let mut words = Vec::with_capacity(alloc, places.len())?;
     for place in places {
         words.push_reserved(W::of(u64::from(values[*place as usize])));
-    }
-    Ok(words)
-}
-
-/// The same numbers in words of a width in which they fit.
-fn same<W: Word>(alloc: Global, numbers: &[u32]) -> Result<Vec<W>, AllocError>
-    requires { All (λ number. number < W.limit) numbers.now }
-    ensures { IfOk result (λ words. map W.number words.items ≡ numbers.now) }
-{
-    let mut words = Vec::with_capacity(alloc, numbers.len())?;
-    for number in numbers {
-        words.push_reserved(W::of(u64::from(*number)));
     }
     Ok(words)
 }

@@ -30,6 +30,7 @@ use Rattle.star_program.specs.Code.{Code}
 use Rattle.star_program.specs.Faults.{Kinds, unless, is_number, is_flag, is_ordered, compares_with, compare_fault, both_fault, binary_fault}
 use Rattle.star_program.specs.World.{is_column, is_text}
 use Rattle.star_admission.specs.Ranges.{Reach, no_reach, joined_reach, Known, KnownNumber, KnownPlace, KnownFlag, known_kind, kinds_known, given, answer_known, computed}
+use Rattle.star_admission.specs.Refusals.{overflow_of}
 use Rattle.star_compiled.specs.Compiled.{Env, Rest, write, binary_code, column_code, start_of, end_of, beside, equal_code, test_code, between_code, condition_code, expression_code}
 use Rattle.star_compiled.proofs.Constants.{constant_fits, next_fits}
 use Rattle.star_compiled.proofs.ForeignKeys.{AreForeign}
@@ -84,6 +85,7 @@ module _ (turn : Turn) where
             operands = refl;
             source = λ g t. refl;
             makes = refl;
+            range = λ t. refl;
           };
           lies = lies;
           ordered = refl;
@@ -102,6 +104,7 @@ module _ (turn : Turn) where
             operands = ap (λ b. unless b BadColumn) is;
             source = λ g t. refl;
             makes = refl;
+            range = λ t. refl;
           };
           lies = λ s. refl;
           ordered = refl;
@@ -162,6 +165,7 @@ module _ (turn : Turn) where
           ∙ columns.comparable turn q x m (column_known c) b.known room at_x at_m b.column_ordered b.after;
       source = λ g t. refl;
       makes = is.1 (q.known x) (q.known m);
+      range = λ t. ap (overflow_of turn.world) (is.1 (q.known x) (q.known m));
     }
 
     after_bound : (o : Operator) → Compares o → (c : ColumnId) (edge : Operation)
@@ -172,6 +176,7 @@ module _ (turn : Turn) where
           ∙ columns.comparable turn q m x b.known (column_known c) room at_m at_x b.ordered b.before;
       source = λ g t. refl;
       makes = is.1 (q.known m) (q.known x);
+      range = λ t. ap (overflow_of turn.world) (is.1 (q.known m) (q.known x));
     }
 
     less : Compares operator.Less
@@ -207,6 +212,7 @@ module _ (turn : Turn) where
               (columns.compares turn z.after x z.out (column_known c) d.known h there z.says d.after);
           source = λ g t. refl;
           makes = refl;
+          range = λ t. refl;
         }) z.room))
 
     between_judged : (c : ColumnId) (x : ℕ) (from upto : Value)
@@ -228,6 +234,7 @@ module _ (turn : Turn) where
           operands = columns.operand turn p is_flag y KnownFlag h at refl;
           source = λ g t. refl;
           makes = refl;
+          range = λ t. refl;
         })
         room
 
@@ -301,6 +308,7 @@ module _ (turn : Turn) where
               ∙ columns.two_of turn p is_flag x y KnownFlag KnownFlag h at_x at_y refl refl;
           source = λ g t. refl;
           makes = is.makes (p.known x) (p.known y);
+          range = λ t. ap (overflow_of turn.world) (is.makes (p.known x) (p.known y));
         })
         room
 
@@ -413,6 +421,7 @@ module _ (turn : Turn) where
               refl;
           source = λ g t. refl;
           makes = is.makes (p.known x) (p.known y) ∙ λ i. computed z (at_x.1.2 i) (at_y.1.2 i);
+          range = λ t. ap (overflow_of turn.world) (is.makes (p.known x) (p.known y) ∙ λ i. computed z (at_x.1.2 i) (at_y.1.2 i));
         })
         room)
 
@@ -464,7 +473,7 @@ module _ (turn : Turn) where
         points.weaker turn (λ t. t) (At (given (only z))) (Ranged (only z)) k (fits_i64 (only z))
         p _ (λ h. ranged (only z) no_reach None h.after h.out h.says)
         (columns.written turn (operation.Const z) (given (only z)) p k
-        (λ h. record { place = λ t. refl; operands = refl; source = λ g t. refl; makes = refl })
+        (λ h. record { place = λ t. refl; operands = refl; source = λ g t. refl; makes = refl; range = λ t. refl })
         room)
     expression_judged (add a b) sound p k room =
         two_judged a b operator.Add ◌+ℤ◌ adds (expression_judged a) (expression_judged b)

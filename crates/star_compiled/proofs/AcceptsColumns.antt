@@ -165,6 +165,7 @@ module _ (turn : Turn) where
             ∙ ap (λ b. unless b BadColumn) (table_itself (table_of c)));
         source = λ g t. refl;
         makes = refl;
+        range = λ t. refl;
       })
       (loaded_knows c p) room
 
@@ -217,6 +218,7 @@ module _ (turn : Turn) where
               ∙ ap (λ o. refuses (not (is_some_table t o)) NotAForeignKey) (foreign.references t j)
               ∙ ap (λ b. refuses (not b) NotAForeignKey) (table_itself t);
           makes = refl;
+          range = λ t. refl;
         })
         (λ e. found_knows t p) room
 

@@ -21,7 +21,7 @@ use Rattle.star_admission.specs.Ranges.{Known, KnownNumber, KnownRow, KnownText,
 use Rattle.star_admission.specs.declared.reason.Reached.{Reached}
 use Rattle.star_admission.specs.declared.reason.Reason.{Reason}
 use Rattle.star_admission.specs.declared.reason.Reason.TheVariants.{Overflow, Faulty}
-use Rattle.star_admission.specs.Refusals.{refuses, reached, overflow_of, op_reason, source_reason, target_again}
+use Rattle.star_admission.specs.Refusals.{refuses, reached, overflow_of, op_reason, range_reason, source_reason, target_again}
 use Rattle.star_admission.specs.Standing.{at_place}
 use Rattle.star_admission.specs.Tallies.{no_shares}
 use Rattle.star_admission.specs.Private.Forward.{first_reason, open_with}
@@ -209,13 +209,16 @@ module _ (turn : Turn) where
 
   -- ---- an assignment
 
-  -- an operation has no fault of kinds or sources, and makes what is so known
+  -- an operation has no fault of kinds or sources, makes what is so known, and is judged by its range
   pub record Suits (o : Operation) (v : Known) (p : Point) : Type 0 where
     pub place : (t : ℕ) → place_fault turn.parts true (Assign t o) ≡ None
     pub operands : operation_fault turn.parts.registers (kinds_known p.known) o ≡ None
     pub source : (later_puts : ℕ → Bool) (t : ℕ)
         → source_reason later_puts (in_turn turn.met p.known p.written) (Assign t o) ≡ None
     pub makes : operation_known turn.world turn.parts (in_turn turn.met p.known p.written) o ≡ v
+    pub range : (t : ℕ)
+        → range_reason turn.world turn.parts (in_turn turn.met p.known p.written) (Assign t o)
+        ≡ overflow_of turn.world v
 
   -- so only its range can refuse it
   reason_is : (o : Operation) (v : Known) (p : Point) (later_puts : ℕ → Bool) → Suits o v p
@@ -233,7 +236,7 @@ module _ (turn : Turn) where
       (both_none _ _ (ap (λ b. unless b BadRegister) (lt-ltb t turn.parts.registers below))
       (both_none _ _ again suits.operands)) in
       λ i. option_or (option_map Faulty (fault i))
-      (option_or (suits.source later_puts t i) (overflow_of turn.world (suits.makes i)))
+      (option_or (suits.source later_puts t i) (suits.range t i))
 
   -- after it one register more is written
   abbrev pub known_after : Point → Known → Table

@@ -2,8 +2,8 @@
 use Rattle.std.proofs.Common.{ℕ, List, refl}
 use Rattle.std.specs.Prelude.{All}
 use Rattle.star_schema.specs.declared.table.TableId.{TableId}
-use Rattle.star_schema.specs.Database.{Database, TableTexts, rows_in}
-use Rattle.star_schema.specs.Loadable.{IsLoadable, IsSound, database_of}
+use Rattle.star_schema.specs.Database.{Database, rows_in}
+use Rattle.star_schema.specs.Loadable.{IsSound}
 use Rattle.star_schema.specs.Tables.{IsRowOf}
 use Rattle.star_query.specs.Derives.{Means}
 use Rattle.star_query.specs.Tree.{Tree}
@@ -18,7 +18,6 @@ use Rattle.star_world.specs.Shown.{IsWorldOf}
 use Rattle.star_world.specs.WorldOf.{world_of}
 use Rattle.star_compiled.specs.Answers.{AnswersTheQuery, ReportsTheQuery}
 use Rattle.star_compiled.proofs.Answered.{answers_the_plan}
-use Rattle.star_schema.proofs.Typed.{rows_typed}
 use Rattle.star_compiled.proofs.SeenRows.{sees}
 
 pub answers_the_query : (database : Database) (w : World) (query : Tree) (p : Plan)
@@ -32,13 +31,11 @@ answers_the_query database w query p rows world named resolved may s outcome run
     told)
 
 pub reports_the_query : ((database : Database) → IsSound database → IsWorldOf database
-    (world_of database)) → (most : ℕ) (texts : TableTexts) (text : List ℕ) (query : Tree)
-    (p : Plan)
-    → IsLoadable most texts → Means text query → IsWellNamed query → IsResolved query p
-    → ReportsTheQuery texts text p
-reports_the_query shown most texts text query p loadable means named resolved may s outcome run
+    (world_of database)) → (database : Database) (text : List ℕ) (query : Tree) (p : Plan)
+    → IsSound database → ((t : TableId) → All (IsRowOf t) (rows_in database t)) → Means text query
+    → IsWellNamed query → IsResolved query p → ReportsTheQuery database text p
+reports_the_query shown database text query p sound rows means named resolved may s outcome run
     told =
-    let database = database_of texts in
     record {
       tree = query;
       means = means;
@@ -46,8 +43,7 @@ reports_the_query shown most texts text query p loadable means named resolved ma
       names = outcome.names;
       rows = outcome.rows;
       answer =
-          answers_the_query database (world_of database) query p
-          (rows_typed most texts loadable.tables) (shown database loadable.sound) named resolved may
-          s outcome run told;
+          answers_the_query database (world_of database) query p rows (shown database sound) named
+          resolved may s outcome run told;
       printed = refl;
     }

@@ -1,9 +1,8 @@
 -- What a run of a compiled program has put, and what it answers.
 use Rattle.std.specs.Prelude.{◌≡◌, ℕ, Bool, List, map, reverse}
 use Rattle.star_schema.specs.declared.column.ColumnId.{ColumnId}
-use Rattle.star_schema.specs.Loadable.{database_of}
 use Rattle.star_schema.specs.Tables.{Value, Number, Text}
-use Rattle.star_schema.specs.Database.{TableTexts}
+use Rattle.star_schema.specs.Database.{Database}
 use Rattle.star_query.specs.Tree.{Tree}
 use Rattle.star_plan.specs.Meaning.{Joined, Plan, Tables, measured, plan_rows, value_of}
 use Rattle.star_program.specs.declared.key.KeyValue.{KeyValue}
@@ -51,9 +50,9 @@ AnswersTheQuery ts w query p = (may : ℕ → Bool) (s : Store) (outcome : Outco
     → run_while w may (compiled p) ≡ Ended s → IsOutcome w (compiled p) s outcome
     → IsAnswer ts query outcome.names outcome.rows
 
--- over the rows of five texts, what is printed of an outcome is the report of a query's text
-abbrev pub ReportsTheQuery : TableTexts → List ℕ → Plan → Type 0
-ReportsTheQuery texts text p = (may : ℕ → Bool) (s : Store) (outcome : Outcome)
-    → run_while (world_of (database_of texts)) may (compiled p) ≡ Ended s
-    → IsOutcome (world_of (database_of texts)) (compiled p) s outcome
-    → IsReport texts text (report_text outcome.names outcome.rows)
+-- over the rows of five tables, what is printed of an outcome is the report of a query's text
+abbrev pub ReportsTheQuery : Database → List ℕ → Plan → Type 0
+ReportsTheQuery database text p = (may : ℕ → Bool) (s : Store) (outcome : Outcome)
+    → run_while (world_of database) may (compiled p) ≡ Ended s
+    → IsOutcome (world_of database) (compiled p) s outcome
+    → IsReport database text (report_text outcome.names outcome.rows)

@@ -2,8 +2,8 @@
 
 ghost use Rattle.std.specs.Prelude.{All, List, ℕ};
 ghost use Rattle.star_schema.specs.declared.table.TableId.{TableId};
-ghost use Rattle.star_schema.specs.Database.{Database, TableTexts, rows_in};
-ghost use Rattle.star_schema.specs.Loadable.{IsLoadable};
+ghost use Rattle.star_schema.specs.Database.{Database, rows_in};
+ghost use Rattle.star_schema.specs.Loadable.{IsSound};
 ghost use Rattle.star_schema.specs.Tables.{IsRowOf};
 ghost use Rattle.star_query.specs.Derives.{Means};
 ghost use Rattle.star_query.specs.Tree.{Tree};
@@ -41,12 +41,12 @@ pub fn compiled_programs_answer_their_queries()
         → AnswersTheQuery (rows_in database) w query p }
 {}
 
-/// And what is printed of it, where five loadable texts hold the rows, is the report of the query's
-/// text.
+/// And what is printed of it over sound rows, which have a world, is the report of the query's text.
 pub fn compiled_programs_report_their_queries()
-    ensures { (most : ℕ) (texts : TableTexts) (text : List ℕ) (query : Tree) (p : Plan)
-        → IsLoadable most texts → Means text query
-        → IsWellNamed query → IsResolved query p → ReportsTheQuery texts text p }
+    ensures { (database : Database) (text : List ℕ) (query : Tree) (p : Plan)
+        → IsSound database
+        → ((table : TableId) → All (IsRowOf table) (rows_in database table)) → Means text query
+        → IsWellNamed query → IsResolved query p → ReportsTheQuery database text p }
 {
     sound_rows_have_a_world();
 }

@@ -4,8 +4,7 @@ use Rattle.std.specs.Prelude.{Contains, ◌&&◌, codes}
 use Rattle.std.specs.Prelude.{Result, Err}
 use Rattle.std.specs.List.{AllByRecursion}
 use Rattle.std.proofs.lemmas.List.{length-append}
-use Rattle.star_schema.specs.Database.{Database, TableTexts}
-use Rattle.star_schema.specs.Loadable.{IsLoadable, database_of}
+use Rattle.star_schema.specs.Database.{Database}
 use Rattle.star_plan.specs.Meaning.{Plan}
 use Rattle.star_verify.specs.declared.refusal.Refusal.{Refusal}
 use Rattle.star_compiled.specs.Compiled.{compiled}
@@ -16,12 +15,12 @@ use Rattle.star_engine.specs.declared.thirteen.BenchmarkQuery.{BenchmarkQuery}
 use Rattle.star_engine.specs.declared.thirteen.BenchmarkQuery.TheVariants.{Q11}
 use Rattle.star_engine.specs.declared.thirteen.TheConstants.{THIRTEEN}
 use Rattle.star_engine.specs.Answered.{Change, IsAnswered}
-use Rattle.star_engine.specs.Bench.{AreParts, IsBench, IsFinding, IsPart, named_quote}
+use Rattle.star_engine.specs.Bench.{AreSections, IsBenchOver, IsFinding, IsSection, named_quote}
 use Rattle.star_engine.specs.Executions.{quote_over}
 use Rattle.star_engine.specs.Notes.{quote_line}
-use Rattle.star_engine.specs.Queries.{FitsTexts, IsPlanOf, IsUnfit, fact_rows}
+use Rattle.star_engine.specs.Queries.{FitsRows, IsPlanOf, IsUnfit, fact_rows}
 use Rattle.star_engine.specs.Thirteen.{query_name, query_text}
-use Rattle.star_engine.specs.Private.BenchSteps.{ArePartsOver, ArePrepared, IsFound, IsPartOver, IsVerdict}
+use Rattle.star_engine.specs.Private.BenchSteps.{AreSectionsOver, ArePrepared, IsFound, IsSectionOver, IsVerdict}
 use Rattle.star_engine.specs.Private.QuerySteps.{IsProgramOfQuery}
 use Rattle.star_engine.specs.Private.Steps.{IsWritten}
 use Rattle.star_engine.proofs.QueryAnswers.{IsJudged, refusal_told}
@@ -35,38 +34,35 @@ there : {X : Type 0} (x y : X) (xs : List X) → Contains xs x → Contains (y �
 there x y xs (k, within, is) = (suc k, omega arith, is)
 
 -- some of these queries doesn't fit
-abbrev pub SomeUnfit : ℕ → TableTexts → List BenchmarkQuery → Type 0
-SomeUnfit most texts qs =
+abbrev pub SomeUnfit : ℕ → Database → List BenchmarkQuery → Type 0
+SomeUnfit most database qs =
     (q : BenchmarkQuery) × Contains qs q × (refusal : Refusal)
-    × IsUnfit most texts (query_text q) refusal
+    × IsUnfit most database (query_text q) refusal
 
-abbrev pub IsVerdictOn : ℕ → TableTexts → List BenchmarkQuery → (fit : Bool) → Type 0
-IsVerdictOn most texts qs true = AllByRecursion (λ q. FitsTexts most texts (query_text q)) qs
-IsVerdictOn most texts qs false = SomeUnfit most texts qs
+abbrev pub IsVerdictOn : ℕ → Database → List BenchmarkQuery → (fit : Bool) → Type 0
+IsVerdictOn most database qs true = AllByRecursion (λ q. FitsRows most database (query_text q)) qs
+IsVerdictOn most database qs false = SomeUnfit most database qs
 
-abbrev IsVerdictOnOne : ℕ → TableTexts → BenchmarkQuery → (fits : Bool) → Type 0
-IsVerdictOnOne most texts q true = FitsTexts most texts (query_text q)
-IsVerdictOnOne most texts q false =
-    (refusal : Refusal) × IsUnfit most texts (query_text q) refusal
+abbrev IsVerdictOnOne : ℕ → Database → BenchmarkQuery → (fits : Bool) → Type 0
+IsVerdictOnOne most database q true = FitsRows most database (query_text q)
+IsVerdictOnOne most database q false =
+    (refusal : Refusal) × IsUnfit most database (query_text q) refusal
 
-both_verdicts : (most : ℕ) (texts : TableTexts) (q : BenchmarkQuery) (qs : List BenchmarkQuery)
-    (one others : Bool) → IsVerdictOnOne most texts q one → IsVerdictOn most texts qs others
-    → IsVerdictOn most texts (q ∷ qs) (one && others)
-both_verdicts most texts q qs true true fits all = (fits, all)
-both_verdicts most texts q qs true false fits some =
+both_verdicts : (most : ℕ) (database : Database) (q : BenchmarkQuery) (qs : List BenchmarkQuery)
+    (one others : Bool) → IsVerdictOnOne most database q one → IsVerdictOn most database qs others
+    → IsVerdictOn most database (q ∷ qs) (one && others)
+both_verdicts most database q qs true true fits all = (fits, all)
+both_verdicts most database q qs true false fits some =
     (some.0, there some.0 q qs some.1, some.2, some.3)
-both_verdicts most texts q qs false others unfit _ = (q, here q qs, unfit.0, unfit.1)
+both_verdicts most database q qs false others unfit _ = (q, here q qs, unfit.0, unfit.1)
 
--- ---- parts
+-- ---- sections
 
-module _ (rows most : ℕ) (texts : TableTexts) (loadable : IsLoadable rows texts)
-    (judged : (query : List ℕ) (p : Plan) → IsPlanOf query p → IsJudged most texts query p) where
-  abbrev database : Database
-  database = database_of texts
-
+module _ (most : ℕ) (database : Database)
+    (judged : (query : List ℕ) (p : Plan) → IsPlanOf query p → IsJudged most database query p) where
   -- what is found of a query's program
   found_told : (query : List ℕ) (p : Plan) → IsPlanOf query p → (fits : Bool) (text : List ℕ)
-      → IsFound database most (compiled p) fits text → IsFinding most texts query text
+      → IsFound database most (compiled p) fits text → IsFinding most database query text
   found_told query p meant true text (outcome, run, printed) =
       let laws = judged query p meant in
       inl (
@@ -76,13 +72,13 @@ module _ (rows most : ℕ) (texts : TableTexts) (loadable : IsLoadable rows text
   found_told query p meant false text (refusal, refused, printed) =
       inr (
         refusal,
-        refusal_told rows most texts query p loadable meant (judged query p meant) refusal refused,
+        refusal_told most database query p meant (judged query p meant) refusal refused,
         printed,
       )
 
   judgement : (q : BenchmarkQuery) (p : Plan) → IsPlanOf (query_text q) p → (fits : Bool)
       (text : List ℕ) → IsFound database most (compiled p) fits text
-      → IsVerdictOnOne most texts q fits
+      → IsVerdictOnOne most database q fits
   judgement q p meant true text (outcome, run, printed) =
       record {
         p = p;
@@ -91,58 +87,58 @@ module _ (rows most : ℕ) (texts : TableTexts) (loadable : IsLoadable rows text
       }
   judgement q p meant false text (refusal, refused, printed) = (
     refusal,
-    refusal_told rows most texts (query_text q) p loadable meant (judged (query_text q) p meant)
-        refusal refused,
+    refusal_told most database (query_text q) p meant (judged (query_text q) p meant) refusal
+        refused,
   )
 
   module _ (q : BenchmarkQuery) (x : Prepared) (named : x.query ≡ q)
-      (is : IsProgramOfQuery (query_text q) x.program) (fits : Bool) (part : List ℕ)
-      (over : IsPartOver database most x fits part) where
+      (is : IsProgramOfQuery (query_text q) x.program) (fits : Bool) (section : List ℕ)
+      (over : IsSectionOver database most x fits section) where
     finding : IsFound database most (compiled is.p) fits over.found
     finding = subst (λ made. IsFound database most made fits over.found) is.made over.finding
 
-    quoted : quote_over database x.program ≡ fact_rows texts
+    quoted : quote_over database x.program ≡ fact_rows database
     quoted = ap (quote_over database) is.made ∙ (judged (query_text q) is.p is.meant).quoted
 
-    part_told : IsPart most texts q part
-    part_told = record {
+    section_told : IsSection most database q section
+    section_told = record {
       found = over.found;
       finding = found_told (query_text q) is.p is.meant fits over.found finding;
       printed = over.printed ∙ (λ i. named_quote (named i) (quoted i) ++ over.found);
     }
 
-    one_verdict : IsVerdictOnOne most texts q fits
+    one_verdict : IsVerdictOnOne most database q fits
     one_verdict = judgement q is.p is.meant fits over.found finding
 
-  pub parts_told : (qs : List BenchmarkQuery) (xs : List Prepared) (fit : Bool) (text : List ℕ)
-      → ArePrepared qs xs → ArePartsOver database most xs fit text
-      → AreParts most texts qs text × IsVerdictOn most texts qs fit
-  parts_told [] [] fit text prepared (all, none) =
-      (none, subst (IsVerdictOn most texts []) (sym all) tt)
-  parts_told (q ∷ qs) (x ∷ xs) fit text (named, is, others)
-      (one, more, part, rest, over, left, both, whole) =
-      let told = parts_told qs xs more rest others left in (
-        (part, rest, part_told q x named is one part over, told.0, whole),
-        subst (IsVerdictOn most texts (q ∷ qs)) (sym both)
-            (both_verdicts most texts q qs one more (one_verdict q x named is one part over) told.1),
+  pub sections_told : (qs : List BenchmarkQuery) (xs : List Prepared) (fit : Bool) (text : List ℕ)
+      → ArePrepared qs xs → AreSectionsOver database most xs fit text
+      → AreSections most database qs text × IsVerdictOn most database qs fit
+  sections_told [] [] fit text prepared (all, none) =
+      (none, subst (IsVerdictOn most database []) (sym all) tt)
+  sections_told (q ∷ qs) (x ∷ xs) fit text (named, is, others)
+      (one, more, section, rest, over, left, both, whole) =
+      let told = sections_told qs xs more rest others left in (
+        (section, rest, section_told q x named is one section over, told.0, whole),
+        subst (IsVerdictOn most database (q ∷ qs)) (sym both)
+            (both_verdicts most database q qs one more (one_verdict q x named is one section over) told.1),
       )
-  parts_told [] (x ∷ xs) fit text prepared over = absurd prepared
-  parts_told (q ∷ qs) [] fit text prepared over = absurd prepared
+  sections_told [] (x ∷ xs) fit text prepared over = absurd prepared
+  sections_told (q ∷ qs) [] fit text prepared over = absurd prepared
 
 -- ---- the thirteen
 
-pub verdict_told : (most : ℕ) (texts : TableTexts) (fit : Bool)
-    → IsVerdictOn most texts THIRTEEN fit → IsVerdict most texts fit
-verdict_told most texts true all = all
-verdict_told most texts false (q, among, refusal, unfit) =
+pub verdict_told : (most : ℕ) (database : Database) (fit : Bool)
+    → IsVerdictOn most database THIRTEEN fit → IsVerdict most database fit
+verdict_told most database true all = all
+verdict_told most database false (q, among, refusal, unfit) =
     record { q = q; among = among; refusal = refusal; unfit = unfit }
 
 -- their text has a byte
-parts_some : (most : ℕ) (texts : TableTexts) (q : BenchmarkQuery) (qs : List BenchmarkQuery)
-    (text : List ℕ) → AreParts most texts (q ∷ qs) text → 0 < length text
-parts_some most texts q qs text (part, rest, is, others, whole) =
-    let quote = quote_line (fact_rows texts) in
-    let name = named_quote q (fact_rows texts) in
+sections_some : (most : ℕ) (database : Database) (q : BenchmarkQuery) (qs : List BenchmarkQuery)
+    (text : List ℕ) → AreSections most database (q ∷ qs) text → 0 < length text
+sections_some most database q qs text (section, rest, is, others, whole) =
+    let quote = quote_line (fact_rows database) in
+    let name = named_quote q (fact_rows database) in
     let printed : text ≡ (name ++ is.found) ++ rest = whole ∙ ap (λ p. p ++ rest) is.printed in
     rw printed
     (omega (
@@ -152,14 +148,14 @@ parts_some most texts q qs text (part, rest, is, others, whole) =
       length-append (query_name q) (codes " " ++ quote),
     ))
 
-pub bench_some : (rows most : ℕ) (texts : TableTexts) (text : List ℕ)
-    → IsBench rows most texts text → 0 < length text
-bench_some rows most texts text is = parts_some most texts Q11 (drop 1 THIRTEEN) text is.parts
+pub bench_some : (most : ℕ) (database : Database) (text : List ℕ)
+    → IsBenchOver most database text → 0 < length text
+bench_some most database text is = sections_some most database Q11 (drop 1 THIRTEEN) text is
 
 -- a write that failed
 pub unwritten : {S A : Type 0} (sink : Change S) (text : List ℕ) (IsText : List ℕ → Type 0)
     (IsDue : EngineFault → Type 0) (result : Result A EngineFault) (fault : EngineFault)
     → result ≡ Err fault → IsText text → IsWritten sink text (Err fault)
     → IsAnswered sink IsText IsDue result
-unwritten sink text IsText IsDue result (engine.Write sent) is due part = rw is (text, due, part)
-unwritten sink text IsText IsDue result _ is due part = absurd part
+unwritten sink text IsText IsDue result (engine.Write sent) is due section = rw is (text, due, section)
+unwritten sink text IsText IsDue result _ is due section = absurd section

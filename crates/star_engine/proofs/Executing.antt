@@ -1,5 +1,5 @@
 -- What is told of a program that is checked and then run.
-use Rattle.std.proofs.Common.{◌≡◌, ◌≤◌, ◌<◌, ℕ, List, Some, None, arith, inl, inr, length, refl, subst, ◌∙◌}
+use Rattle.std.proofs.Common.{◌≡◌, ◌≤◌, ◌<◌, ℕ, List, Some, None, arith, inl, inr, length, refl, ◌∙◌}
 use Rattle.std.specs.Prelude.{◌↔◌, Result}
 use Rattle.star_common.specs.Memory.{UnlessMemory}
 use Rattle.star_schema.specs.Database.{Database, TableTexts}
@@ -15,14 +15,14 @@ use Rattle.star_verify.specs.declared.refusal.Refusal.TheVariants as why
 use Rattle.star_verify.specs.Shown.{refusal_shown}
 use Rattle.star_world.specs.WorldOf.{world_of}
 use Rattle.star_engine.specs.declared.fault.EngineFault.{EngineFault}
-use Rattle.star_engine.specs.declared.fault.EngineFault.TheVariants.{Refused}
-use Rattle.star_engine.specs.Answered.{Change}
-use Rattle.star_engine.specs.Executions.{IsQuote, IsQuoteOf, IsRefusal, IsProgramTold, IsToldOf, IsUntold, quote_over}
+use Rattle.star_engine.specs.declared.fault.EngineFault.TheVariants.{Program, Refused}
+use Rattle.star_engine.specs.Answered.{Change, OrMemory}
+use Rattle.star_engine.specs.Executions.{IsQuote, IsQuoteOver, IsRefusal, IsProgramTold, IsToldOver, IsUntold, IsUntoldOver, quote_over}
 use Rattle.star_engine.specs.Faults.{fault_of_refusal}
 use Rattle.star_engine.specs.Loads.{HoldsOfFile, IsProgramOf}
 use Rattle.star_engine.specs.Noted.{IsNoted}
 use Rattle.star_engine.specs.Notes.{counts_line, quote_line}
-use Rattle.star_engine.specs.Private.Steps.{IsNotVerified, IsRun, OrMemory}
+use Rattle.star_engine.specs.Private.Steps.{IsNotVerified, IsRun}
 use Rattle.star_engine.proofs.NotedAs.{noted_as}
 
 -- ---- notes have bytes
@@ -91,33 +91,36 @@ told_run database most program outcome has_run = record {
   done = refl;
 }
 
--- ---- the program of a file, over the rows of five texts
+-- ---- the program of a file
 
-module _ (most visits : ℕ) (texts : TableTexts) (file : List ℕ) (program : Parts)
-    (loadable : IsLoadable most texts) (spelled : IsProgramOf file program) where
-  abbrev database : Database
-  database = database_of texts
-
-  of_program : (Holds : Database → Parts → Type 0) → Holds database program
-      → HoldsOfFile most texts file Holds
-  of_program Holds holds =
-      record { loadable = loadable; program = program; of_file = spelled; holds = holds }
+module _ (visits : ℕ) (database : Database) (file : List ℕ) (program : Parts)
+    (spelled : IsProgramOf file program) where
+  of_program : (Holds : Parts → Type 0) → Holds program → HoldsOfFile file Holds
+  of_program Holds holds = record { program = program; of_file = spelled; holds = holds }
 
   fault_of_program : (fault : EngineFault) → IsNotVerified database visits program fault
-      → IsUntold most visits texts file fault
+      → IsUntoldOver visits database file fault
   fault_of_program (Refused refusal) refused = of_program _ refused
   fault_of_program _ refused = absurd refused
 
-  pub of_file : {S N : Type 0} (out : Change S) (notes : Change N) (held : Database)
-      (result : Result (Unit {0}) EngineFault) → held ≡ database
-      → IsNoted out notes (IsQuote held program) (IsProgramTold held visits program)
-      (IsNotVerified held visits program) result
-      → IsNoted out notes (IsQuoteOf most texts file) (IsToldOf most visits texts file)
-      (IsUntold most visits texts file) result
-  of_file out notes held result same noted =
-      noted_as out notes (IsQuote database program) (IsQuoteOf most texts file)
-      (IsProgramTold database visits program) (IsToldOf most visits texts file)
-      (IsNotVerified database visits program) (IsUntold most visits texts file) result
+  pub of_file : {S N : Type 0} (out : Change S) (notes : Change N)
+      (result : Result (Unit {0}) EngineFault)
+      → IsNoted out notes (IsQuote database program) (IsProgramTold database visits program)
+      (IsNotVerified database visits program) result
+      → IsNoted out notes (IsQuoteOver database file) (IsToldOver visits database file)
+      (IsUntoldOver visits database file) result
+  of_file out notes result noted =
+      noted_as out notes (IsQuote database program) (IsQuoteOver database file)
+      (IsProgramTold database visits program) (IsToldOver visits database file)
+      (IsNotVerified database visits program) (IsUntoldOver visits database file) result
       (λ note quoted. of_program _ quoted) (λ telling told. of_program _ told) fault_of_program
-      (subst (λ d. IsNoted out notes (IsQuote d program) (IsProgramTold d visits program)
-      (IsNotVerified d visits program) result) same noted)
+      noted
+
+-- over the texts that hold the rows
+pub untold_over : (rows visits : ℕ) (texts : TableTexts) (file : List ℕ) (fault : EngineFault)
+    → IsLoadable rows texts → IsUntoldOver visits (database_of texts) file fault
+    → IsUntold rows visits texts file fault
+untold_over rows visits texts file (Refused refusal) loadable is =
+    record { loadable = loadable; holds = is }
+untold_over rows visits texts file (Program fault) loadable is = is
+untold_over rows visits texts file _ loadable is = absurd is

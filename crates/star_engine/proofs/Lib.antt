@@ -5,6 +5,7 @@ pub mod OneReport
 pub mod Noting
 pub mod Executing
 pub mod NotedAs
+pub mod Loaded
 pub mod PlansOfQueries
 pub mod QueryRuns
 pub mod QueryFaults
@@ -13,6 +14,6 @@ pub mod ProgramTexts
 pub mod Quoting
 pub mod Meanings
 pub mod ThirteenMeant
-pub mod BenchParts
+pub mod BenchSections
 pub mod BenchAnswers
 mod WorkedFaults

@@ -18,7 +18,7 @@ use Rattle.star_program.proofs.Text.Faultless.{faultless}
 use Rattle.star_verify.specs.declared.refusal.Refusal.{Refusal}
 use Rattle.star_engine.specs.declared.fault.EngineFault.{EngineFault}
 use Rattle.star_engine.specs.declared.fault.EngineFault.TheVariants.{Load, Program, Refused}
-use Rattle.star_engine.specs.Executions.{IsAcceptedWithin, IsRefusal, IsToldOf, IsUntold, quote_over}
+use Rattle.star_engine.specs.Executions.{IsAcceptedWithin, IsRefusal, IsToldOf, IsToldOver, IsUntold, IsUntoldOver, quote_over}
 use Rattle.star_engine.specs.Loads.{IsProgramOf}
 use Rattle.star_engine.specs.Noted.{Telling}
 use Rattle.star_engine.specs.Notes.{counts_line, quote_line}
@@ -39,11 +39,10 @@ report_is_one database file visits report other h k =
     h.printed ∙ (λ i. report_text (outcome i).names (outcome i).rows) ∙ sym k.printed
 
 -- what is told of the program of a file is one
-pub telling_is_one : (most visits : ℕ) (texts : TableTexts) (file : List ℕ)
-    (telling other : Telling) → IsToldOf most visits texts file telling
-    → IsToldOf most visits texts file other → telling ≡ other
-telling_is_one most visits texts file telling other h k =
-    let database = database_of texts in
+pub telling_is_one : (visits : ℕ) (database : Database) (file : List ℕ)
+    (telling other : Telling) → IsToldOver visits database file telling
+    → IsToldOver visits database file other → telling ≡ other
+telling_is_one visits database file telling other h k =
     let w = world_of database in
     let program = one_program file h.program k.program h.of_file.spelled k.of_file.spelled in
     let yields = subst (λ p. Yields w p (run_of w p) h.holds.outcome) program h.holds.yields in
@@ -71,14 +70,24 @@ accepted_is_not_refused database most file told refused refusal h k accepted is 
     is.not_accepted
     (subst (IsAcceptedWithin database most) (one_program file told refused h.spelled k.spelled) accepted)
 
-pub told_is_not_untold : (most visits : ℕ) (texts : TableTexts) (file : List ℕ)
+pub told_is_not_untold : (visits : ℕ) (database : Database) (file : List ℕ)
+    (telling : Telling) (fault : EngineFault) → IsToldOver visits database file telling
+    → IsUntoldOver visits database file fault → ⊥
+told_is_not_untold visits database file telling (Program fault) told due =
+    no_fault file told.program fault told.of_file due
+told_is_not_untold visits database file telling (Refused refusal) told due =
+    accepted_is_not_refused database visits file told.program due.program refusal told.of_file
+    due.of_file told.holds.accepted due.holds
+told_is_not_untold visits database file telling _ told due = due
+
+-- over texts
+pub told_of_texts_is_not_untold : (most visits : ℕ) (texts : TableTexts) (file : List ℕ)
     (telling : Telling) (fault : EngineFault) → IsToldOf most visits texts file telling
     → IsUntold most visits texts file fault → ⊥
-told_is_not_untold most visits texts file telling (Program fault) told due =
-    no_fault file told.program fault told.of_file due
-told_is_not_untold most visits texts file telling (Load fault) told due =
+told_of_texts_is_not_untold most visits texts file telling (Load fault) told due =
     due.1.not_loadable told.loadable
-told_is_not_untold most visits texts file telling (Refused refusal) told due =
-    accepted_is_not_refused (database_of texts) visits file told.program due.program refusal
-    told.of_file due.of_file told.holds.accepted due.holds
-told_is_not_untold most visits texts file telling _ told due = due
+told_of_texts_is_not_untold most visits texts file telling (Program fault) told due =
+    told_is_not_untold visits (database_of texts) file telling (Program fault) told.holds due
+told_of_texts_is_not_untold most visits texts file telling (Refused refusal) told due =
+    told_is_not_untold visits (database_of texts) file telling (Refused refusal) told.holds due.holds
+told_of_texts_is_not_untold most visits texts file telling _ told due = due

@@ -19,46 +19,38 @@ use Rattle.star_engine.specs.Answered.{Change}
 use Rattle.star_engine.specs.Executions.{IsAcceptedWithin, IsQuote, IsRefusal, IsProgramTold, quote_over}
 use Rattle.star_engine.specs.Noted.{IsNoted, Telling}
 use Rattle.star_engine.specs.Notes.{counts_line, quote_line}
-use Rattle.star_engine.specs.Queries.{IsPlanOf, IsQueryQuote, IsQueryTold, IsUnanswered, IsUnfit, fact_rows}
+use Rattle.star_engine.specs.Queries.{IsPlanOf, IsQueryQuoteOver, IsQueryToldOver, IsUnanswered, IsUnansweredOver, IsUnfit, fact_rows}
 use Rattle.star_engine.specs.QueryRuns.{PrintsTheReport}
 use Rattle.star_engine.specs.Private.QuerySteps.{IsProgramOfQuery}
 use Rattle.star_engine.specs.Private.Steps.{IsNotVerified}
 use Rattle.star_engine.proofs.NotedAs.{noted_as}
 
--- what the laws say of the program of a query over five texts
-pub record IsJudged (most : ℕ) (texts : TableTexts) (query : List ℕ) (p : Plan) : Type 0 where
-  pub accepted : FitsTables most (rows_in (database_of texts)) p
-      ↔ IsAcceptedWithin (database_of texts) most (compiled p)
-  pub costly : most < fact_rows texts
-      → first_refusal (world_of (database_of texts)) most (compiled p)
-      ≡ Some (TooCostly (fact_rows texts))
-  pub wide : fact_rows texts ≤ most → ¬ FitsTables most (rows_in (database_of texts)) p
-      → IsOverflow (first_refusal (world_of (database_of texts)) most (compiled p))
-  pub quoted : quote_over (database_of texts) (compiled p) ≡ fact_rows texts
-  pub printed : (s : Store) → run_of (world_of (database_of texts)) (compiled p) ≡ Ended s
-      → PrintsTheReport texts query p s
+-- what the laws say of the program of a query over the rows of five tables
+pub record IsJudged (most : ℕ) (database : Database) (query : List ℕ) (p : Plan) : Type 0 where
+  pub accepted : FitsTables most (rows_in database) p
+      ↔ IsAcceptedWithin database most (compiled p)
+  pub costly : most < fact_rows database
+      → first_refusal (world_of database) most (compiled p)
+      ≡ Some (TooCostly (fact_rows database))
+  pub wide : fact_rows database ≤ most → ¬ FitsTables most (rows_in database) p
+      → IsOverflow (first_refusal (world_of database) most (compiled p))
+  pub quoted : quote_over database (compiled p) ≡ fact_rows database
+  pub printed : (s : Store) → run_of (world_of database) (compiled p) ≡ Ended s
+      → PrintsTheReport database query p s
 
-module _ (rows most : ℕ) (texts : TableTexts) (query : List ℕ) (p : Plan)
-    (loadable : IsLoadable rows texts) (meant : IsPlanOf query p)
-    (judged : IsJudged most texts query p) where
-  abbrev database : Database
-  database = database_of texts
-
+module _ (most : ℕ) (database : Database) (query : List ℕ) (p : Plan)
+    (meant : IsPlanOf query p) (judged : IsJudged most database query p) where
   quote_told : (note : List ℕ) → IsQuote database (compiled p) note
-      → IsQueryQuote rows texts query note
-  quote_told note quoted = record {
-    loadable = loadable;
-    is_query = (p, meant);
-    quoted = quoted ∙ ap quote_line judged.quoted;
-  }
+      → IsQueryQuoteOver database query note
+  quote_told note quoted =
+      record { is_query = (p, meant); quoted = quoted ∙ ap quote_line judged.quoted }
 
   pub report_told : (telling : Telling) → IsProgramTold database most (compiled p) telling
-      → IsQueryTold rows most texts query telling
+      → IsQueryToldOver most database query telling
   report_told telling told =
       let s = told.yields.s in
       let outcome = told.yields.told in
       record {
-        loadable = loadable;
         fitting = record { p = p; meant = meant; fits = judged.accepted.1 told.accepted };
         quoted = told.quoted ∙ ap quote_line judged.quoted;
         reported =
@@ -66,7 +58,7 @@ module _ (rows most : ℕ) (texts : TableTexts) (query : List ℕ) (p : Plan)
         s = s;
         ended = told.yields.ended;
         within =
-            subst (λ n. n ≤ fact_rows texts) outcome.visits
+            subst (λ n. n ≤ fact_rows database) outcome.visits
             (subst (λ n. told.outcome.visits ≤ n) judged.quoted told.within);
         done =
             told.done
@@ -74,7 +66,7 @@ module _ (rows most : ℕ) (texts : TableTexts) (query : List ℕ) (p : Plan)
       }
 
   pub refusal_told : (refusal : Refusal) → IsRefusal database most (compiled p) refusal
-      → IsUnfit most texts query refusal
+      → IsUnfit most database query refusal
   refusal_told refusal is =
       let unfit : ¬ FitsTables most (rows_in database) p =
       λ fits. is.not_accepted (judged.accepted.0 fits) in
@@ -89,35 +81,43 @@ module _ (rows most : ℕ) (texts : TableTexts) (query : List ℕ) (p : Plan)
       }
 
   fault_told : (fault : EngineFault) → IsNotVerified database most (compiled p) fault
-      → IsUnanswered rows most texts query fault
-  fault_told (engine.Refused refusal) is = (loadable, refusal_told refusal is)
+      → IsUnansweredOver most database query fault
+  fault_told (engine.Refused refusal) is = refusal_told refusal is
   fault_told _ is = absurd is
 
   query_told : {S N : Type 0} (out : Change S) (notes : Change N)
       (result : Result (Unit {0}) EngineFault)
       → IsNoted out notes (IsQuote database (compiled p)) (IsProgramTold database most (compiled p))
       (IsNotVerified database most (compiled p)) result
-      → IsNoted out notes (IsQueryQuote rows texts query) (IsQueryTold rows most texts query)
-      (IsUnanswered rows most texts query) result
+      → IsNoted out notes (IsQueryQuoteOver database query) (IsQueryToldOver most database query)
+      (IsUnansweredOver most database query) result
   query_told out notes result noted =
-      noted_as out notes (IsQuote database (compiled p)) (IsQueryQuote rows texts query)
-      (IsProgramTold database most (compiled p)) (IsQueryTold rows most texts query)
-      (IsNotVerified database most (compiled p)) (IsUnanswered rows most texts query) result
+      noted_as out notes (IsQuote database (compiled p)) (IsQueryQuoteOver database query)
+      (IsProgramTold database most (compiled p)) (IsQueryToldOver most database query)
+      (IsNotVerified database most (compiled p)) (IsUnansweredOver most database query) result
       quote_told report_told fault_told noted
 
--- the rows that are loaded are those of the texts, and the program is the query's
-pub of_query : {S N : Type 0} (out : Change S) (notes : Change N) (rows most : ℕ)
-    (texts : TableTexts) (query : List ℕ) (held : Database) (program : Parts)
-    (result : Result (Unit {0}) EngineFault) → held ≡ database_of texts → IsLoadable rows texts
-    → (of_query : IsProgramOfQuery query program) → IsJudged most texts query of_query.p
-    → IsNoted out notes (IsQuote held program) (IsProgramTold held most program)
-    (IsNotVerified held most program) result
-    → IsNoted out notes (IsQueryQuote rows texts query) (IsQueryTold rows most texts query)
-    (IsUnanswered rows most texts query) result
-of_query out notes rows most texts query held program result same loadable is judged noted =
-    query_told rows most texts query is.p loadable is.meant judged out notes result
-    (subst (λ made. IsNoted out notes (IsQuote (database_of texts) made)
-    (IsProgramTold (database_of texts) most made) (IsNotVerified (database_of texts) most made) result)
-    is.made
-    (subst (λ d. IsNoted out notes (IsQuote d program) (IsProgramTold d most program)
-    (IsNotVerified d most program) result) same noted))
+-- where the program is the query's
+pub of_query : {S N : Type 0} (out : Change S) (notes : Change N) (most : ℕ)
+    (database : Database) (query : List ℕ) (program : Parts)
+    (result : Result (Unit {0}) EngineFault) (of_query : IsProgramOfQuery query program)
+    → IsJudged most database query of_query.p
+    → IsNoted out notes (IsQuote database program) (IsProgramTold database most program)
+    (IsNotVerified database most program) result
+    → IsNoted out notes (IsQueryQuoteOver database query) (IsQueryToldOver most database query)
+    (IsUnansweredOver most database query) result
+of_query out notes most database query program result is judged noted =
+    query_told most database query is.p is.meant judged out notes result
+    (subst (λ made. IsNoted out notes (IsQuote database made) (IsProgramTold database most made)
+    (IsNotVerified database most made) result) is.made noted)
+
+-- over the texts that hold the rows
+pub unanswered_over : (rows visits : ℕ) (texts : TableTexts) (query : List ℕ)
+    (fault : EngineFault) → IsLoadable rows texts
+    → IsUnansweredOver visits (database_of texts) query fault
+    → IsUnanswered rows visits texts query fault
+unanswered_over rows visits texts query (engine.Refused refusal) loadable is =
+    record { loadable = loadable; holds = is }
+unanswered_over rows visits texts query (engine.Query fault) loadable is = is
+unanswered_over rows visits texts query (engine.Plan fault) loadable is = is
+unanswered_over rows visits texts query _ loadable is = absurd is

@@ -1,24 +1,18 @@
 -- What is quoted of a file, by the quote of its program.
 use Rattle.std.proofs.Common.{◌≡◌, ◌<◌, ◌∙◌, ℕ, Bool, true, false, List, ap, length}
-use Rattle.star_schema.specs.Loadable.{IsLoadable, database_of}
-use Rattle.star_schema.specs.Database.{TableTexts}
+use Rattle.star_schema.specs.Database.{Database, TableTexts}
 use Rattle.star_plan.specs.Meaning.{Plan}
 use Rattle.star_program.specs.declared.program.Parts.{Parts}
 use Rattle.star_compiled.specs.Compiled.{compiled}
 use Rattle.star_engine.specs.declared.fault.EngineFault.{EngineFault}
 use Rattle.star_engine.specs.declared.fault.EngineFault.TheVariants as engine
 use Rattle.star_engine.specs.Executions.{IsQuote, quote_over}
-use Rattle.star_engine.specs.Loads.{IsProgramOf, IsUnloaded}
+use Rattle.star_engine.specs.Loads.{IsUnloaded}
 use Rattle.star_engine.specs.Notes.{quote_line}
 use Rattle.star_engine.specs.Queries.{fact_rows}
-use Rattle.star_engine.specs.QuoteTexts.{IsQuoteOfKind, IsUnquotedOfKind}
-use Rattle.star_engine.specs.Private.QuerySteps.{IsProgramOfQuery}
+use Rattle.star_engine.specs.QuoteTexts.{IsNoneOfKind, IsQuoteOfKindOver, IsUnquotedOfKind}
+use Rattle.star_engine.specs.Private.QuerySteps.{IsProgramOfKind}
 use Rattle.star_engine.proofs.Executing.{quote_some}
-
--- the program that a file is taken to tell
-abbrev pub IsProgramOfKind : (is_program : Bool) → (file : List ℕ) → Parts → Type 0
-IsProgramOfKind true file program = IsProgramOf file program
-IsProgramOfKind false file program = IsProgramOfQuery file program
 
 -- its tables can't be loaded
 pub unquoted_tables : (is_program : Bool) (rows : ℕ) (texts : TableTexts) (file : List ℕ)
@@ -29,23 +23,25 @@ unquoted_tables false rows texts file program told (engine.Load fault) is =
     ((told.p, told.meant), is)
 unquoted_tables is_program rows texts file program told _ is = absurd is
 
+-- it tells no program
+pub unquoted_file : (is_program : Bool) (rows : ℕ) (texts : TableTexts) (file : List ℕ)
+    (fault : EngineFault) → IsNoneOfKind is_program file fault
+    → IsUnquotedOfKind is_program rows texts file fault
+unquoted_file true rows texts file (engine.Program fault) is = is
+unquoted_file true rows texts file _ is = absurd is
+unquoted_file false rows texts file (engine.Query fault) is = is
+unquoted_file false rows texts file (engine.Plan fault) is = is
+unquoted_file false rows texts file _ is = absurd is
+
 -- ---- the line
 
-pub quoted : (is_program : Bool) (rows : ℕ) (texts : TableTexts) (file text : List ℕ)
-    (program : Parts) → ((p : Plan) → quote_over (database_of texts) (compiled p) ≡ fact_rows texts)
-    → IsProgramOfKind is_program file program → IsLoadable rows texts
-    → IsQuote (database_of texts) program text → IsQuoteOfKind is_program rows texts file text
-quoted true rows texts file text program rows_quoted told loadable is =
-    record { loadable = loadable; program = program; of_file = told; holds = is }
-quoted false rows texts file text program rows_quoted told loadable is = record {
-  loadable = loadable;
+pub quoted : (is_program : Bool) (database : Database) (file text : List ℕ) (program : Parts)
+    → ((p : Plan) → quote_over database (compiled p) ≡ fact_rows database)
+    → IsProgramOfKind is_program file program → IsQuote database program text
+    → IsQuoteOfKindOver is_program database file text
+quoted true database file text program rows_quoted told is =
+    record { program = program; of_file = told; holds = is }
+quoted false database file text program rows_quoted told is = record {
   is_query = (told.p, told.meant);
-  quoted = is ∙ ap quote_line (ap (quote_over (database_of texts)) told.made ∙ rows_quoted told.p);
+  quoted = is ∙ ap quote_line (ap (quote_over database) told.made ∙ rows_quoted told.p);
 }
-
--- it has a byte
-pub quote_text_some : (is_program : Bool) (rows : ℕ) (texts : TableTexts)
-    (file text : List ℕ) → IsQuoteOfKind is_program rows texts file text → 0 < length text
-quote_text_some true rows texts file text is =
-    rw is.holds (quote_some (quote_over (database_of texts) is.program))
-quote_text_some false rows texts file text is = rw is.quoted (quote_some (fact_rows texts))

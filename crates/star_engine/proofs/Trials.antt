@@ -3,7 +3,7 @@ use Rattle.std.proofs.Common.{◌<◌, ◌++◌, ℕ, List, arith, codes, length
 use Rattle.std.specs.List.{flat_map, join_with_byte}
 use Rattle.std.proofs.lemmas.List.{length-append}
 use Rattle.star_schema.specs.Loadable.{IsLoadable, database_of}
-use Rattle.star_schema.specs.Database.{TableTexts}
+use Rattle.star_schema.specs.Database.{Database, TableTexts}
 use Rattle.star_program.specs.declared.outcome.Cell.{Cell}
 use Rattle.star_program.specs.declared.program.Parts.{Parts}
 use Rattle.star_program.specs.Run.{bounded_run_of}
@@ -12,21 +12,32 @@ use Rattle.star_machine.specs.declared.fault.TrialFault.{TrialFault}
 use Rattle.star_machine.specs.declared.fault.TrialFault.TheVariants as trial
 use Rattle.star_machine.specs.Trials.{IsFaultOf}
 use Rattle.star_world.specs.WorldOf.{world_of}
+use Rattle.star_engine.specs.declared.fault.EngineFault.{EngineFault}
+use Rattle.star_engine.specs.declared.fault.EngineFault.TheVariants as engine
+use Rattle.star_engine.specs.Answered.{OrMemory}
 use Rattle.star_engine.specs.Faults.{fault_of_trial}
 use Rattle.star_engine.specs.Loads.{IsProgramOf}
-use Rattle.star_engine.specs.Private.Steps.{OrMemory}
-use Rattle.star_engine.specs.Trials.{IsNoTrial}
+use Rattle.star_engine.specs.Trials.{IsNoTrial, IsNoTrialOver}
 
 -- a program whose run over loaded tables doesn't come to its end has no report
-pub no_trial : (most : ℕ) (texts : TableTexts) (file : List ℕ) (program : Parts)
-    (visits : ℕ) (fault : TrialFault) → IsLoadable most texts → IsProgramOf file program
-    → IsFaultOf (bounded_run_of (world_of (database_of texts)) visits program) fault
-    → OrMemory (IsNoTrial most texts file visits) (fault_of_trial fault)
-no_trial most texts file program visits trial.OutOfMemory loadable of_file stopped = tt
-no_trial most texts file program visits (trial.Trap at kind) loadable of_file stopped =
-    record { loadable = loadable; program = program; of_file = of_file; holds = stopped }
-no_trial most texts file program visits trial.Limit loadable of_file stopped =
-    record { loadable = loadable; program = program; of_file = of_file; holds = stopped }
+pub no_trial : (database : Database) (file : List ℕ) (program : Parts) (visits : ℕ)
+    (fault : TrialFault) → IsProgramOf file program
+    → IsFaultOf (bounded_run_of (world_of database) visits program) fault
+    → OrMemory (IsNoTrialOver database file visits) (fault_of_trial fault)
+no_trial database file program visits trial.OutOfMemory of_file stopped = tt
+no_trial database file program visits (trial.Trap at kind) of_file stopped =
+    record { program = program; of_file = of_file; holds = stopped }
+no_trial database file program visits trial.Limit of_file stopped =
+    record { program = program; of_file = of_file; holds = stopped }
+
+-- over the texts that hold the rows
+pub no_trial_over : (most : ℕ) (texts : TableTexts) (file : List ℕ) (visits : ℕ)
+    (fault : EngineFault) → IsLoadable most texts
+    → IsNoTrialOver (database_of texts) file visits fault → IsNoTrial most texts file visits fault
+no_trial_over most texts file visits (engine.Trial fault) loadable is =
+    record { loadable = loadable; holds = is }
+no_trial_over most texts file visits (engine.Program fault) loadable is = is
+no_trial_over most texts file visits _ loadable is = absurd is
 
 -- a report has a byte
 pub report_some : (names : List (List ℕ)) (rows : List (List Cell)) → 0

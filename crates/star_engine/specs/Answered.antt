@@ -20,6 +20,12 @@ change contents is_failed old new = record {
   new = new;
 }
 
+-- a fault that is due, or want of memory; and no write has failed
+abbrev pub OrMemory : (EngineFault → Type 0) → EngineFault → Type 0
+OrMemory IsDue OutOfMemory = Unit {0}
+OrMemory IsDue (Write sent) = ⊥
+OrMemory IsDue fault = IsDue fault
+
 abbrev pub IsUntouched : {S : Type 0} → Change S → Type 0
 IsUntouched sink = sink.new ≡ sink.old
 

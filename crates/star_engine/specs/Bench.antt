@@ -2,56 +2,59 @@
 -- refused.
 use Rattle.std.specs.Prelude.{◌≡◌, ◌++◌, ◌⊎◌, ℕ, List, [], ◌∷◌, Contains, codes}
 use Rattle.std.specs.List.{AllByRecursion}
-use Rattle.star_schema.specs.Loadable.{IsLoadable}
-use Rattle.star_schema.specs.Database.{TableTexts}
+use Rattle.star_schema.specs.Database.{Database, TableTexts}
 use Rattle.star_verify.specs.declared.refusal.Refusal.{Refusal}
 use Rattle.star_verify.specs.RefusalTexts.{refusal_text}
 use Rattle.star_answers.specs.Reports.{IsReport}
 use Rattle.star_engine.specs.declared.thirteen.BenchmarkQuery.{BenchmarkQuery}
 use Rattle.star_engine.specs.declared.thirteen.TheConstants.{THIRTEEN}
+use Rattle.star_engine.specs.Loads.{HoldsOfRows}
 use Rattle.star_engine.specs.Notes.{quote_line}
-use Rattle.star_engine.specs.Queries.{FitsTexts, IsUnfit, fact_rows}
+use Rattle.star_engine.specs.Queries.{FitsRows, IsUnfit, fact_rows}
 use Rattle.star_engine.specs.Thirteen.{query_name, query_text}
 
 abbrev pub refusal_line : Refusal → List ℕ
 refusal_line refusal = refusal_text refusal ++ codes "\n"
 
 -- what is found of a query: its report where it fits, and else the line of its refusal
-abbrev pub IsFinding : (most : ℕ) → TableTexts → (query text : List ℕ) → Type 0
-IsFinding most texts query text =
-    (FitsTexts most texts query × IsReport texts query text)
-    ⊎ ((refusal : Refusal) × IsUnfit most texts query refusal × (text ≡ refusal_line refusal))
+abbrev pub IsFinding : (most : ℕ) → Database → (query text : List ℕ) → Type 0
+IsFinding most database query text =
+    (FitsRows most database query × IsReport database query text)
+    ⊎ ((refusal : Refusal) × IsUnfit most database query refusal × (text ≡ refusal_line refusal))
 
 -- the quote of a query under its name
 abbrev pub named_quote : BenchmarkQuery → ℕ → List ℕ
 named_quote q visits = query_name q ++ (codes " " ++ quote_line visits)
 
 -- what is printed of a query
-pub record IsPart (most : ℕ) (texts : TableTexts) (q : BenchmarkQuery)
-    (part : List ℕ) : Type 0 where
+pub record IsSection (most : ℕ) (database : Database) (q : BenchmarkQuery)
+    (section : List ℕ) : Type 0 where
   pub found : List ℕ
-  pub finding : IsFinding most texts (query_text q) found
-  pub printed : part ≡ named_quote q (fact_rows texts) ++ found
+  pub finding : IsFinding most database (query_text q) found
+  pub printed : section ≡ named_quote q (fact_rows database) ++ found
 
--- a text that is a part for each of some queries, one behind the other
-abbrev pub AreParts : ℕ → TableTexts → List BenchmarkQuery → List ℕ → Type 0
-AreParts most texts [] text = text ≡ []
-AreParts most texts (q ∷ qs) text =
-    (part : List ℕ) × (rest : List ℕ) × IsPart most texts q part × AreParts most texts qs rest
-    × (text ≡ part ++ rest)
+-- a text that is a section for each of some queries, one behind the other
+abbrev pub AreSections : ℕ → Database → List BenchmarkQuery → List ℕ → Type 0
+AreSections most database [] text = text ≡ []
+AreSections most database (q ∷ qs) text =
+    (section : List ℕ) × (rest : List ℕ) × IsSection most database q section × AreSections most database qs rest
+    × (text ≡ section ++ rest)
 
--- the parts of the thirteen queries
-pub record IsBench (rows most : ℕ) (texts : TableTexts) (text : List ℕ) : Type 0 where
-  pub loadable : IsLoadable rows texts
-  pub parts : AreParts most texts THIRTEEN text
+-- the sections of the thirteen queries over the rows of five tables
+abbrev pub IsBenchOver : ℕ → Database → List ℕ → Type 0
+IsBenchOver most database text = AreSections most database THIRTEEN text
+
+-- over five texts
+abbrev pub IsBench : (rows most : ℕ) → TableTexts → List ℕ → Type 0
+IsBench rows most texts text = HoldsOfRows rows texts (λ database. IsBenchOver most database text)
 
 -- each of the thirteen queries fits
-abbrev pub AllFit : ℕ → TableTexts → Type 0
-AllFit most texts = AllByRecursion (λ q. FitsTexts most texts (query_text q)) THIRTEEN
+abbrev pub AllFit : ℕ → Database → Type 0
+AllFit most database = AllByRecursion (λ q. FitsRows most database (query_text q)) THIRTEEN
 
 -- one of them doesn't
-pub record SomeIsUnfit (most : ℕ) (texts : TableTexts) : Type 0 where
+pub record SomeIsUnfit (most : ℕ) (database : Database) : Type 0 where
   pub q : BenchmarkQuery
   pub among : Contains THIRTEEN q
   pub refusal : Refusal
-  pub unfit : IsUnfit most texts (query_text q) refusal
+  pub unfit : IsUnfit most database (query_text q) refusal

@@ -14,7 +14,7 @@ use Rattle.star_report.specs.Report.{report_text}
 use Rattle.star_world.specs.WorldOf.{world_of}
 use Rattle.star_engine.specs.declared.fault.EngineFault.{EngineFault}
 use Rattle.star_engine.specs.declared.fault.EngineFault.TheVariants.{Refused}
-use Rattle.star_engine.specs.Loads.{HoldsOfFile, IsUnread}
+use Rattle.star_engine.specs.Loads.{HoldsOfFile, HoldsOfRows, IsNoProgram, IsUnread}
 use Rattle.star_engine.specs.Noted.{Telling}
 use Rattle.star_engine.specs.Notes.{counts_line, quote_line}
 
@@ -51,24 +51,41 @@ pub record IsProgramTold (database : Database) (most : ℕ) (program : Parts) (t
   pub reported : telling.report ≡ report_text outcome.names outcome.rows
   pub done : telling.done ≡ counts_line outcome.visits outcome.lookups outcome.updates
 
--- ---- the program of a file over five texts
+-- ---- the program of a file over five tables
+
+-- the note of its quote
+abbrev pub IsQuoteOver : Database → (file text : List ℕ) → Type 0
+IsQuoteOver database file text = HoldsOfFile file (λ program. IsQuote database program text)
+
+-- what is told of it
+abbrev pub IsToldOver : (visits : ℕ) → Database → List ℕ → Telling → Type 0
+IsToldOver visits database file telling =
+    HoldsOfFile file (λ program. IsProgramTold database visits program telling)
+
+-- it is refused
+abbrev pub IsRefusalOver : (visits : ℕ) → Database → List ℕ → Refusal → Type 0
+IsRefusalOver visits database file refusal =
+    HoldsOfFile file (λ program. IsRefusal database visits program refusal)
+
+-- why nothing is told of it: the file is read first, and then it is checked
+abbrev pub IsUntoldOver : (visits : ℕ) → Database → List ℕ → EngineFault → Type 0
+IsUntoldOver visits database file (Refused refusal) = IsRefusalOver visits database file refusal
+IsUntoldOver visits database file fault = IsNoProgram file fault
+
+-- ---- over five texts
 
 -- the note of its quote
 abbrev pub IsQuoteOf : ℕ → TableTexts → (file text : List ℕ) → Type 0
 IsQuoteOf most texts file text =
-    HoldsOfFile most texts file (λ database program. IsQuote database program text)
+    HoldsOfRows most texts (λ database. IsQuoteOver database file text)
 
 -- what is told of it
 abbrev pub IsToldOf : (most visits : ℕ) → TableTexts → List ℕ → Telling → Type 0
 IsToldOf most visits texts file telling =
-    HoldsOfFile most texts file (λ database program. IsProgramTold database visits program telling)
-
--- it is refused
-abbrev pub IsRefusalOf : (most visits : ℕ) → TableTexts → List ℕ → Refusal → Type 0
-IsRefusalOf most visits texts file refusal =
-    HoldsOfFile most texts file (λ database program. IsRefusal database visits program refusal)
+    HoldsOfRows most texts (λ database. IsToldOver visits database file telling)
 
 -- why nothing is told of it: the file is read first, then the tables, and then it is checked
-abbrev pub IsUntold : ℕ → ℕ → TableTexts → List ℕ → EngineFault → Type 0
-IsUntold most visits texts file (Refused refusal) = IsRefusalOf most visits texts file refusal
+abbrev pub IsUntold : (most visits : ℕ) → TableTexts → List ℕ → EngineFault → Type 0
+IsUntold most visits texts file (Refused refusal) =
+    HoldsOfRows most texts (λ database. IsRefusalOver visits database file refusal)
 IsUntold most visits texts file fault = IsUnread most texts file fault

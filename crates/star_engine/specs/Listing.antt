@@ -9,10 +9,10 @@ use Rattle.star_schema.specs.declared.column.Kind.TheVariants as kind
 use Rattle.star_schema.specs.declared.table.TableId.{TableId}
 use Rattle.star_schema.specs.declared.table.TheConstants.{TABLES}
 use Rattle.star_schema.specs.Bounds.{greatest, least, numbers_of}
-use Rattle.star_schema.specs.Loadable.{IsLoadable}
 use Rattle.star_schema.specs.Schema.{column_name, columns_of, kind_of, table_name}
-use Rattle.star_schema.specs.Tables.{Value, rows_of}
-use Rattle.star_schema.specs.Database.{TableTexts}
+use Rattle.star_schema.specs.Tables.{Value}
+use Rattle.star_schema.specs.Database.{Database, TableTexts, rows_in}
+use Rattle.star_engine.specs.Loads.{HoldsOfRows}
 
 unfoldable pub table_line : TableId → ℕ → List ℕ
 table_line t rows =
@@ -37,11 +37,10 @@ table_text t rows =
 unfoldable pub listing_of : (TableId → List (List Value)) → List ℕ
 listing_of rows = flat_map (λ t. table_text t (rows t)) TABLES
 
--- the text of `check` for five texts
-abbrev pub check_text : TableTexts → List ℕ
-check_text texts = listing_of (λ t. rows_of t (texts t))
+-- the listing of the rows of five tables
+abbrev pub IsListingOver : Database → List ℕ → Type 0
+IsListingOver database text = text ≡ listing_of (rows_in database)
 
--- the listing of five texts that can be loaded
-pub record IsListing (most : ℕ) (texts : TableTexts) (text : List ℕ) : Type 0 where
-  pub loadable : IsLoadable most texts
-  pub listed : text ≡ check_text texts
+-- the listing of the rows of five texts that can be loaded
+abbrev pub IsListing : (most : ℕ) → TableTexts → List ℕ → Type 0
+IsListing most texts text = HoldsOfRows most texts (λ database. IsListingOver database text)

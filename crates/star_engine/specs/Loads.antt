@@ -1,8 +1,11 @@
 -- What is read before any run, a program's file and five texts, and why an answer stops there: the
--- file spells no program, or the texts can't be loaded.
-use Rattle.std.specs.Prelude.{◌≡◌, ℕ, List, Some}
-use Rattle.star_schema.specs.Database.{Database, TableTexts}
-use Rattle.star_schema.specs.Loadable.{IsLoadable, database_of}
+-- file spells no program, or the texts can't be loaded. And what holds of all rows that are loaded.
+use Rattle.std.specs.Prelude.{◌≡◌, ℕ, List, All, Some}
+use Rattle.star_schema.specs.declared.table.TableId.{TableId}
+use Rattle.star_schema.specs.Database.{Database, TableTexts, rows_in}
+use Rattle.star_schema.specs.Loadable.{IsLoadable, IsSound, database_of}
+use Rattle.star_schema.specs.Tables.{IsRowOf}
+use Rattle.star_catalogue.specs.ColumnBounds.{HasI64Bounds}
 use Rattle.star_catalogue.specs.Load.{load_fault}
 use Rattle.star_catalogue.specs.declared.fault.LoadFault.{LoadFault}
 use Rattle.star_program.specs.declared.program.Parts.{Parts}
@@ -18,6 +21,36 @@ pub record IsLoadFault (most : ℕ) (texts : TableTexts) (fault : LoadFault)
   pub first : load_fault most texts ≡ Some fault
   pub not_loadable : ¬ IsLoadable most texts
 
+-- the rows of five tables as a load leaves them: keys tell the rows of each table apart and each
+-- foreign key is found; each row has a value for each column, of the column's kind; and the bounds of
+-- the columns of numbers lie in 64 bits
+pub record AreLoadedRows (database : Database) : Type 0 where
+  pub sound : IsSound database
+  pub rows : (t : TableId) → All (IsRowOf t) (rows_in database t)
+  pub bounds : HasI64Bounds database
+
+-- some five texts that can be loaded hold these rows
+abbrev pub AreOfLoadableTexts : (most : ℕ) → Database → Type 0
+AreOfLoadableTexts most database =
+    ∥ ((texts : TableTexts) × IsLoadable most texts × (database ≡ database_of texts)) ∥₁
+
+-- the rows that are loaded, the limit on rows under which they were, and the limit on visits
+pub record Loaded : Type 0 where
+  pub database : Database
+  pub rows : ℕ
+  pub visits : ℕ
+
+-- what is loaded of five texts
+abbrev pub loaded_of : (rows visits : ℕ) → TableTexts → Loaded
+loaded_of rows visits texts =
+    record { database = database_of texts; rows = rows; visits = visits }
+
+-- the texts can be loaded, and this holds of the rows that they hold
+pub record HoldsOfRows (most : ℕ) (texts : TableTexts) (Holds : Database → Type 0)
+    : Type 0 where
+  pub loadable : IsLoadable most texts
+  pub holds : Holds (database_of texts)
+
 -- a program within the limits that a file spells
 pub record IsProgramOf (file : List ℕ) (program : Parts) : Type 0 where
   pub spelled : Spells file program
@@ -27,21 +60,23 @@ pub record IsProgramOf (file : List ℕ) (program : Parts) : Type 0 where
 abbrev pub IsProgram : List ℕ → Type 0
 IsProgram file = (program : Parts) × IsProgramOf file program
 
--- the texts can be loaded, the file spells a program, and this holds of the program over their rows
-pub record HoldsOfFile (most : ℕ) (texts : TableTexts) (file : List ℕ)
-    (Holds : Database → Parts → Type 0) : Type 0 where
-  pub loadable : IsLoadable most texts
+-- the file spells a program, and this holds of the program
+pub record HoldsOfFile (file : List ℕ) (Holds : Parts → Type 0) : Type 0 where
   pub program : Parts
   pub of_file : IsProgramOf file program
-  pub holds : Holds (database_of texts) program
+  pub holds : Holds program
 
 -- why there is no loaded table
 abbrev pub IsUnloaded : ℕ → TableTexts → EngineFault → Type 0
 IsUnloaded most texts (Load fault) = IsLoadFault most texts fault
 IsUnloaded most texts _ = ⊥
 
+-- why a file spells no program
+abbrev pub IsNoProgram : List ℕ → EngineFault → Type 0
+IsNoProgram file (Program fault) = text_fault file ≡ Some fault
+IsNoProgram file _ = ⊥
+
 -- why there is no program over loaded tables: the file is read first
 abbrev pub IsUnread : ℕ → TableTexts → List ℕ → EngineFault → Type 0
-IsUnread most texts file (Program fault) = text_fault file ≡ Some fault
 IsUnread most texts file (Load fault) = IsProgram file × IsLoadFault most texts fault
-IsUnread most texts file _ = ⊥
+IsUnread most texts file fault = IsNoProgram file fault

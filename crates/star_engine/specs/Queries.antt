@@ -1,9 +1,9 @@
--- What is answered to a query's text over the texts of five tables, and which faults are due. No
--- program is named here but by the instruction that a refusal tells and by the counts of a run.
+-- What is answered to a query's text over the rows of five tables, and over their texts, and which
+-- faults are due. No program is named here but by the instruction that a refusal tells and by the
+-- counts of a run.
 use Rattle.std.specs.Prelude.{◌≡◌, ◌≢◌, ◌≤◌, ◌<◌, ℕ, List, Some, length}
 use Rattle.star_schema.specs.declared.table.TableId.TheVariants.{Lineorder}
-use Rattle.star_schema.specs.Database.{TableTexts, rows_in}
-use Rattle.star_schema.specs.Loadable.{IsLoadable, database_of}
+use Rattle.star_schema.specs.Database.{Database, TableTexts, rows_in}
 use Rattle.star_query.specs.declared.fault.QueryFault.{QueryFault}
 use Rattle.star_query.specs.declared.fault.QueryFault.TheVariants as parsing
 use Rattle.star_query.specs.Derives.{IsFirstFault, Means}
@@ -27,7 +27,7 @@ use Rattle.star_compiled.specs.Compiled.{compiled}
 use Rattle.star_compiled.specs.Judged.{IsOverflow}
 use Rattle.star_engine.specs.declared.fault.EngineFault.{EngineFault}
 use Rattle.star_engine.specs.declared.fault.EngineFault.TheVariants as engine
-use Rattle.star_engine.specs.Loads.{IsLoadFault}
+use Rattle.star_engine.specs.Loads.{HoldsOfRows, IsLoadFault}
 use Rattle.star_engine.specs.Noted.{Telling}
 use Rattle.star_engine.specs.Notes.{counts_line, quote_line}
 
@@ -44,16 +44,16 @@ pub record IsPlanOf (query : List ℕ) (p : Plan) : Type 0 where
 abbrev pub IsQuery : List ℕ → Type 0
 IsQuery query = (p : Plan) × IsPlanOf query p
 
--- how many rows five texts hold of lineorder, each of which a query visits once
-abbrev pub fact_rows : TableTexts → ℕ
-fact_rows texts = length (rows_in (database_of texts) Lineorder)
+-- how many rows lineorder has, each of which a query visits once
+abbrev pub fact_rows : Database → ℕ
+fact_rows database = length (rows_in database Lineorder)
 
--- the text means a well named query, which fits the rows that five texts hold, where so many may be
--- visited at most
-pub record FitsTexts (most : ℕ) (texts : TableTexts) (query : List ℕ) : Type 0 where
+-- the text means a well named query, which fits the rows of five tables, where at most this many of
+-- them may be visited
+pub record FitsRows (most : ℕ) (database : Database) (query : List ℕ) : Type 0 where
   pub p : Plan
   pub meant : IsPlanOf query p
-  pub fits : FitsTables most (rows_in (database_of texts)) p
+  pub fits : FitsTables most (rows_in database) p
 
 -- ---- faults
 
@@ -81,42 +81,57 @@ IsUnasked rows texts query fault = IsNoQuery query fault
 
 -- why a query that doesn't fit is refused: lineorder's rows are over the limit on visits; or else a
 -- range leaves 64 bits, and the first instruction of its program with such a range is told
-pub record IsUnfit (most : ℕ) (texts : TableTexts) (query : List ℕ)
-    (refusal : Refusal) : Type 0 where
+pub record IsUnfit (most : ℕ) (database : Database) (query : List ℕ) (refusal : Refusal)
+    : Type 0 where
   pub p : Plan
   pub meant : IsPlanOf query p
-  pub unfit : ¬ FitsTables most (rows_in (database_of texts)) p
-  pub costly : most < fact_rows texts
-      → refusal_shown refusal ≡ Some (TooCostly (fact_rows texts))
-  pub wide : fact_rows texts ≤ most → IsOverflow (refusal_shown refusal)
-  pub first : refusal_shown refusal ≡ first_refusal (world_of (database_of texts)) most (compiled p)
+  pub unfit : ¬ FitsTables most (rows_in database) p
+  pub costly : most < fact_rows database
+      → refusal_shown refusal ≡ Some (TooCostly (fact_rows database))
+  pub wide : fact_rows database ≤ most → IsOverflow (refusal_shown refusal)
+  pub first : refusal_shown refusal ≡ first_refusal (world_of database) most (compiled p)
 
--- why a query has no report: it is read first, then the tables, and then it is judged
+-- why a query has no report over these rows: it is read first, and then it is judged
+abbrev pub IsUnansweredOver : (visits : ℕ) → Database → (query : List ℕ) → EngineFault → Type 0
+IsUnansweredOver visits database query (engine.Refused refusal) =
+    IsUnfit visits database query refusal
+IsUnansweredOver visits database query fault = IsNoQuery query fault
+
+-- why it has none over five texts: it is read first, then the tables, and then it is judged
 abbrev pub IsUnanswered : (rows visits : ℕ) → TableTexts → (query : List ℕ) → EngineFault
     → Type 0
 IsUnanswered rows visits texts query (engine.Refused refusal) =
-    IsLoadable rows texts × IsUnfit visits texts query refusal
+    HoldsOfRows rows texts (λ database. IsUnfit visits database query refusal)
 IsUnanswered rows visits texts query fault = IsUnasked rows texts query fault
 
 -- ---- texts
 
--- the line of a query's quote
-pub record IsQueryQuote (rows : ℕ) (texts : TableTexts) (query text : List ℕ) : Type 0 where
-  pub loadable : IsLoadable rows texts
+-- the line of a query's quote over the rows of five tables
+pub record IsQueryQuoteOver (database : Database) (query text : List ℕ) : Type 0 where
   pub is_query : IsQuery query
-  pub quoted : text ≡ quote_line (fact_rows texts)
+  pub quoted : text ≡ quote_line (fact_rows database)
 
--- what is told of a query that fits: its quote, its report, and what the run of its program did
-pub record IsQueryTold (rows visits : ℕ) (texts : TableTexts) (query : List ℕ)
+-- over five texts
+abbrev pub IsQueryQuote : (rows : ℕ) → TableTexts → (query text : List ℕ) → Type 0
+IsQueryQuote rows texts query text =
+    HoldsOfRows rows texts (λ database. IsQueryQuoteOver database query text)
+
+-- what is told of a query that fits the rows of five tables: its quote, its report, and what the run
+-- of its program did
+pub record IsQueryToldOver (visits : ℕ) (database : Database) (query : List ℕ)
     (telling : Telling) : Type 0 where
-  pub loadable : IsLoadable rows texts
-  pub fitting : FitsTexts visits texts query
-  pub quoted : telling.quoted ≡ quote_line (fact_rows texts)
-  pub reported : IsReport texts query telling.report
+  pub fitting : FitsRows visits database query
+  pub quoted : telling.quoted ≡ quote_line (fact_rows database)
+  pub reported : IsReport database query telling.report
   pub s : Store
-  pub ended : run_of (world_of (database_of texts)) (compiled fitting.p) ≡ Ended s
-  pub within : s.visits ≤ fact_rows texts
+  pub ended : run_of (world_of database) (compiled fitting.p) ≡ Ended s
+  pub within : s.visits ≤ fact_rows database
   pub done : telling.done ≡ counts_line s.visits s.lookups s.updates
+
+-- over five texts
+abbrev pub IsQueryTold : (rows visits : ℕ) → TableTexts → (query : List ℕ) → Telling → Type 0
+IsQueryTold rows visits texts query telling =
+    HoldsOfRows rows texts (λ database. IsQueryToldOver visits database query telling)
 
 -- the text of a query's program: it spells the program, as the program's own text
 pub record IsExplained (query text : List ℕ) : Type 0 where

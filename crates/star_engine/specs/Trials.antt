@@ -1,7 +1,6 @@
 -- What `trial` prints of a program over five tables.
 use Rattle.std.specs.Prelude.{◌≡◌, ℕ, List}
 use Rattle.star_schema.specs.Database.{Database, TableTexts}
-use Rattle.star_schema.specs.Loadable.{IsLoadable, database_of}
 use Rattle.star_program.specs.declared.outcome.Outcome.{Outcome}
 use Rattle.star_program.specs.declared.program.Parts.{Parts}
 use Rattle.star_program.specs.Run.{End, bounded_run_of}
@@ -12,7 +11,7 @@ use Rattle.star_machine.specs.Trials.{IsFaultOf, Yields}
 use Rattle.star_world.specs.WorldOf.{world_of}
 use Rattle.star_engine.specs.declared.fault.EngineFault.{EngineFault}
 use Rattle.star_engine.specs.declared.fault.EngineFault.TheVariants.{Trial}
-use Rattle.star_engine.specs.Loads.{HoldsOfFile, IsProgramOf, IsUnread}
+use Rattle.star_engine.specs.Loads.{HoldsOfFile, HoldsOfRows, IsNoProgram, IsProgramOf, IsUnread}
 
 -- the printed rows of the program that a file spells, run over these tables with so many visits at
 -- most
@@ -30,17 +29,23 @@ abbrev pub IsStop : End → TrialFault → Type 0
 IsStop end trial.OutOfMemory = ⊥
 IsStop end fault = IsFaultOf end fault
 
+-- why there is none: the file is read first
+abbrev pub IsNoTrialOver : Database → (file : List ℕ) → (visits : ℕ) → EngineFault → Type 0
+IsNoTrialOver database file visits (Trial fault) =
+    HoldsOfFile file
+    (λ program. IsStop (bounded_run_of (world_of database) visits program) fault)
+IsNoTrialOver database file visits fault = IsNoProgram file fault
+
 -- ---- over five texts
 
 -- the report of a trial over the rows of five texts
-pub record IsTrialReport (most : ℕ) (texts : TableTexts) (file : List ℕ) (visits : ℕ)
-    (report : List ℕ) : Type 0 where
-  pub loadable : IsLoadable most texts
-  pub reported : IsBoundedReport (database_of texts) file visits report
+abbrev pub IsTrialReport : ℕ → TableTexts → (file : List ℕ) → (visits : ℕ) → (report : List ℕ)
+    → Type 0
+IsTrialReport most texts file visits report =
+    HoldsOfRows most texts (λ database. IsBoundedReport database file visits report)
 
--- why there is none
-abbrev pub IsNoTrial : ℕ → TableTexts → List ℕ → ℕ → EngineFault → Type 0
+-- why there is none: the file is read first, and then the tables
+abbrev pub IsNoTrial : ℕ → TableTexts → (file : List ℕ) → (visits : ℕ) → EngineFault → Type 0
 IsNoTrial most texts file visits (Trial fault) =
-    HoldsOfFile most texts file
-    (λ database program. IsStop (bounded_run_of (world_of database) visits program) fault)
+    HoldsOfRows most texts (λ database. IsNoTrialOver database file visits (Trial fault))
 IsNoTrial most texts file visits fault = IsUnread most texts file fault

@@ -1,25 +1,125 @@
 // The answers that the program gives. Each is made whole before any of it is written.
 
-ghost use Rattle.std.specs.Prelude.{◌≤◌, ◌^◌};
+ghost use Rattle.std.specs.Prelude.{◌≤◌, ◌^◌, ℕ, List};
 ghost use Rattle.star_catalogue.specs.Load.{text_of};
 ghost use Rattle.star_engine.specs.Answered.{IsAnswered, change};
-ghost use Rattle.star_engine.specs.Executions.{IsQuoteOf, IsToldOf, IsUntold};
-ghost use Rattle.star_engine.specs.Listing.{IsListing};
-ghost use Rattle.star_engine.specs.Loads.{IsUnloaded};
+ghost use Rattle.star_engine.specs.Executions.{IsQuoteOf, IsQuoteOver, IsToldOf, IsToldOver, IsUntold, IsUntoldOver};
+ghost use Rattle.star_engine.specs.Listing.{IsListing, IsListingOver};
+ghost use Rattle.star_engine.specs.Loads.{IsProgramOf, IsUnloaded};
 ghost use Rattle.star_engine.specs.Noted.{IsNoted};
-ghost use Rattle.star_engine.specs.QuoteTexts.{IsQuoteText, IsUnquoted};
-ghost use Rattle.star_engine.specs.Trials.{IsNoTrial, IsTrialReport};
+ghost use Rattle.star_engine.specs.QuoteTexts.{IsQuoteText, IsQuoteTextOver, IsUnquoted, IsUnquotedOver};
+ghost use Rattle.star_engine.specs.Private.QuerySteps.{IsProgramOfFile};
+ghost use Rattle.star_engine.specs.Trials.{IsBoundedReport, IsNoTrial, IsNoTrialOver, IsTrialReport};
 
 use crate::executions::execute;
 use crate::fault::EngineFault;
-use crate::listing::listing;
+use crate::listing::list_tables;
 use crate::loading::load;
-use crate::quotes::quote_of;
+use crate::notes::quote_note;
+use crate::query_laws::programs_of_queries_report_them;
+use crate::quotes::program_of;
 use crate::reports::{read_program, report_of};
 use crate::writing::write_text;
-use star_catalogue::Texts;
+use star_catalogue::{Catalogue, Texts};
+use star_program::Program;
 use star_schema::{Limits, Sink};
 use std::alloc::Global;
+
+// Writes the listing of loaded tables.
+pub(crate) fn list<S: Sink>(
+    alloc: Global,
+    catalogue: &Catalogue,
+    out: &mut S,
+) -> Result<(), EngineFault>
+    ensures { IsAnswered (change S.contents S.is_failed out.old out.new)
+        (IsListingOver catalogue.now) (λ fault. ⊥) result }
+{
+    let text = list_tables(alloc, catalogue)?;
+    write_text(out, text.as_bytes())
+}
+
+// Runs a program over loaded tables with at most so many turns of scans, and writes its report.
+fn try_read<S: Sink>(
+    alloc: Global,
+    catalogue: &Catalogue,
+    program: &Program,
+    visits: u64,
+    out: &mut S,
+) -> Result<(), EngineFault>
+    requires { visits ≤ 10 ^ 15 }
+    ensures { (file : List ℕ) → IsProgramOf file program.now
+        → IsAnswered (change S.contents S.is_failed out.old out.new)
+        (IsBoundedReport catalogue.now file visits) (IsNoTrialOver catalogue.now file visits)
+        result }
+{
+    let report = report_of(alloc, catalogue, program, visits)?;
+    write_text(out, report.as_slice())
+}
+
+// Runs the program whose text a file holds over loaded tables.
+pub(crate) fn trial_over<S: Sink>(
+    alloc: Global,
+    catalogue: &Catalogue,
+    file: &[u8],
+    visits: u64,
+    out: &mut S,
+) -> Result<(), EngineFault>
+    requires { visits ≤ 10 ^ 15 }
+    ensures { IsAnswered (change S.contents S.is_failed out.old out.new)
+        (IsBoundedReport catalogue.now file.now visits)
+        (IsNoTrialOver catalogue.now file.now visits) result }
+{
+    let program = read_program(alloc, file)?;
+    try_read(alloc, catalogue, &program, visits, out)
+}
+
+// Checks the program whose text a file holds over loaded tables, runs it, and writes its report.
+pub(crate) fn answer_program_over<S: Sink, N: Sink>(
+    alloc: Global,
+    catalogue: &Catalogue,
+    file: &[u8],
+    limits: Limits,
+    out: &mut S,
+    notes: &mut N,
+) -> Result<(), EngineFault>
+    ensures { IsNoted (change S.contents S.is_failed out.old out.new)
+        (change N.contents N.is_failed notes.old notes.new) (IsQuoteOver catalogue.now file.now)
+        (IsToldOver limits.visits catalogue.now file.now)
+        (IsUntoldOver limits.visits catalogue.now file.now) result }
+{
+    let program = read_program(alloc, file)?;
+    execute(alloc, catalogue, program, limits, out, notes)
+}
+
+// Writes how many visits of a program are quoted over loaded tables.
+fn quote_read<S: Sink>(
+    alloc: Global,
+    catalogue: &Catalogue,
+    program: &Program,
+    out: &mut S,
+) -> Result<(), EngineFault>
+    ensures { (file : List ℕ) → IsProgramOfFile file program.now
+        → IsAnswered (change S.contents S.is_failed out.old out.new)
+        (IsQuoteTextOver catalogue.now file) (λ fault. ⊥) result }
+{
+    programs_of_queries_report_them();
+    let note = quote_note(alloc, catalogue, program)?;
+    write_text(out, note.as_bytes())
+}
+
+// Writes how many visits are quoted of what a file holds, over loaded tables.
+pub(crate) fn quote_text_over<S: Sink>(
+    alloc: Global,
+    catalogue: &Catalogue,
+    file: &[u8],
+    out: &mut S,
+) -> Result<(), EngineFault>
+    ensures { IsAnswered (change S.contents S.is_failed out.old out.new)
+        (IsQuoteTextOver catalogue.now file.now) (IsUnquotedOver file.now) result }
+{
+    let program = program_of(alloc, file)?;
+    quote_read(alloc, catalogue, &program, out)
+}
 
 /// Writes how many rows each table has, and the bounds of its columns of numbers.
 pub fn check<S: Sink>(
@@ -32,8 +132,8 @@ pub fn check<S: Sink>(
         (IsListing limits.rows (text_of texts.now)) (IsUnloaded limits.rows (text_of texts.now))
         result }
 {
-    let text = listing(alloc, texts, limits)?;
-    write_text(out, text.as_bytes())
+    let catalogue = load(alloc, texts, limits)?;
+    list(alloc, &catalogue, out)
 }
 
 /// Runs the program whose text a file holds over the tables, with at most so many turns of scans,
@@ -51,8 +151,9 @@ pub fn trial_program<S: Sink>(
         (IsTrialReport limits.rows (text_of texts.now) file.now visits)
         (IsNoTrial limits.rows (text_of texts.now) file.now visits) result }
 {
-    let report = report_of(alloc, texts, file, visits, limits)?;
-    write_text(out, report.as_slice())
+    let program = read_program(alloc, file)?;
+    let catalogue = load(alloc, texts, limits)?;
+    try_read(alloc, &catalogue, &program, visits, out)
 }
 
 /// Checks the program whose text a file holds over the tables, runs it, and writes its report on
@@ -93,6 +194,7 @@ pub fn quote_text<S: Sink>(
         (IsQuoteText limits.rows (text_of texts.now) file.now)
         (IsUnquoted limits.rows (text_of texts.now) file.now) result }
 {
-    let note = quote_of(alloc, texts, file, limits)?;
-    write_text(out, note.as_bytes())
+    let program = program_of(alloc, file)?;
+    let catalogue = load(alloc, texts, limits)?;
+    quote_read(alloc, &catalogue, &program, out)
 }

@@ -1,15 +1,16 @@
 // The thirteen queries of the benchmark, one after the other over one load.
 
 ghost use Rattle.std.specs.Prelude.{◌≡◌, true, false, IfOk, MatchResult};
+ghost use Rattle.star_schema.specs.Loadable.{database_of};
 ghost use Rattle.star_catalogue.specs.Load.{text_of};
 ghost use Rattle.star_engine.specs.Answered.{IsAnswered, change};
 ghost use Rattle.star_engine.specs.Bench as spec;
-ghost use Rattle.star_engine.specs.Bench.{AllFit, IsBench, SomeIsUnfit};
+ghost use Rattle.star_engine.specs.Bench.{AllFit, IsBench, IsBenchOver, SomeIsUnfit};
 ghost use Rattle.star_engine.specs.Executions.{quote_over};
-ghost use Rattle.star_engine.specs.Private.BenchSteps.{ArePartsOver, ArePrepared, IsFound, IsPartOver, IsVerdict};
+ghost use Rattle.star_engine.specs.Private.BenchSteps.{AreSectionsOver, ArePrepared, IsFound, IsSectionOver, IsVerdict};
 ghost use Rattle.star_engine.specs.Loads.{IsUnloaded};
 ghost use Rattle.star_engine.specs.Private.QuerySteps.{IsProgramOfQuery};
-ghost use Rattle.star_engine.specs.Private.Steps.{IsMemory, OrMemory};
+ghost use Rattle.star_engine.specs.Private.Steps.{IsMemory};
 ghost use Rattle.star_engine.specs.Thirteen.{query_text};
 ghost use Rattle.star_engine.specs.declared.thirteen.TheConstants.{THIRTEEN};
 
@@ -107,14 +108,14 @@ fn named_quote(
 }
 
 // What is printed of a query, and whether it fits.
-fn part_of(
+fn section_of(
     alloc: Global,
     catalogue: &Catalogue,
     prepared: Prepared,
     limits: Limits,
 ) -> Result<Finding, AllocError>
     ensures { IfOk result
-        (λ part. IsPartOver catalogue.now limits.visits prepared part.fits part.text.items) }
+        (λ section. IsSectionOver catalogue.now limits.visits prepared section.fits section.text.items) }
 {
     let mut text = named_quote(alloc, catalogue, &prepared)?;
     let found = find(alloc, catalogue, prepared.program, limits)?;
@@ -126,37 +127,55 @@ fn part_of(
 }
 
 // What is printed of some queries, and whether all of them fit.
-fn parts_of(
+fn sections_of(
     alloc: Global,
     catalogue: &Catalogue,
     all: Items<Prepared>,
     limits: Limits,
 ) -> Result<Finding, AllocError>
     ensures { IfOk result
-        (λ parts. ArePartsOver catalogue.now limits.visits all parts.fits parts.text.items) }
+        (λ sections. AreSectionsOver catalogue.now limits.visits all sections.fits sections.text.items) }
 {
     let mut text = Vec::new(alloc);
     let mut fits = true;
     for prepared in all.into_vec() {
-        let part = part_of(alloc, catalogue, prepared, limits)?;
-        text.extend_from_slice(part.text.as_slice())?;
-        fits = fits && part.fits;
+        let section = section_of(alloc, catalogue, prepared, limits)?;
+        text.extend_from_slice(section.text.as_slice())?;
+        fits = fits && section.fits;
     }
     Ok(Finding { text, fits })
 }
 
-// What is printed of the thirteen queries over the tables of five texts, and whether all fit.
-fn bench_of(alloc: Global, texts: &Texts<'_>, limits: Limits) -> Result<Finding, EngineFault>
+// What is printed of the thirteen queries over loaded tables, and whether all fit.
+fn bench_of(alloc: Global, catalogue: &Catalogue, limits: Limits) -> Result<Finding, EngineFault>
     ensures { MatchResult result
-        (λ found. IsBench limits.rows limits.visits (text_of texts.now) found.text.items
-        × IsVerdict limits.visits (text_of texts.now) found.fits)
-        (OrMemory (IsUnloaded limits.rows (text_of texts.now))) }
+        (λ found. IsBenchOver limits.visits catalogue.now found.text.items
+        × IsVerdict limits.visits catalogue.now found.fits)
+        IsMemory }
 {
     queries_that_fit_are_answered();
     programs_of_queries_report_them();
+    catalogue.law();
     let all = prepare_all(alloc)?;
-    let catalogue = load(alloc, texts, limits)?;
-    Ok(parts_of(alloc, &catalogue, all, limits)?)
+    Ok(sections_of(alloc, catalogue, all, limits)?)
+}
+
+// Answers the thirteen queries over loaded tables, as `bench` does.
+pub(crate) fn bench_over<S: Sink>(
+    alloc: Global,
+    catalogue: &Catalogue,
+    limits: Limits,
+    out: &mut S,
+) -> Result<bool, EngineFault>
+    ensures answered { IsAnswered (change S.contents S.is_failed out.old out.new)
+        (IsBenchOver limits.visits catalogue.now) (λ fault. ⊥) result }
+    ensures all_fit { IfOk result (λ fits. fits ≡ true → AllFit limits.visits catalogue.now) }
+    ensures some_unfit { IfOk result
+        (λ fits. fits ≡ false → SomeIsUnfit limits.visits catalogue.now) }
+{
+    let found = bench_of(alloc, catalogue, limits)?;
+    write_text(out, found.text.as_slice())?;
+    Ok(found.fits)
 }
 
 /// Answers the thirteen queries of the benchmark over one load of the tables of five texts: writes
@@ -172,11 +191,11 @@ pub fn bench<S: Sink>(
     ensures answered { IsAnswered (change S.contents S.is_failed out.old out.new)
         (IsBench limits.rows limits.visits (text_of texts.now))
         (IsUnloaded limits.rows (text_of texts.now)) result }
-    ensures all_fit { IfOk result (λ fits. fits ≡ true → AllFit limits.visits (text_of texts.now)) }
+    ensures all_fit { IfOk result
+        (λ fits. fits ≡ true → AllFit limits.visits (database_of (text_of texts.now))) }
     ensures some_unfit { IfOk result
-        (λ fits. fits ≡ false → SomeIsUnfit limits.visits (text_of texts.now)) }
+        (λ fits. fits ≡ false → SomeIsUnfit limits.visits (database_of (text_of texts.now))) }
 {
-    let found = bench_of(alloc, texts, limits)?;
-    write_text(out, found.text.as_slice())?;
-    Ok(found.fits)
+    let catalogue = load(alloc, texts, limits)?;
+    bench_over(alloc, &catalogue, limits, out)
 }

@@ -2,12 +2,12 @@
 
 ghost use Rattle.std.specs.Prelude.{◌≡◌, ◌<◌, MatchResult, length};
 ghost use Rattle.star_report.specs.Report.{report_text};
-ghost use Rattle.star_engine.specs.Answered.{HasGained, change};
+ghost use Rattle.star_engine.specs.Answered.{HasGained, OrMemory, change};
 ghost use Rattle.star_engine.specs.Executions.{IsAcceptedWithin, IsQuote, IsProgramTold};
 ghost use Rattle.star_engine.specs.Faults.{fault_of_refusal};
 ghost use Rattle.star_engine.specs.Noted.{IsNoted};
 ghost use Rattle.star_engine.specs.Notes.{counts_line};
-ghost use Rattle.star_engine.specs.Private.Steps.{IsDelivered, IsNotVerified, IsPart, IsRun, OrMemory};
+ghost use Rattle.star_engine.specs.Private.Steps.{IsDelivered, IsNotVerified, IsPart, IsRun};
 ghost use Rattle.star_engine.specs.declared.fault.EngineFault.TheVariants.{Write};
 
 use crate::fault::EngineFault;

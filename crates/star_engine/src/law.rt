@@ -3,7 +3,9 @@
 ghost use Rattle.std.specs.Prelude.{◌≡◌, ℕ, List};
 ghost use Rattle.star_schema.specs.Database.{Database, TableTexts};
 ghost use Rattle.star_engine.specs.declared.fault.EngineFault.{EngineFault};
-ghost use Rattle.star_engine.specs.Executions.{IsToldOf, IsUntold};
+ghost use Rattle.star_schema.specs.Loadable.{IsLoadable, database_of};
+ghost use Rattle.star_engine.specs.Executions.{IsToldOf, IsToldOver, IsUntold, IsUntoldOver};
+ghost use Rattle.star_engine.specs.Loads.{AreLoadedRows};
 ghost use Rattle.star_engine.specs.Noted.{Telling};
 ghost use Rattle.star_engine.specs.Trials.{IsBoundedReport};
 
@@ -14,13 +16,26 @@ pub fn one_report()
         → report ≡ other }
 {}
 
-/// Of the program of one file, checked and run over the same texts under the same limits, one
-/// report and one pair of notes is told; and where these are told, no fault is due.
+/// Of the program of one file, checked and run over the same rows, or over the same texts, under
+/// the same limits, one report and one pair of notes is told; and where these are told, no fault is
+/// due.
 pub fn one_telling()
-    ensures one { (most visits : ℕ) (texts : TableTexts) (file : List ℕ)
+    ensures one { (visits : ℕ) (database : Database) (file : List ℕ) (telling other : Telling)
+        → IsToldOver visits database file telling → IsToldOver visits database file other
+        → telling ≡ other }
+    ensures not_refused { (visits : ℕ) (database : Database) (file : List ℕ)
+        (telling : Telling) (fault : EngineFault) → IsToldOver visits database file telling
+        → ¬ IsUntoldOver visits database file fault }
+    ensures one_of_texts { (most visits : ℕ) (texts : TableTexts) (file : List ℕ)
         (telling other : Telling) → IsToldOf most visits texts file telling
         → IsToldOf most visits texts file other → telling ≡ other }
-    ensures not_refused { (most visits : ℕ) (texts : TableTexts) (file : List ℕ)
+    ensures not_refused_of_texts { (most visits : ℕ) (texts : TableTexts) (file : List ℕ)
         (telling : Telling) (fault : EngineFault) → IsToldOf most visits texts file telling
         → ¬ IsUntold most visits texts file fault }
+{}
+
+/// The rows of five texts that can be loaded are as a load leaves them.
+pub fn loadable_texts_hold_loaded_rows()
+    ensures { (most : ℕ) (texts : TableTexts)
+        → IsLoadable most texts → AreLoadedRows (database_of texts) }
 {}

@@ -3,6 +3,7 @@
 
 mod answers;
 mod benchmark;
+mod engine;
 mod executions;
 mod fault;
 mod input;
@@ -20,6 +21,7 @@ mod writing;
 
 pub use answers::{answer_program, check, quote_text, trial_program};
 pub use benchmark::bench;
+pub use engine::Engine;
 pub use fault::{EngineFault, FaultLine};
 pub use input::Input;
 pub use queries::{answer_query, explain_query};

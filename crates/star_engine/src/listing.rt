@@ -1,18 +1,13 @@
 // The text that lists the loaded tables.
 
-ghost use Rattle.std.specs.Prelude.{◌≡◌, ◌++◌, IfOk, MatchResult, OnOk, string_bytes};
+ghost use Rattle.std.specs.Prelude.{◌≡◌, ◌++◌, IfOk, OnOk, string_bytes};
 ghost use Rattle.std.specs.List.{flat_map};
 ghost use Rattle.star_schema.specs.Database.{rows_in};
 ghost use Rattle.star_schema.specs.Schema.{columns_of, kind_of, table_of};
-ghost use Rattle.star_catalogue.specs.Load.{text_of};
-ghost use Rattle.star_engine.specs.Listing.{IsListing, column_text, listing_of, table_text};
-ghost use Rattle.star_engine.specs.Loads.{IsUnloaded};
-ghost use Rattle.star_engine.specs.Private.Steps.{OrMemory};
+ghost use Rattle.star_engine.specs.Listing.{IsListingOver, column_text, table_text};
 
-use crate::fault::EngineFault;
-use crate::loading::load;
-use star_catalogue::{Catalogue, Texts};
-use star_schema::{ColumnId, Kind, Limits, TABLES, TableId, column_at, kind_of, width};
+use star_catalogue::Catalogue;
+use star_schema::{ColumnId, Kind, TABLES, TableId, column_at, kind_of, width};
 use std::alloc::{AllocError, Global};
 use std::fmt::Write;
 
@@ -60,26 +55,12 @@ fn push_table(text: &mut String, catalogue: &Catalogue, table: TableId) -> Resul
 }
 
 // How many rows each table has, and the bounds of its columns of numbers, a line each.
-fn list_tables(alloc: Global, catalogue: &Catalogue) -> Result<String, AllocError>
-    ensures { IfOk result (λ text. string_bytes text ≡ listing_of (rows_in catalogue.now)) }
+pub(crate) fn list_tables(alloc: Global, catalogue: &Catalogue) -> Result<String, AllocError>
+    ensures { IfOk result (λ text. IsListingOver catalogue.now (string_bytes text)) }
 {
     let mut text = String::new(alloc);
     for table in &TABLES {
         push_table(&mut text, catalogue, *table)?;
     }
     Ok(text)
-}
-
-// The listing of the tables of five texts.
-pub(crate) fn listing(
-    alloc: Global,
-    texts: &Texts<'_>,
-    limits: Limits,
-) -> Result<String, EngineFault>
-    ensures { MatchResult result
-        (λ text. IsListing limits.rows (text_of texts.now) (string_bytes text))
-        (OrMemory (IsUnloaded limits.rows (text_of texts.now))) }
-{
-    let catalogue = load(alloc, texts, limits)?;
-    Ok(list_tables(alloc, &catalogue)?)
 }

@@ -3,8 +3,8 @@
 ghost use Rattle.std.specs.Prelude.{◌≡◌, MatchResult};
 ghost use Rattle.star_schema.specs.Loadable.{IsLoadable, database_of};
 ghost use Rattle.star_catalogue.specs.Load.{text_of};
+ghost use Rattle.star_engine.specs.Answered.{OrMemory};
 ghost use Rattle.star_engine.specs.Loads.{IsUnloaded};
-ghost use Rattle.star_engine.specs.Private.Steps.{OrMemory};
 
 use crate::fault::EngineFault;
 use star_catalogue::{Catalogue, Texts};

@@ -1,19 +1,18 @@
 // Queries: from their texts to their answers.
 
-ghost use Rattle.std.specs.Prelude.{MatchResult};
+ghost use Rattle.std.specs.Prelude.{ℕ, List, MatchResult};
 ghost use Rattle.star_catalogue.specs.Load.{text_of};
-ghost use Rattle.star_engine.specs.Answered.{IsAnswered, change};
+ghost use Rattle.star_engine.specs.Answered.{IsAnswered, OrMemory, change};
 ghost use Rattle.star_engine.specs.Noted.{IsNoted};
-ghost use Rattle.star_engine.specs.Queries.{IsExplained, IsNoQuery, IsQueryQuote, IsQueryTold, IsUnanswered};
+ghost use Rattle.star_engine.specs.Queries.{IsExplained, IsNoQuery, IsQueryQuote, IsQueryQuoteOver, IsQueryTold, IsQueryToldOver, IsUnanswered, IsUnansweredOver};
 ghost use Rattle.star_engine.specs.Private.QuerySteps.{IsProgramOfQuery};
-ghost use Rattle.star_engine.specs.Private.Steps.{OrMemory};
 
 use crate::executions::execute;
 use crate::fault::EngineFault;
 use crate::loading::load;
 use crate::query_laws::{programs_of_queries_report_them, queries_that_fit_are_answered};
 use crate::writing::write_text;
-use star_catalogue::Texts;
+use star_catalogue::{Catalogue, Texts};
 use star_compile::compile;
 use star_plan::plan;
 use star_program::Program;
@@ -50,6 +49,47 @@ pub fn explain_query<S: Sink>(alloc: Global, query: &[u8], out: &mut S) -> Resul
     write_text(out, text.as_slice())
 }
 
+// Answers the query of a text by its program, over loaded tables, as `answer_query` does.
+fn answer_compiled<S: Sink, N: Sink>(
+    alloc: Global,
+    catalogue: &Catalogue,
+    program: Program,
+    limits: Limits,
+    out: &mut S,
+    notes: &mut N,
+) -> Result<(), EngineFault>
+    ensures { (query : List ℕ) → IsProgramOfQuery query program
+        → IsNoted (change S.contents S.is_failed out.old out.new)
+        (change N.contents N.is_failed notes.old notes.new)
+        (IsQueryQuoteOver catalogue.now query)
+        (IsQueryToldOver limits.visits catalogue.now query)
+        (IsUnansweredOver limits.visits catalogue.now query) result }
+{
+    queries_that_fit_are_answered();
+    programs_of_queries_report_them();
+    catalogue.law();
+    execute(alloc, catalogue, program, limits, out, notes)
+}
+
+// Answers the query that a text means over loaded tables.
+pub(crate) fn answer_query_over<S: Sink, N: Sink>(
+    alloc: Global,
+    catalogue: &Catalogue,
+    query: &[u8],
+    limits: Limits,
+    out: &mut S,
+    notes: &mut N,
+) -> Result<(), EngineFault>
+    ensures { IsNoted (change S.contents S.is_failed out.old out.new)
+        (change N.contents N.is_failed notes.old notes.new)
+        (IsQueryQuoteOver catalogue.now query.now)
+        (IsQueryToldOver limits.visits catalogue.now query.now)
+        (IsUnansweredOver limits.visits catalogue.now query.now) result }
+{
+    let program = compile_query(alloc, query)?;
+    answer_compiled(alloc, catalogue, program, limits, out, notes)
+}
+
 /// Answers the query that a text means over the tables of five texts: writes its report on `out`.
 ///
 /// A note of the quote, which is lineorder's row count, goes to `notes` before the query is judged,
@@ -69,9 +109,7 @@ pub fn answer_query<S: Sink, N: Sink>(
         (IsQueryTold limits.rows limits.visits (text_of texts.now) query.now)
         (IsUnanswered limits.rows limits.visits (text_of texts.now) query.now) result }
 {
-    queries_that_fit_are_answered();
-    programs_of_queries_report_them();
     let program = compile_query(alloc, query)?;
     let catalogue = load(alloc, texts, limits)?;
-    execute(alloc, &catalogue, program, limits, out, notes)
+    answer_compiled(alloc, &catalogue, program, limits, out, notes)
 }

@@ -1,8 +1,7 @@
 //! Laws of what queries are answered: functions with no body, whose clauses are the laws.
 
 ghost use Rattle.std.specs.Prelude.{◌≡◌, ◌≢◌, ◌≤◌, ◌<◌, ◌^◌, ◌↔◌, ℕ, List, Some, None};
-ghost use Rattle.star_schema.specs.Database.{TableTexts, rows_in};
-ghost use Rattle.star_schema.specs.Loadable.{IsLoadable, database_of};
+ghost use Rattle.star_schema.specs.Database.{Database, rows_in};
 ghost use Rattle.star_query.specs.Derives.{Means};
 ghost use Rattle.star_query.specs.Tree.{Tree};
 ghost use Rattle.star_plan.specs.Meaning.{Plan};
@@ -18,6 +17,7 @@ ghost use Rattle.star_compiled.specs.Judged.{IsOverflow};
 ghost use Rattle.star_engine.specs.Executions.{IsAcceptedWithin, quote_over};
 ghost use Rattle.star_engine.specs.declared.fault.EngineFault.{EngineFault};
 ghost use Rattle.star_engine.specs.declared.thirteen.BenchmarkQuery.{BenchmarkQuery};
+ghost use Rattle.star_engine.specs.Loads.{AreLoadedRows};
 ghost use Rattle.star_engine.specs.Queries.{IsNoQuery, IsPlanOf, fact_rows};
 ghost use Rattle.star_engine.specs.QueryRuns.{HasReported, PrintsTheReport};
 ghost use Rattle.star_engine.specs.Thirteen.{query_text};
@@ -30,30 +30,28 @@ use star_compiled::answers::compiled_programs_report_their_queries;
 use star_compiled::law::{compiled_plans_are_programs, compiled_programs_visit_each_row_once};
 use star_world::law::sound_rows_are_loaded;
 
-/// Where a query fits the tables of five texts, nothing refuses its program. Its run comes to its
-/// end with no trap, visits no row of lineorder twice, and what is printed of it is the query's
-/// report.
+/// Where a query fits the rows that are loaded, nothing refuses its program. Its run comes to its
+/// end with no trap, visits at most as many rows as lineorder has, and what is printed of it is the
+/// query's report.
 ///
 /// Where it doesn't fit it is refused: for its visits where lineorder has more rows than may be
 /// visited, and else since a range leaves 64 bits.
 pub fn queries_that_fit_are_answered()
-    ensures accepted { (rows most : ℕ) (texts : TableTexts) (query : List ℕ) (p : Plan)
-        → IsLoadable rows texts → IsPlanOf query p
-        → FitsTables most (rows_in (database_of texts)) p
-        ↔ IsAcceptedWithin (database_of texts) most (compiled p) }
-    ensures answered { (rows most : ℕ) (texts : TableTexts) (query : List ℕ) (p : Plan)
-        → IsLoadable rows texts → IsPlanOf query p
-        → FitsTables most (rows_in (database_of texts)) p → most ≤ 10 ^ 15
-        → EndsWith (run_of (world_of (database_of texts)) (compiled p))
-        (HasReported texts query p) }
-    ensures costly { (most : ℕ) (texts : TableTexts) (p : Plan)
-        → most < fact_rows texts
-        → first_refusal (world_of (database_of texts)) most (compiled p)
-        ≡ Some (TooCostly (fact_rows texts)) }
-    ensures wide { (rows most : ℕ) (texts : TableTexts) (query : List ℕ) (p : Plan)
-        → IsLoadable rows texts → IsPlanOf query p → fact_rows texts ≤ most
-        → ¬ FitsTables most (rows_in (database_of texts)) p
-        → IsOverflow (first_refusal (world_of (database_of texts)) most (compiled p)) }
+    ensures accepted { (most : ℕ) (database : Database) (query : List ℕ) (p : Plan)
+        → AreLoadedRows database → IsPlanOf query p
+        → FitsTables most (rows_in database) p ↔ IsAcceptedWithin database most (compiled p) }
+    ensures answered { (most : ℕ) (database : Database) (query : List ℕ) (p : Plan)
+        → AreLoadedRows database → IsPlanOf query p
+        → FitsTables most (rows_in database) p → most ≤ 10 ^ 15
+        → EndsWith (run_of (world_of database) (compiled p)) (HasReported database query p) }
+    ensures costly { (most : ℕ) (database : Database) (p : Plan)
+        → most < fact_rows database
+        → first_refusal (world_of database) most (compiled p)
+        ≡ Some (TooCostly (fact_rows database)) }
+    ensures wide { (most : ℕ) (database : Database) (query : List ℕ) (p : Plan)
+        → IsPlanOf query p → fact_rows database ≤ most
+        → ¬ FitsTables most (rows_in database) p
+        → IsOverflow (first_refusal (world_of database) most (compiled p)) }
 {
     compiled_plans_are_programs();
     compiled_programs_visit_each_row_once();
@@ -67,13 +65,13 @@ pub fn queries_that_fit_are_answered()
 /// The program of a query is quoted lineorder's row count, some text spells it, and wherever its
 /// run comes to its end, what is printed of it is the query's report.
 pub fn programs_of_queries_report_them()
-    ensures quoted { (texts : TableTexts) (p : Plan)
-        → quote_over (database_of texts) (compiled p) ≡ fact_rows texts }
+    ensures quoted { (database : Database) (p : Plan)
+        → quote_over database (compiled p) ≡ fact_rows database }
     ensures spelled { (query : List ℕ) (p : Plan) → IsPlanOf query p → IsSpellable (compiled p) }
-    ensures printed { (rows : ℕ) (texts : TableTexts) (query : List ℕ) (p : Plan) (s : Store)
-        → IsLoadable rows texts → IsPlanOf query p
-        → run_of (world_of (database_of texts)) (compiled p) ≡ Ended s
-        → PrintsTheReport texts query p s }
+    ensures printed { (database : Database) (query : List ℕ) (p : Plan) (s : Store)
+        → AreLoadedRows database → IsPlanOf query p
+        → run_of (world_of database) (compiled p) ≡ Ended s
+        → PrintsTheReport database query p s }
 {
     compiled_plans_are_programs();
     compiled_programs_visit_each_row_once();

@@ -1,18 +1,15 @@
 // The reports of programs.
 
-ghost use Rattle.std.specs.Prelude.{◌≤◌, ◌^◌, MatchResult};
-ghost use Rattle.star_catalogue.specs.Load.{text_of};
-ghost use Rattle.star_engine.specs.Loads.{IsProgramOf};
-ghost use Rattle.star_engine.specs.Private.Steps.{IsNoProgram, OrMemory};
-ghost use Rattle.star_engine.specs.Trials.{IsNoTrial, IsTrialReport};
+ghost use Rattle.std.specs.Prelude.{◌<◌, ◌≤◌, ◌^◌, ℕ, List, IfOk, MatchResult, length};
+ghost use Rattle.star_engine.specs.Answered.{OrMemory};
+ghost use Rattle.star_engine.specs.Loads.{IsNoProgram, IsProgramOf};
+ghost use Rattle.star_engine.specs.Trials.{IsBoundedReport, IsNoTrialOver};
 
 use crate::fault::EngineFault;
-use crate::loading::load;
-use star_catalogue::Texts;
+use star_catalogue::Catalogue;
 use star_machine::trial;
 use star_program::Program;
 use star_report::report_text;
-use star_schema::Limits;
 use std::alloc::Global;
 
 // The program that a file spells.
@@ -22,21 +19,19 @@ pub(crate) fn read_program(alloc: Global, file: &[u8]) -> Result<Program, Engine
     Ok(Program::parse(alloc, file)?)
 }
 
-// The report of the program that a file spells, over the tables of five texts.
+// The report of a program over loaded tables, run with so many visits at most.
 pub(crate) fn report_of(
     alloc: Global,
-    texts: &Texts<'_>,
-    file: &[u8],
+    catalogue: &Catalogue,
+    program: &Program,
     visits: u64,
-    limits: Limits,
 ) -> Result<Vec<u8>, EngineFault>
     requires { visits ≤ 10 ^ 15 }
-    ensures { MatchResult result
-        (λ report. IsTrialReport limits.rows (text_of texts.now) file.now visits report.items)
-        (OrMemory (IsNoTrial limits.rows (text_of texts.now) file.now visits)) }
+    ensures told { (file : List ℕ) → IsProgramOf file program.now → MatchResult result
+        (λ report. IsBoundedReport catalogue.now file visits report.items)
+        (OrMemory (IsNoTrialOver catalogue.now file visits)) }
+    ensures some { IfOk result (λ report. 0 < length report.items) }
 {
-    let program = read_program(alloc, file)?;
-    let catalogue = load(alloc, texts, limits)?;
-    let outcome = trial(alloc, &catalogue, &program, visits)?;
+    let outcome = trial(alloc, catalogue, program, visits)?;
     Ok(report_text(alloc, &outcome)?)
 }

@@ -7,6 +7,8 @@ mod answers;
 #[cfg(test)]
 mod checks;
 #[cfg(test)]
+mod engines;
+#[cfg(test)]
 mod executions;
 #[cfg(test)]
 mod faults;

@@ -12,7 +12,7 @@ use std::test::Fail;
 pub(crate) const AMPLE: usize = 4096;
 
 // How many bytes a writer takes at once.
-const AT_ONCE: usize = 3;
+pub(crate) const AT_ONCE: usize = 3;
 
 // How many bytes of a report and of its notes are taken.
 #[derive(Clone, Copy)]
@@ -69,7 +69,7 @@ fn fault_line(alloc: Global, fault: Option<EngineFault>) -> Result<String, Alloc
 }
 
 // What a call printed, and the line of its fault.
-fn told(
+pub(crate) fn told(
     alloc: Global,
     report: Short,
     notes: Vec<u8>,

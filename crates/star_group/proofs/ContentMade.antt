@@ -3,6 +3,10 @@ use Rattle.std.proofs.Common.{◌≡◌, ℕ, zero, suc, ◌+◌, ◌<◌, Bool,
 use Rattle.std.specs.Int.{int_min, int_max}
 use Rattle.std.specs.List.{list_any, AllByRecursion, IsDistinct}
 use Rattle.std.specs.Option.{unwrap_or}
+use Rattle.std.proofs.lemmas.Bool.{false_from_ne_true}
+use Rattle.std.proofs.lemmas.List.Folds.{list_any-from_Any}
+use Rattle.std.proofs.lemmas.Map.Views.{list_any-from_Contains}
+use Rattle.star_common.proofs.Members.{from_contains_map, of_each}
 use Rattle.star_schema.specs.declared.group.Aggregate.{Aggregate}
 use Rattle.star_schema.specs.declared.group.Aggregate.TheVariants.{Sum, Count, Min, Max}
 use Rattle.star_schema.specs.Groups.{aggregate, joined, numbers_for}
@@ -10,8 +14,7 @@ use Rattle.star_program.specs.declared.key.KeyValue.{KeyValue}
 use Rattle.star_program.specs.Keys.{same_keys}
 use Rattle.star_group.specs.Stores.{Put, Group, aggregate_at, IsContent, key_lists, number_at, puts_of}
 use Rattle.star_group.proofs.JoinedParts.{joined_more, more}
-use Rattle.star_group.proofs.KeyLists.{all_there, keys_decide, some_put}
-use Rattle.star_group.proofs.OwnGroups.{all_more, all_mapped}
+use Rattle.star_group.proofs.KeyLists.{keys_decide, keys_equiv, some_put}
 
 -- ---- each key list once
 
@@ -19,13 +22,8 @@ abbrev once_lists : List Put → List (List KeyValue)
 once_lists [] = []
 once_lists (u ∷ us) = cond (list_any (same_keys u.keys) (once_lists us)) (once_lists us) (u.keys ∷ once_lists us)
 
-none_same : {A : Type 0} (p : A → Bool) (xs : List A) → list_any p xs ≡ false → AllByRecursion (λ x. p x ≡ false) xs
-none_same p [] h = tt
-none_same p (x ∷ xs) h = by (p x) refl h (none_same p xs)
-  where
-    by : (b : Bool) → p x ≡ b → (b || list_any p xs) ≡ false → (list_any p xs ≡ false → AllByRecursion (λ y. p y ≡ false) xs) → AllByRecursion (λ y. p y ≡ false) (x ∷ xs)
-    by true e h later = absurd (true≢false h)
-    by false e h later = (e, later h)
+none_same : (ks : List KeyValue) (kss : List (List KeyValue)) → list_any (same_keys ks) kss ≡ false → AllByRecursion (λ ls. same_keys ks ls ≡ false) kss
+none_same ks kss h = of_each (λ ls. same_keys ks ls ≡ false) kss (λ ls c. false_from_ne_true (same_keys ks ls) (λ e. true≢false (sym (list_any-from_Any (same_keys ks) kss (c.0, ls, c.1, c.2, e)) ∙ h)))
 
 once_distinct : (us : List Put) → IsDistinct same_keys (once_lists us)
 unfolding IsDistinct
@@ -34,7 +32,7 @@ once_distinct (u ∷ us) = by (list_any (same_keys u.keys) (once_lists us)) refl
   where
     by : (b : Bool) → list_any (same_keys u.keys) (once_lists us) ≡ b → IsDistinct same_keys (once_lists us) → IsDistinct same_keys (cond b (once_lists us) (u.keys ∷ once_lists us))
     by true e rest = rest
-    by false e rest = (none_same (same_keys u.keys) (once_lists us) e, rest)
+    by false e rest = (none_same u.keys (once_lists us) e, rest)
 
 once_are : (us : List Put) (ks : List KeyValue) → list_any (same_keys ks) (once_lists us) ≡ list_any (same_keys ks) (key_lists us)
 once_are [] ks = refl
@@ -101,5 +99,7 @@ module _ (d : Group) (us : List Put) where
   made_content = record {
     keys = λ ks. ap (list_any (same_keys ks)) (lists_of (once_lists us)) ∙ once_are us ks;
     once = subst (IsDistinct same_keys) (sym (lists_of (once_lists us))) (once_distinct us);
-    numbers = all_mapped entry Told (once_lists us) (all_more (λ ks. list_any (same_keys ks) (once_lists us) ≡ true) (λ ks. Told (entry ks)) (λ ks h. entry_total ks (sym (once_are us ks) ∙ h)) (once_lists us) (all_there (once_lists us)));
+    numbers = of_each Told made (λ e c.
+        let ks = from_contains_map entry (once_lists us) e c in
+        subst Told ks.2 (entry_total ks.0 (sym (once_are us ks.0) ∙ list_any-from_Contains keys_equiv ks.0 (once_lists us) ks.1)));
   }

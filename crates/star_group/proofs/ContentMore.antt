@@ -10,7 +10,7 @@ use Rattle.star_group.specs.Cells.{held, step}
 use Rattle.star_group.specs.OneMore.{number_of, IsWithPut}
 use Rattle.star_group.specs.Stores.{Put, Group, aggregate_at, IsContent, key_lists, number_at, puts_of}
 use Rattle.star_group.proofs.KeyLists.{keys_decide, keys_equiv, some_put}
-use Rattle.star_group.proofs.OwnGroups.{all_more}
+use Rattle.star_group.proofs.ContentByKeys.{all_more}
 use Rattle.star_group.proofs.Totals.{some_aggregate}
 
 -- ---- look-ups

@@ -1,18 +1,11 @@
 -- Flat lists cut into rows.
 use Rattle.std.proofs.Common.{◌≡◌, ℕ, zero, suc, ◌+◌, ◌-◌, ◌*◌, ◌<◌, ◌≤◌, List, [], ◌∷◌, ◌++◌, length, get_or, set, take, drop, ap, sym, ◌∙◌, arith, refl}
 use borrow.Rule.Slice.PartMut.{put_mid}
-use Rattle.std.proofs.lemmas.List.{append_assoc, drop-append-le, drop-drop, length-append, length-drop, length-take-le, take-append-drop, take-append-le, take_all}
+use Rattle.std.proofs.lemmas.List.{append_assoc, drop-append-le, drop_at, drop-drop, length-append, length-drop, length-take-le, take-append-drop, take-append-le, take_all, take_at}
 use Rattle.std.proofs.lemmas.Slice.{drop-put_mid, take-put_mid}
 use Rattle.std.proofs.Math.Nat.{mul-le-mul_right, suc-mul, zero-mul}
-use Rattle.std.proofs.Math.Seq.{drop-append_seam, take-append_seam}
 use Rattle.star_program.specs.Rows.{cut}
 use Rattle.star_program.proofs.Rows.{cut_at}
-
-pub taken : {X : Type 0} (n : ℕ) (xs ys : List X) → length xs ≡ n → take n (xs ++ ys) ≡ xs
-taken n xs ys long = ap (λ m. take m (xs ++ ys)) (sym long) ∙ take-append_seam xs ys
-
-pub dropped : {X : Type 0} (n : ℕ) (xs ys : List X) → length xs ≡ n → drop n (xs ++ ys) ≡ ys
-dropped n xs ys long = ap (λ m. drop m (xs ++ ys)) (sym long) ∙ drop-append_seam xs ys
 
 module _ {T : Type 0} (w : ℕ) where
   enough : (n : ℕ) (ps : List T) → length ps ≡ suc n * w → w ≤ length ps
@@ -57,7 +50,7 @@ module _ {T : Type 0} (w : ℕ) where
       → cut w n (before ++ (row ++ after)) ≡ set (cut w n (before ++ (old ++ after))) i row
   unfolding cut
   cut_set zero before old row after i h first was is = absurd (omega (arith, h))
-  cut_set (suc n) [] old row after zero h first was is = λ i. taken w row after is i ∷ cut w n ((dropped w row after is ∙ sym (dropped w old after was)) i)
+  cut_set (suc n) [] old row after zero h first was is = λ i. take_at row after w is i ∷ cut w n ((drop_at row after w is ∙ sym (drop_at old after w was)) i)
   cut_set (suc n) (b ∷ before) old row after zero h first was is = absurd (omega (arith, first, zero-mul w))
   cut_set (suc n) before old row after (suc i) h first was is =
       let some = enough i before first in

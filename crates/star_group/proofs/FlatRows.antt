@@ -1,7 +1,7 @@
 -- Rows in flat storage: what stands at a number, and what is gathered.
 use Rattle.std.proofs.Common.{◌≡◌, ◌*◌, ◌+◌, ℕ, zero, suc, ℤ, List, [], ◌∷◌, ◌++◌, Option, length, drop, ap, sym, refl, ◌∙◌, arith}
 use Rattle.std.specs.List.{flat_map, AllByRecursion}
-use Rattle.std.proofs.lemmas.List.{length-append}
+use Rattle.std.proofs.lemmas.List.{drop_at, length-append, take_at}
 use Rattle.std.proofs.Math.Nat.{add_comm, suc-mul, zero-mul}
 use Rattle.std.specs.Prelude.{slice_index_or}
 use Rattle.star_program.specs.declared.key.KeyValue.{KeyValue}
@@ -9,7 +9,6 @@ use Rattle.star_program.specs.Rows.{cut}
 use Rattle.star_group.specs.declared.group_row.GroupRow.{GroupRow}
 use Rattle.star_group.specs.Private.FlatRows.{AreParts, Fits, rows_of}
 use Rattle.star_group.specs.Shown.{row_at}
-use Rattle.star_group.proofs.CutRows.{dropped, taken}
 
 pub rows_length : (k a n : ℕ) (keys : List (Option KeyValue)) (numbers : List (Option ℤ)) → length (rows_of k a n keys numbers) ≡ n
 unfolding rows_of
@@ -41,8 +40,8 @@ rows_again k a [] fit = refl
 rows_again k a (row ∷ rows) fit =
     let keys_left = flat_map (λ (r : GroupRow). r.keys) rows in
     let numbers_left = flat_map (λ (r : GroupRow). r.aggregates) rows in
-    (λ i. record { keys = taken k row.keys keys_left fit.0.keys i; aggregates = taken a row.aggregates numbers_left fit.0.aggregates i }
-    ∷ rows_of k a (length rows) (dropped k row.keys keys_left fit.0.keys i) (dropped a row.aggregates numbers_left fit.0.aggregates i))
+    (λ i. record { keys = take_at row.keys keys_left k fit.0.keys i; aggregates = take_at row.aggregates numbers_left a fit.0.aggregates i }
+    ∷ rows_of k a (length rows) (drop_at row.keys keys_left k fit.0.keys i) (drop_at row.aggregates numbers_left a fit.0.aggregates i))
     ∙ ap (λ rest. row ∷ rest) (rows_again k a rows fit.1)
 
 pub gathered_rows : (k a n : ℕ) (keys : List (Option KeyValue)) (numbers : List (Option ℤ)) (rows : List GroupRow) → AreParts k a n keys numbers rows → rows_of k a n keys numbers ≡ rows

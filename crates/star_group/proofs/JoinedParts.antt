@@ -1,18 +1,16 @@
 -- Numbers of puts, joined by an operation: by key lists first, or all at once.
 use Rattle.std.proofs.Common.{◌≡◌, Bool, true, false, ◌&&◌, ◌||◌, ℤ, List, [], ◌∷◌, Option, Some, None, map, cond, ap, sym, ◌∙◌, refl, true≢false}
 use Rattle.std.specs.List.{list_any, AllByRecursion, IsDistinct, filter}
+use Rattle.std.proofs.Math.Bool.{and-false}
+use Rattle.std.proofs.lemmas.List.Elements.{All-from_recursion}
+use Rattle.std.proofs.lemmas.List.Folds.{list_any_none}
 use Rattle.std.proofs.lemmas.Map.Keys.{IsDistinct-head, IsDistinct-tail}
 use Rattle.star_schema.specs.Groups.{joined}
 use Rattle.star_program.specs.declared.key.KeyValue.{KeyValue}
 use Rattle.star_program.specs.Keys.{same_keys}
 use Rattle.star_group.specs.Stores.{Put, key_lists}
 use Rattle.star_group.proofs.KeyLists.{keys_decide, keys_equiv}
-use Rattle.star_group.proofs.OwnGroups.{any_false}
 use Rattle.star_group.proofs.Totals.{joined_none, joined_some}
-
-nothing : (b : Bool) → (b && false) ≡ false
-nothing true = refl
-nothing false = refl
 
 -- tests that pick out the puts with a key list, and those with one of others
 module _ (k : List KeyValue) (kss : List (List KeyValue)) (distinct : AllByRecursion (λ y. same_keys k y ≡ false) kss) (ks : List KeyValue) where
@@ -20,7 +18,7 @@ module _ (k : List KeyValue) (kss : List (List KeyValue)) (distinct : AllByRecur
   no_two = by (same_keys k ks) refl
     where
       by : (b : Bool) → same_keys k ks ≡ b → (b && list_any (same_keys ks) kss) ≡ false
-      by true e = ap (λ l. list_any (same_keys l) kss) (sym ((keys_decide k ks).0 e)) ∙ any_false (same_keys k) kss distinct
+      by true e = ap (λ l. list_any (same_keys l) kss) (sym ((keys_decide k ks).0 e)) ∙ list_any_none (same_keys k) kss (All-from_recursion (λ y. same_keys k y ≡ false) kss distinct)
       by false e = refl
 
   pub flipped : (same_keys ks k || list_any (same_keys ks) kss) ≡ (same_keys k ks || list_any (same_keys ks) kss)
@@ -109,7 +107,7 @@ module _ (f : ℤ → ℤ → ℤ) (comm : (x y : ℤ) → f x y ≡ f y x) (ass
         chosen passes ks false e = refl
 
         left_out : p k ≡ false → (ks : List KeyValue) (b : Bool) → same_keys k ks ≡ b → ((b || list_any (same_keys ks) kss) && p ks) ≡ (list_any (same_keys ks) kss && p ks)
-        left_out fails ks true e = let no : p ks ≡ false = ap p (sym ((keys_decide k ks).0 e)) ∙ fails in no ∙ sym (nothing (list_any (same_keys ks) kss)) ∙ ap (λ b. list_any (same_keys ks) kss && b) (sym no)
+        left_out fails ks true e = let no : p ks ≡ false = ap p (sym ((keys_decide k ks).0 e)) ∙ fails in no ∙ sym (and-false (list_any (same_keys ks) kss)) ∙ ap (λ b. list_any (same_keys ks) kss && b) (sym no)
         left_out fails ks false e = refl
 
         apart_from : (ks : List KeyValue) (b c : Bool) → (b && c) ≡ false → (b && (c && p ks)) ≡ false

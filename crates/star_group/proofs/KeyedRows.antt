@@ -1,10 +1,10 @@
 -- Rows in flat storage with their keys: what stands at a number, one row more, and one changed.
-use Rattle.std.proofs.Common.{◌≡◌, ℕ, zero, suc, ◌-◌, ◌*◌, ◌<◌, ◌≤◌, Bool, true, false, ℤ, List, [], ◌∷◌, ◌++◌, Option, Some, None, Result, Ok, Err, OnOk, cond, length, get_or, get_or-set_same, set, slice_get, take, drop, ap, sym, ◌∙◌, subst, refl, arith}
-use Rattle.std.specs.List.{AllByRecursion, IsDistinct}
-use Rattle.std.specs.Map.{keys_of}
-use Rattle.std.proofs.lemmas.List.{get_or-take, length-set, length-take-le, take-append-drop}
-use Rattle.std.proofs.lemmas.Map.Entries.{place_from_lookup}
-use Rattle.std.proofs.lemmas.Option.{slice_get-get_or, slice_get_within}
+use Rattle.std.proofs.Common.{◌≡◌, ℕ, zero, suc, ◌-◌, ◌*◌, ◌<◌, ◌≤◌, Bool, true, false, ℤ, List, [], ◌∷◌, ◌++◌, Option, Some, None, Result, Ok, Err, OnOk, cond, length, get_or, get_or-set_same, set, slice_get, map, take, drop, ap, sym, ◌∙◌, subst, refl, arith}
+use Rattle.std.specs.List.{AllByRecursion, IsDistinct, filter, list_any}
+use Rattle.std.specs.Map.{keys_of, lookup}
+use Rattle.std.proofs.lemmas.List.{drop_at, get_or-take, length-map, length-set, length-take-le, take-append-drop, take_at}
+use Rattle.std.proofs.lemmas.Map.Entries.{lookup_from_place, place_from_lookup}
+use Rattle.std.proofs.lemmas.Option.{slice_get-get_or, slice_get-map, slice_get_within}
 use Rattle.star_program.specs.declared.key.KeyValue.{KeyValue}
 use Rattle.star_group.specs.declared.keyed.key.KeyPart.{KeyPart}
 use Rattle.star_group.specs.declared.keyed.key.KeyPart.TheVariants.{All, Number, Code}
@@ -13,19 +13,50 @@ use Rattle.star_group.specs.Base.{key_of, row_at, value_of}
 use Rattle.star_group.specs.Entries.{entries_of}
 use Rattle.star_program.specs.Rows.{cut}
 use Rattle.star_group.specs.Keyed.{all_hidden, filled, keyed}
-use Rattle.star_group.specs.OwnKeys.{key_eq, padded}
+use Rattle.star_group.specs.OwnKeys.{key_eq, padded, vary}
 use Rattle.star_group.specs.Private.Coarser.{AreOnce, shown_entries}
 use Rattle.star_group.specs.Private.Merged.{IsMerged, IsMergedAt, IsWithRow, MergeStays, RowsStay}
 use Rattle.star_schema.specs.declared.group.Aggregate.{Aggregate}
-use Rattle.std.specs.Option.{unwrap_or}
+use Rattle.star_schema.specs.declared.group.Shape.{Shape}
+use Rattle.std.specs.Option.{option_map, unwrap_or}
 use Rattle.std.specs.Vec.{with_items}
-use Rattle.std.proofs.lemmas.Bool.{false_from_ne_true}
+use Rattle.std.proofs.lemmas.Bool.{and_parts, false_from_ne_true}
+use Rattle.std.proofs.lemmas.Map.Views.{list_any-from_Contains}
+use Rattle.star_common.proofs.Members.{contains_mapped, of_each}
+use Rattle.star_group.specs.Private.Numbers.{AreNarrow, IsNarrow}
+use Rattle.star_group.specs.Private.Rows.{is_row_key}
 use Rattle.star_group.specs.Private.Tries.{IsHeld, IsMissing}
 use Rattle.star_program.proofs.Rows.{length-cut}
-use Rattle.star_group.proofs.CutRows.{cut_from, cut_wide, dropped, taken}
-use Rattle.star_group.proofs.GroupKeys.{key_decides}
+use Rattle.star_group.proofs.CutRows.{cut_from, cut_wide}
+use Rattle.star_group.proofs.GroupKeys.{among_vary, any_kept, in_padded, in_places, key_decides, key_equiv, masked_length}
 use Rattle.star_group.proofs.Passes.{IsOnceAt}
-use Rattle.star_group.proofs.Rolling.{row_there}
+
+-- ---- entries, each of whose keys is there once
+
+pub shown_lookup : (q : List (Option KeyValue)) (es : List (List KeyPart × List (Option ℤ))) → lookup (key_eq q) (shown_entries es) ≡ row_at es q
+shown_lookup q [] = refl
+shown_lookup q (e ∷ es) = ap (cond (key_eq q (key_of e.0)) (Some e.1)) (shown_lookup q es)
+
+pub shown_at : (es : List (List KeyPart × List (Option ℤ))) (n : ℕ) → n < length es → slice_get (shown_entries es) n ≡ Some (key_of (get_or es n ([], [])).0, (get_or es n ([], [])).1)
+shown_at es n h = slice_get-map (λ (e : List KeyPart × List (Option ℤ)). (key_of e.0, e.1)) es n ∙ ap (option_map (λ (e : List KeyPart × List (Option ℤ)). (key_of e.0, e.1))) (slice_get-get_or es n ([], []) h)
+
+all_apart : (k : List (Option KeyValue)) (es : List (List KeyPart × List (Option ℤ))) → ((i : ℕ) (f : List KeyPart × List (Option ℤ)) → slice_get es i ≡ Some f → key_eq k (key_of f.0) ≡ false) → AllByRecursion (λ m. key_eq k m ≡ false) (keys_of (shown_entries es))
+all_apart k [] each = tt
+all_apart k (e ∷ es) each = (each 0 e refl, all_apart k es (λ i f at. each (suc i) f at))
+
+distinct_once : (es : List (List KeyPart × List (Option ℤ))) → IsOnceAt es → AreOnce es
+unfolding IsDistinct
+distinct_once [] once = tt
+distinct_once (e ∷ es) once = (
+  all_apart (key_of e.0) es (λ i f at. false_from_ne_true (key_eq (key_of e.0) (key_of f.0)) (λ h. omega (arith, once 0 (suc i) e f refl at ((key_decides (key_of e.0) (key_of f.0)).0 h)))),
+  distinct_once es (λ i j a b at_i at_j same. omega (arith, once (suc i) (suc j) a b at_i at_j same)),
+)
+
+-- an entry is found by its key
+pub row_there : (es : List (List KeyPart × List (Option ℤ))) → IsOnceAt es → (j : ℕ) (e : List KeyPart × List (Option ℤ)) → slice_get es j ≡ Some e → row_at es (key_of e.0) ≡ Some e.1
+row_there es once j e at =
+    let show : List KeyPart × List (Option ℤ) → List (Option KeyValue) × List (Option ℤ) = λ f. (key_of f.0, f.1) in
+    sym (shown_lookup (key_of e.0) es) ∙ lookup_from_place key_equiv (shown_entries es) j (key_of e.0) e.1 (distinct_once es once) (slice_get-map show es j ∙ ap (option_map show) at)
 
 -- ---- keys beside rows
 
@@ -111,14 +142,14 @@ pub narrow_filled : (w : ℕ) (key : List KeyPart) → w ≤ length key → drop
 narrow_filled w key few narrow = ap (λ n. take w key ++ drop n all_hidden) (length-take-le w key few) ∙ ap (λ ps. take w key ++ ps) (sym narrow) ∙ take-append-drop w key
 
 pub filled_narrow : (w : ℕ) (key : List KeyPart) → length key ≡ w → drop w (filled key) ≡ drop w all_hidden
-filled_narrow w key long = dropped w key (drop (length key) all_hidden) long ∙ ap (λ n. drop n all_hidden) long
+filled_narrow w key long = drop_at key (drop (length key) all_hidden) w long ∙ ap (λ n. drop n all_hidden) long
 
 -- ---- rows of which each key is there once
 
 module _ (w : ℕ) (ks : List (List KeyPart)) (cs : List (List (Option ℤ))) (same : length ks ≡ length cs) (wide : (i : ℕ) → i < length ks → length (get_or ks i []) ≡ w)
     (once : (i j : ℕ) → i < length ks → j < length ks → get_or ks i [] ≡ get_or ks j [] → i ≡ j) where
   own_parts : (i : ℕ) → i < length ks → take w (filled (get_or ks i [])) ≡ get_or ks i []
-  own_parts i h = taken w (get_or ks i []) (drop (length (get_or ks i [])) all_hidden) (wide i h)
+  own_parts i h = take_at (get_or ks i []) (drop (length (get_or ks i [])) all_hidden) w (wide i h)
 
   entry_is : (i : ℕ) (e : List KeyPart × List (Option ℤ)) → slice_get (keyed ks cs) i ≡ Some e → (i < length ks) × (e ≡ (filled (get_or ks i []), get_or cs i []))
   entry_is i e at =
@@ -171,31 +202,6 @@ module _ (w : ℕ) (ks : List (List KeyPart)) (cs : List (List (Option ℤ))) (s
   with_one key row whole none q =
       ap (λ es. row_at es q) (keyed_more ks cs (take w key) row same ∙ ap (λ k. keyed ks cs ++ (k, row) ∷ []) whole)
       ∙ row_more (keyed ks cs) key row q (λ e. ap (row_at (keyed ks cs)) ((key_decides q (key_of key)).0 e) ∙ no_row w ks cs same wide once key none)
-
--- ---- entries as they are shown
-
-pub shown_at : (es : List (List KeyPart × List (Option ℤ))) (n : ℕ) (e : List (Option KeyValue) × List (Option ℤ)) → n < length es → slice_get (shown_entries es) n ≡ Some e → e ≡ (key_of (get_or es n ([], [])).0, (get_or es n ([], [])).1)
-shown_at [] n e h at = absurd (omega (arith, h))
-shown_at (x ∷ es) zero e h at = sym (cc at)
-shown_at (x ∷ es) (suc n) e h at = shown_at es n e (omega (arith, h)) at
-
-pub shown_count : (es : List (List KeyPart × List (Option ℤ))) → length (shown_entries es) ≡ length es
-shown_count [] = refl
-shown_count (e ∷ es) = ap suc (shown_count es)
-
--- ---- each key is there once
-
-all_apart : (k : List (Option KeyValue)) (es : List (List KeyPart × List (Option ℤ))) → ((i : ℕ) (f : List KeyPart × List (Option ℤ)) → slice_get es i ≡ Some f → key_eq k (key_of f.0) ≡ false) → AllByRecursion (λ m. key_eq k m ≡ false) (keys_of (shown_entries es))
-all_apart k [] each = tt
-all_apart k (e ∷ es) each = (each 0 e refl, all_apart k es (λ i f at. each (suc i) f at))
-
-distinct_once : (es : List (List KeyPart × List (Option ℤ))) → IsOnceAt es → AreOnce es
-unfolding IsDistinct
-distinct_once [] once = tt
-distinct_once (e ∷ es) once = (
-  all_apart (key_of e.0) es (λ i f at. false_from_ne_true (key_eq (key_of e.0) (key_of f.0)) (λ h. omega (arith, once 0 (suc i) e f refl at ((key_decides (key_of e.0) (key_of f.0)).0 h)))),
-  distinct_once es (λ i j a b at_i at_j same. omega (arith, once (suc i) (suc j) a b at_i at_j same)),
-)
 
 -- ---- the rows of a store
 
@@ -261,7 +267,7 @@ module _ (rows : KeyedRows) where
 
       pub set_held : (row : List (Option ℤ)) (ns : List (Option ℤ)) → cut rows.many rows.trie.len ns ≡ set cs number row → length ns ≡ rows.cells.len
           → IsWithRow (key_of key) row (entries_of rows) (keyed ks (cut rows.many rows.trie.len (with_items rows.cells ns).items))
-      set_held row ns e many = subst (λ xs. IsWithRow (key_of key) row (entries_of rows) (keyed ks xs)) (sym (ap (cut rows.many rows.trie.len) (taken rows.cells.len ns (drop (length ns) rows.cells.items) many) ∙ e)) (with_set rows.trie.width ks cs same wide rows.trie.trie.once number key row held.within is)
+      set_held row ns e many = subst (λ xs. IsWithRow (key_of key) row (entries_of rows) (keyed ks xs)) (sym (ap (cut rows.many rows.trie.len) (take_at ns (drop (length ns) rows.cells.items) rows.cells.len many) ∙ e)) (with_set rows.trie.width ks cs same wide rows.trie.trie.once number key row held.within is)
 
     module _ (node digit : ℕ) (slot : IsMissing rows.trie.width ks rows.trie.links.items (take rows.trie.width key) node digit) where
       pub row_missing : row_at (entries_of rows) (key_of key) ≡ None
@@ -288,20 +294,30 @@ all_of : ℕ → List KeyPart
 all_of zero = []
 all_of (suc n) = All ∷ all_of n
 
-narrow_of : (n w : ℕ) (ps : List KeyPart) (ks : List KeyValue) → key_of ps ≡ padded n ks → length ks ≤ w → drop w ps ≡ drop w (all_of n)
-unfolding padded all_of
-narrow_of zero w [] ks e h = refl
-narrow_of zero w (p ∷ ps) ks e h = absurd (let no : ⊥ = cc e in no)
+narrow_of : (n w : ℕ) (ps : List KeyPart) (m : List (Option KeyValue)) → key_of ps ≡ in_places n m → length m ≤ w → drop w ps ≡ drop w (all_of n)
+unfolding in_places all_of
+narrow_of zero w [] m e h = refl
+narrow_of zero w (p ∷ ps) m e h = absurd (let no : ⊥ = cc e in no)
 narrow_of (suc n) w [] [] e h = absurd (let no : ⊥ = cc e in no)
-narrow_of (suc n) w [] (k ∷ ks) e h = absurd (let no : ⊥ = cc e in no)
+narrow_of (suc n) w [] (k ∷ m) e h = absurd (let no : ⊥ = cc e in no)
 narrow_of (suc n) zero (p ∷ ps) [] e h =
     let first : value_of p ≡ value_of All = cc e in
-    let rest : key_of ps ≡ padded n [] = cc e in
+    let rest : key_of ps ≡ in_places n [] = cc e in
     λ i. value_once p All first i ∷ narrow_of n zero ps [] rest h i
-narrow_of (suc n) (suc w) (p ∷ ps) [] e h = let rest : key_of ps ≡ padded n [] = cc e in narrow_of n w ps [] rest (omega arith)
-narrow_of (suc n) zero (p ∷ ps) (k ∷ ks) e h = absurd (omega (arith, h))
-narrow_of (suc n) (suc w) (p ∷ ps) (k ∷ ks) e h = let rest : key_of ps ≡ padded n ks = cc e in narrow_of n w ps ks rest (omega (arith, h))
+narrow_of (suc n) (suc w) (p ∷ ps) [] e h = let rest : key_of ps ≡ in_places n [] = cc e in narrow_of n w ps [] rest (omega arith)
+narrow_of (suc n) zero (p ∷ ps) (k ∷ m) e h = absurd (omega (arith, h))
+narrow_of (suc n) (suc w) (p ∷ ps) (k ∷ m) e h = let rest : key_of ps ≡ in_places n m = cc e in narrow_of n w ps m rest (omega (arith, h))
 
 pub base_narrow : (w : ℕ) (ps : List KeyPart) (ks : List KeyValue) → key_of ps ≡ padded 6 ks → length ks ≤ w → drop w ps ≡ drop w all_hidden
 unfolding all_of
-base_narrow w ps ks e h = narrow_of 6 w ps ks e h
+base_narrow w ps ks e h = narrow_of 6 w ps (map Some ks) (e ∙ sym (in_padded 6 ks)) (omega (arith, h, length-map ks Some))
+
+-- the keys of a put's rows
+pub row_keys_narrow : (s : Shape) (ks : List KeyValue) (own : List (List KeyPart)) (w : ℕ) → length ks ≤ w → length ks ≤ 6 → map key_of own ≡ filter (is_row_key s (length ks)) (vary (length ks) (padded 6 ks)) → AreNarrow w own
+unfolding all_of
+row_keys_narrow s ks own w wide few is = of_each (IsNarrow w) own (λ key c.
+    let q : List (Option KeyValue) = key_of key in
+    let there : list_any (key_eq q) (map key_of own) ≡ true = list_any-from_Contains key_equiv q (map key_of own) (contains_mapped key_of own key c) in
+    let both = and_parts (is_row_key s (length ks) q) _ (sym (ap (list_any (key_eq q)) is ∙ any_kept (is_row_key s (length ks)) q (vary (length ks) (padded 6 ks))) ∙ there) in
+    let found = among_vary 6 ks q few both.1 in
+    narrow_of 6 w key found.keys found.is (omega (arith, wide, masked_length found.keys ks found.masked)))

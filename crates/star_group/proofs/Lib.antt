@@ -1,8 +1,4 @@
-pub mod HiddenKeys
 pub mod OwnKeyLemmas
-pub mod OnePut
-pub mod PutSteps
-pub mod Distinct
 pub mod GroupKeys
 pub mod Contents
 pub mod Totals
@@ -11,7 +7,6 @@ pub mod CutRows
 pub mod FlatRows
 pub mod GivenRows
 pub mod GivenGroups
-pub mod OwnGroups
 pub mod SmallNumbers
 pub mod KeyLists
 pub mod JoinedParts
@@ -29,7 +24,7 @@ pub mod KeyedRows
 pub mod ListedRows
 pub mod MergedRows
 pub mod AllRows
-pub mod PlainPuts
+pub mod PutsBeside
 pub mod Worked
 pub mod WorkedCells
 pub mod WorkedHeld

@@ -1,27 +1,34 @@
 -- One more put, merged into the rows of its keys.
-use Rattle.std.proofs.Common.{◌≡◌, ℕ, ◌<◌, Bool, true, false, ◌||◌, ℤ, List, [], ◌∷◌, Option, Some, None, length, ap, sym, ◌∙◌, subst, refl, true≢false}
+use Rattle.std.proofs.Common.{◌≡◌, ℕ, ◌<◌, Bool, true, false, ◌||◌, ℤ, List, [], ◌∷◌, Option, Some, None, length, ap, sym, ◌∙◌, subst, refl}
 use Rattle.std.specs.Option.{unwrap_or}
-use Rattle.std.proofs.lemmas.Bool.{or_right}
+use Rattle.std.proofs.lemmas.Bool.{or_parts, or_right}
 use Rattle.star_program.specs.declared.key.KeyValue.{KeyValue}
 use Rattle.star_program.specs.Puts.{leaves}
 use Rattle.star_schema.specs.Groups.{numbers_for}
 use Rattle.star_group.specs.Cells.{held}
 use Rattle.star_group.specs.Held.{changes, has_puts, held_at, puts_at, Holds, IsRow}
-use Rattle.star_group.specs.OwnKeys.{key_eq, own_keys, padded}
+use Rattle.star_group.specs.OwnKeys.{key_eq, padded}
 use Rattle.star_group.specs.Private.Merged.{IsRowOf, cell_of, merged, merged_at}
 use Rattle.star_group.specs.Private.Rows.{AllStay, MergesAll, SomeLeaves}
 use Rattle.star_group.specs.Stores.{Put, Group, aggregate_at, number_at}
 use Rattle.star_group.proofs.Merging.{held_none, held_one, merged_comm, no_puts}
-use Rattle.star_group.proofs.OnePut.{PutLeaves, PutStays}
-use Rattle.star_group.proofs.PutSteps.{no_more, one_more}
+use Rattle.star_group.proofs.Totals.{no_more, one_more}
 
-or_parts : (a b : Bool) → (a || b) ≡ false → b ≡ false
-or_parts true b h = absurd (true≢false h)
-or_parts false b h = h
+-- with this put after those, no SUM or COUNT of a row that it changes leaves 64 bits
+pub record PutStays (d : Group) (puts : List Put) (put : Put) : Type 0 where
+  pub stays : (q : List (Option KeyValue)) (place : ℕ) → changes d q put ≡ true → place < length d.aggregates → leaves (aggregate_at d place) (held_at d (put ∷ puts) q place) ≡ false
+
+-- and here one does
+pub record PutLeaves (d : Group) (puts : List Put) (put : Put) : Type 0 where
+  pub key : List (Option KeyValue)
+  pub place : ℕ
+  pub own : changes d key put ≡ true
+  pub declared : place < length d.aggregates
+  pub over : leaves (aggregate_at d place) (held_at d (put ∷ puts) key place) ≡ true
 
 module _ (d : Group) (us : List Put) (u : Put) (row : List (Option ℤ)) (one : IsRowOf d.aggregates u.values row) where
-  abbrev own : List (List (Option KeyValue))
-  own = own_keys d.shape (length u.keys) (padded 6 u.keys)
+  abbrev own : List (Option KeyValue) → Bool
+  own q = changes d q u
 
   held_more : (q : List (Option KeyValue)) (place : ℕ) → changes d q u ≡ true
       → held_at d (u ∷ us) q place ≡ merged (aggregate_at d place) (Some (cell_of (aggregate_at d place) (number_at place u))) (held_at d us q place)
@@ -35,7 +42,7 @@ module _ (d : Group) (us : List Put) (u : Put) (row : List (Option ℤ)) (one : 
       (λ i. merged g (is.cells place h i) (one place h i)) ∙ merged_comm g (held_at d us q place) (Some (cell_of g (number_at place u))) ∙ sym (held_more q place e)
   cell_held q e None is place h =
       let g = aggregate_at d place in
-      let nothing : held_at d us q place ≡ None = ap (λ ps. held g (numbers_for place ps)) (no_puts (puts_at d q us) (or_parts _ _ is)) ∙ held_none g in
+      let nothing : held_at d us q place ≡ None = ap (λ ps. held g (numbers_for place ps)) (no_puts (puts_at d q us) (or_parts _ _ is).1) ∙ held_none g in
       (λ i. merged g None (one place h i)) ∙ merged_comm g None (Some (cell_of g (number_at place u))) ∙ ap (merged g (Some (cell_of g (number_at place u)))) (sym nothing) ∙ sym (held_more q place e)
 
   module _ (look new : List (Option KeyValue) → Option (List (Option ℤ))) (so_far : Holds d look us) where

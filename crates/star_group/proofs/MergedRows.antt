@@ -19,13 +19,16 @@ use Rattle.star_group.specs.OwnKeys.{key_eq}
 use Rattle.star_group.specs.Private.Merged.{IsMergedAt, IsMergedInto, MergeLeaves, MergeStays, RowsStay}
 use Rattle.star_group.specs.Private.Numbers.{AreNarrow, IsGrown, IsNarrow, IsPlace, IsPlaceAmong, IsWithin, keys_in}
 use Rattle.star_group.specs.Private.Tries.{IsHeld, IsMissing}
-use Rattle.star_group.specs.Private.Rows.{AllStay, IsBlank, MergesAll, SomeLeaves}
+use Rattle.star_group.specs.Private.Rows.{AllStay, MergesAll, SomeLeaves}
 use Rattle.star_group.proofs.Bases.{other_row, own_row}
 use Rattle.star_program.proofs.Rows.{length-cut}
 use Rattle.star_group.proofs.GroupKeys.{key_decides, key_equiv}
 use Rattle.star_group.proofs.KeyedRows.{entry_at, row_count}
 
 -- ---- one more key of a list without repeats
+
+abbrev pub among : List (List (Option KeyValue)) → List (Option KeyValue) → Bool
+among own q = list_any (key_eq q) own
 
 -- an element is not among those before it
 fresh_at : (own : List (List (Option KeyValue))) (i : ℕ) (d : List (Option KeyValue)) → IsDistinct key_eq own → i < length own → list_any (key_eq (get_or own i d)) (take i own) ≡ false
@@ -64,9 +67,9 @@ module _ (own : List (List (Option KeyValue))) (i : ℕ) (key : List (Option Key
 
   module _ (gs : List Aggregate) (more : List (Option ℤ)) where
     -- whether the row at i stays tells whether those of the first i + 1 keys do
-    pub told_more : (look : List (Option KeyValue) → Option (List (Option ℤ))) → AllStay look (take i own) gs more → (stays : Bool)
+    pub told_more : (look : List (Option KeyValue) → Option (List (Option ℤ))) → AllStay look (among (take i own)) gs more → (stays : Bool)
         → MatchBool stays (MergeStays gs (unwrap_or (look key) []) more) (MergeLeaves gs (unwrap_or (look key) []) more)
-        → MatchBool stays (AllStay look (take (i + 1) own) gs more) (SomeLeaves look own gs more)
+        → MatchBool stays (AllStay look (among (take (i + 1) own)) gs more) (SomeLeaves look (among own) gs more)
     told_more look so_far false leaves = record { key = key; among = among_here; leaves = leaves }
     told_more look so_far true now = record { stay = λ q e. by q (split q e) }
       where
@@ -78,14 +81,14 @@ module _ (own : List (List (Option KeyValue))) (i : ℕ) (key : List (Option Key
     stays_found None h = tt
     stays_found (Some row) h = h
 
-    module _ (distinct : IsDistinct key_eq own) (old : List (Option KeyValue) → Option (List (Option ℤ))) (es : List (List KeyPart × List (Option ℤ))) (so_far : MergesAll (take i own) gs more old (row_at es)) where
+    module _ (distinct : IsDistinct key_eq own) (old : List (Option KeyValue) → Option (List (Option ℤ))) (es : List (List KeyPart × List (Option ℤ))) (so_far : MergesAll (among (take i own)) gs more old (row_at es)) where
       found_here : row_at es key ≡ old key
       found_here = so_far.same key (fresh distinct)
 
-      pub stays_here : AllStay old own gs more → RowsStay gs (row_at es key) more
+      pub stays_here : AllStay old (among own) gs more → RowsStay gs (row_at es key) more
       stays_here all = subst (λ found. RowsStay gs found more) (sym found_here) (stays_found (old key) (all.stay key among_here))
 
-      pub merges_more : (fs : List (List KeyPart × List (Option ℤ))) → IsMergedAt gs key more es fs → MergesAll (take (i + 1) own) gs more old (row_at fs)
+      pub merges_more : (fs : List (List KeyPart × List (Option ℤ))) → IsMergedAt gs key more es fs → MergesAll (among (take (i + 1) own)) gs more old (row_at fs)
       merges_more fs at = record {
         changed = λ q e. by q (split q e);
         same = λ q none. let both = not_among q none in other_row gs key more es fs at q both.1 ∙ so_far.same q both.0;
@@ -101,15 +104,6 @@ module _ (own : List (List (Option KeyValue))) (i : ℕ) (key : List (Option Key
           by : (q : List (Option KeyValue)) → (list_any (key_eq q) (take i own) ≡ true) ⊎ (q ≡ key) → IsMergedInto gs more (old q) (row_at fs q)
           by q (inl earlier) = subst (IsMergedInto gs more (old q)) (sym (other_row gs key more es fs at q (apart q earlier))) (so_far.changed q earlier)
           by q (inr same) = subst (λ k. IsMergedInto gs more (old k) (row_at fs k)) (sym same) (subst (λ found. IsMergedInto gs more found (row_at fs key)) found_here (own_row gs key more es fs at key refl))
-
-pub blank_taken : (n : ℕ) (row : List (Option ℤ)) → IsBlank row → IsBlank (take n row)
-blank_taken zero row is = λ place. refl
-blank_taken (suc n) [] is = λ place. refl
-blank_taken (suc n) (x ∷ row) is = at (blank_taken n row (λ k. is (suc k)))
-  where
-    at : IsBlank (take n row) → (place : ℕ) → get_or (x ∷ take n row) place None ≡ None
-    at rest zero = is 0
-    at rest (suc place) = rest place
 
 -- ---- places of rows
 

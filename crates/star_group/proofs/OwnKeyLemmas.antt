@@ -1,17 +1,21 @@
 -- How the keys of an update's rows are made.
-use Rattle.std.proofs.Common.{◌≡◌, ℕ, zero, suc, ◌+◌, ◌<◌, ◌≤◌, Bool, true, false, cond, true≢false, List, [], ◌∷◌, ◌++◌, Option, Some, None, take, drop, set, length, get_or, map, ap, sym, ◌∙◌, subst, refl, arith, append_assoc, take-append-drop}
-use Rattle.std.specs.List.{AllByRecursion, IsDistinct, filter}
+use Rattle.std.proofs.Common.{◌≡◌, ℕ, zero, suc, ◌+◌, ◌<◌, ◌≤◌, Bool, true, false, not, ◌&&◌, ◌||◌, cond, true≢false, List, [], ◌∷◌, ◌++◌, Option, Some, None, take, drop, set, length, get_or, map, ap, sym, ◌∙◌, refl, arith, append_assoc, take-append-drop}
+use Rattle.std.specs.List.{AllByRecursion, IsDistinct, filter, list_all, list_any}
+use Rattle.std.specs.Cmp.Lexicographic.{options_equiv}
+use Rattle.star_program.specs.contracts.key.KeyValueEq.TheImpl.Laws.{laws-law}
+use Rattle.std.specs.Option.{is_none, is_some}
+use Rattle.star_schema.specs.declared.group.Shape.TheVariants.{Rollup}
+use Rattle.star_schema.specs.Groups.{is_grouping}
 use Rattle.std.proofs.Math.Seq.{drop-cons, take-suc}
 use Rattle.std.proofs.Math.ListN.{get_or-append}
 use Rattle.std.proofs.lemmas.Bool.{false_from_ne_true}
-use Rattle.std.proofs.lemmas.List.Elements.{filter-append}
-use Rattle.std.proofs.lemmas.List.{drop-set-lt, map-append, map-set}
+use Rattle.std.proofs.lemmas.List.Elements.{All-append, All-from_recursion, filter-append, recursion_from_All}
+use Rattle.std.proofs.lemmas.List.{map-append, map-set}
 use Rattle.star_program.specs.declared.key.KeyValue.{KeyValue}
 use Rattle.star_group.specs.declared.keyed.key.KeyPart.{KeyPart}
 use Rattle.star_group.specs.declared.keyed.key.KeyPart.TheVariants.{All}
 use Rattle.star_group.specs.Base.{key_of, value_of}
-use Rattle.star_group.specs.OwnKeys.{padded, vary}
-use Rattle.star_group.specs.Private.Numbers.{AreNarrow, IsNarrow}
+use Rattle.star_group.specs.OwnKeys.{key_eq, padded, vary}
 
 pub padded-set : (n : ℕ) (ks : List KeyValue) (i : ℕ) (d : KeyValue) → i < length ks → length ks ≤ n → set (padded n (take i ks)) i (Some (get_or ks i d)) ≡ padded n (take (suc i) ks)
 unfolding padded
@@ -70,6 +74,18 @@ pub length-key : (key : List KeyPart) → length (key_of key) ≡ length key
 length-key [] = refl
 length-key (part ∷ key) = ap suc (length-key key)
 
+-- some part is shown where the key is not that of all puts
+pub shows_key : (n : ℕ) (key : List KeyPart) → length key ≡ n → list_any (λ part. is_some (value_of part)) key ≡ not (key_eq (key_of key) (padded n []))
+unfolding padded
+shows_key zero [] long = refl
+shows_key zero (part ∷ key) long = absurd (omega (arith, long))
+shows_key (suc n) [] long = absurd (omega (arith, long))
+shows_key (suc n) (part ∷ key) long = by (value_of part) (shows_key n key (omega (arith, long)))
+  where
+    by : (v : Option KeyValue) → list_any (λ p. is_some (value_of p)) key ≡ not (key_eq (key_of key) (padded n [])) → (is_some v || list_any (λ p. is_some (value_of p)) key) ≡ not (key_eq (v ∷ key_of key) (None ∷ padded n []))
+    by None rest = rest
+    by (Some k) rest = refl
+
 -- one key more, with ALL at a place, where it passes
 pub next_hidden : (P : List KeyPart → Bool) (p i : ℕ) (xs now : List (List KeyPart)) (d : List KeyPart) → i < length xs → now ≡ xs ++ filter P (map (λ key. set key p All) (take i xs))
     → now ++ filter P (set (get_or now i d) p All ∷ []) ≡ xs ++ filter P (map (λ key. set key p All) (take (i + 1) xs))
@@ -100,25 +116,7 @@ module _ (G : List (Option KeyValue) → Bool) (p : ℕ) where
   pub doubled : (xs ys : List (List KeyPart)) → ys ≡ xs ++ filter (λ key. G (key_of key)) (map (λ key. set key p All) xs) → map key_of ys ≡ map key_of xs ++ filter G (map (λ key. set key p None) (map key_of xs))
   doubled xs ys e = ap (map key_of) e ∙ map-append key_of xs _ ∙ ap (λ zs. map key_of xs ++ zs) (hidden_keys xs)
 
--- what a filter leaves
 module _ {A : Type 0} where
-  pub all_kept : (Q : A → Type 0) (P : A → Bool) (xs : List A) → AllByRecursion Q xs → AllByRecursion Q (filter P xs)
-  all_kept Q P [] h = tt
-  all_kept Q P (x ∷ xs) h = by (P x) (all_kept Q P xs h.1)
-    where
-      by : (b : Bool) → AllByRecursion Q (filter P xs) → AllByRecursion Q (cond b (x ∷ filter P xs) (filter P xs))
-      by true rest = (h.0, rest)
-      by false rest = rest
-
-  pub distinct_kept : (eq : A → A → Bool) (P : A → Bool) (xs : List A) → IsDistinct eq xs → IsDistinct eq (filter P xs)
-  unfolding IsDistinct
-  distinct_kept eq P [] h = tt
-  distinct_kept eq P (x ∷ xs) h = by (P x) (distinct_kept eq P xs h.1) (all_kept (λ y. eq x y ≡ false) P xs h.0)
-    where
-      by : (b : Bool) → IsDistinct eq (filter P xs) → AllByRecursion (λ y. eq x y ≡ false) (filter P xs) → IsDistinct eq (cond b (x ∷ filter P xs) (filter P xs))
-      by true rest apart = (apart, rest)
-      by false rest apart = rest
-
   -- what the filter left out, the filter leaves out after this step, too
   pub kept_before : (G : A → Bool) (f : A → A) (xs : List A) → AllByRecursion (λ x. G (f x) ≡ true → G x ≡ true) xs → filter G (map f xs) ≡ filter G (map f (filter G xs))
   kept_before G f [] h = refl
@@ -128,15 +126,58 @@ module _ {A : Type 0} where
       by true e rest = ap (λ l. cond (G (f x)) (f x ∷ l) l) rest
       by false e rest = ap (λ b. cond b (f x ∷ filter G (map f xs)) (filter G (map f xs))) (false_from_ne_true (G (f x)) (λ t. true≢false (sym (h.0 t) ∙ e))) ∙ rest
 
-module _ (width p : ℕ) (h : p < width) where
-  narrow_hidden : (xs : List (List KeyPart)) → AreNarrow width xs → AreNarrow width (map (λ key. set key p All) xs)
-  narrow_hidden [] are = tt
-  narrow_hidden (x ∷ xs) are = (drop-set-lt width x p All h ∙ are.0, narrow_hidden xs are.1)
+-- ---- the keys that a rollup shows: those before the first that is hidden
 
-  narrow_both : (xs ys : List (List KeyPart)) → AreNarrow width xs → AreNarrow width ys → AreNarrow width (xs ++ ys)
-  narrow_both [] ys a b = b
-  narrow_both (x ∷ xs) ys a b = (a.0, narrow_both xs ys a.1 b)
+-- whether the keys to come go on with a grouping of a rollup, where one before them is hidden or none is
+abbrev pub goes_on : {K : Type 0} → Bool → List (Option K) → Bool
+goes_on true ms = list_all is_none ms
+goes_on false ms = is_grouping Rollup ms
 
-  pub narrow_doubled : (P : List KeyPart → Bool) (xs ys : List (List KeyPart)) → ys ≡ xs ++ filter P (map (λ key. set key p All) xs) → AreNarrow width xs → AreNarrow width ys
-  narrow_doubled P xs ys e are = subst (AreNarrow width) (sym e) (narrow_both xs (filter P (map (λ key. set key p All) xs)) are
-      (all_kept (IsNarrow width) P (map (λ key. set key p All) xs) (narrow_hidden xs are)))
+-- a key more: hidden, or shown where none is hidden before it
+shown_more : {K : Type 0} (hides shown : Bool) (m : Option K) (ms : List (Option K)) → shown ≡ is_some m → (shown ≡ true → hides ≡ false) → goes_on (not shown) ms ≡ goes_on hides (m ∷ ms)
+shown_more true true m ms e h = absurd (true≢false (h refl))
+shown_more hides true None ms e h = absurd (true≢false e)
+shown_more false true (Some k) ms e h = refl
+shown_more hides false (Some k) ms e h = absurd (true≢false (sym e))
+shown_more true false None ms e h = refl
+shown_more false false None ms e h = refl
+
+pub part_more : (parts : List KeyPart) (i : ℕ) (d : KeyPart) (hides shown : Bool) → i < length parts → shown ≡ is_some (value_of (get_or parts i d)) → (shown ≡ true → hides ≡ false)
+    → goes_on hides (key_of (drop i parts)) ≡ is_grouping Rollup (key_of parts) → goes_on (not shown) (key_of (drop (i + 1) parts)) ≡ is_grouping Rollup (key_of parts)
+part_more parts i d hides shown within e h so_far =
+    let next : i + 1 ≡ suc i = omega arith in
+    let rest : List (Option KeyValue) = key_of (drop (i + 1) parts) in
+    let here : key_of (drop i parts) ≡ value_of (get_or parts i d) ∷ rest = ap key_of (drop-cons parts i d within) ∙ ap (λ n. value_of (get_or parts i d) ∷ key_of (drop n parts)) (sym next) in
+    shown_more hides shown (value_of (get_or parts i d)) rest e h ∙ sym (ap (goes_on hides) here) ∙ so_far
+
+-- ---- the keys are distinct
+
+all_put : (a : Option KeyValue) (x : List (Option KeyValue)) (ys : List (List (Option KeyValue))) → AllByRecursion (λ y. key_eq x y ≡ false) ys → AllByRecursion (λ y. key_eq (a ∷ x) y ≡ false) (map (λ s. a ∷ s) ys)
+all_put a x [] h = tt
+all_put a x (y ∷ ys) h = (ap (λ b. b && key_eq x y) ((options_equiv laws-law).refl a) ∙ h.0, all_put a x ys h.1)
+
+distinct_put : (a : Option KeyValue) (xs : List (List (Option KeyValue))) → IsDistinct key_eq xs → IsDistinct key_eq (map (λ s. a ∷ s) xs)
+unfolding IsDistinct
+distinct_put a [] h = tt
+distinct_put a (x ∷ xs) h = (all_put a x xs h.0, distinct_put a xs h.1)
+
+all_apart : (v : KeyValue) (x : List (Option KeyValue)) (ys : List (List (Option KeyValue))) → AllByRecursion (λ y. key_eq (Some v ∷ x) y ≡ false) (map (λ s. None ∷ s) ys)
+all_apart v x [] = tt
+all_apart v x (y ∷ ys) = (refl, all_apart v x ys)
+
+-- lists that begin with different cells are apart
+distinct_both : (v : KeyValue) (xs ys : List (List (Option KeyValue))) → IsDistinct key_eq (map (λ s. Some v ∷ s) xs) → IsDistinct key_eq (map (λ s. None ∷ s) ys) → IsDistinct key_eq (map (λ s. Some v ∷ s) xs ++ map (λ s. None ∷ s) ys)
+unfolding IsDistinct
+distinct_both v [] ys h k = k
+distinct_both v (x ∷ xs) ys h k = (
+  recursion_from_All _ _ (All-append (λ y. key_eq (Some v ∷ x) y ≡ false) _ _ (All-from_recursion _ _ h.0) (All-from_recursion _ _ (all_apart v x ys))),
+  distinct_both v xs ys h.1 k,
+)
+
+pub vary_distinct : (m : ℕ) (ks : List KeyValue) → length ks ≤ m → IsDistinct key_eq (vary (length ks) (padded m ks))
+unfolding vary padded IsDistinct
+vary_distinct m [] h = (tt, tt)
+vary_distinct zero (k ∷ ks) h = absurd (omega arith)
+vary_distinct (suc m) (k ∷ ks) h =
+    let rest = vary_distinct m ks (omega arith) in
+    distinct_both k (vary (length ks) (padded m ks)) (vary (length ks) (padded m ks)) (distinct_put (Some k) _ rest) (distinct_put None _ rest)

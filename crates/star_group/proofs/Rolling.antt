@@ -1,12 +1,14 @@
 -- The rows with one more place that may be ALL.
-use Rattle.std.proofs.Common.{◌≡◌, ℕ, zero, suc, ◌+◌, ◌-◌, ◌<◌, ◌≤◌, Bool, true, false, ◌&&◌, ◌||◌, ℤ, List, [], ◌∷◌, ◌++◌, Option, Some, None, length, get_or, set, slice_get, map, take, drop, ap, sym, ◌∙◌, subst, refl, true≢false, arith, cond, MatchBool}
+use Rattle.std.proofs.Common.{◌≡◌, ℕ, zero, suc, ◌+◌, ◌-◌, ◌<◌, ◌≤◌, Bool, true, false, not, ◌&&◌, ◌||◌, ℤ, List, [], ◌∷◌, ◌++◌, Option, Some, None, length, get_or, set, slice_get, map, take, drop, ap, sym, ◌∙◌, subst, refl, true≢false, arith, MatchBool}
 use Rattle.std.specs.List.{filter, list_any, Contains, AllByRecursion}
-use Rattle.std.specs.Option.{option_map}
-use Rattle.std.proofs.lemmas.List.Folds.{list_any-append}
+use Rattle.std.proofs.lemmas.List.{append_cancel_left}
+use Rattle.std.proofs.lemmas.List.Folds.{Any-from_list_any, list_any-append, list_any-from_Any}
 use Rattle.std.proofs.lemmas.List.Elements.{filter-append}
 use Rattle.std.proofs.lemmas.Option.{slice_get-get_or}
 use Rattle.std.proofs.lemmas.Map.Entries.{place_from_lookup}
+use Rattle.std.proofs.lemmas.Map.Keys.{any_passes_from_place}
 use Rattle.std.proofs.lemmas.Map.Views.{list_any-from_Contains}
+use Rattle.star_common.proofs.Members.{at_each, of_each}
 use Rattle.star_program.specs.declared.key.KeyValue.{KeyValue}
 use Rattle.star_group.specs.declared.keyed.key.KeyPart.{KeyPart}
 use Rattle.star_group.specs.Base.{IsRowOver, key_of, row_at}
@@ -15,6 +17,7 @@ use Rattle.star_group.specs.OwnKeys.{key_eq, padded, vary}
 use Rattle.star_group.specs.Private.Coarser.{IsMergedWhere, IsRolledUp, IsRolledUpWithRoom, NoneCoarser, RollsUp, first_finer, is_among, keys_from}
 use Rattle.star_group.specs.Private.Merged.{IsMergedAt, RowsStay}
 use Rattle.star_group.specs.Private.BasePut.{group_with}
+use Rattle.star_group.specs.Private.Rows.{is_row_key}
 use Rattle.star_schema.specs.declared.group.Aggregate.{Aggregate}
 use Rattle.star_schema.specs.declared.group.Shape.{Shape}
 use Rattle.star_schema.specs.declared.group.Shape.TheVariants.{Plain, Cube, Rollup}
@@ -25,35 +28,12 @@ use Rattle.std.proofs.Math.Bool.{Bool-set, and-or_distrib_left}
 use Rattle.std.proofs.Math.Seq.{take-length}
 use Rattle.std.proofs.lemmas.Bool.{and_parts}
 use Rattle.star_group.specs.Stores.{Put, Group}
-use Rattle.star_group.proofs.GivenGroups.{all_at, mapped, place_of}
+use Rattle.star_group.proofs.GivenGroups.{mapped}
 use Rattle.star_group.proofs.GroupKeys.{bool_same, key_decides, key_equiv}
+use Rattle.star_group.proofs.KeyedRows.{row_there}
 use Rattle.star_group.proofs.Merging.{any_filter}
-use Rattle.star_group.proofs.OwnGroups.{any_mapped}
 use Rattle.star_group.proofs.OwnKeyLemmas.{kept_before, length-padded, one_more, set_there, vary-more}
-use Rattle.star_group.proofs.Passes.{IsOnceAt, AreApart, AreOver, all_members, any_there, comes, filter_same, left_out, merged_one, none_yet, so_far, some_at, stays_one}
-
--- an entry is found by its key
-pub row_there : (es : List (List KeyPart × List (Option ℤ))) → IsOnceAt es → (j : ℕ) (e : List KeyPart × List (Option ℤ)) → slice_get es j ≡ Some e → row_at es (key_of e.0) ≡ Some e.1
-row_there es once j e at = by (row_at es (key_of e.0)) refl
-  where
-    never : (es : List (List KeyPart × List (Option ℤ))) (j : ℕ) (e : List KeyPart × List (Option ℤ)) → slice_get es j ≡ Some e → row_at es (key_of e.0) ≡ None → ⊥
-    never [] j e at none = cc at
-    never (f ∷ es) zero e at none =
-        let is : f ≡ e = cc at in
-        cc (ap (λ b. cond b (Some f.1) (row_at es (key_of e.0))) (sym (ap (λ g. key_eq (key_of e.0) (key_of g.0)) is ∙ key_equiv.refl (key_of e.0))) ∙ none)
-    never (f ∷ es) (suc j) e at none = later (key_eq (key_of e.0) (key_of f.0)) none (never es j e at)
-      where
-        later : (b : Bool) → cond b (Some f.1) (row_at es (key_of e.0)) ≡ None → (row_at es (key_of e.0) ≡ None → ⊥) → ⊥
-        later true n h = cc n
-        later false n h = h n
-
-    by : (found : Option (List (Option ℤ))) → row_at es (key_of e.0) ≡ found → row_at es (key_of e.0) ≡ Some e.1
-    by None none = absurd (never es j e at none)
-    by (Some row) is =
-        let f = place_from_lookup (λ parts. key_eq (key_of e.0) (key_of parts)) es row is in
-        let place : j ≡ f.0 = once j f.0 e (f.1, row) at f.2 ((key_decides (key_of e.0) (key_of f.1)).0 f.3) in
-        let same : Some e ≡ Some (f.1, row) = sym at ∙ ap (slice_get es) place ∙ f.2 in
-        is ∙ ap (option_map (λ (p : List KeyPart × List (Option ℤ)). p.1)) (sym same)
+use Rattle.star_group.proofs.Passes.{IsOnceAt, AreApart, AreOver, any_mapped, comes, filter_same, left_out, merged_one, none_yet, so_far, some_at, stays_one}
 
 -- ---- the keys of one put's rows
 
@@ -112,22 +92,38 @@ finer_key s place count ks within few fits k b h =
     let hides : take count (hide place k) ≡ map Some a.shown ++ (None ∷ a.rest) = ap (take count) (hidden_is place count ks within few k b) ∙ a.hidden_key in
     ap (is_grouping s) (ap (take count) b.is ∙ a.shown_key) ∙ finer s a.shown a.key a.rest (sym (ap (is_grouping s) hides) ∙ h)
 
--- the groupings of a put's keys, with one place more that may be hidden
-pub groupings_more : (s : Shape) (place count : ℕ) (ks : List KeyValue) → place < count → count ≤ 6 → length ks ≡ count → (xs ys : List (List (Option KeyValue)))
-    → xs ≡ filter (λ q. is_grouping s (take count q)) (keys_from (place + 1) count ks) → ys ≡ xs ++ filter (λ q. is_grouping s (take count q)) (map (hide place) xs)
-    → ys ≡ filter (λ q. is_grouping s (take count q)) (keys_from place count ks)
-groupings_more s place count ks within few fits xs ys e f =
+hide_all : (n place : ℕ) → set (padded n []) place None ≡ padded n []
+unfolding padded
+hide_all zero place = refl
+hide_all (suc n) zero = refl
+hide_all (suc n) (suc place) = ap (λ q. None ∷ q) (hide_all n place)
+
+-- where a row has the coarser key, one has the key
+finer_row : (s : Shape) (place count : ℕ) (ks : List KeyValue) (within : place < count) (few : count ≤ 6) → length ks ≡ count → (k : List (Option KeyValue)) (b : Begins place count ks within few k)
+    → is_row_key s count (hide place k) ≡ true → is_row_key s count k ≡ true
+finer_row s place count ks within few fits k b h = by (key_eq k (padded 6 [])) refl
+  where
+    both : (not (key_eq (hide place k) (padded 6 [])) ≡ true) × (is_grouping s (take count (hide place k)) ≡ true)
+    both = and_parts (not (key_eq (hide place k) (padded 6 []))) (is_grouping s (take count (hide place k))) h
+
+    by : (c : Bool) → key_eq k (padded 6 []) ≡ c → is_row_key s count k ≡ true
+    by false other = ap (λ c. not c && is_grouping s (take count k)) other ∙ finer_key s place count ks within few fits k b both.1
+    by true all =
+        let hides : hide place k ≡ padded 6 [] = ap (hide place) ((key_decides k (padded 6 [])).0 all) ∙ hide_all 6 place in
+        absurd (true≢false (sym both.0 ∙ ap not ((key_decides (hide place k) (padded 6 [])).1 hides)))
+
+-- the keys of a put's rows, with one place more that may be hidden
+pub row_keys_more : (s : Shape) (place count : ℕ) (ks : List KeyValue) → place < count → count ≤ 6 → length ks ≡ count → (xs ys : List (List (Option KeyValue)))
+    → xs ≡ filter (is_row_key s count) (keys_from (place + 1) count ks) → ys ≡ xs ++ filter (is_row_key s count) (map (hide place) xs)
+    → ys ≡ filter (is_row_key s count) (keys_from place count ks)
+row_keys_more s place count ks within few fits xs ys e f =
     let own : List (List (Option KeyValue)) = keys_from (place + 1) count ks in
-    let G : List (Option KeyValue) → Bool = λ q. is_grouping s (take count q) in
+    let G : List (Option KeyValue) → Bool = is_row_key s count in
     let left = kept_before G (hide place) own
-    (all_members (λ k. G (hide place k) ≡ true → G k ≡ true) own
-    (λ k c h. finer_key s place count ks within few fits k (begins place count ks within few k (list_any-from_Contains key_equiv k own c)) h)) in
+    (of_each (λ k. G (hide place k) ≡ true → G k ≡ true) own
+    (λ k c h. finer_row s place count ks within few fits k (begins place count ks within few k (list_any-from_Contains key_equiv k own c)) h)) in
     f ∙ (λ i. e i ++ filter G (map (hide place) (e i))) ∙ ap (λ l. filter G own ++ l) (sym left)
     ∙ sym (filter-append G own (map (hide place) own)) ∙ ap (filter G) (keys_more place count ks within few)
-
-cancel : {A : Type 0} (xs ys zs : List A) → xs ++ ys ≡ xs ++ zs → ys ≡ zs
-cancel [] ys zs e = e
-cancel (x ∷ xs) ys zs e = cancel xs ys zs (cc e)
 
 shown_key : (n : ℕ) (ks : List KeyValue) (p : ℕ) → p < length ks → length ks ≤ n → get_or (padded n ks) p None ≡ None → ⊥
 unfolding padded
@@ -150,7 +146,7 @@ keys_apart s us place count within few fit = record {
         let b = begins place count u.keys within few k in_k in
         let d = begins place count u.keys within few l in_l in
         let both : take place (padded 6 u.keys) ++ (None ∷ b.rest) ≡ take place (padded 6 u.keys) ++ (None ∷ d.rest) = sym (hidden_is place count u.keys within few k b) ∙ same ∙ hidden_is place count u.keys within few l d in
-        let tails : None ∷ b.rest ≡ None ∷ d.rest = cancel (take place (padded 6 u.keys)) (None ∷ b.rest) (None ∷ d.rest) both in
+        let tails : None ∷ b.rest ≡ None ∷ d.rest = append_cancel_left (take place (padded 6 u.keys)) (None ∷ b.rest) (None ∷ d.rest) both in
         let rests : b.rest ≡ d.rest = cc tails in
         b.is ∙ ap (λ r. take (suc place) (padded 6 u.keys) ++ r) rests ∙ sym d.is
 
@@ -158,11 +154,10 @@ keys_apart s us place count within few fit = record {
     new u c k in_k in_hidden =
         let b = begins place count u.keys within few k in_k in
         let d = begins place count u.keys within few (hide place k) in_hidden in
-        let at = place_of us u c in
-        let fits : length u.keys ≡ count = all_at (λ w. length w.keys ≡ count) us at.0 u at.1 fit in
+        let fits : length u.keys ≡ count = at_each (λ w. length w.keys ≡ count) us u fit c in
         let both : take place (padded 6 u.keys) ++ (None ∷ b.rest) ≡ take place (padded 6 u.keys) ++ (get_or (padded 6 u.keys) place None ∷ d.rest) =
         sym (hidden_is place count u.keys within few k b) ∙ d.is ∙ one_more (padded 6 u.keys) place None d.rest (wide place count u.keys within few) in
-        let tails : None ∷ b.rest ≡ get_or (padded 6 u.keys) place None ∷ d.rest = cancel (take place (padded 6 u.keys)) (None ∷ b.rest) (get_or (padded 6 u.keys) place None ∷ d.rest) both in
+        let tails : None ∷ b.rest ≡ get_or (padded 6 u.keys) place None ∷ d.rest = append_cancel_left (take place (padded 6 u.keys)) (None ∷ b.rest) (get_or (padded 6 u.keys) place None ∷ d.rest) both in
         let none : get_or (padded 6 u.keys) place None ≡ None = cc tails in
         shown_key 6 u.keys place (omega (arith, within, fits)) (omega (arith, few, fits)) none
 
@@ -193,7 +188,7 @@ module _ (d : Group) (us : List Put) (place : ℕ) (within : place < d.count) (f
   there u c k in_row = by (row_at es k) refl (rolled.rows k)
     where
       some : has_puts (filter (λ w. In k w.keys) us) ≡ true
-      some = let at = place_of us u c in any_filter (λ w. In k w.keys) us ∙ any_there (λ w. In k w.keys) us at.0 u at.1 in_row
+      some = any_filter (λ w. In k w.keys) us ∙ list_any-from_Any (λ w. In k w.keys) us (c.0, u, c.1, c.2, in_row)
 
       by : (found : Option (List (Option ℤ))) → row_at es k ≡ found → IsRowOver d (filter (λ w. In k w.keys) us) found → (i : ℕ) × (e : List KeyPart × List (Option ℤ)) × (slice_get es i ≡ Some e) × (k ≡ key_of e.0)
       by None e is = absurd (true≢false (sym some ∙ is))
@@ -202,7 +197,7 @@ module _ (d : Group) (us : List Put) (place : ℕ) (within : place < d.count) (f
           (at.0, (at.1, row), at.2, (key_decides k (key_of at.1)).0 at.3)
 
   fits_at : (u : Put) → Contains us u → length u.keys ≡ d.count
-  fits_at u c = let at = place_of us u c in all_at (λ w. length w.keys ≡ d.count) us at.0 u at.1 rolled.fit
+  fits_at u c = at_each (λ w. length w.keys ≡ d.count) us u rolled.fit c
 
   now_in : (q : List (Option KeyValue)) (u : Put) → Contains us u → so_far In Made (hide place) es (length es) q u.keys ≡ is_among d.shape place d.count q u.keys
   now_in q u c =
@@ -224,19 +219,19 @@ module _ (d : Group) (us : List Put) (place : ℕ) (within : place < d.count) (f
           let is : q ≡ hide place (key_of some.1.0) = (key_decides q (hide place (key_of some.1.0))).0 both.0 in
           ap (λ b. b && list_any (key_eq q) (map (hide place) own)) (ap Made is ∙ made.0)
           ∙ any_mapped (hide place) (key_eq q) own
-          ∙ any_there (λ k. key_eq q (hide place k)) own mine.0 mine.1 mine.2 (ap (λ k. key_eq q (hide place k)) (sym ((key_decides (key_of some.1.0) mine.1).0 mine.3)) ∙ both.0)
+          ∙ any_passes_from_place (λ k. key_eq q (hide place k)) own mine.0 mine.1 mine.2 (ap (λ k. key_eq q (hide place k)) (sym ((key_decides (key_of some.1.0) mine.1).0 mine.3)) ∙ both.0)
 
       back : (Made q && list_any (key_eq q) (map (hide place) own)) ≡ true → list_any (comes In Made (hide place) q u.keys) es ≡ true
       back h =
           let parts = and_parts (Made q) (list_any (key_eq q) (map (hide place) own)) h in
           let mine = some_at (λ k. key_eq q (hide place k)) own (sym (any_mapped (hide place) (key_eq q) own) ∙ parts.1) in
-          let among : list_any (key_eq mine.1) own ≡ true = any_there (key_eq mine.1) own mine.0 mine.1 mine.2 (key_equiv.refl mine.1) in
+          let among : list_any (key_eq mine.1) own ≡ true = any_passes_from_place (key_eq mine.1) own mine.0 mine.1 mine.2 (key_equiv.refl mine.1) in
           let is : q ≡ hide place mine.1 = (key_decides q (hide place mine.1)).0 mine.3 in
           let made : Made (hide place mine.1) ≡ true = ap Made (sym is) ∙ parts.0 in
           let in_row : In mine.1 u.keys ≡ true =
           ap (λ b. b && list_any (key_eq mine.1) own) (finer_key d.shape place d.count u.keys within few (fits_at u c) mine.1 (begins place d.count u.keys within few mine.1 among) made) ∙ among in
           let at = there u c mine.1 in_row in
-          any_there (comes In Made (hide place) q u.keys) es at.0 at.1 at.2
+          any_passes_from_place (comes In Made (hide place) q u.keys) es at.0 at.1 at.2
           (ap (λ k. Made (hide place k) && (key_eq q (hide place k) && In k u.keys)) (sym at.3)
           ∙ ap (λ b. b && (key_eq q (hide place mine.1) && In mine.1 u.keys)) made
           ∙ ap (λ b. b && In mine.1 u.keys) mine.3 ∙ in_row)
@@ -245,7 +240,7 @@ module _ (d : Group) (us : List Put) (place : ℕ) (within : place < d.count) (f
   all_merged fs over = record {
     fit = rolled.fit;
     rows = λ q. subst (λ ps. IsRowOver d ps (row_at fs q))
-        (filter_same (λ u. so_far In Made (hide place) es (length es) q u.keys) (λ u. is_among d.shape place d.count q u.keys) us (all_members (λ u. so_far In Made (hide place) es (length es) q u.keys ≡ is_among d.shape place d.count q u.keys) us (now_in q)))
+        (filter_same (λ u. so_far In Made (hide place) es (length es) q u.keys) (λ u. is_among d.shape place d.count q u.keys) us (of_each (λ u. so_far In Made (hide place) es (length es) q u.keys ≡ is_among d.shape place d.count q u.keys) us (now_in q)))
         (over q);
   }
 
@@ -256,10 +251,10 @@ module _ (d : Group) (us : List Put) (place : ℕ) (within : place < d.count) (f
   -- in a rollup no row has a coarser key with ALL one place before: the key at this place is shown
   pub shows_next : IsOnceAt es → (p : ℕ) → p + 1 ≡ place → (j : ℕ) (e : List KeyPart × List (Option ℤ)) → slice_get es j ≡ Some e → is_grouping Rollup (take d.count (hide p (key_of e.0))) ≡ false
   shows_next once p next j e at =
-      let some = some_at (λ u. In (key_of e.0) u.keys) us (sym (any_filter (λ u. In (key_of e.0) u.keys) us) ∙ (row_over once j e at).0) in
+      let some = Any-from_list_any (λ u. In (key_of e.0) u.keys) us (sym (any_filter (λ u. In (key_of e.0) u.keys) us) ∙ (row_over once j e at).0) in
       let ks = some.1.keys in
-      let fits : length ks ≡ d.count = all_at (λ w. length w.keys ≡ d.count) us some.0 some.1 some.2 rolled.fit in
-      let b = begins place d.count ks within few (key_of e.0) (in_keys d.shape (place + 1) d.count (key_of e.0) ks some.3) in
+      let fits : length ks ≡ d.count = at_each (λ w. length w.keys ≡ d.count) us some.1 rolled.fit (some.0, some.2, some.3) in
+      let b = begins place d.count ks within few (key_of e.0) (in_keys d.shape (place + 1) d.count (key_of e.0) ks some.4) in
       let same : place ≡ suc p = omega (arith, next) in
       let long : suc p < length (padded 6 ks) = omega (arith, length-padded 6 ks, within, few, same) in
       let hidden : hide p (key_of e.0) ≡ take p (padded 6 ks) ++ (None ∷ get_or (padded 6 ks) (suc p) None ∷ b.rest) =
@@ -286,13 +281,10 @@ module _ (shape : Shape) (count : ℕ) (gs : List Aggregate) (place : ℕ) (es :
   abbrev d : Group
   d = group_with shape count gs
 
-  pub none_merged : (rows : List (List KeyPart × List (Option ℤ))) → es ≡ rows → IsMergedSoFar shape count gs place es 0 rows
-  none_merged rows same puts below few rolled =
-      none_yet (is_among shape (place + 1) count) (IsMade shape count) (hide place) es d puts rows (subst (λ xs. AreOver d puts (is_among shape (place + 1) count) xs) same rolled.rows)
-
   -- the first rows, where none has a coarser key that is a grouping
   pub none_before : (from : ℕ) → from ≤ length es → NoneCoarser shape count place from es → (rows : List (List KeyPart × List (Option ℤ))) → es ≡ rows → IsMergedSoFar shape count gs place es from rows
-  none_before zero within none rows same = none_merged rows same
+  none_before zero within none rows same = λ puts below few rolled.
+      none_yet (is_among shape (place + 1) count) (IsMade shape count) (hide place) es d puts rows (subst (λ xs. AreOver d puts (is_among shape (place + 1) count) xs) same rolled.rows)
   none_before (suc j) within none rows same =
       let here : j < length es = omega (arith, within) in
       let next : j + 1 ≡ suc j = omega arith in
@@ -307,16 +299,13 @@ module _ (shape : Shape) (count : ℕ) (gs : List Aggregate) (place : ℕ) (es :
       all_merged d puts place (omega (arith, below)) few es here after (over puts below few here)
 
   module _ (j : ℕ) (e : List KeyPart × List (Option ℤ)) (at : slice_get es j ≡ Some e) (before : List (List KeyPart × List (Option ℤ))) (key : List KeyPart) (is_key : key_of key ≡ set (key_of e.0) place None) (over : IsMergedSoFar shape count gs place es j before) where
-    made_here : is_grouping shape (take count (key_of key)) ≡ true → IsMade shape count (hide place (key_of e.0)) ≡ true
-    made_here h = ap (IsMade shape count) (sym is_key) ∙ h
-
     pub turn_stays : ∥ IsRolledUpWithRoom shape count gs (place + 1) es ∥₁ → is_grouping shape (take count (key_of key)) ≡ true → RowsStay gs (row_at before (key_of key)) e.1
     turn_stays room grouping = ∥∥₁_elim room (stay_prop gs (row_at before (key_of key)) e.1) by
       where
         by : IsRolledUpWithRoom shape count gs (place + 1) es → RowsStay gs (row_at before (key_of key)) e.1
         by r =
             let within : place < count = omega (arith, r.below) in
-            stays_one r.puts (is_among shape (place + 1) count) (IsMade shape count) (hide place) es (keys_apart shape r.puts place count within r.few r.rows.fit) once j e at d (made_here grouping)
+            stays_one r.puts (is_among shape (place + 1) count) (IsMade shape count) (hide place) es (keys_apart shape r.puts place count within r.few r.rows.fit) once j e at d (ap (IsMade shape count) (sym is_key) ∙ grouping)
             (row_over d r.puts place within r.few es r.rows once j e at) before key is_key r.room (over r.puts r.below r.few r.rows)
 
     pub turn_merges : (after : List (List KeyPart × List (Option ℤ))) → IsMergedWhere shape count gs (key_of key) e.1 before after → IsMergedSoFar shape count gs place es (j + 1) after
@@ -331,7 +320,7 @@ module _ (shape : Shape) (count : ℕ) (gs : List Aggregate) (place : ℕ) (es :
         by : (b : Bool) → is_grouping shape (take count (key_of key)) ≡ b → MatchBool b (IsMergedAt gs (key_of key) e.1 before after) (after ≡ before)
             → AreOver d puts (so_far (is_among shape (place + 1) count) (IsMade shape count) (hide place) es (j + 1)) after
         by true grouping merged =
-            merged_one puts (is_among shape (place + 1) count) (IsMade shape count) (hide place) es apart once j e at d (made_here grouping)
+            merged_one puts (is_among shape (place + 1) count) (IsMade shape count) (hide place) es apart once j e at d (ap (IsMade shape count) (sym is_key) ∙ grouping)
             (row_over d puts place within few es rolled once j e at) before after key is_key merged (over puts below few rolled)
         by false other same = subst (AreOver d puts (so_far (is_among shape (place + 1) count) (IsMade shape count) (hide place) es (j + 1))) (sym same)
             (left_out puts (is_among shape (place + 1) count) (IsMade shape count) (hide place) es apart once j e at d (ap (IsMade shape count) (sym is_key) ∙ other) before (over puts below few rolled))

@@ -1,22 +1,23 @@
 -- Where the sums by key list add up within 64 bits, no put leaves them.
-use Rattle.std.proofs.Common.{◌≡◌, ℕ, ◌+◌, ◌<◌, ◌≤◌, ◌^◌, Bool, true, false, not, ℤ, pos, negsuc, ◌+ℤ◌, ◌≤ℤ◌, List, [], ◌∷◌, Option, Some, None, length, cond, ap, ◌∙◌, refl, arith}
+use Rattle.std.proofs.Common.{◌≡◌, ℕ, ◌<◌, ◌≤◌, ◌^◌, Bool, true, false, not, ℤ, pos, negsuc, ◌+ℤ◌, ◌≤ℤ◌, List, [], ◌∷◌, Option, Some, None, length, cond, ap, sym, ◌∙◌, refl, true≢false, arith}
 use Rattle.std.proofs.lemmas.Int.{ints}
-use Rattle.std.proofs.lemmas.Bool.{lt-ltb}
-use Rattle.std.specs.List.{filter, AllByRecursion}
+use Rattle.std.proofs.lemmas.Bool.{false_from_ne_true, lt-ltb}
+use Rattle.std.proofs.lemmas.List.Sums.{count_by-le-length, length-filter}
+use Rattle.std.specs.List.{filter}
 use Rattle.star_schema.specs.declared.group.Aggregate.{Aggregate}
 use Rattle.star_schema.specs.declared.group.Aggregate.TheVariants.{Sum, Count, Min, Max}
-use Rattle.star_schema.specs.Groups.{aggregate, belongs, joined, members, numbers_for}
+use Rattle.star_schema.specs.Groups.{aggregate, belongs, joined, numbers_for}
 use Rattle.star_interval.specs.Range.{is_i64}
 use Rattle.star_program.specs.declared.key.KeyValue.{KeyValue}
 use Rattle.star_program.specs.Keys.{key_value_cmp}
-use Rattle.star_program.specs.Puts.{own_groups, some_leaves, leaves}
+use Rattle.star_program.specs.Puts.{leaves}
+use Rattle.star_program.proofs.OwnGroups.{overflow_somewhere}
 use Rattle.star_group.specs.Cells.{held}
 use Rattle.star_group.specs.Stores.{Put, Group, aggregate_at, number_at, overflows, above_zero, below_zero, HasRoom}
 use Rattle.star_group.proofs.ContentByKeys.{length-numbers, sums}
 use Rattle.star_group.proofs.ContentMade.{made, made_content}
-use Rattle.star_group.proofs.Contents.{no_leaves}
+use Rattle.star_group.proofs.Contents.{declared}
 use Rattle.star_group.proofs.JoinedParts.{joined_more, more}
-use Rattle.star_group.proofs.OwnGroups.{any_false}
 use Rattle.star_group.proofs.Totals.{some_aggregate}
 
 abbrev all_of : List ℤ → ℤ
@@ -69,14 +70,6 @@ fits_between (negsuc k) m n a b h l = lt-ltb k (2 ^ 63) (omega (arith, ints))
 
 -- ---- counts
 
-fewer : (p : Put → Bool) (us : List Put) → length (filter p us) ≤ length us
-fewer p [] = omega arith
-fewer p (u ∷ us) = by (p u) (fewer p us)
-  where
-    by : (b : Bool) → length (filter p us) ≤ length us → length (cond b (u ∷ filter p us) (filter p us)) ≤ length (u ∷ us)
-    by true h = omega arith
-    by false h = omega arith
-
 pub count_small : (n : ℕ) → n < 2 ^ 63 → is_i64 (pos n) ≡ true
 unfolding is_i64
 count_small n h = lt-ltb n (2 ^ 63) h
@@ -100,7 +93,7 @@ module _ (d : Group) (us : List Put) (room : HasRoom d us) (p : List KeyValue �
       by : (r : Option ℤ) → joined (λ x y. x +ℤ y) (numbers_for place (filter (λ w. p w.keys) us)) ≡ r → leaves Sum r ≡ false
       by None e = refl
       by (Some z) e = ap not (sum_fits same z e)
-  stays_at Count same = ap not (count_small _ (omega (arith, length-numbers place (filter (λ w. p w.keys) us), fewer (λ w. p w.keys) us, room.counts place declared same)))
+  stays_at Count same = ap not (count_small _ (omega (arith, length-numbers place (filter (λ w. p w.keys) us), length-filter (λ (w : Put). p w.keys) us, count_by-le-length (λ (w : Put). p w.keys) us, room.counts place declared same)))
   stays_at Min same = by (aggregate Min (numbers_for place (filter (λ w. p w.keys) us)))
     where
       by : (r : Option ℤ) → leaves Min r ≡ false
@@ -124,11 +117,7 @@ held_stays d us room p place declared = by (aggregate_at d place) (numbers_for p
     by Max [] h = refl
     by g (v ∷ vs) h = ap (leaves g) (some_aggregate g v vs) ∙ h
 
-all_always : {A : Type 0} (P : A → Type 0) → ((x : A) → P x) → (xs : List A) → AllByRecursion P xs
-all_always P each [] = tt
-all_always P each (x ∷ xs) = (each x, all_always P each xs)
-
 pub room_stays : (d : Group) (us : List Put) (u : Put) → HasRoom d (u ∷ us) → overflows d us u ≡ false
-room_stays d us u room = any_false (λ m. some_leaves d.aggregates 0 (members key_value_cmp m (u ∷ us))) (own_groups d.shape u.keys)
-    (all_always (λ m. some_leaves d.aggregates 0 (members key_value_cmp m (u ∷ us)) ≡ false)
-    (λ m. no_leaves d.aggregates 0 (members key_value_cmp m (u ∷ us)) (λ a lt. let zeros : 0 + a ≡ a = omega arith in rw zeros (stays_at d (u ∷ us) room (belongs key_value_cmp m) a lt (aggregate_at d a) refl))) (own_groups d.shape u.keys))
+room_stays d us u room = false_from_ne_true (overflows d us u) (λ over.
+    let l = overflow_somewhere (declared d) us u over in
+    true≢false (sym l.leaves_there ∙ stays_at d (u ∷ us) room (belongs key_value_cmp l.group) l.place l.declared (aggregate_at d l.place) refl))

@@ -10,7 +10,7 @@ use Rattle.star_program.specs.declared.group.GroupKey.TheVariants as declared
 use Rattle.star_program.specs.declared.key.KeyValue.{KeyValue}
 use Rattle.star_program.specs.declared.key.KeyValue.TheVariants.{Number, Code}
 use Rattle.star_group.specs.Cells.{step, held}
-use Rattle.star_group.specs.OwnKeys.{padded, vary, own_keys}
+use Rattle.star_group.specs.OwnKeys.{is_of_put, padded, vary}
 use Rattle.star_group.specs.Stores.{Put, Group, group_declared, aggregate_at, total_of, overflows, number_at, IsContent, combined, above_zero, below_zero, AddUp, HasRoom}
 
 abbrev all_four : List Aggregate
@@ -68,27 +68,33 @@ past_the_last = refl
 abbrev all_hidden : List (Option KeyValue)
 all_hidden = None ∷ None ∷ None ∷ None ∷ None ∷ None ∷ []
 
-plain_keys : own_keys Plain 2 (padded 6 two_keys)
-    ≡ all_hidden ∷ (Some (Number (pos 7)) ∷ Some (Code 2) ∷ None ∷ None ∷ None ∷ None ∷ []) ∷ []
+-- three keys in the first places
+abbrev key : Option KeyValue → Option KeyValue → Option KeyValue → List (Option KeyValue)
+key a b c = a ∷ b ∷ c ∷ None ∷ None ∷ None ∷ []
+
+abbrev three_keys : List KeyValue
+three_keys = Code 2 ∷ Number (pos 7) ∷ Code 5 ∷ []
+
+abbrev keys_asked : List (List (Option KeyValue))
+keys_asked = key (Some (Code 2)) (Some (Number (pos 7))) (Some (Code 5)) ∷ key (Some (Code 2)) (Some (Number (pos 7))) None
+    ∷ key (Some (Code 2)) None None ∷ all_hidden ∷ key None None (Some (Code 5)) ∷ key (Some (Code 2)) None (Some (Code 5)) ∷ key (Some (Code 3)) None None ∷ []
+
+plain_keys : map (is_of_put Plain three_keys) keys_asked ≡ true ∷ false ∷ false ∷ false ∷ false ∷ false ∷ false ∷ []
 unfolding padded vary
 plain_keys = refl
 
--- with no keys both are one row
-no_keys : own_keys Plain 0 (padded 6 []) ≡ all_hidden ∷ all_hidden ∷ []
-unfolding padded vary
-no_keys = refl
-
-cube_keys : own_keys Cube 1 (padded 6 (Code 2 ∷ []))
-    ≡ all_hidden ∷ (Some (Code 2) ∷ None ∷ None ∷ None ∷ None ∷ None ∷ []) ∷ all_hidden ∷ []
+cube_keys : map (is_of_put Cube three_keys) keys_asked ≡ true ∷ true ∷ true ∷ true ∷ true ∷ true ∷ false ∷ []
 unfolding padded vary
 cube_keys = refl
 
--- those of the prefixes, each once, and that of all puts
-rollup_keys : own_keys Rollup 3 (padded 6 (Code 2 ∷ Number (pos 7) ∷ Code 5 ∷ []))
-    ≡ all_hidden ∷ (Some (Code 2) ∷ Some (Number (pos 7)) ∷ Some (Code 5) ∷ None ∷ None ∷ None ∷ []) ∷ (Some (Code 2) ∷ Some (Number (pos 7)) ∷ None ∷ None ∷ None ∷ None ∷ [])
-    ∷ (Some (Code 2) ∷ None ∷ None ∷ None ∷ None ∷ None ∷ []) ∷ all_hidden ∷ []
+-- those of the prefixes, that of none among them
+rollup_keys : map (is_of_put Rollup three_keys) keys_asked ≡ true ∷ true ∷ true ∷ true ∷ false ∷ false ∷ false ∷ []
 unfolding padded vary
 rollup_keys = refl
+
+no_keys : map (is_of_put Plain []) (all_hidden ∷ key (Some (Code 2)) None None ∷ []) ≡ true ∷ false ∷ []
+unfolding padded vary
+no_keys = refl
 
 -- ---- puts
 

@@ -1,10 +1,7 @@
 -- What a contract sees of an eager store.
 use Rattle.std.specs.Prelude.{ℤ, List, [], Option, Some, if◌then◌else◌}
-use Rattle.star_schema.specs.declared.group.Shape.{Shape}
-use Rattle.star_schema.specs.declared.group.Shape.TheVariants.{Plain}
 use Rattle.star_program.specs.declared.key.KeyValue.{KeyValue}
 use Rattle.star_group.specs.declared.eager.EagerStore.{EagerStore}
-use Rattle.star_group.specs.declared.keyed.key.KeyPart.{KeyPart}
 use Rattle.star_group.specs.Base.{row_at}
 use Rattle.star_group.specs.Entries.{entries_of}
 use Rattle.star_group.specs.Held.{Holds}
@@ -18,13 +15,8 @@ group_of s = record { shape = s.shape; count = s.count; aggregates = s.aggregate
 abbrev pub with_total : List (Option ℤ) → (List (Option KeyValue) → Option (List (Option ℤ))) → List (Option KeyValue) → Option (List (Option ℤ))
 with_total total look key = if key_eq key (padded 6 []) then Some total else look key
 
--- the row with a key: the total of a plain group stands beside its rows; where rows hide keys it is among them
-abbrev pub look_in : Shape → List (List KeyPart × List (Option ℤ)) → List (Option ℤ) → List (Option KeyValue) → Option (List (Option ℤ))
-look_in Plain entries total = with_total total (row_at entries)
-look_in _ entries total = row_at entries
-
 abbrev pub look : EagerStore → List (Option KeyValue) → Option (List (Option ℤ))
-look s = look_in s.shape (entries_of s.rows) s.total
+look s = with_total s.total (row_at (entries_of s.rows))
 
 -- the store has the content of these puts
 abbrev pub Has : EagerStore → List Put → Type 0

@@ -1,15 +1,15 @@
 -- The content of an eager store: each row has the aggregates of the puts that change it.
 use Rattle.std.specs.Prelude.{◌≡◌, ℕ, ◌<◌, Bool, true, false, ◌||◌, ℤ, List, [], ◌∷◌, Option, Some, None, filter, length, slice_index_or}
-use Rattle.std.specs.List.{list_any, AllByRecursion}
+use Rattle.std.specs.List.{AllByRecursion}
 use Rattle.star_schema.specs.Groups.{numbers_for}
 use Rattle.star_program.specs.declared.key.KeyValue.{KeyValue}
 use Rattle.star_group.specs.Cells.{held}
-use Rattle.star_group.specs.OwnKeys.{key_eq, padded, own_keys}
+use Rattle.star_group.specs.OwnKeys.{is_of_put, key_eq, padded}
 use Rattle.star_group.specs.Stores.{Put, Group, aggregate_at}
 
--- the put changes the row with this key
+-- the put changes the row with this key: that of all puts, or that of a grouping of its keys
 abbrev pub changes : Group → List (Option KeyValue) → Put → Bool
-changes d q put = list_any (key_eq q) (own_keys d.shape (length put.keys) (padded 6 put.keys))
+changes d q put = key_eq q (padded 6 []) || is_of_put d.shape put.keys q
 
 -- the puts that change it
 abbrev pub puts_at : Group → List (Option KeyValue) → List Put → List Put

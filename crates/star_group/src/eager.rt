@@ -2,9 +2,8 @@
 
 ghost use Rattle.std.specs.Prelude.{◌≡◌, ◌≤◌, vec_len};
 
-mod hiding;
 mod own;
-mod plain;
+mod put;
 mod store;
 
 use crate::cell::Row;
@@ -18,9 +17,9 @@ use std::alloc::Global;
 /// The rows of a group and the row of all puts, each up to date after every put. The keys stand in
 /// a trie of their digits, so that no keys are slow to find.
 ///
-/// A put into a plain group changes one row beside the total, which stands by itself; rows that
-/// were made lately are mostly found with one look. A put into a cube changes the row of each
-/// subset of its keys, one into a rollup that of each prefix, that of none of them among the others.
+/// A put changes the row of all puts, which stands by itself, and beside it in a plain group the row
+/// of its keys, in a cube that of each subset of them and in a rollup that of each prefix. Rows of
+/// plain groups that were made lately are mostly found with one look.
 #[derive(Drop)]
 pub struct EagerStore {
     alloc: Global,
@@ -28,10 +27,9 @@ pub struct EagerStore {
     count: usize,
     aggregates: Vec<Aggregate>,
     rows: KeyedRows,
-    // Of a plain group.
     newest: Newest,
     total: Row,
-    // Where rows hide keys: the keys of a put's rows, and where they are.
+    // Where rows hide keys: the keys of a put's rows beside the total, and where they are.
     own: Vec<OrderedKey>,
     places: Vec<Place>,
     ghost wide: { count ≤ rows.trie.width },

@@ -30,13 +30,6 @@ impl Newest {
         })
     }
 
-    // One that remembers no row.
-    pub(crate) fn none(alloc: Global) -> Newest {
-        Newest {
-            numbers: Vec::new(alloc),
-        }
-    }
-
     // The number of this key's row, where it is known.
     pub(crate) fn number(&self, rows: &KeyedRows, key: &OrderedKey) -> Option<usize>
         ensures { IsKnown rows.now key.now result }

@@ -9,7 +9,7 @@ ghost use Rattle.star_group.specs.Entries.{entries_of};
 ghost use Rattle.star_group.specs.OwnKeys.{key_eq};
 ghost use Rattle.star_group.specs.Private.Merged.{IsMergedAt, MergeLeaves, MergeStays, RowsStay};
 ghost use Rattle.star_group.specs.Private.Numbers.{AreAsWide, AreNarrow, ArePlaces, FitsIn, HasSpace, IsGrown, IsNarrow, IsPlace, IsPlaceAmong, IsWithin};
-ghost use Rattle.star_group.specs.Private.Rows.{AllStay, MergesAll, PutsRows, SomeLeaves};
+ghost use Rattle.star_group.specs.Private.Rows.{AllStay, MergesAll, PutsRows, SomeLeaves, is_one_of};
 ghost use Rattle.star_group.specs.Private.Tries.{is_missing};
 ghost use Rattle.star_group.specs.declared.keyed.key.KeyPart.{KeyPart};
 ghost use Rattle.star_group.specs.declared.rows.PutFault.TheVariants.{OutOfMemory};
@@ -87,8 +87,8 @@ fn all_stay_at(
     requires places { ArePlaces rows.now own.now places.now }
     requires fits { FitsIn rows.now aggregates.now more.now }
     ensures { MatchBool result
-        (AllStay (row_at (entries_of rows.now)) (map key_of own.now) aggregates.now more.now)
-        (SomeLeaves (row_at (entries_of rows.now)) (map key_of own.now) aggregates.now more.now) }
+        (AllStay (row_at (entries_of rows.now)) (is_one_of own.now) aggregates.now more.now)
+        (SomeLeaves (row_at (entries_of rows.now)) (is_one_of own.now) aggregates.now more.now) }
 {
     for index in 0..own.len() {
         if !stays_at(rows, places[index], aggregates, more) {
@@ -137,10 +137,9 @@ fn merge_all_at(
     requires places { ArePlaces rows.old own.now places.now }
     requires distinct { IsDistinct key_eq (map key_of own.now) }
     requires fits { FitsIn rows.old aggregates.now more.now }
-    requires stay { AllStay (row_at (entries_of rows.old)) (map key_of own.now)
-        aggregates.now more.now }
+    requires stay { AllStay (row_at (entries_of rows.old)) (is_one_of own.now) aggregates.now more.now }
     requires space { list_any is_missing places.now ≡ true → HasSpace rows.old (length own.now) }
-    ensures rows { MergesAll (map key_of own.now) aggregates.now more.now
+    ensures rows { MergesAll (is_one_of own.now) aggregates.now more.now
         (row_at (entries_of rows.old)) (row_at (entries_of rows.new)) }
     ensures widths { AreAsWide rows.old rows.new }
 {
@@ -170,11 +169,11 @@ pub(crate) fn put_rows(
     requires narrow { AreNarrow rows.old.trie.width own.now }
     requires distinct { IsDistinct key_eq (map key_of own.now) }
     requires fits { FitsIn rows.old aggregates.now more.now }
-    ensures ok { OnOk result (PutsRows (map key_of own.now) aggregates.now more.now
+    ensures ok { OnOk result (PutsRows (is_one_of own.now) aggregates.now more.now
         (row_at (entries_of rows.old)) (row_at (entries_of rows.new))) }
     ensures refused { OnErr result (entries_of rows.new ≡ entries_of rows.old) }
     ensures overflow { IfErr result (λ fault. UnlessMemory PutFault.OutOfMemory fault
-        (SomeLeaves (row_at (entries_of rows.old)) (map key_of own.now) aggregates.now
+        (SomeLeaves (row_at (entries_of rows.old)) (is_one_of own.now) aggregates.now
         more.now)) }
     ensures widths { AreAsWide rows.old rows.new }
 {

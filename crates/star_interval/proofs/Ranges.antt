@@ -2,9 +2,9 @@
 -- corners.
 use Rattle.std.proofs.Common.{◌≡◌, ◌⊎◌, inl, inr, ⊎_elim, true, false, cond, refl, sym, subst, arith, ℤ, pos, negsuc, ◌≤ℤ◌, int_lt, FitsSigned, w64, IsTrue, ◌↔◌, ◌^◌}
 use Rattle.std.proofs.lemmas.Bool.{ltb-true, lt-ltb, and_parts, and_from}
-use Rattle.std.specs.Int.{int_min, int_max}
+use Rattle.std.specs.Int.{Width, w128, int_min, int_max}
 use Rattle.std.proofs.lemmas.Int.{ints, clamps}
-use Rattle.star_interval.specs.Range.{Range, Holds, IsOrdered, IsWithin, FitsI64, is_i64, fits_i64, IsLeast, IsResult, only, hull, corner_range}
+use Rattle.star_interval.specs.Range.{Range, Holds, IsOrdered, IsWithin, FitsI64, is_i64, fits_i64, FitsI128, is_i128, IsLeast, IsResult, only, hull, corner_range}
 use Rattle.star_interval.specs.Laws.{KeepsValues, KeepsOrder}
 
 -- ranges with the same ends are equal
@@ -22,24 +22,35 @@ holds_high r ordered = record { from = ordered; to = omega (arith, ints) }
 pub holds_only : (n z : ℤ) → z ≡ n → Holds (only n) z
 holds_only n z same = record { from = omega (arith, ints); to = omega (arith, ints) }
 
-fits_between : (low high z : ℤ) → FitsSigned w64 low → FitsSigned w64 high → low ≤ℤ z → z ≤ℤ high
-    → FitsSigned w64 z
-fits_between low (pos h) (pos n) f g p q = record { sfits = omega (arith, ints, f, g) }
-fits_between low (negsuc h) (pos n) f g p q = absurd (omega (arith, ints))
-fits_between (pos l) high (negsuc n) f g p q = absurd (omega (arith, ints))
-fits_between (negsuc l) high (negsuc n) f g p q = record { sfits = omega (arith, ints, f, g) }
+fits_between : (w : Width) (low high z : ℤ) → FitsSigned w low → FitsSigned w high
+    → low ≤ℤ z → z ≤ℤ high → FitsSigned w z
+fits_between w low (pos h) (pos n) f g p q = record { sfits = omega (arith, ints, f.sfits, g.sfits) }
+fits_between w low (negsuc h) (pos n) f g p q = absurd (omega (arith, ints))
+fits_between w (pos l) high (negsuc n) f g p q = absurd (omega (arith, ints))
+fits_between w (negsuc l) high (negsuc n) f g p q =
+    record { sfits = omega (arith, ints, f.sfits, g.sfits) }
 
--- a range of 64 bits holds numbers of 64 bits alone
+-- a range of 64 bits holds numbers of 64 bits alone, and one of 128 bits those of 128 bits
 pub fits_held : (r : Range) (z : ℤ) → FitsI64 r → Holds r z → FitsSigned w64 z
-fits_held r z fits held = fits_between r.low r.high z fits.0 fits.1 held.from held.to
+fits_held r z fits held = fits_between w64 r.low r.high z fits.0 fits.1 held.from held.to
 
--- the tests are true of numbers and of ranges of 64 bits alone
-is_i64_fits : (z : ℤ) → IsTrue (is_i64 z) ↔ FitsSigned w64 z
+pub fits_i128_held : (r : Range) (z : ℤ) → FitsI128 r → Holds r z → FitsSigned w128 z
+fits_i128_held r z fits held = fits_between w128 r.low r.high z fits.0 fits.1 held.from held.to
+
+-- the tests are true of numbers of their bits, and of ranges of 64 bits, alone
+pub is_i64_fits : (z : ℤ) → IsTrue (is_i64 z) ↔ FitsSigned w64 z
 unfolding is_i64
 is_i64_fits (pos n) =
     (λ e. record { sfits = ltb-true n (2 ^ 63) e }, λ f. lt-ltb n (2 ^ 63) f.sfits)
 is_i64_fits (negsuc n) =
     (λ e. record { sfits = ltb-true n (2 ^ 63) e }, λ f. lt-ltb n (2 ^ 63) f.sfits)
+
+pub is_i128_fits : (z : ℤ) → IsTrue (is_i128 z) ↔ FitsSigned w128 z
+unfolding is_i128
+is_i128_fits (pos n) =
+    (λ e. record { sfits = ltb-true n (2 ^ 127) e }, λ f. lt-ltb n (2 ^ 127) f.sfits)
+is_i128_fits (negsuc n) =
+    (λ e. record { sfits = ltb-true n (2 ^ 127) e }, λ f. lt-ltb n (2 ^ 127) f.sfits)
 
 pub fits_i64_fits : (r : Range) → IsTrue (fits_i64 r) ↔ FitsI64 r
 fits_i64_fits r = (

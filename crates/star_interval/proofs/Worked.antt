@@ -6,7 +6,7 @@ use Rattle.star_interval.specs.declared.Interval.{Interval}
 use Rattle.star_interval.specs.declared.Wide.{Wide}
 use Rattle.star_interval.specs.Interval.{bounds_of, range_of, wide_range_of}
 use Rattle.star_interval.specs.Laws.{KeepsOrder, KeepsValues}
-use Rattle.star_interval.specs.Range.{FitsI64, Holds, IsLeast, IsMultiple, IsOrdered, IsResult, IsWithin, Range, corner_range, fits_i64, hull, is_i64, multiple_range, only, text_of}
+use Rattle.star_interval.specs.Range.{FitsI128, FitsI64, Holds, IsLeast, IsMultiple, IsOrdered, IsResult, IsWithin, Range, corner_range, fits_i64, hull, is_i128, is_i64, multiple_range, only, text_of}
 
 abbrev from_to : ℤ → ℤ → Range
 from_to l h = record { low = l; high = h }
@@ -70,6 +70,30 @@ not_past_the_greatest h = let most : 9223372036854775808 < 2 ^ 63 = h.1.sfits in
 
 not_past_the_least : FitsI64 (from_to (negsuc 9223372036854775808) (pos 0)) → ⊥
 not_past_the_least h = let least : 9223372036854775808 < 2 ^ 63 = h.0.sfits in omega (arith, least)
+
+-- ---- 128 bits
+
+ends_are_i128 : (is_i128 (pos 170141183460469231731687303715884105727) ≡ true) × (is_i128 (negsuc 170141183460469231731687303715884105727) ≡ true)
+unfolding is_i128
+ends_are_i128 = (refl, refl)
+
+past_128_bits : (is_i128 (pos 170141183460469231731687303715884105728) ≡ false) × (is_i128 (negsuc 170141183460469231731687303715884105728) ≡ false)
+unfolding is_i128
+past_128_bits = (refl, refl)
+
+-- a number past the ends of 64 bits has 128
+past_64_bits : (is_i128 (pos 9223372036854775808) ≡ true) × (is_i128 (negsuc 9223372036854775808) ≡ true)
+unfolding is_i128
+past_64_bits = (refl, refl)
+
+widest_fits : FitsI128 (from_to (negsuc 170141183460469231731687303715884105727) (pos 170141183460469231731687303715884105727))
+widest_fits = (record { sfits = omega arith }, record { sfits = omega arith })
+
+not_past_the_greatest_of_128_bits : FitsI128 (from_to (pos 0) (pos 170141183460469231731687303715884105728)) → ⊥
+not_past_the_greatest_of_128_bits h = let most : 170141183460469231731687303715884105728 < 2 ^ 127 = h.1.sfits in omega (arith, most)
+
+not_past_the_least_of_128_bits : FitsI128 (from_to (negsuc 170141183460469231731687303715884105728) (pos 0)) → ⊥
+not_past_the_least_of_128_bits h = let least : 170141183460469231731687303715884105728 < 2 ^ 127 = h.0.sfits in omega (arith, least)
 
 -- ---- what operations keep
 

@@ -1,7 +1,7 @@
 -- Ranges of whole numbers of any size: what they hold, and the ranges that come of two of them.
 use Rattle.std.specs.Prelude.{◌≡◌, ℕ, ℤ, pos, ◌*ℤ◌, negsuc, ◌≤ℤ◌, FitsSigned, Bool, ◌&&◌, nat_lt, ◌^◌, List, ◌++◌, codes}
 use Rattle.std.specs.Fmt.{signed_decimal}
-use Rattle.std.specs.Int.{w64, int_min, int_max}
+use Rattle.std.specs.Int.{w64, w128, int_min, int_max}
 
 -- the whole numbers from low to high
 pub record Range : Type 0 where
@@ -33,6 +33,15 @@ is_i64 (negsuc n) = nat_lt n (2 ^ 63)
 
 abbrev pub fits_i64 : Range → Bool
 fits_i64 r = is_i64 r.low && is_i64 r.high
+
+-- both ends are numbers of 128 bits
+abbrev pub FitsI128 : Range → Type 0
+FitsI128 r = FitsSigned w128 r.low × FitsSigned w128 r.high
+
+-- that a number has 128 bits, as a test
+unfoldable pub is_i128 : ℤ → Bool
+is_i128 (pos n) = nat_lt n (2 ^ 127)
+is_i128 (negsuc n) = nat_lt n (2 ^ 127)
 
 -- the least range that holds every number of a kind: it holds each, and both its ends are such
 -- numbers

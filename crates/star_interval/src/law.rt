@@ -1,8 +1,8 @@
 //! Laws of ranges: functions with no body, whose clauses are the laws.
 
 ghost use Rattle.std.specs.Prelude.{◌≡◌, ℕ, ◌⊎◌, ◌↔◌, IsTrue, ℤ, pos, ◌+ℤ◌, ◌-ℤ◌, ◌*ℤ◌, FitsSigned};
-ghost use Rattle.std.specs.Int.{w64};
-ghost use Rattle.star_interval.specs.Range.{Range, Holds, IsWithin, FitsI64, fits_i64, IsLeast, IsResult, IsMultiple, only, hull, corner_range, multiple_range};
+ghost use Rattle.std.specs.Int.{w64, w128};
+ghost use Rattle.star_interval.specs.Range.{Range, Holds, IsWithin, FitsI64, fits_i64, FitsI128, is_i128, IsLeast, IsResult, IsMultiple, only, hull, corner_range, multiple_range};
 ghost use Rattle.star_interval.specs.Laws.{KeepsValues, KeepsOrder};
 
 /// What an operation makes of held numbers is held by the range that it makes of their ranges.
@@ -30,10 +30,13 @@ pub fn smaller_ranges_make_smaller_ranges()
         → IsWithin a b → IsWithin (hull a (only (pos 0))) (hull b (only (pos 0))) }
 {}
 
-/// A range with ends of 64 bits holds numbers of 64 bits alone, and a test tells such ranges.
+/// A range with ends of 64 bits holds numbers of 64 bits alone, and one with ends of 128 bits those
+/// of 128 bits; a test tells such ranges of 64 bits, and another such numbers of 128.
 pub fn numbers_of_fitting_ranges_fit()
     ensures held { (r : Range) (z : ℤ) → FitsI64 r → Holds r z → FitsSigned w64 z }
     ensures test { (r : Range) → IsTrue (fits_i64 r) ↔ FitsI64 r }
+    ensures held_128 { (r : Range) (z : ℤ) → FitsI128 r → Holds r z → FitsSigned w128 z }
+    ensures test_128 { (z : ℤ) → IsTrue (is_i128 z) ↔ FitsSigned w128 z }
 {}
 
 /// A least range lies in each range that holds the same numbers.

@@ -2,7 +2,7 @@
 //! numbers.
 #![tactic(auto)]
 
-ghost use Rattle.std.specs.Prelude.{◌≡◌, ◌⊎◌, ◌↔◌, IsTrue, IsOk, pos, ◌+ℤ◌, ◌-ℤ◌, ◌*ℤ◌, ◌≤ℤ◌};
+ghost use Rattle.std.specs.Prelude.{◌≡◌, ◌⊎◌, ◌↔◌, IsTrue, IsOk, IsSome, IfSome, pos, ◌+ℤ◌, ◌-ℤ◌, ◌*ℤ◌, ◌≤ℤ◌};
 
 use std::fmt;
 
@@ -173,9 +173,13 @@ impl Interval {
         Wide::between(at_low, at_high)
     }
 
-    /// The bounds of the numbers taken `n` times.
-    fn times_wide(&self, n: u64) -> Wide
-        ensures { wide_range_of result ≡ multiple_range n (range_of self.now) }
+    /// The least bounds of the numbers of this interval taken `n` times, which have 128 bits
+    /// whatever `n` is.
+    pub fn times_wide(&self, n: u64) -> Wide
+        ensures least { IsLeast (IsMultiple n (range_of self.now)) (wide_range_of result) }
+
+        // For callers that compute with ends.
+        ensures ends { wide_range_of result ≡ multiple_range n (range_of self.now) }
     {
         Wide {
             low: multiple(n, self.low),
@@ -185,8 +189,41 @@ impl Interval {
 }
 
 impl Wide {
-    ghost use Rattle.star_interval.specs.Range.{FitsI64, only, hull};
+    ghost use Rattle.star_interval.specs.Range.{FitsI64, FitsI128, IsLeast, IsResult, only, hull, corner_range};
     ghost use Rattle.star_interval.specs.Interval.{wide_range_of, bounds_of};
+
+    /// The least bounds of the sums of a number between these bounds and a number between the
+    /// others, or None where they leave 128 bits.
+    pub fn add(&self, others: &Wide) -> Option<Wide>
+        ensures least { IfSome result
+            (λ sums. IsLeast
+            (IsResult ◌+ℤ◌ (wide_range_of self.now) (wide_range_of others.now))
+            (wide_range_of sums)) }
+        ensures fits { IsSome result
+            ↔ FitsI128 (corner_range ◌+ℤ◌ (wide_range_of self.now) (wide_range_of others.now)) }
+
+        // For callers that compute with ends.
+        ensures corners { IfSome result
+            (λ sums. wide_range_of sums
+            ≡ corner_range ◌+ℤ◌ (wide_range_of self.now) (wide_range_of others.now)) }
+    {
+        let low = self.low.checked_add(others.low)?;
+        let high = self.high.checked_add(others.high)?;
+        Some(Wide { low, high })
+    }
+
+    /// The interval with these bounds.
+    ///
+    /// Where they leave 64 bits, the error has them.
+    pub fn narrow(self) -> Result<Interval, Wide>
+        ensures bounds { bounds_of result ≡ wide_range_of self }
+        ensures fits { IsOk result ↔ FitsI64 (wide_range_of self) }
+    {
+        match (i64::try_from(self.low), i64::try_from(self.high)) {
+            (Ok(low), Ok(high)) => Ok(Interval { low, high }),
+            _ => Err(self),
+        }
+    }
 
     /// The least bounds of two numbers.
     fn between(x: i128, y: i128) -> Wide
@@ -205,17 +242,6 @@ impl Wide {
         Wide {
             low: self.low.min(others.low),
             high: self.high.max(others.high),
-        }
-    }
-
-    /// The interval with these bounds, where they are numbers of 64 bits.
-    fn narrow(self) -> Result<Interval, Wide>
-        ensures bounds { bounds_of result ≡ wide_range_of self }
-        ensures fits { IsOk result ↔ FitsI64 (bounds_of result) }
-    {
-        match (i64::try_from(self.low), i64::try_from(self.high)) {
-            (Ok(low), Ok(high)) => Ok(Interval { low, high }),
-            _ => Err(self),
         }
     }
 }

@@ -129,6 +129,81 @@ fn wide_bounds_are_exact(rt: HostRuntime) {
     }
 }
 
+fn bounds(wide: Wide) -> (i128, i128) {
+    (wide.low, wide.high)
+}
+
+#[test]
+fn multiples_have_128_bits(rt: HostRuntime) {
+    let low = -170141183460469231722463931679029329920;
+    let high = 170141183460469231704017187605319778305;
+    for (interval, n, low, high) in [
+        (LEAST, u64::MAX, low, low),
+        (GREATEST, u64::MAX, high, high),
+        (EVERY, u64::MAX, low, high),
+        (EVERY, 1, -1 << 63, (1 << 63) - 1),
+        (EVERY, 0, 0, 0),
+    ] {
+        let multiples = interval.times_wide(n);
+        assert_eq!(rt; bounds(multiples), (low, high), "{n} times {interval}");
+    }
+}
+
+const WIDEST: Wide = Wide {
+    low: i128::MIN,
+    high: i128::MAX,
+};
+
+#[test]
+fn sums_of_bounds_reach_the_limits_of_128_bits(rt: HostRuntime) {
+    let least = Wide {
+        low: i128::MIN,
+        high: i128::MIN,
+    };
+    let greatest = Wide {
+        low: i128::MAX,
+        high: i128::MAX,
+    };
+    let widest = (i128::MIN, i128::MAX);
+    for (bounds, low, high, expected) in [
+        (WIDEST, 0, 0, Some(widest)),
+        (WIDEST, -1, 0, None),
+        (WIDEST, 0, 1, None),
+        (least, 0, 1, Some((i128::MIN, i128::MIN + 1))),
+        (least, -1, 0, None),
+        (greatest, -1, 0, Some((i128::MAX - 1, i128::MAX))),
+        (greatest, 0, 1, None),
+        (least, i128::MAX, i128::MAX, Some((-1, -1))),
+    ] {
+        let sums = bounds.add(&Wide { low, high });
+        assert_eq!(rt;
+            sums.map(self::bounds),
+            expected,
+            "{bounds} and {low}..{high}"
+        );
+    }
+}
+
+#[test]
+fn bounds_of_64_bits_are_intervals(rt: HostRuntime) {
+    let past = 1 << 63;
+    for (low, high, fit) in [
+        (-past, past - 1, true),
+        (-past - 1, past - 1, false),
+        (-past, past, false),
+        (0, 0, true),
+    ] {
+        let wide = Wide { low, high };
+        match wide.narrow() {
+            Ok(interval) => assert_eq!(rt;
+                (true, bounds(Wide::from(interval))),
+                (fit, (low, high))
+            ),
+            Err(wide) => assert_eq!(rt; (false, bounds(wide)), (fit, (low, high))),
+        }
+    }
+}
+
 #[test]
 fn the_limits_of_64_bits_are_intervals(rt: HostRuntime) {
     let zero = Interval::point(0);

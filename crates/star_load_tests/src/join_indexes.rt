@@ -9,20 +9,67 @@ use std::alloc::{AllocError, Global};
 use std::process::Abort;
 use std::test::Fail;
 
-// As many rows of a table, in turn the first, the one in the middle, and the last.
-fn rows_in(alloc: Global, table: u32, count: u32) -> Result<Vec<u32>, AllocError>
+// In turn the first row of a table, the one in the middle, and the last.
+fn row_in_turn(table: u32, row: u32) -> u32
+    requires { 0 < table }
+    ensures { result < table }
+{
+    match row % 3 {
+        0 => 0,
+        1 => table / 2,
+        _ => table - 1,
+    }
+}
+
+// As many rows in turn, in words of 8, of 16 and of 32 bits.
+fn rows_in_8_bits(alloc: Global, table: u32, count: u32) -> Result<Vec<u8>, AllocError>
+    requires some { 0 < table }
+    requires fits { table ≤ 256 }
+    ensures { IfOk result (λ rows. All (λ row. row < table) rows.items) }
+{
+    let mut rows = Vec::new(alloc);
+    for row in 0..count {
+        rows.push(row_in_turn(table, row) as u8)?;
+    }
+    Ok(rows)
+}
+
+fn rows_in_16_bits(alloc: Global, table: u32, count: u32) -> Result<Vec<u16>, AllocError>
+    requires some { 0 < table }
+    requires fits { table ≤ 65536 }
+    ensures { IfOk result (λ rows. All (λ row. row < table) rows.items) }
+{
+    let mut rows = Vec::new(alloc);
+    for row in 0..count {
+        rows.push(row_in_turn(table, row) as u16)?;
+    }
+    Ok(rows)
+}
+
+fn rows_in_32_bits(alloc: Global, table: u32, count: u32) -> Result<Vec<u32>, AllocError>
     requires { 0 < table }
     ensures { IfOk result (λ rows. All (λ row. row < table) rows.items) }
 {
     let mut rows = Vec::new(alloc);
     for row in 0..count {
-        rows.push(match row % 3 {
-            0 => 0,
-            1 => table / 2,
-            _ => table - 1,
-        })?;
+        rows.push(row_in_turn(table, row))?;
     }
     Ok(rows)
+}
+
+// The join index of as many rows of a table in turn, in the least words in which each row of the
+// table fits.
+fn index_of(alloc: Global, table: u32, count: u32) -> Result<JoinIndex, AllocError>
+    requires { 0 < table }
+    ensures { IfOk result (λ index. All (λ row. row < table) index) }
+{
+    if table <= 256 {
+        Ok(JoinIndex::from(rows_in_8_bits(alloc, table, count)?))
+    } else if table <= 65_536 {
+        Ok(JoinIndex::from(rows_in_16_bits(alloc, table, count)?))
+    } else {
+        Ok(JoinIndex::from(rows_in_32_bits(alloc, table, count)?))
+    }
 }
 
 // The row that a row refers to, if there is one.
@@ -38,8 +85,7 @@ fn row_at(index: &JoinIndex, row: u32) -> Option<u32> {
 fn rows_are_read_back(rt: HostRuntime) -> Result<(), Fail> {
     let alloc = rt.alloc();
     for table in [1, 2, 256, 257, 65_536, 65_537, u32::MAX] {
-        let rows = rows_in(alloc, table, 130)?;
-        let index = JoinIndex::build(alloc, rows.as_slice(), table)?;
+        let index = index_of(alloc, table, 130)?;
         check_same(&rt, index.len(), 130, &table);
         for (row, expected) in [
             (0, Some(0)),
@@ -110,8 +156,7 @@ fn by_flags(index: &JoinIndex, first: u32, flags: &[bool]) -> Option<[u64; 2]>
 fn masks_are_narrowed_by_ranges(rt: HostRuntime) -> Result<(), Fail> {
     let alloc = rt.alloc();
     for table in [3, 256, 257, 65_536, 65_537, u32::MAX] {
-        let rows = rows_in(alloc, table, 130)?;
-        let index = JoinIndex::build(alloc, rows.as_slice(), table)?;
+        let index = index_of(alloc, table, 130)?;
         let last = table.saturating_sub(1);
         for (from, to, remainders) in [
             (0, 0, [true, false, false]),
@@ -149,8 +194,7 @@ fn flags_of(alloc: Global, table: u32, set: [bool; 3]) -> Result<Vec<bool>, Allo
 fn masks_are_narrowed_by_flags(rt: HostRuntime) -> Result<(), Fail> {
     let alloc = rt.alloc();
     for table in [3, 256, 257, 65_536, 65_537] {
-        let rows = rows_in(alloc, table, 130)?;
-        let index = JoinIndex::build(alloc, rows.as_slice(), table)?;
+        let index = index_of(alloc, table, 130)?;
         for remainders in [
             [false, false, false],
             [true, false, false],

@@ -1,5 +1,5 @@
 -- What an instruction does, by what was computed for it.
-use Rattle.std.proofs.Common.{◌≡◌, ◌⊎◌, ⊎_elim, ℕ, Bool, true, false, Some, None, Option, refl, ap, sym, subst}
+use Rattle.std.proofs.Common.{◌≡◌, ◌⊎◌, ⊎_elim, ℕ, ℤ, Bool, true, false, Some, None, Option, refl, ap, sym, subst, ◌∙◌}
 use Rattle.std.specs.Prelude.{Result, Ok, Err, MatchOption, if◌then◌else◌}
 use Rattle.star_schema.specs.Database.{Database}
 use Rattle.star_program.specs.declared.op.Operator.{Operator}
@@ -14,6 +14,7 @@ use Rattle.star_program.specs.declared.group.GroupDecl.{GroupDecl}
 use Rattle.star_group.specs.declared.rows.PutFault.{PutFault}
 use Rattle.star_group.specs.declared.rows.PutFault.TheVariants as memory
 use Rattle.star_program.specs.declared.value.Value.{Value}
+use Rattle.star_program.specs.declared.value.Value.TheVariants.{Number}
 use Rattle.star_program.specs.Values.{Registers, with_entry}
 use Rattle.star_machine.specs.declared.fault.Stop.{Stop}
 use Rattle.star_machine.specs.declared.fault.Stop.TheVariants as stop
@@ -47,6 +48,14 @@ module _ (database : Database) (parts : Parts) (registers : Registers) (run : Ru
   answer_made o l r answer result shown is =
       made (answer_of o l r) (fits_register (answer_of o l r)) result (answer_sound database o l r)
       (subst (λ (a : Option Value). MatchOption a (result ≡ Err (stop.Trap Overflow)) (λ value. result ≡ Ok value)) shown is)
+
+  -- what a read gives
+  pub read_made : (result : Value) (z : ℤ) → result ≡ Number z → fits_register result ≡ true
+      → IsMade database parts registers run t (sets_answer registers s t (Number z)) (Ok result)
+  read_made result z given fits =
+      subst (λ v. IsMade database parts registers run t (sets_answer registers s t (Number z)) (Ok v)) (sym given)
+      (subst (λ b. Sets database parts registers run t (unless_trap (unless b Overflow) (GoesOn (with_entry registers t (Number z)) s)) (Number z))
+      (sym fits ∙ ap fits_register given) (sets _ (Number z) refl tt))
 
 -- a put that is refused
 pub put_stops : (d : GroupDecl) (registers : Registers) (s : Store) (g : ℕ) (update : Update) (fault : PutFault) → (fault ≡ memory.OutOfMemory) ⊎ (overflows d (s.updates_of g) update ≡ true)

@@ -1,6 +1,6 @@
 // One instruction.
 
-ghost use Rattle.std.specs.Prelude.{◌≡◌, ◌≤◌, ◌<◌, ◌+◌, ◌^◌, ℕ, All, Bool, None, Ok, Err, OnOk, MatchBool, MatchOption, Some, length, slice_get, unwrap_or};
+ghost use Rattle.std.specs.Prelude.{◌≡◌, ◌≤◌, ◌<◌, ◌+◌, ◌^◌, ℕ, All, Bool, None, Ok, Err, OnOk, MatchBool, MatchOption, Some, length, slice_get, true, unwrap_or};
 ghost use Rattle.star_schema.specs.Database.{Database};
 ghost use Rattle.star_program.specs.declared.op.Op.TheVariants as op;
 ghost use Rattle.star_program.specs.declared.op.Operation.TheVariants as operation;
@@ -123,10 +123,11 @@ fn read(run: &Work<EagerStore>, group: u16, aggregate: u16, default: i64) -> Val
     requires there { group < length run.now.stores.items }
     requires declared { (store : EagerStore) → slice_get run.now.stores.items group ≡ Some store
         → aggregate < length (group_of store).aggregates }
-    ensures { (parts : Parts) (updates_of : ℕ → List Update)
+    ensures given { (parts : Parts) (updates_of : ℕ → List Update)
         → AreStores parts run.now.stores.items updates_of
         → result ≡ Value.Number (unwrap_or (puts.total (faults.group_at parts group) aggregate
         (updates_of group)) default) }
+    ensures fits { effects.fits_register result ≡ true }
 {
     Value::Number(run.total(group, aggregate).unwrap_or(default))
 }

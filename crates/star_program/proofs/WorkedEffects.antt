@@ -35,7 +35,7 @@ doubled_traps : result_trap sample parts held empty_store (Assign 2 (Binary Add 
 unfolding is_i64
 doubled_traps = refl
 
--- answers alone are to fit a register
+-- answers and totals alone are to fit a register
 constant_fits : result_trap sample parts held empty_store (Assign 2 (Const (pos (2 ^ 63)))) ≡ None
 constant_fits = refl
 

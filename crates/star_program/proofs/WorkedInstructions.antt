@@ -19,7 +19,7 @@ use Rattle.star_program.specs.declared.op.Operation.TheVariants.{Const, Edge, Lo
 use Rattle.star_program.specs.declared.op.Operator.{Operator}
 use Rattle.star_program.specs.declared.op.Operator.TheVariants.{Add, Sub, Mul, Less, LessOrEqual, Equal, And, Or}
 use Rattle.star_program.specs.declared.program.Parts.{Parts}
-use Rattle.star_program.specs.declared.fault.Fault.TheVariants.{Unset}
+use Rattle.star_program.specs.declared.fault.Fault.TheVariants.{BadGroup, Unset}
 use Rattle.star_program.specs.declared.fault.TrapKind.TheVariants.{Wrong, AbsentKey, Overflow}
 use Rattle.star_program.specs.declared.value.Kind.TheVariants as kind
 use Rattle.star_program.specs.declared.value.Value.{Value}
@@ -195,11 +195,39 @@ abbrev put_once : Store
 put_once = record empty_store { updates_of = λ g. slice_index_or ((an_update ∷ []) ∷ []) g [] }
 
 reads : map (λ a. left 6 (act regions parts true few put_once (Assign 6 (Read 0 a (pos 7))))) (0 ∷ 1 ∷ 2 ∷ []) ≡ Some (Number (pos 1)) ∷ Some (Number (negsuc 2)) ∷ Some (Number (negsuc 2)) ∷ []
+unfolding is_i64
 reads = refl
 
 -- over no updates a COUNT is 0, and any other aggregate what the read gives
 reads_of_none : map (λ a. made (Read 0 a (pos 7))) (0 ∷ 1 ∷ 2 ∷ []) ≡ Some (Number (pos 0)) ∷ Some (Number (pos 7)) ∷ Some (Number (pos 7)) ∷ []
+unfolding is_i64
 reads_of_none = refl
+
+-- a read of a SUM over one update of this number, with 0 as its default
+abbrev read_of : ℤ → Effect
+read_of z = act regions parts true few (record empty_store { updates_of = λ g. record { keys = key.Number (pos 0) ∷ []; values = pos 1 ∷ z ∷ pos 0 ∷ [] } ∷ [] }) (Assign 6 (Read 0 1 (pos 0)))
+
+-- it traps where the total leaves 64 bits
+read_ends : (left 6 (read_of most) ≡ Some (Number most)) × (left 6 (read_of least) ≡ Some (Number least))
+unfolding is_i64
+read_ends = (refl, refl)
+
+read_past_ends : (read_of (pos 9223372036854775808) ≡ Traps Overflow) × (read_of (negsuc 9223372036854775808) ≡ Traps Overflow)
+unfolding is_i64
+read_past_ends = (refl, refl)
+
+-- by what the read gives: a default that leaves 64 bits counts where there is no total, and there alone
+great_default : map (λ a. left 6 (act regions parts true few put_once (Assign 6 (Read 0 a (pos 9223372036854775808))))) (0 ∷ 1 ∷ 2 ∷ []) ≡ Some (Number (pos 1)) ∷ Some (Number (negsuc 2)) ∷ Some (Number (negsuc 2)) ∷ []
+unfolding is_i64
+great_default = refl
+
+great_default_of_none : act regions parts true few empty_store (Assign 6 (Read 0 1 (pos 9223372036854775808))) ≡ Traps Overflow
+unfolding is_i64
+great_default_of_none = refl
+
+-- what is wrong with a read comes before what it gives
+no_such_total : act regions parts true few empty_store (Assign 6 (Read 0 3 (pos 9223372036854775808))) ≡ Traps (Wrong BadGroup)
+no_such_total = refl
 
 -- ---- puts
 

@@ -4,10 +4,11 @@ use Rattle.std.specs.Option.{option_or}
 use Rattle.std.specs.Prelude.{IfOk, MatchResult, slice_index_or}
 use Rattle.star_schema.specs.declared.group.Aggregate.{Aggregate}
 use Rattle.star_schema.specs.declared.group.Aggregate.TheVariants.{Sum}
+use Rattle.star_interval.specs.Range.{Range}
 use Rattle.star_program.specs.World.{World}
 use Rattle.star_admission.specs.Ranges as ranges
 use Rattle.star_admission.specs.declared.reason.Reason.{Reason}
-use Rattle.star_admission.specs.Refusals.{overflow_of, sum_overflow, sums_overflow}
+use Rattle.star_admission.specs.Refusals.{overflow, overflow_of, sum_overflow, sums_overflow}
 use Rattle.star_admission.specs.Tallies.{Share}
 use Rattle.star_verify.specs.declared.known.Beyond.{Beyond}
 use Rattle.star_verify.specs.declared.known.Known.{Known}
@@ -20,10 +21,19 @@ pub made_as : (w : World) (result : Result Known Beyond) (k made : ranges.Known)
     → IfOk result (λ known. known_shown known ≡ k)
     → MatchResult result (λ _. overflow_of w k ≡ None)
     (λ beyond. overflow_of w k ≡ Some (beyond_shown w beyond))
-    → IsMade w result made
+    → IsMade w result made (overflow_of w made)
 made_as w (Ok known) k made e p q = (p ∙ e, subst (λ m. overflow_of w m ≡ None) e q)
 made_as w (Err beyond) k made e p q =
     subst (λ m. overflow_of w m ≡ Some (beyond_shown w beyond)) e q
+
+-- ---- a read
+
+-- of an equal range
+pub read_as : (w : World) (result : Result Known Beyond) (reach : ranges.Reach) (r s : Range)
+    → r ≡ s → IsMade w result (ranges.given r) (overflow w r reach)
+    → IsMade w result (ranges.given s) (overflow w s reach)
+read_as w result reach r s same h =
+    subst (λ q. IsMade w result (ranges.given q) (overflow w q reach)) same h
 
 -- ---- the SUMs of a group
 

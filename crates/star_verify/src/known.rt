@@ -30,7 +30,7 @@ pub(crate) enum Known {
     Flag,
 }
 
-// A result of arithmetic that leaves 64 bits.
+// A range that leaves 64 bits, and the columns that its numbers are computed from.
 #[derive(Clone, Copy)]
 pub(crate) struct Beyond {
     pub(crate) range: Wide,

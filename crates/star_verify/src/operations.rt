@@ -9,8 +9,8 @@ ghost use Rattle.star_admission.specs.Contexts as contexts;
 ghost use Rattle.star_admission.specs.Contexts.{Context, operation_known};
 ghost use Rattle.star_admission.specs.Private.Forward.{open_with};
 ghost use Rattle.star_admission.specs.Ranges as ranges;
-ghost use Rattle.star_admission.specs.Refusals.{source_reason};
-ghost use Rattle.star_admission.specs.Tallies.{read_range};
+ghost use Rattle.star_admission.specs.Refusals.{overflow, range_reason, source_reason};
+ghost use Rattle.star_admission.specs.Tallies.{reach_of, read_range};
 ghost use Rattle.star_interval.specs.Range.{only};
 ghost use Rattle.star_verify.specs.Private.Facts.{AreFacts};
 ghost use Rattle.star_verify.specs.Private.Kept.{AreMarked, HasShares, flag_at};
@@ -56,7 +56,9 @@ fn read_total(
     ensures { (w : World) (x : Context) → HasShares parts.now tallies.now x
         → IsMade w result (ranges.given (read_range
         (contexts.aggregate_at parts.now group aggregate) (x.so_far group aggregate)
-        (only default))) }
+        (only default)))
+        (overflow w (read_range (contexts.aggregate_at parts.now group aggregate)
+        (x.so_far group aggregate) (only default)) (reach_of (x.so_far group aggregate))) }
 {
     let place = 8 * group as usize + aggregate as usize;
     read(
@@ -78,9 +80,10 @@ pub(crate) fn make(
         × (place_fault parts.now inside (Assign target operation.now) ≡ None) }
     requires there { (g a : ℕ) → g < length parts.now.groups
         → a < length (group_at parts.now g).aggregates → 8 * g + a < length tallies.now }
-    ensures { (w : World) (x : Context) → AreFacts w facts.now → known_in registers.now ≡ x.known
-        → HasShares parts.now tallies.now x
-        → IsMade w result (operation_known w parts.now x operation.now) }
+    ensures { (w : World) (x : Context) (target : ℕ) → AreFacts w facts.now
+        → known_in registers.now ≡ x.known → HasShares parts.now tallies.now x
+        → IsMade w result (operation_known w parts.now x operation.now)
+        (range_reason w parts.now x (Assign target operation.now)) }
 {
     match operation {
         Operation::Const { number } => Ok(given(Interval::point(*number))),

@@ -1,32 +1,20 @@
 // What reads give, and the sums of a group that leave 64 bits.
 
-ghost use Rattle.std.specs.Prelude.{◌≡◌, ◌+◌, ◌<◌, ◌↔◌, ◌≤◌, ℕ, IsOk, List, length, slice_index_or};
+ghost use Rattle.std.specs.Prelude.{◌≡◌, ◌+◌, ◌<◌, ◌≤◌, ℕ, List, length, slice_index_or};
 ghost use Rattle.std.specs.Option.{option_map};
-ghost use Rattle.star_interval.specs.Interval.{bounds_of, wide_range_of};
-ghost use Rattle.star_interval.specs.Range.{FitsI64, only};
+ghost use Rattle.star_interval.specs.Interval.{wide_range_of};
+ghost use Rattle.star_interval.specs.Range.{only};
 ghost use Rattle.star_program.specs.World.{World};
 ghost use Rattle.star_admission.specs.Ranges as ranges;
 ghost use Rattle.star_admission.specs.Refusals as refusals;
-ghost use Rattle.star_admission.specs.Tallies.{Share, aggregate_range, hull_with, read_range};
+ghost use Rattle.star_admission.specs.Tallies.{Share, aggregate_range, hull_with, reach_of, read_range};
 ghost use Rattle.star_verify.specs.Private.Made.{AreTallies, IsMade, IsWithin};
 ghost use Rattle.star_verify.specs.Private.Shown.{IsTally};
 
-use crate::known::{Beyond, Known, computed};
-use crate::reach::Reach;
+use crate::known::{Beyond, Known, computed, given};
 use crate::tally::Tally;
-use star_interval::{Interval, Wide};
+use star_interval::Wide;
 use star_schema::Aggregate;
-
-// The interval with these bounds, where they are numbers of 64 bits.
-fn narrowed(range: Wide) -> Result<Interval, Wide>
-    ensures bounds { bounds_of result ≡ wide_range_of range }
-    ensures fits { IsOk result ↔ FitsI64 (bounds_of result) }
-{
-    match (i64::try_from(range.low), i64::try_from(range.high)) {
-        (Ok(low), Ok(high)) => Ok(Interval { low, high }),
-        _ => Err(range),
-    }
-}
 
 // Between what a total of the numbers lies, where there is one.
 fn total_range(aggregate: Aggregate, tally: Tally) -> Option<Wide>
@@ -66,10 +54,16 @@ fn with_default(range: Option<Wide>, default: i64) -> Wide
 // What is known of a read.
 pub(crate) fn read(aggregate: Aggregate, tally: Tally, default: i64) -> Result<Known, Beyond>
     ensures { (w : World) (ss : List Share) → IsTally tally ss
-        → IsMade w result (ranges.given (read_range aggregate ss (only default))) }
+        → IsMade w result (ranges.given (read_range aggregate ss (only default)))
+        (refusals.overflow w (read_range aggregate ss (only default)) (reach_of ss)) }
 {
-    let range = with_default(total_range(aggregate, tally), default);
-    computed(narrowed(range), Reach::none())
+    match with_default(total_range(aggregate, tally), default).narrow() {
+        Ok(range) => Ok(given(range)),
+        Err(range) => Err(Beyond {
+            range,
+            reach: tally.reach,
+        }),
+    }
 }
 
 // Whether a SUM may leave 64 bits.
@@ -78,7 +72,7 @@ fn check_sum(aggregate: Aggregate, tally: Tally) -> Result<(), Beyond>
         → IsWithin w result (refusals.sum_overflow w aggregate ss) }
 {
     match aggregate {
-        Aggregate::Sum => match computed(narrowed(tally.sum), tally.reach) {
+        Aggregate::Sum => match computed(tally.sum.narrow(), tally.reach) {
             Ok(_) => Ok(()),
             Err(beyond) => Err(beyond),
         },

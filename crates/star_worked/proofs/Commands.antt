@@ -4,6 +4,7 @@ use Rattle.std.specs.Prelude.{is_ok, map}
 use Rattle.star_schema.specs.declared.limits.Limits.{Limits}
 use Rattle.star_schema.specs.Most.{most_rows, most_visits}
 use Rattle.star_schema.specs.Database.{TableTexts}
+use Rattle.star_schema.specs.Loadable.{database_of}
 use Rattle.star_catalogue.specs.Load.{text_of}
 use Rattle.star_engine.specs.declared.fault.EngineFault.{EngineFault}
 use Rattle.star_engine.specs.declared.fault.EngineFault.TheVariants as engine
@@ -44,10 +45,10 @@ no_whole_answer_is_false IsAnswer (Err fault, is, same) = let first : true ≡ f
 -- ---- the benchmark's queries, alone and behind a listing
 
 module _ {S : Type 0} (out : Change S) (texts : TableTexts) where
-  each_query_fits : IsBenched out texts (Ok true) → AllFit most_visits texts
+  each_query_fits : IsBenched out texts (Ok true) → AllFit most_visits (database_of texts)
   each_query_fits benched = benched.all_fit refl
 
-  some_query_does_not : IsBenched out texts (Ok false) → SomeIsUnfit most_visits texts
+  some_query_does_not : IsBenched out texts (Ok false) → SomeIsUnfit most_visits (database_of texts)
   some_query_does_not benched = benched.some_unfit refl
 
   a_listing_that_stops : (fault : EngineFault) → IsListed out texts (Err fault) → IsListedAndBenched out texts (Err fault)

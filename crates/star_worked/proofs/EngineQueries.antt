@@ -2,7 +2,7 @@
 use Rattle.std.proofs.Common.{◌≡◌, ℕ, List, Some, arith, refl, ◌+◌}
 use Rattle.std.specs.Prelude.{codes}
 use Rattle.std.specs.Fmt.{digits}
-use Rattle.star_schema.specs.Database.{TableTexts, rows_in}
+use Rattle.star_schema.specs.Database.{Database, TableTexts, rows_in}
 use Rattle.star_schema.specs.Loadable.{IsLoadable, database_of}
 use Rattle.star_query.specs.declared.fault.QueryFault.{QueryFault}
 use Rattle.star_plan.specs.declared.fault.PlanFault.{PlanFault}
@@ -20,8 +20,9 @@ use Rattle.star_compiled.specs.Compiled.{compiled}
 use Rattle.star_compiled.specs.Judged.{IsOverflow}
 use Rattle.star_engine.specs.declared.fault.EngineFault.TheVariants as engine
 use Rattle.star_engine.specs.Loads.{IsLoadFault}
+use Rattle.star_engine.specs.Noted.{Telling}
 use Rattle.star_engine.specs.Notes.{counts_line, quote_line}
-use Rattle.star_engine.specs.Queries.{FitsTexts, IsNoQuery, IsPlanFault, IsPlanOf, IsQuery, IsQueryFault, IsQueryTold, IsUnanswered, IsUnasked, IsUnfit, fact_rows}
+use Rattle.star_engine.specs.Queries.{FitsRows, IsNoQuery, IsPlanFault, IsPlanOf, IsQuery, IsQueryFault, IsQueryTold, IsQueryToldOver, IsUnanswered, IsUnansweredOver, IsUnasked, IsUnfit, fact_rows}
 use Rattle.star_engine.specs.QueryRuns.{HasReported, PrintsTheReport}
 
 -- ---- the notes
@@ -60,11 +61,11 @@ module _ (rows : ℕ) (texts : TableTexts) (query : List ℕ) where
 
 -- ---- why a query that doesn't fit is refused
 
-module _ (most : ℕ) (texts : TableTexts) (query : List ℕ) (refusal : Refusal) where
+module _ (most : ℕ) (database : Database) (query : List ℕ) (refusal : Refusal) where
   -- as many rows as may be visited are not too many
-  as_many_rows_as_may_be : (p : Plan) → IsPlanOf query p → (FitsTables most (rows_in (database_of texts)) p → ⊥) → fact_rows texts ≡ most
-      → IsOverflow (refusal_shown refusal) → refusal_shown refusal ≡ first_refusal (world_of (database_of texts)) most (compiled p)
-      → IsUnfit most texts query refusal
+  as_many_rows_as_may_be : (p : Plan) → IsPlanOf query p → (FitsTables most (rows_in database) p → ⊥) → fact_rows database ≡ most
+      → IsOverflow (refusal_shown refusal) → refusal_shown refusal ≡ first_refusal (world_of database) most (compiled p)
+      → IsUnfit most database query refusal
   as_many_rows_as_may_be p meant unfit many wide first = record {
     p = p;
     meant = meant;
@@ -74,28 +75,36 @@ module _ (most : ℕ) (texts : TableTexts) (query : List ℕ) (refusal : Refusal
     first = first;
   }
 
-  then_a_range_is_too_wide : fact_rows texts ≡ most → IsUnfit most texts query refusal → IsOverflow (refusal_shown refusal)
+  then_a_range_is_too_wide : fact_rows database ≡ most → IsUnfit most database query refusal → IsOverflow (refusal_shown refusal)
   then_a_range_is_too_wide many unfit = unfit.wide (omega arith)
 
-  one_row_more_is_too_many : fact_rows texts ≡ most + 1 → IsUnfit most texts query refusal → refusal_shown refusal ≡ Some (TooCostly (fact_rows texts))
+  one_row_more_is_too_many : fact_rows database ≡ most + 1 → IsUnfit most database query refusal → refusal_shown refusal ≡ Some (TooCostly (fact_rows database))
   one_row_more_is_too_many many unfit = unfit.costly (omega arith)
 
 module _ (rows visits : ℕ) (texts : TableTexts) (query : List ℕ) where
-  a_query_that_does_not_fit : (refusal : Refusal) → IsLoadable rows texts → IsUnfit visits texts query refusal → IsUnanswered rows visits texts query (engine.Refused refusal)
-  a_query_that_does_not_fit refusal loadable unfit = (loadable, unfit)
+  a_query_that_does_not_fit : (refusal : Refusal) → IsLoadable rows texts → IsUnfit visits (database_of texts) query refusal
+      → IsUnanswered rows visits texts query (engine.Refused refusal)
+  a_query_that_does_not_fit refusal loadable unfit = record { loadable = loadable; holds = unfit }
 
   no_refusal_over_tables_that_cannot_be_loaded : (refusal : Refusal) → (IsLoadable rows texts → ⊥) → IsUnanswered rows visits texts query (engine.Refused refusal) → ⊥
-  no_refusal_over_tables_that_cannot_be_loaded refusal none unanswered = none unanswered.0
+  no_refusal_over_tables_that_cannot_be_loaded refusal none unanswered = none unanswered.loadable
 
-  no_refusal_of_a_query_that_fits : (refusal : Refusal) → (IsUnfit visits texts query refusal → ⊥) → IsUnanswered rows visits texts query (engine.Refused refusal) → ⊥
-  no_refusal_of_a_query_that_fits refusal none unanswered = none unanswered.1
+  no_refusal_of_a_query_that_fits : (refusal : Refusal) → (IsUnfit visits (database_of texts) query refusal → ⊥) → IsUnanswered rows visits texts query (engine.Refused refusal) → ⊥
+  no_refusal_of_a_query_that_fits refusal none unanswered = none unanswered.holds
 
+  -- what is told over the rows that texts hold is told over the texts, where they can be loaded
+  told_over_texts : (telling : Telling) → IsLoadable rows texts → IsQueryToldOver visits (database_of texts) query telling → IsQueryTold rows visits texts query telling
+  told_over_texts telling loadable told = record { loadable = loadable; holds = told }
+
+  nothing_told_over_tables_that_cannot_be_loaded : (telling : Telling) → (IsLoadable rows texts → ⊥) → IsQueryTold rows visits texts query telling → ⊥
+  nothing_told_over_tables_that_cannot_be_loaded telling none told = none told.loadable
+
+module _ (visits : ℕ) (database : Database) (query : List ℕ) where
   -- each row of lineorder may be visited, and the counts are told in their order
-  every_row_visited : IsLoadable rows texts → (fitting : FitsTexts visits texts query) (report : List ℕ) → IsReport texts query report
-      → (s : Store) → run_of (world_of (database_of texts)) (compiled fitting.p) ≡ Ended s → s.visits ≡ fact_rows texts
-      → IsQueryTold rows visits texts query (record { quoted = quote_line (fact_rows texts); report = report; done = counts_line s.visits s.lookups s.updates })
-  every_row_visited loadable fitting report reported s ended all = record {
-    loadable = loadable;
+  every_row_visited : (fitting : FitsRows visits database query) (report : List ℕ) → IsReport database query report
+      → (s : Store) → run_of (world_of database) (compiled fitting.p) ≡ Ended s → s.visits ≡ fact_rows database
+      → IsQueryToldOver visits database query (record { quoted = quote_line (fact_rows database); report = report; done = counts_line s.visits s.lookups s.updates })
+  every_row_visited fitting report reported s ended all = record {
     fitting = fitting;
     quoted = refl;
     reported = reported;
@@ -105,6 +114,10 @@ module _ (rows visits : ℕ) (texts : TableTexts) (query : List ℕ) where
     done = refl;
   }
 
-every_row_visited_of_a_report : (texts : TableTexts) (query : List ℕ) (p : Plan) (s : Store) → s.visits ≡ fact_rows texts
-    → PrintsTheReport texts query p s → HasReported texts query p s
-every_row_visited_of_a_report texts query p s all printed = record { visits = omega arith; printed = printed }
+  -- over rows that are loaded no fault of a load is due
+  no_load_fault_over_loaded_rows : (fault : LoadFault) → IsUnansweredOver visits database query (engine.Load fault) → ⊥
+  no_load_fault_over_loaded_rows fault due = due
+
+every_row_visited_of_a_report : (database : Database) (query : List ℕ) (p : Plan) (s : Store) → s.visits ≡ fact_rows database
+    → PrintsTheReport database query p s → HasReported database query p s
+every_row_visited_of_a_report database query p s all printed = record { visits = omega arith; printed = printed }

@@ -7,6 +7,7 @@ use Rattle.star_program.specs.declared.program.Parts.{Parts}
 use Rattle.star_program.specs.declared.spelling.fault.TextFault.{TextFault}
 use Rattle.star_program.specs.Run.{End, bounded_run_of, run_of}
 use Rattle.star_program.specs.Text.Places.{text_fault}
+use Rattle.star_catalogue.specs.declared.fault.LoadFault.{LoadFault}
 use Rattle.star_admission.specs.Admissible.{IsAdmissible}
 use Rattle.star_world.specs.WorldOf.{world_of}
 use Rattle.star_verify.specs.declared.refusal.Refusal.{Refusal}
@@ -14,9 +15,9 @@ use Rattle.star_machine.specs.declared.fault.TrialFault.{TrialFault}
 use Rattle.star_machine.specs.declared.fault.TrialFault.TheVariants as trial
 use Rattle.star_machine.specs.Trials.{IsFaultOf, Yields}
 use Rattle.star_report.specs.Report.{report_text}
-use Rattle.star_engine.specs.declared.fault.EngineFault.TheVariants.{Program, Refused, Trial}
-use Rattle.star_engine.specs.Executions.{IsAcceptedWithin, IsProgramTold, IsRefusalOf, IsUntold, quote_over}
-use Rattle.star_engine.specs.Loads.{IsProgramOf}
+use Rattle.star_engine.specs.declared.fault.EngineFault.TheVariants.{Load, Program, Refused, Trial}
+use Rattle.star_engine.specs.Executions.{IsAcceptedWithin, IsProgramTold, IsRefusalOver, IsUntold, IsUntoldOver, quote_over}
+use Rattle.star_engine.specs.Loads.{HoldsOfRows, IsProgramOf}
 use Rattle.star_engine.specs.Notes.{counts_line, quote_line}
 use Rattle.star_engine.specs.Trials.{IsNoTrial, IsStop}
 
@@ -49,9 +50,14 @@ module _ (database : Database) (program : Parts) where
     done = refl;
   }
 
+-- over rows that are loaded no fault of a load is due
+no_load_fault_over_loaded_rows : (visits : ℕ) (database : Database) (file : List ℕ) (fault : LoadFault) → IsUntoldOver visits database file (Load fault) → ⊥
+no_load_fault_over_loaded_rows visits database file fault due = due
+
 module _ (texts : TableTexts) (file : List ℕ) where
   -- over so many rows, of which so many may be visited
-  a_refused_program : (rows visits : ℕ) (refusal : Refusal) → IsRefusalOf rows visits texts file refusal → IsUntold rows visits texts file (Refused refusal)
+  a_refused_program : (rows visits : ℕ) (refusal : Refusal) → HoldsOfRows rows texts (λ database. IsRefusalOver visits database file refusal)
+      → IsUntold rows visits texts file (Refused refusal)
   a_refused_program rows visits refusal refused = refused
 
   a_file_that_spells_no_program : (rows visits : ℕ) (fault : TextFault) → text_fault file ≡ Some fault → IsUntold rows visits texts file (Program fault)
@@ -62,7 +68,7 @@ module _ (texts : TableTexts) (file : List ℕ) where
   a_trial_that_stops : (rows visits : ℕ) (fault : TrialFault) (program : Parts) → IsLoadable rows texts → IsProgramOf file program
       → IsStop (bounded_run_of (world_of (database_of texts)) visits program) fault → IsNoTrial rows texts file visits (Trial fault)
   a_trial_that_stops rows visits fault program loadable spelled stopped =
-      record { loadable = loadable; program = program; of_file = spelled; holds = stopped }
+      record { loadable = loadable; holds = record { program = program; of_file = spelled; holds = stopped } }
 
   no_trial_over_tables_that_cannot_be_loaded : (rows visits : ℕ) (fault : TrialFault) → (IsLoadable rows texts → ⊥)
       → IsNoTrial rows texts file visits (Trial fault) → ⊥
@@ -71,7 +77,7 @@ module _ (texts : TableTexts) (file : List ℕ) where
   no_stop_of_a_trial_that_ends : (rows visits : ℕ) (fault : TrialFault)
       → ((program : Parts) → IsProgramOf file program → IsStop (bounded_run_of (world_of (database_of texts)) visits program) fault → ⊥)
       → IsNoTrial rows texts file visits (Trial fault) → ⊥
-  no_stop_of_a_trial_that_ends rows visits fault none no_trial = none no_trial.program no_trial.of_file no_trial.holds
+  no_stop_of_a_trial_that_ends rows visits fault none no_trial = none no_trial.holds.program no_trial.holds.of_file no_trial.holds.holds
 
   no_trial_of_no_program : (rows visits : ℕ) (fault : TextFault) → text_fault file ≡ Some fault → IsNoTrial rows texts file visits (Program fault)
   no_trial_of_no_program rows visits fault first = first

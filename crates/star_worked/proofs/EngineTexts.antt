@@ -7,7 +7,8 @@ use Rattle.star_schema.specs.declared.column.Kind.TheVariants.{Number, Text}
 use Rattle.star_schema.specs.declared.table.TableId.TheVariants.{Date}
 use Rattle.star_schema.specs.Bounds.{greatest, least, numbers_at}
 use Rattle.star_schema.specs.Schema.{column_of, place_of, table_name}
-use Rattle.star_schema.specs.Database.{TableTexts}
+use Rattle.star_schema.specs.Database.{Database, TableTexts}
+use Rattle.star_schema.specs.Loadable.{IsLoadable, database_of}
 use Rattle.star_program.specs.declared.spelling.fault.TextFault.{TextFault}
 use Rattle.star_program.specs.Text.Places.{text_fault}
 use Rattle.star_query.specs.declared.fault.QueryFault.{QueryFault}
@@ -18,12 +19,12 @@ use Rattle.star_answers.specs.Reports.{IsReport}
 use Rattle.star_engine.specs.declared.fault.EngineFault.TheVariants as engine
 use Rattle.star_engine.specs.declared.thirteen.BenchmarkQuery.{BenchmarkQuery}
 use Rattle.star_engine.specs.declared.thirteen.BenchmarkQuery.TheVariants.{Q11}
-use Rattle.star_engine.specs.Bench.{AreParts, IsFinding, IsPart, named_quote, refusal_line}
-use Rattle.star_engine.specs.Executions.{IsQuoteOf}
+use Rattle.star_engine.specs.Bench.{AreSections, IsFinding, IsSection, named_quote, refusal_line}
+use Rattle.star_engine.specs.Executions.{IsQuoteOver}
 use Rattle.star_engine.specs.Listing.{bounds_line, column_text, table_line}
 use Rattle.star_engine.specs.Notes.{quote_line}
-use Rattle.star_engine.specs.Queries.{FitsTexts, IsQueryFault, IsQueryQuote, IsUnfit, fact_rows}
-use Rattle.star_engine.specs.QuoteTexts.{IsQuoteText, IsUnquoted, is_program_file}
+use Rattle.star_engine.specs.Queries.{FitsRows, IsQueryFault, IsQueryQuoteOver, IsUnfit, fact_rows}
+use Rattle.star_engine.specs.QuoteTexts.{IsQuoteText, IsQuoteTextOver, IsUnquoted, is_program_file}
 use Rattle.star_engine.specs.Thirteen.{query_name, query_text}
 use Rattle.star_worked.proofs.Sample.{number}
 
@@ -55,29 +56,29 @@ line_of_a_refusal : refusal_line (TooCostly 10) ≡ codes "refused 71 TooCostly 
 unfolding refusal_text digits
 line_of_a_refusal = refl
 
-module _ (most : ℕ) (texts : TableTexts) where
-  the_report_of_a_query_that_fits : (query report : List ℕ) → FitsTexts most texts query → IsReport texts query report → IsFinding most texts query report
+module _ (most : ℕ) (database : Database) where
+  the_report_of_a_query_that_fits : (query report : List ℕ) → FitsRows most database query → IsReport database query report → IsFinding most database query report
   the_report_of_a_query_that_fits query report fits is = inl (fits, is)
 
-  the_refusal_of_one_that_does_not : (query : List ℕ) (refusal : Refusal) → IsUnfit most texts query refusal
-      → IsFinding most texts query (refusal_line refusal)
+  the_refusal_of_one_that_does_not : (query : List ℕ) (refusal : Refusal) → IsUnfit most database query refusal
+      → IsFinding most database query (refusal_line refusal)
   the_refusal_of_one_that_does_not query refusal unfit = inr (refusal, unfit, refl)
 
-  the_quote_and_then_the_report : (q : BenchmarkQuery) (found : List ℕ) → IsFinding most texts (query_text q) found
-      → IsPart most texts q (named_quote q (fact_rows texts) ++ found)
+  the_quote_and_then_the_report : (q : BenchmarkQuery) (found : List ℕ) → IsFinding most database (query_text q) found
+      → IsSection most database q (named_quote q (fact_rows database) ++ found)
   the_quote_and_then_the_report q found finding = record { found = found; finding = finding; printed = refl }
 
-  one_query_has_one_part : (q : BenchmarkQuery) (text : List ℕ) → AreParts most texts (q ∷ []) text → IsPart most texts q text
-  one_query_has_one_part q text (part, rest, is, none, whole) =
-      subst (IsPart most texts q) (sym (whole ∙ ap (λ l. part ++ l) none ∙ append-nil part)) is
+  one_query_has_one_section : (q : BenchmarkQuery) (text : List ℕ) → AreSections most database (q ∷ []) text → IsSection most database q text
+  one_query_has_one_section q text (section, rest, is, none, whole) =
+      subst (IsSection most database q) (sym (whole ∙ ap (λ l. section ++ l) none ∙ append-nil section)) is
 
-  parts_stand_in_the_order_of_their_queries : (q r : BenchmarkQuery) (first second : List ℕ) → IsPart most texts q first → IsPart most texts r second
-      → AreParts most texts (q ∷ r ∷ []) (first ++ second)
-  parts_stand_in_the_order_of_their_queries q r first second is and_is =
+  sections_stand_in_the_order_of_their_queries : (q r : BenchmarkQuery) (first second : List ℕ) → IsSection most database q first → IsSection most database r second
+      → AreSections most database (q ∷ r ∷ []) (first ++ second)
+  sections_stand_in_the_order_of_their_queries q r first second is and_is =
       (first, second, is, (second, [], and_is, refl, sym (append-nil second)), refl)
 
-  no_query_has_no_part : (text : List ℕ) → AreParts most texts [] text → text ≡ []
-  no_query_has_no_part text none = none
+  no_query_has_no_section : (text : List ℕ) → AreSections most database [] text → text ≡ []
+  no_query_has_no_section text none = none
 
 -- ---- what is quoted of a file
 
@@ -89,12 +90,16 @@ kinds_of_files : map is_program_file (a_program ∷ codes "star program " ∷ co
     ≡ true ∷ true ∷ false ∷ false ∷ false ∷ false ∷ false ∷ []
 kinds_of_files = refl
 
-module _ (rows : ℕ) (texts : TableTexts) where
-  the_quote_of_a_program : (text : List ℕ) → IsQuoteOf rows texts a_program text → IsQuoteText rows texts a_program text
+module _ (database : Database) where
+  the_quote_of_a_program : (text : List ℕ) → IsQuoteOver database a_program text → IsQuoteTextOver database a_program text
   the_quote_of_a_program text quoted = quoted
 
-  the_quote_of_a_query : (text : List ℕ) → IsQueryQuote rows texts (codes "select") text → IsQuoteText rows texts (codes "select") text
+  the_quote_of_a_query : (text : List ℕ) → IsQueryQuoteOver database (codes "select") text → IsQuoteTextOver database (codes "select") text
   the_quote_of_a_query text quoted = quoted
+
+module _ (rows : ℕ) (texts : TableTexts) where
+  the_quote_over_texts : (file text : List ℕ) → IsLoadable rows texts → IsQuoteTextOver (database_of texts) file text → IsQuoteText rows texts file text
+  the_quote_over_texts file text loadable quoted = record { loadable = loadable; holds = quoted }
 
   no_quote_of_no_program : (fault : TextFault) → text_fault a_program ≡ Some fault → IsUnquoted rows texts a_program (engine.Program fault)
   no_quote_of_no_program fault first = first

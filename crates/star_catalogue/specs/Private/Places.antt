@@ -14,7 +14,7 @@ pub record ArePlaces {K : Type 0} (same : K → K → Bool) (place_of : K → Op
     (keys : List K) : Type 0 where
   pub found : (key : K) (place : ℕ) → (place_of key ≡ Some place) ↔ StandsAt same keys place key
 
--- what stands for a row: no table has so many that the greatest number of 32 bits is one
+-- what stands for a row, or the greatest number of 32 bits, which no row has, for none
 abbrev pub row_of : Option ℕ → Option ℕ
 row_of None = None
 row_of (Some row) = if nat_eq row 4294967295 then None else Some row

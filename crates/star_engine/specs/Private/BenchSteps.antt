@@ -1,6 +1,6 @@
 -- What the steps of `bench` make.
 use Rattle.std.specs.Prelude.{◌≡◌, ◌++◌, ◌&&◌, ℕ, Bool, true, false, List, [], ◌∷◌}
-use Rattle.star_schema.specs.Database.{Database, TableTexts}
+use Rattle.star_schema.specs.Database.{Database}
 use Rattle.star_program.specs.declared.outcome.Outcome.{Outcome}
 use Rattle.star_program.specs.declared.program.Parts.{Parts}
 use Rattle.star_report.specs.Report.{report_text}
@@ -29,21 +29,21 @@ IsFound database most program false text =
     (refusal : Refusal) × IsRefusal database most program refusal × (text ≡ refusal_line refusal)
 
 -- what is printed of a query and its program
-pub record IsPartOver (database : Database) (most : ℕ) (x : Prepared) (fits : Bool)
-    (part : List ℕ) : Type 0 where
+pub record IsSectionOver (database : Database) (most : ℕ) (x : Prepared) (fits : Bool)
+    (section : List ℕ) : Type 0 where
   pub found : List ℕ
   pub finding : IsFound database most x.program fits found
-  pub printed : part ≡ named_quote x.query (quote_over database x.program) ++ found
+  pub printed : section ≡ named_quote x.query (quote_over database x.program) ++ found
 
--- the parts of some, one behind the other, and whether all fit
-abbrev pub ArePartsOver : Database → ℕ → List Prepared → (fit : Bool) → List ℕ → Type 0
-ArePartsOver database most [] fit text = (fit ≡ true) × (text ≡ [])
-ArePartsOver database most (x ∷ xs) fit text =
-    (one : Bool) × (others : Bool) × (part : List ℕ) × (rest : List ℕ)
-    × IsPartOver database most x one part × ArePartsOver database most xs others rest
-    × (fit ≡ one && others) × (text ≡ part ++ rest)
+-- the sections of some, one behind the other, and whether all fit
+abbrev pub AreSectionsOver : Database → ℕ → List Prepared → (fit : Bool) → List ℕ → Type 0
+AreSectionsOver database most [] fit text = (fit ≡ true) × (text ≡ [])
+AreSectionsOver database most (x ∷ xs) fit text =
+    (one : Bool) × (others : Bool) × (section : List ℕ) × (rest : List ℕ)
+    × IsSectionOver database most x one section × AreSectionsOver database most xs others rest
+    × (fit ≡ one && others) × (text ≡ section ++ rest)
 
 -- what it means that all queries of the benchmark fit, or not
-abbrev pub IsVerdict : ℕ → TableTexts → (fit : Bool) → Type 0
-IsVerdict most texts true = AllFit most texts
-IsVerdict most texts false = SomeIsUnfit most texts
+abbrev pub IsVerdict : ℕ → Database → (fit : Bool) → Type 0
+IsVerdict most database true = AllFit most database
+IsVerdict most database false = SomeIsUnfit most database

@@ -1,32 +1,20 @@
--- The faults of the steps before anything is written. Memory may have been refused before any.
-use Rattle.std.specs.Prelude.{◌≡◌, ◌≤◌, ◌⊎◌, ℕ, List, Some, Result, Ok, Err, length}
+-- The faults of the steps before anything is written.
+use Rattle.std.specs.Prelude.{◌≡◌, ◌≤◌, ◌⊎◌, ℕ, List, Result, Ok, Err, length}
 use Rattle.star_machine.specs.Trials.{Yields}
 use Rattle.star_program.specs.declared.outcome.Outcome.{Outcome}
 use Rattle.star_program.specs.declared.program.Parts.{Parts}
 use Rattle.star_program.specs.Run.{run_of}
-use Rattle.star_program.specs.Text.Places.{text_fault}
 use Rattle.star_schema.specs.Database.{Database}
 use Rattle.star_world.specs.WorldOf.{world_of}
 use Rattle.star_engine.specs.declared.fault.EngineFault.{EngineFault}
-use Rattle.star_engine.specs.declared.fault.EngineFault.TheVariants.{OutOfMemory, Program, Refused, Write}
+use Rattle.star_engine.specs.declared.fault.EngineFault.TheVariants.{OutOfMemory, Refused, Write}
 use Rattle.star_engine.specs.Answered.{Change, HasGained, HasGainedPart, IsUntouched}
 use Rattle.star_engine.specs.Executions.{IsAcceptedWithin, IsRefusal, quote_over}
-
--- a fault that is due, or want of memory; and no write has failed
-abbrev pub OrMemory : (EngineFault → Type 0) → EngineFault → Type 0
-OrMemory IsDue OutOfMemory = Unit {0}
-OrMemory IsDue (Write sent) = ⊥
-OrMemory IsDue fault = IsDue fault
 
 -- want of memory alone
 abbrev pub IsMemory : EngineFault → Type 0
 IsMemory OutOfMemory = Unit {0}
 IsMemory fault = ⊥
-
--- of reading a file: it spells no program
-abbrev pub IsNoProgram : List ℕ → EngineFault → Type 0
-IsNoProgram file (Program fault) = text_fault file ≡ Some fault
-IsNoProgram file _ = ⊥
 
 -- of the check of a program over loaded tables
 abbrev pub IsNotVerified : Database → ℕ → Parts → EngineFault → Type 0

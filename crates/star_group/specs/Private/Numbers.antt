@@ -6,7 +6,6 @@ use Rattle.star_schema.specs.declared.group.Aggregate.{Aggregate}
 use Rattle.star_group.specs.declared.keyed.key.KeyPart.{KeyPart}
 use Rattle.star_group.specs.declared.keyed.KeyedRows.{KeyedRows}
 use Rattle.star_group.specs.declared.keyed.trie.Trie.{Trie}
-use Rattle.star_group.specs.Base.{key_of, row_at}
 use Rattle.star_group.specs.Entries.{entries_of}
 use Rattle.star_program.specs.Rows.{cut}
 use Rattle.star_group.specs.Keyed.{all_hidden}
@@ -23,11 +22,6 @@ IsNarrow width key = drop width key ≡ drop width all_hidden
 
 abbrev pub AreNarrow : ℕ → List (List KeyPart) → Type 0
 AreNarrow width keys = AllByRecursion (IsNarrow width) keys
-
--- the number of the row with this key, where there is one
-abbrev pub IsNumber : KeyedRows → List KeyPart → Option ℕ → Type 0
-IsNumber rows key None = row_at (entries_of rows) (key_of key) ≡ None
-IsNumber rows key (Some number) = IsHeld (keys_in rows) (take rows.trie.width key) number
 
 -- a number is that of the row with this key; none tells nothing
 abbrev pub IsKnown : KeyedRows → List KeyPart → Option ℕ → Type 0

@@ -1,20 +1,16 @@
 // The rows in which keys are ALL, made from those in which fewer are.
 
-ghost use Rattle.std.specs.Prelude.{◌≡◌, ◌≤◌, ◌<◌, ◌+◌, true, List, length, take, IfOk, OnOk};
+ghost use Rattle.std.specs.Prelude.{◌≡◌, ◌≤◌, ◌<◌, ◌+◌, true, length, take, OnOk};
 ghost use Rattle.star_schema.specs.Groups as groups;
-ghost use Rattle.star_group.specs.Base.{HasBaseWithRoom, IsBase, key_of, row_at};
+ghost use Rattle.star_group.specs.Base.{key_of, row_at};
 ghost use Rattle.star_group.specs.Entries.{entries_of};
-ghost use Rattle.star_group.specs.Held.{Holds};
-ghost use Rattle.star_group.specs.Private.BasePut.{group_with};
 ghost use Rattle.star_group.specs.Private.Coarser as spec;
 ghost use Rattle.star_group.specs.Private.Coarser.{IsMergedWhere, IsRolledUpWithRoom, NoneCoarser, RollsUp};
 ghost use Rattle.star_group.specs.Private.Merged.{RowsStay};
 ghost use Rattle.star_group.specs.Private.Numbers.{AreAsWide, FitsIn, IsGrown, IsNarrow};
-ghost use Rattle.star_group.specs.Stores.{Put};
 
-use crate::cell::Row;
 use crate::keyed::KeyedRows;
-use crate::keyed::key::{ALL_HIDDEN, OrderedKey, hidden, is_grouping};
+use crate::keyed::key::{OrderedKey, hidden, is_grouping};
 use star_schema::{Aggregate, Shape};
 use std::alloc::{AllocError, Global};
 
@@ -87,7 +83,8 @@ fn first_hidden(shape: Shape, count: usize) -> usize
 // The first row of which a pass makes a coarser one, where there were so many before the pass before
 // it. The coarser rows of a rollup are a chain: each is made of those that were made last.
 fn first_finer(shape: Shape, many: usize) -> usize
-    ensures { result ≡ spec.first_finer shape many }
+    ensures first { result ≡ spec.first_finer shape many }
+    ensures within { result ≤ many }
 {
     match shape {
         Shape::Rollup => many,
@@ -96,7 +93,7 @@ fn first_finer(shape: Shape, many: usize) -> usize
 }
 
 // The rows of the groups, from those of all keys.
-fn add_coarser(
+pub(super) fn add_coarser(
     alloc: Global,
     rows: &mut KeyedRows,
     shape: Shape,
@@ -121,28 +118,4 @@ fn add_coarser(
         from = first_finer(shape, many);
     }
     Ok(())
-}
-
-// The rows of the groups, and the total in any case.
-pub(crate) fn all_rows(
-    alloc: Global,
-    base: KeyedRows,
-    total: Row,
-    shape: Shape,
-    count: usize,
-    aggregates: &[Aggregate],
-) -> Result<KeyedRows, AllocError>
-    requires count { count ≤ base.trie.width }
-    requires many { length aggregates.now ≡ base.many }
-    requires room { HasBaseWithRoom (group_with shape count aggregates.now)
-        (entries_of base) total }
-    ensures many { IfOk result (λ rows. rows.many ≡ base.many) }
-    ensures rows { IfOk result (λ rows. (puts : List Put)
-        → IsBase (group_with shape count aggregates.now) (entries_of base) total puts
-        → Holds (group_with shape count aggregates.now) (row_at (entries_of rows)) puts) }
-{
-    let mut rows = base;
-    add_coarser(alloc, &mut rows, shape, count, aggregates)?;
-    rows.insert(&ALL_HIDDEN, &total[..aggregates.len()])?;
-    Ok(rows)
 }

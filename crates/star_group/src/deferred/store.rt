@@ -5,7 +5,7 @@ ghost use Rattle.star_group.specs.Deferred.{group_of, Has};
 
 use super::DeferredStore;
 use super::base::add_put;
-use super::coarser::all_rows;
+use super::coarser::add_coarser;
 use crate::cell::{BLANK, shown};
 use crate::given::rows_given;
 use crate::keyed::KeyedRows;
@@ -51,12 +51,11 @@ impl GroupStore for DeferredStore {
     }
 
     fn into_rows(self) -> Result<GroupRows, AllocError> {
-        let base = self.rows;
+        let mut rows = self.rows;
         let aggregates = self.aggregates.as_slice();
-        let rows = all_rows(
-            self.alloc, base, self.total, self.shape, self.count, aggregates,
-        )?;
+        let (alloc, shape, count) = (self.alloc, self.shape, self.count);
+        add_coarser(alloc, &mut rows, shape, count, aggregates)?;
         let rows = rows.into_listed();
-        rows_given(self.alloc, &rows, self.shape, self.count, aggregates)
+        rows_given(alloc, &rows, &self.total, shape, count, aggregates)
     }
 }

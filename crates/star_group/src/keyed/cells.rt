@@ -30,15 +30,3 @@ pub(crate) fn merge_at(
     let end = start + aggregates.len();
     merge_into(aggregates, &mut cells[start..end], more);
 }
-
-// The row of a number, as it is given.
-pub(crate) fn write_at(cells: &mut [Option<i64>], count: usize, number: usize, row: &[Option<i64>])
-    requires within { number < count }
-    requires long { length cells.old ≡ count * length row.now }
-    ensures rows { cut (length row.now) count cells.new
-        ≡ slice_set (cut (length row.now) count cells.old) number row.now }
-    ensures len { length cells.new ≡ length cells.old }
-{
-    let start = number * row.len();
-    cells[start..start + row.len()].copy_from_slice(row);
-}

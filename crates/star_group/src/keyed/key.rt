@@ -1,13 +1,14 @@
 // The keys of rows by their keys.
 
 ghost use Rattle.std.specs.Prelude.{◌≡◌, ◌≤◌, ◌<◌, Some, None, List, length, map, slice_set, take};
-ghost use Rattle.std.specs.List.{list_all};
+ghost use Rattle.std.specs.List.{list_all, list_any};
 ghost use Rattle.std.specs.Option.{is_some};
 ghost use Rattle.star_schema.specs.declared.group.Shape.TheVariants.{Rollup};
 ghost use Rattle.star_schema.specs.Groups as spec;
 ghost use Rattle.star_group.specs.OwnKeys.{padded};
 ghost use Rattle.star_group.specs.Base.{key_of, value_of};
 ghost use Rattle.star_group.specs.Keyed.{filled};
+ghost use Rattle.star_group.specs.Private.Rows as rows;
 
 use crate::KeyValue;
 use crate::group_row::{ALL, Key};
@@ -94,6 +95,13 @@ fn are_shown(parts: &[KeyPart]) -> bool
     parts.iter().all(is_shown)
 }
 
+// Whether some part isn't ALL.
+fn shows_some(parts: &[KeyPart]) -> bool
+    ensures { result ≡ list_any (λ part. is_some (value_of part)) parts.now }
+{
+    parts.iter().any(is_shown)
+}
+
 // Whether no part that isn't ALL stands behind one that is.
 fn are_shown_first(parts: &[KeyPart]) -> bool
     ensures { result ≡ spec.is_grouping Rollup (key_of parts.now) }
@@ -119,6 +127,14 @@ pub(crate) fn is_grouping(shape: Shape, count: usize, parts: &OrderedKey) -> boo
         Shape::Cube => true,
         Shape::Rollup => are_shown_first(&parts[..count]),
     }
+}
+
+// Whether a row has this key beside that of all puts: a grouping of this shape that shows a key.
+pub(crate) fn is_row_key(shape: Shape, count: usize, parts: &OrderedKey) -> bool
+    requires { count ≤ 6 }
+    ensures { result ≡ rows.is_row_key shape count (key_of parts.now) }
+{
+    shows_some(parts) && is_grouping(shape, count, parts)
 }
 
 // The key as a row shows it.

@@ -6,11 +6,11 @@ ghost use Rattle.star_group.specs.Entries.{entries_of};
 ghost use Rattle.star_group.specs.declared.keyed.key.KeyPart.{KeyPart};
 ghost use Rattle.star_program.specs.Rows.{cut};
 ghost use Rattle.star_group.specs.Private.Merged.{IsMergedAt, IsWithRow, MergeStays, RowsStay};
-ghost use Rattle.star_group.specs.Private.Numbers.{AreAsWide, FitsIn, HasSpace, IsGrown, IsNarrow, IsNumber, IsPlace, IsPlaceAmong, keys_in};
+ghost use Rattle.star_group.specs.Private.Numbers.{AreAsWide, FitsIn, HasSpace, IsGrown, IsNarrow, IsPlace, IsPlaceAmong, keys_in};
 ghost use Rattle.star_group.specs.Private.Tries.{IsHeld, IsMissing, is_missing};
 
 use super::KeyedRows;
-use super::cells::{merge_at, write_at};
+use super::cells::merge_at;
 use super::key::OrderedKey;
 use super::trie::{Place, Trie, word_of};
 use star_program::row_of;
@@ -38,17 +38,6 @@ impl KeyedRows {
         ensures { result ≡ length (entries_of self.now) }
     {
         self.trie.len
-    }
-
-    // The number of this key's row, where there is one.
-    pub(crate) fn find(&self, key: &OrderedKey) -> Option<usize>
-        requires { IsNarrow self.now.trie.width key.now }
-        ensures { IsNumber self.now key.now result }
-    {
-        match self.place(key) {
-            Place::Held(number) => Some(number),
-            Place::Missing { .. } => None,
-        }
     }
 
     // Where this key's row is, or would be.
@@ -190,24 +179,6 @@ impl KeyedRows {
                 let many = self.many;
                 self.push(node, digit, key, &more[..many])
             }
-        }
-    }
-
-    // The row of this key, in place of one that is there.
-    pub(crate) fn insert(&mut self, key: &OrderedKey, row: &[Option<i64>]) -> Result<(), AllocError>
-        requires narrow { IsNarrow self.old.trie.width key.now }
-        requires wide { length row.now ≡ self.old.many }
-        ensures ok { OnOk result (IsWithRow (key_of key.now) row.now
-            (entries_of self.old) (entries_of self.new)) }
-        ensures widths { AreAsWide self.old self.new }
-    {
-        match self.place(key) {
-            Place::Held(number) => {
-                let count = self.trie.len;
-                write_at(self.cells.as_mut_slice(), count, number, row);
-                Ok(())
-            }
-            Place::Missing { node, digit } => self.push(node, digit, key, row),
         }
     }
 }

@@ -5,7 +5,7 @@ use Rattle.star_program.specs.World.{World}
 use Rattle.star_admission.specs.Ranges as ranges
 use Rattle.star_admission.specs.declared.reason.Reason.{Reason}
 use Rattle.star_admission.specs.declared.reason.Reason.TheVariants.{Overflow}
-use Rattle.star_admission.specs.Refusals.{overflow_of, reached}
+use Rattle.star_admission.specs.Refusals.{reached}
 use Rattle.star_admission.specs.Tallies.{Share}
 use Rattle.star_verify.specs.declared.known.Beyond.{Beyond}
 use Rattle.star_verify.specs.declared.known.Known.{Known}
@@ -16,11 +16,11 @@ abbrev pub beyond_shown : World → Beyond → Reason
 beyond_shown w beyond =
     Overflow beyond.range.low beyond.range.high (reached w (reach_shown beyond.reach))
 
--- Ok with what is known, which leaves 64 bits nowhere, else where it does
-abbrev pub IsMade : World → Result Known Beyond → ranges.Known → Type 0
-IsMade w result k =
-    MatchResult result (λ known. (known_shown known ≡ k) × (overflow_of w k ≡ None))
-    (λ beyond. overflow_of w k ≡ Some (beyond_shown w beyond))
+-- Ok with what is known where there is no reason, else the reason, which tells what leaves 64 bits
+abbrev pub IsMade : World → Result Known Beyond → ranges.Known → Option Reason → Type 0
+IsMade w result k reason =
+    MatchResult result (λ known. (known_shown known ≡ k) × (reason ≡ None))
+    (λ beyond. reason ≡ Some (beyond_shown w beyond))
 
 -- Ok where nothing leaves 64 bits, else what does
 abbrev pub IsWithin : World → Result (Unit {0}) Beyond → Option Reason → Type 0

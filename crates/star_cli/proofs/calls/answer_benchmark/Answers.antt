@@ -1,3 +1,4 @@
+use Rattle.star_schema.specs.Loadable.{database_of}
 use Rattle.star_catalogue.specs.Load.{text_of}
 use Rattle.star_engine.specs.Answered.{IsAnswered, change}
 use Rattle.star_engine.specs.Bench.{AllFit, IsBench, SomeIsUnfit}
@@ -10,6 +11,6 @@ pub returns : goal.returns
 returns g c =
     record {
       answered = widest (λ rows visits. IsAnswered (change g.S.Sink.contents g.S.Sink.is_failed c.args.out.now c.bench.new.out) (IsBench rows visits (text_of c.args.texts.now)) (IsUnloaded rows (text_of c.args.texts.now)) c.bench.result) c.widest.result.rows c.widest.result.visits c.widest.ensures.rows c.widest.ensures.visits c.bench.ensures.answered;
-      all_fit = widest (λ rows visits. IfOk c.bench.result (λ fits. fits ≡ true → AllFit visits (text_of c.args.texts.now))) c.widest.result.rows c.widest.result.visits c.widest.ensures.rows c.widest.ensures.visits c.bench.ensures.all_fit;
-      some_unfit = widest (λ rows visits. IfOk c.bench.result (λ fits. fits ≡ false → SomeIsUnfit visits (text_of c.args.texts.now))) c.widest.result.rows c.widest.result.visits c.widest.ensures.rows c.widest.ensures.visits c.bench.ensures.some_unfit;
+      all_fit = widest (λ rows visits. IfOk c.bench.result (λ fits. fits ≡ true → AllFit visits (database_of (text_of c.args.texts.now)))) c.widest.result.rows c.widest.result.visits c.widest.ensures.rows c.widest.ensures.visits c.bench.ensures.all_fit;
+      some_unfit = widest (λ rows visits. IfOk c.bench.result (λ fits. fits ≡ false → SomeIsUnfit visits (database_of (text_of c.args.texts.now)))) c.widest.result.rows c.widest.result.visits c.widest.ensures.rows c.widest.ensures.visits c.bench.ensures.some_unfit;
     }

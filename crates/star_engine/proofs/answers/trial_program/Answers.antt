@@ -1,21 +1,20 @@
-use Rattle.std.proofs.Common.{◌∙◌}
 use Rattle.star_catalogue.specs.Load.{text_of}
 use Rattle.star_engine.specs.Answered.{change}
-use Rattle.star_engine.specs.Trials.{IsNoTrial, IsTrialReport}
-use Rattle.star_engine.proofs.Answering.{written}
-use Rattle.star_engine.proofs.Trials.{report_some}
+use Rattle.star_engine.specs.Trials.{IsBoundedReport, IsNoTrial, IsNoTrialOver}
+use Rattle.star_engine.proofs.Loaded.{answered_over}
+use Rattle.star_engine.proofs.Trials.{no_trial_over}
 use Rattle.star_engine.proofs.answers.trial_program.Goals as goal
-
-pub write_text-requires : goal.write_text-requires
-write_text-requires g c =
-    let report = c.in_ok-report.ensures.reported in
-    rw (c.as_slice.ensures.value ∙ report.printed)
-    (report_some report.outcome.names report.outcome.rows)
 
 pub returns : goal.returns
 returns g c =
-    written (change g.S.Sink.contents g.S.Sink.is_failed c.args.out.now c.write_text.new.out)
-    c.as_slice.result.now
-    (IsTrialReport c.args.limits.rows (text_of c.args.texts.now) c.args.file.now c.args.visits)
-    (IsNoTrial c.args.limits.rows (text_of c.args.texts.now) c.args.file.now c.args.visits)
-    c.write_text.result (rw c.as_slice.ensures.value c.in_ok-report.ensures) c.write_text.ensures
+    let rows = c.args.limits.rows in
+    let texts = text_of c.args.texts.now in
+    let file = c.args.file.now in
+    let visits = c.args.visits in
+    answered_over rows texts
+    c.in_ok-catalogue.catalogue c.in_ok-catalogue.ensures.0 c.in_ok-catalogue.ensures.1
+    (change g.S.Sink.contents g.S.Sink.is_failed c.args.out.now c.try_read.new.out)
+    (λ database. IsBoundedReport database file visits)
+    (λ database. IsNoTrialOver database file visits) (IsNoTrial rows texts file visits)
+    c.try_read.result (no_trial_over rows texts file visits)
+    (c.try_read.ensures file c.in_ok-program.ensures)

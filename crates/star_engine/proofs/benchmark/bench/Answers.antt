@@ -1,29 +1,27 @@
-use Rattle.std.proofs.Common.{◌∙◌, ap, subst, sym}
-use Rattle.std.specs.Prelude.{Err}
-use Rattle.std.proofs.lemmas.Result.{err_from_is_err_and}
+use Rattle.std.proofs.Common.{◌≡◌, false, subst, true}
+use Rattle.std.specs.Prelude.{IfOk}
 use Rattle.star_catalogue.specs.Load.{text_of}
 use Rattle.star_engine.specs.Answered.{change}
-use Rattle.star_engine.specs.Bench.{IsBench}
+use Rattle.star_engine.specs.Bench.{AllFit, IsBenchOver, SomeIsUnfit}
 use Rattle.star_engine.specs.Loads.{IsUnloaded}
-use Rattle.star_engine.proofs.BenchAnswers.{bench_some, unwritten}
+use Rattle.star_engine.proofs.Loaded.{answered_over}
 use Rattle.star_engine.proofs.benchmark.bench.Goals as goal
 
-pub write_text-requires : goal.write_text-requires
-write_text-requires g c =
-    rw c.as_slice.ensures.value
-    (bench_some c.args.limits.rows c.args.limits.visits (text_of c.args.texts.now)
-    c.in_ok-found.found.text.items c.in_ok-found.ensures.0)
+pub returns-clause-answered : goal.returns-clause-answered
+returns-clause-answered g c =
+    answered_over c.args.limits.rows (text_of c.args.texts.now)
+    c.in_ok-catalogue.catalogue c.in_ok-catalogue.ensures.0 c.in_ok-catalogue.ensures.1
+    (change g.S.Sink.contents g.S.Sink.is_failed c.args.out.now c.bench_over.new.out)
+    (IsBenchOver c.args.limits.visits) (λ database fault. ⊥)
+    (IsUnloaded c.args.limits.rows (text_of c.args.texts.now)) c.bench_over.result
+    (λ fault loadable never. absurd never) c.bench_over.ensures.answered
 
-pub returns-in_err-write_text-clause-answered : goal.returns-in_err-write_text-clause-answered
-returns-in_err-write_text-clause-answered g c =
-    let from = c.from_residual-in_err-write_text in
-    let p = err_from_is_err_and from.result from.ensures.1 in
-    let rows = c.args.limits.rows in
-    let most = c.args.limits.visits in
-    let texts = text_of c.args.texts.now in
-    unwritten
-    (change g.S.Sink.contents g.S.Sink.is_failed c.args.out.now c.write_text.new.out)
-    c.as_slice.result.now (IsBench rows most texts) (IsUnloaded rows texts) from.result
-    c.in_err-write_text.field-0.0 (p.1 ∙ ap Err p.2)
-    (subst (IsBench rows most texts) (sym c.as_slice.ensures.value) c.in_ok-found.ensures.0)
-    c.in_err-write_text.ensures
+pub returns-clause-all_fit : goal.returns-clause-all_fit
+returns-clause-all_fit g c =
+    subst (λ d. IfOk c.bench_over.result (λ fits. fits ≡ true → AllFit c.args.limits.visits d))
+    c.in_ok-catalogue.ensures.1 c.bench_over.ensures.all_fit
+
+pub returns-clause-some_unfit : goal.returns-clause-some_unfit
+returns-clause-some_unfit g c =
+    subst (λ d. IfOk c.bench_over.result (λ fits. fits ≡ false → SomeIsUnfit c.args.limits.visits d))
+    c.in_ok-catalogue.ensures.1 c.bench_over.ensures.some_unfit

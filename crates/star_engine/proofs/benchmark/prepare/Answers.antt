@@ -1,8 +1,8 @@
 use Rattle.std.proofs.Common.{◌≡◌, ◌∙◌, subst}
 use Rattle.std.proofs.lemmas.Result.{err_from_is_err_and}
+use Rattle.star_engine.specs.Answered.{OrMemory}
 use Rattle.star_engine.specs.Queries.{IsNoQuery}
 use Rattle.star_engine.specs.Thirteen.{query_text}
-use Rattle.star_engine.specs.Private.Steps.{OrMemory}
 use Rattle.star_engine.proofs.QueryFaults.{only_memory}
 use Rattle.star_engine.proofs.benchmark.prepare.Goals as goal
 

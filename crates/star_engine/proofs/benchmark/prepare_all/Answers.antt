@@ -1,7 +1,7 @@
 use Rattle.std.proofs.lemmas.Option.{slice_get-get_or}
 use Rattle.star_engine.specs.declared.thirteen.BenchmarkQuery.TheVariants.{Q11}
 use Rattle.star_engine.specs.declared.thirteen.TheConstants.{THIRTEEN}
-use Rattle.star_engine.proofs.BenchParts.{all_prepared, one_prepared}
+use Rattle.star_engine.proofs.BenchSections.{all_prepared, one_prepared}
 use Rattle.star_engine.proofs.benchmark.prepare_all.Goals as goal
 
 pub loop-query-preserved : goal.loop-query-preserved

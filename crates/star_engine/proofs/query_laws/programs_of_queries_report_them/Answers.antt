@@ -1,12 +1,11 @@
 -- From the laws of compiled programs, for the plans of texts.
 use Rattle.std.proofs.Common.{true}
-use Rattle.star_schema.specs.Loadable.{database_of}
 use Rattle.star_world.specs.WorldOf.{world_of}
 use Rattle.star_engine.proofs.PlansOfQueries.{plan_sound, plan_spelled, plan_within}
 use Rattle.star_engine.proofs.query_laws.programs_of_queries_report_them.Goals as goal
 
 pub returns-clause-quoted : goal.returns-clause-quoted
-returns-clause-quoted c = λ texts p. c.compiled_programs_visit_each_row_once.ensures (world_of (database_of texts)).size p
+returns-clause-quoted c = λ database p. c.compiled_programs_visit_each_row_once.ensures (world_of database).size p
 
 pub returns-clause-spelled : goal.returns-clause-spelled
 returns-clause-spelled c = λ query p meant.
@@ -14,6 +13,6 @@ returns-clause-spelled c = λ query p meant.
     (plan_sound query p meant) (plan_spelled query p meant)
 
 pub returns-clause-printed : goal.returns-clause-printed
-returns-clause-printed c = λ rows texts query p s loadable meant ended outcome told.
-    c.compiled_programs_report_their_queries.ensures rows texts query meant.tree p loadable
-    meant.means meant.named meant.resolved (λ visits. true) s outcome ended told
+returns-clause-printed c = λ database query p s loaded meant ended outcome told.
+    c.compiled_programs_report_their_queries.ensures database query meant.tree p loaded.sound
+    loaded.rows meant.means meant.named meant.resolved (λ visits. true) s outcome ended told

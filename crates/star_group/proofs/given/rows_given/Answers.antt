@@ -1,47 +1,44 @@
-use Rattle.std.proofs.Common.{◌≡◌, ◌<◌, ◌+◌, ◌∙◌, List, Option, ℤ, Some, None, cond, length, refl, subst, sym, take, arith, slice_get}
+use Rattle.std.proofs.Common.{◌≡◌, ◌<◌, ◌∙◌, ◌++◌, [], List, Option, ℤ, ap, get_or, length, subst, sym, take, arith}
+use Rattle.star_schema.specs.Groups.{is_grouping}
 use Rattle.star_program.specs.declared.key.KeyValue.{KeyValue}
-use Rattle.star_group.specs.declared.group_rows.Gathered.{Gathered}
 use Rattle.star_group.specs.Base.{key_of}
 use Rattle.star_group.specs.Private.Listed.{listed_entries}
 use Rattle.star_group.specs.Private.Coarser.{shown_entries}
 use Rattle.star_group.specs.Private.FlatRows.{AreParts}
-use Rattle.star_group.specs.Private.Given.{is_given, row_given, rows_given as given_of}
-use Rattle.star_group.proofs.GivenRows.{given_none, one_given, none_given}
-use Rattle.star_group.proofs.KeyedRows.{shown_at, shown_count}
+use Rattle.star_group.specs.Private.Given.{if_given, rows_given as given_of}
+use Rattle.star_group.specs.Private.Rows.{is_row_key}
+use Rattle.star_group.specs.Keyed.{all_hidden}
+use Rattle.star_group.proofs.GivenRows.{given_more, given_none}
+use Rattle.star_group.proofs.KeyedRows.{shown_at}
+use Rattle.star_group.proofs.OwnKeyLemmas.{all_padded}
 use Rattle.star_group.proofs.given.rows_given.Goals as goal
-use Rattle.star_group.proofs.given.rows_given.Goals.{in-Some+in_ok-push, in_default}
 
 pub loop-number-init : goal.loop-number-init
 loop-number-init c =
+    let s = c.args.shape in
+    let count = c.args.count in
     let gs = c.args.aggregates.now in
-    let none = c.in_ok-all.all in
-    subst (AreParts c.args.count (length gs) none.count none.keys.items none.aggregates.items) (sym (given_none c.args.shape c.args.count gs)) c.in_ok-all.ensures
+    let total = c.args.total.now in
+    let new = c.push_given.new.all in
+    let first : if_given c.is_grouping-given.result count gs (key_of all_hidden, total) ≡ given_of s count gs total [] =
+    ap (λ b. if_given b count gs (key_of all_hidden, total)) c.is_grouping-given.ensures ∙ ap (λ q. if_given (is_grouping s (take count q)) count gs (q, total)) (sym all_padded) ∙ sym (given_none s count gs total) in
+    subst (AreParts count (length gs) new.count new.keys.items new.aggregates.items) first (c.in_ok-push_given.ensures [] c.in_ok-all.ensures)
 
 pub loop-number-preserved : goal.loop-number-preserved
 loop-number-preserved c =
+    let s = c.args.shape in
+    let count = c.args.count in
     let gs = c.args.aggregates.now in
+    let total = c.args.total.now in
     let all = listed_entries c.args.rows.now in
     let es = shown_entries all in
     let number = c.loop-number.number in
+    let new = c.push_given-in-loop-number.new.all in
     let there : number < length all = omega (arith, c.len-number-end.ensures, c.loop-number-test.true) in
-    let within : number < length es = omega (arith, there, shown_count all) in
-    let so_far = given_of c.args.shape c.args.count gs (take number es) in
-    let next = given_of c.args.shape c.args.count gs (take (number + 1) es) in
-    let same : (e : List (Option KeyValue) × List (Option ℤ)) → slice_get es number ≡ Some e → (key_of c.key-key.result, c.row.result.now) ≡ e =
-    λ e at. (λ i. (key_of (c.key-key.ensures.key i), c.row.ensures.row i)) ∙ sym (shown_at all number e there at) in
-    let gives : (e : List (Option KeyValue) × List (Option ℤ)) → slice_get es number ≡ Some e → c.given.result ≡ cond (is_given c.args.shape c.args.count e.0) (Some (row_given c.args.count gs e)) None =
-    λ e at. subst (λ (x : List (Option KeyValue) × List (Option ℤ)). c.given.result ≡ cond (is_given c.args.shape c.args.count x.0) (Some (row_given c.args.count gs x)) None) (same e at) c.given.ensures.given in
-    elim c.match-given.branch [
-      | in-Some+in_ok-push w ↦
-          let more = w.push.new.self in
-          subst (λ (g : Gathered). AreParts c.args.count (length gs) g.count g.keys.items g.aggregates.items next) (sym w.all-is)
-          (subst (AreParts c.args.count (length gs) more.count more.keys.items more.aggregates.items)
-          (one_given c.args.shape c.args.count gs es number so_far w.in-Some.row within refl (λ e at. sym w.in-Some.is ∙ gives e at))
-          (w.in_ok-push.ensures c.args.count (length gs) so_far w.in-Some.ensures.fits c.loop-number.invariant))
-      | in_default w ↦
-          let before = c.loop-number.all in
-          subst (λ (g : Gathered). AreParts c.args.count (length gs) g.count g.keys.items g.aggregates.items next) (sym w.all-is)
-          (subst (AreParts c.args.count (length gs) before.count before.keys.items before.aggregates.items)
-          (none_given c.args.shape c.args.count gs es number so_far within refl (λ e at. sym w.in_default.is ∙ gives e at))
-          c.loop-number.invariant)
-    ]
+    let e : List (Option KeyValue) × List (Option ℤ) = (key_of (get_or all number ([], [])).0, (get_or all number ([], [])).1) in
+    let same : (key_of c.key-key.result, c.row.result.now) ≡ e = λ i. (key_of (c.key-key.ensures.key i), c.row.ensures.row i) in
+    let one : if_given c.is_row_key-given.result count gs (key_of c.key-key.result, c.row.result.now) ≡ if_given (is_row_key s count e.0) count gs e =
+    ap (λ b. if_given b count gs (key_of c.key-key.result, c.row.result.now)) c.is_row_key-given.ensures ∙ ap (λ (x : List (Option KeyValue) × List (Option ℤ)). if_given (is_row_key s count x.0) count gs x) same in
+    subst (AreParts count (length gs) new.count new.keys.items new.aggregates.items)
+    (ap (λ rows. given_of s count gs total (take number es) ++ rows) one ∙ given_more s count gs total es number e (shown_at all number there))
+    (c.in_ok-push_given-2.ensures (given_of s count gs total (take number es)) c.loop-number.invariant)

@@ -2,9 +2,9 @@ use Rattle.std.proofs.Common.{◌≡◌, ◌+◌, [], false, get_or, length, map
 use Rattle.std.proofs.lemmas.Bool.{MatchBool-at_false, MatchBool-at_true}
 use Rattle.star_group.specs.Base.{key_of, row_at}
 use Rattle.star_group.specs.Entries.{entries_of}
-use Rattle.star_group.specs.Private.Rows.{AllStay, SomeLeaves}
+use Rattle.star_group.specs.Private.Rows.{AllStay, SomeLeaves, is_one_of}
 use Rattle.star_group.specs.declared.keyed.trie.Place.TheVariants.{Held}
-use Rattle.star_group.proofs.MergedRows.{key_here, key_within, narrow_at, place_in, told_more}
+use Rattle.star_group.proofs.MergedRows.{among, key_here, key_within, narrow_at, place_in, told_more}
 use Rattle.star_group.proofs.rows.all_stay_at.Goals as goal
 use Rattle.star_group.proofs.rows.all_stay_at.Goals.{After-stays_at}
 
@@ -15,8 +15,8 @@ stays_at-requires-clause-within c =
 
 -- whether the row of this key stays tells whether all so far do
 told : (c : After-stays_at) → MatchBool c.stays_at.result
-    (AllStay (row_at (entries_of c.args.rows.now)) (take (c.loop-index.index + 1) (map key_of c.args.own.now)) c.args.aggregates.now c.args.more.now)
-    (SomeLeaves (row_at (entries_of c.args.rows.now)) (map key_of c.args.own.now) c.args.aggregates.now c.args.more.now)
+    (AllStay (row_at (entries_of c.args.rows.now)) (among (take (c.loop-index.index + 1) (map key_of c.args.own.now))) c.args.aggregates.now c.args.more.now)
+    (SomeLeaves (row_at (entries_of c.args.rows.now)) (is_one_of c.args.own.now) c.args.aggregates.now c.args.more.now)
 told c =
     let own = c.args.own.now in
     let i = c.loop-index.index in

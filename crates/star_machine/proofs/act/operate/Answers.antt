@@ -1,9 +1,13 @@
-use Rattle.std.proofs.Common.{sym, rules, subst}
+use Rattle.std.proofs.Common.{FitsSigned, ap, rules, subst, sym, to_z-of_z, w64, ◌∙◌}
+use Rattle.std.specs.Prelude.{Ok, unwrap_or}
+use Rattle.star_program.specs.declared.value.Value.TheVariants.{Number}
+use Rattle.star_program.specs.Faults.{group_at}
 use Rattle.star_program.specs.Private.Doing.{assigns}
+use Rattle.star_program.specs.Puts.{total}
 use Rattle.star_machine.specs.Private.Acts.{IsMade}
 use Rattle.star_machine.specs.Private.Shown.{held}
 use Rattle.star_world.specs.WorldOf.{world_of}
-use Rattle.star_machine.proofs.Performed.{answer_made}
+use Rattle.star_machine.proofs.Performed.{answer_made, read_made}
 use Rattle.star_machine.proofs.act.operate.Goals as goal
 
 pub returns-in-Find-clause-does : goal.returns-in-Find-clause-does
@@ -18,3 +22,13 @@ returns-in-Binary-clause-does c = λ parts s target done.
 
 pub returns-in-Not-clause-does : goal.returns-in-Not-clause-does
 returns-in-Not-clause-does c = search rules
+
+pub returns-in-Read-clause-does : goal.returns-in-Read-clause-does
+returns-in-Read-clause-does c = λ parts s target done.
+    let registers = held c.args.registers.now in
+    let number : FitsSigned w64 c.in-Read.default = search rules in
+    let so_far = total (group_at parts c.in-Read.group) c.in-Read.aggregate (s.updates_of c.in-Read.group) in
+    subst (λ o. IsMade c.args.catalogue.now parts registers c.args.run.now target (assigns (world_of c.args.catalogue.now) parts registers s target o) (Ok c.read.result))
+    (sym c.in-Read.is)
+    (read_made c.args.catalogue.now parts registers c.args.run.now s done target c.read.result (unwrap_or so_far c.in-Read.default)
+    (c.read.ensures.given parts s.updates_of done.stores ∙ ap (λ n. Number (unwrap_or so_far n)) (to_z-of_z number)) c.read.ensures.fits)

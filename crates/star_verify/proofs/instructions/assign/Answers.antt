@@ -17,13 +17,13 @@ returns-in-Err-make-clause-judged c = λ w x pending facts keeps placed marked.
     let shares : HasShares c.args.subject.now.parts.now c.deref.result.now x = rw c.deref.ensures.value keeps.earlier.shares in
     subst (IsFirst c.overflow.result)
     (sym (second_found c.args.place.at _ _ _ (c.in-Ok.ensures x pending c.args.target keeps.known marked)
-    (c.in-Err-make.ensures w x facts keeps.known shares)))
+    (c.in-Err-make.ensures w x c.args.target facts keeps.known shares)))
     (c.overflow.ensures w facts)
 
 pub returns-in-Ok-make-clause-judged : goal.returns-in-Ok-make-clause-judged
 returns-in-Ok-make-clause-judged c = λ w x pending facts keeps placed marked.
     let shares : HasShares c.args.subject.now.parts.now c.deref.result.now x = rw c.deref.ensures.value keeps.earlier.shares in
-    let made = c.in-Ok-make.ensures w x facts keeps.known shares in
+    let made = c.in-Ok-make.ensures w x c.args.target facts keeps.known shares in
     let value = c.deref_mut.ensures.value in
     let items = with_items_is c.args.noted.now.written c.note.new.written
     (omega (arith, c.note.ensures.len, ap length value, c.args.noted.now.written.ok.0)) in (

@@ -1,15 +1,16 @@
 use Rattle.std.proofs.Common.{◌≡◌, ◌<◌, FitsSigned, w64, None, ap, length, to_z-of_z, rules, subst, sym, ◌∙◌}
 use Rattle.star_interval.specs.Interval.{range_of}
 use Rattle.star_interval.specs.Range.{only}
+use Rattle.star_program.specs.declared.op.Op.TheVariants.{Assign}
 use Rattle.star_program.specs.declared.op.Operation.{Operation}
 use Rattle.star_program.specs.Faults.{group_at}
 use Rattle.star_admission.specs.Contexts.{aggregate_at, operation_known}
 use Rattle.star_admission.specs.Ranges as ranges
-use Rattle.star_admission.specs.Refusals.{overflow_of}
-use Rattle.star_admission.specs.Tallies.{read_range}
+use Rattle.star_admission.specs.Refusals.{range_reason}
+use Rattle.star_admission.specs.Tallies.{reach_of, read_range}
 use Rattle.star_verify.specs.Private.Made.{IsMade}
 use Rattle.star_verify.specs.Private.Shown.{known_shown}
-use Rattle.star_verify.proofs.Made.{made_as}
+use Rattle.star_verify.proofs.Made.{made_as, read_as}
 use Rattle.star_verify.proofs.Overflows.{fitting}
 use Rattle.star_verify.proofs.operations.make.Goals as goal
 
@@ -20,32 +21,32 @@ read_total-requires-clause-there c =
     c.requires.there c.in-Read.group c.in-Read.aggregate group aggregate
 
 pub returns-in-Const : goal.returns-in-Const
-returns-in-Const c = λ w x facts known shares.
+returns-in-Const c = λ w x target facts known shares.
     let fits : FitsSigned w64 c.in-Const.number = search rules in
     let range : range_of c.point.result ≡ only c.in-Const.number = search rules in
     subst (λ (o : Operation). (known_shown c.given.result ≡ operation_known w c.args.parts.now x o)
-    × (overflow_of w (operation_known w c.args.parts.now x o) ≡ None)) (sym c.in-Const.is)
+    × (range_reason w c.args.parts.now x (Assign target o) ≡ None)) (sym c.in-Const.is)
     (c.given.ensures ∙ ap (λ r. ranges.given r) range, fitting w _ _ (fits, fits))
 
 pub returns-in-Load : goal.returns-in-Load
-returns-in-Load c = λ w x facts known shares.
+returns-in-Load c = λ w x target facts known shares.
     subst (λ (o : Operation). (known_shown c.loaded.result ≡ operation_known w c.args.parts.now x o)
-    × (overflow_of w (operation_known w c.args.parts.now x o) ≡ None)) (sym c.in-Load.is)
+    × (range_reason w c.args.parts.now x (Assign target o) ≡ None)) (sym c.in-Load.is)
     (c.loaded.ensures w facts)
 
 pub returns-in-Binary : goal.returns-in-Binary
-returns-in-Binary c = λ w x facts known shares.
+returns-in-Binary c = λ w x target facts known shares.
     let left = c.known_at.ensures ∙ (λ i. known i c.in-Binary.left) in
     let right = c.known_at-in-Binary.ensures ∙ (λ i. known i c.in-Binary.right) in
-    subst (λ (o : Operation). IsMade w c.answer.result (operation_known w c.args.parts.now x o)) (sym c.in-Binary.is)
+    subst (λ (o : Operation). IsMade w c.answer.result (operation_known w c.args.parts.now x o) (range_reason w c.args.parts.now x (Assign target o))) (sym c.in-Binary.is)
     (made_as w c.answer.result _ _ (λ i. ranges.answer_known c.in-Binary.operator (left i) (right i))
     c.answer.ensures.made (c.answer.ensures.overflow w))
 
 pub returns-in-Read : goal.returns-in-Read
-returns-in-Read c = λ w x facts known shares.
+returns-in-Read c = λ w x target facts known shares.
     let fits : FitsSigned w64 c.in-Read.default = search rules in
-    subst (λ (o : Operation). IsMade w c.read_total.result (operation_known w c.args.parts.now x o)) (sym c.in-Read.is)
-    (subst (IsMade w c.read_total.result)
-    (λ i. ranges.given (read_range (aggregate_at c.args.parts.now c.in-Read.group c.in-Read.aggregate)
-    (x.so_far c.in-Read.group c.in-Read.aggregate) (only (to_z-of_z fits i))))
+    subst (λ (o : Operation). IsMade w c.read_total.result (operation_known w c.args.parts.now x o) (range_reason w c.args.parts.now x (Assign target o))) (sym c.in-Read.is)
+    (read_as w c.read_total.result (reach_of (x.so_far c.in-Read.group c.in-Read.aggregate)) _ _
+    (λ i. read_range (aggregate_at c.args.parts.now c.in-Read.group c.in-Read.aggregate)
+    (x.so_far c.in-Read.group c.in-Read.aggregate) (only (to_z-of_z fits i)))
     (c.read_total.ensures w x shares))

@@ -1,9 +1,8 @@
 use Rattle.std.proofs.Common.{FitsSigned, w64, to_z-of_z, rules, subst}
 use Rattle.star_interval.specs.Range.{only}
-use Rattle.star_admission.specs.Ranges as ranges
-use Rattle.star_admission.specs.Tallies.{read_range}
-use Rattle.star_verify.specs.Private.Made.{IsMade}
+use Rattle.star_admission.specs.Tallies.{reach_of, read_range}
 use Rattle.star_verify.specs.Private.Shown.{IsTally}
+use Rattle.star_verify.proofs.Made.{read_as}
 use Rattle.star_verify.proofs.operations.read_total.Goals as goal
 
 pub returns : goal.returns
@@ -12,6 +11,6 @@ returns c = λ w x shares.
     let ss = x.so_far c.args.group c.args.aggregate in
     let is = subst (λ t. IsTally t ss) (c.tally_at.ensures c.tally_at.result)
     (shares c.args.group c.requires.group c.args.aggregate c.requires.aggregate c.tally_at.result) in
-    subst (IsMade w c.read.result)
-    (λ i. ranges.given (read_range (c.aggregate_at.ensures i) ss (only (to_z-of_z fits i))))
+    read_as w c.read.result (reach_of ss) _ _
+    (λ i. read_range (c.aggregate_at.ensures i) ss (only (to_z-of_z fits i)))
     (c.read.ensures w ss is)

@@ -1,15 +1,32 @@
-use Rattle.std.proofs.Common.{None, FitsSigned, w64, to_z-of_z, rules, ◌∙◌}
-use Rattle.star_interval.specs.Range.{only}
-use Rattle.star_admission.specs.Ranges as ranges
-use Rattle.star_admission.specs.Tallies.{hull_with}
-use Rattle.star_verify.proofs.Made.{made_as}
+-- The range of the total with its default fits 64 bits, or leaves them.
+use Rattle.std.proofs.Common.{◌≡◌, FitsSigned, refl, subst, sym, w64, to_z-of_z, rules, ◌∙◌}
+use Rattle.std.proofs.lemmas.Bool.{false≢true}
+use Rattle.star_interval.specs.Interval.{wide_range_of}
+use Rattle.star_interval.specs.Range.{FitsI64, only}
+use Rattle.star_admission.specs.Refusals.{overflow}
+use Rattle.star_admission.specs.Tallies.{hull_with, reach_of, read_range}
+use Rattle.star_verify.specs.Private.Shown.{reach_shown}
+use Rattle.star_verify.proofs.Overflows.{fitting, leaving}
 use Rattle.star_verify.proofs.totals.read.Goals as goal
 
-pub returns : goal.returns
-returns c = λ w ss is.
-    let fits : FitsSigned w64 c.args.default = search rules in
-    let range = c.narrowed.ensures.bounds ∙ c.with_default-range.ensures
-    ∙ (λ i. hull_with (c.total_range.ensures ss is i) (only (to_z-of_z fits i))) in
-    made_as w c.computed.result _ _
-    (λ i. ranges.KnownNumber (range i) (c.none.ensures i) None)
-    c.computed.ensures.made (c.computed.ensures.overflow w)
+pub returns-in-Ok : goal.returns-in-Ok
+returns-in-Ok c = λ w ss is.
+    let number : FitsSigned w64 c.args.default = search rules in
+    let range : wide_range_of c.with_default.result ≡ read_range c.args.aggregate ss (only c.args.default) =
+    c.with_default.ensures ∙ (λ i. hull_with (c.total_range.ensures ss is i) (only (to_z-of_z number i))) in
+    let fits = subst FitsI64 range (c.in-Ok.ensures.fits.0 refl) in
+    let same = c.in-Ok.ensures.bounds ∙ range in
+    (search (rules, same), fitting w _ _ fits)
+
+pub returns-in-Err : goal.returns-in-Err
+returns-in-Err c = λ w ss is.
+    let number : FitsSigned w64 c.args.default = search rules in
+    let range : wide_range_of c.in-Err.range ≡ read_range c.args.aggregate ss (only c.args.default) =
+    c.in-Err.ensures.bounds ∙ c.with_default.ensures
+    ∙ (λ i. hull_with (c.total_range.ensures ss is i) (only (to_z-of_z number i))) in
+    let told : overflow w (wide_range_of c.in-Err.range) (reach_shown c.args.tally.reach)
+    ≡ overflow w (read_range c.args.aggregate ss (only c.args.default)) (reach_of ss) =
+    λ i. overflow w (range i) (is.reach i) in
+    sym told
+    ∙ leaving w (wide_range_of c.in-Err.range) (reach_shown c.args.tally.reach)
+    (λ fits. false≢true (c.in-Err.ensures.fits.1 (subst FitsI64 c.in-Err.ensures.bounds fits)))

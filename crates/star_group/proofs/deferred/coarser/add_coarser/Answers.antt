@@ -1,6 +1,4 @@
-use Rattle.std.proofs.Common.{◌≡◌, ◌≤◌, ◌+◌, ◌-◌, ◌∙◌, ℕ, ap, arith, length, subst, sym}
-use Rattle.star_schema.specs.declared.group.Shape.{Shape}
-use Rattle.star_schema.specs.declared.group.Shape.TheVariants.{Plain, Cube, Rollup}
+use Rattle.std.proofs.Common.{◌≡◌, ◌≤◌, ◌+◌, ◌-◌, ◌∙◌, ap, arith, length, subst, sym}
 use Rattle.star_group.specs.Entries.{entries_of}
 use Rattle.star_group.specs.Private.Coarser.{IsRolledUp, NoneCoarser, RollsUp, first_finer, first_hidden}
 use Rattle.star_group.specs.Private.BasePut.{group_with}
@@ -8,11 +6,6 @@ use Rattle.star_group.proofs.KeyedRows.{once_rows, row_count}
 use Rattle.star_group.proofs.MergedRows.{grown_keys}
 use Rattle.star_group.proofs.Rolling.{next_none, room_there}
 use Rattle.star_group.proofs.deferred.coarser.add_coarser.Goals as goal
-
-few_finer : (s : Shape) (many : ℕ) → first_finer s many ≤ many
-few_finer Plain many = omega arith
-few_finer Cube many = omega arith
-few_finer Rollup many = omega arith
 
 pub add_hidden-requires-clause-room : goal.add_hidden-requires-clause-room
 add_hidden-requires-clause-room c =
@@ -30,14 +23,14 @@ loop-place-preserved c =
     let es = entries_of c.loop-place.rows in
     let fs = entries_of c.add_hidden.new.rows in
     let grown = c.in_ok-add_hidden.ensures.grown in
-    let from : c.first_finer-from.result ≡ first_finer c.args.shape (length es) = c.first_finer-from.ensures ∙ ap (first_finer c.args.shape) c.len-many.ensures in
+    let from : c.first_finer-from.result ≡ first_finer c.args.shape (length es) = c.first_finer-from.ensures.first ∙ ap (first_finer c.args.shape) c.len-many.ensures in
     record {
       above = omega (arith, c.loop-place-test.true, c.loop-place.invariant.above);
       below = omega (arith, below);
       rolls = λ puts all few rolled. c.in_ok-add_hidden.ensures.rows puts below few
           (subst (λ n. IsRolledUp (group_with c.args.shape c.args.count c.args.aggregates.now) n es puts) (sym back) (c.loop-place.invariant.rolls puts all few rolled));
       widths = record { width = grown.widths.width ∙ c.loop-place.invariant.widths.width; many = grown.widths.many ∙ c.loop-place.invariant.widths.many };
-      within = omega (arith, from, few_finer c.args.shape (length es), grown.more, row_count c.loop-place.rows, row_count c.add_hidden.new.rows);
+      within = omega (arith, c.first_finer-from.ensures.within, c.len-many.ensures, grown.more, row_count c.loop-place.rows, row_count c.add_hidden.new.rows);
       none = λ p next. subst (λ n. NoneCoarser c.args.shape c.args.count p n fs) (sym from)
           (next_none c.args.shape c.args.count c.args.aggregates.now place es fs (once_rows c.loop-place.rows) (omega (arith, below))
           (rw back (room_there c.args.shape c.args.count c.args.aggregates.now c.loop-place.place (entries_of c.args.rows.now) es c.loop-place.invariant.below c.loop-place.invariant.rolls c.requires.room))

@@ -1,4 +1,4 @@
-use Rattle.std.proofs.Common.{◌≡◌, ◌<◌, ◌+◌, ◌∙◌, ℕ, ℤ, [], List, None, Option, ap, arith, drop, get_or, length, length-drop, refl, set, subst, sym}
+use Rattle.std.proofs.Common.{◌≡◌, ◌<◌, ◌+◌, ◌∙◌, ℕ, ℤ, [], List, None, Option, Some, ap, arith, drop, get_or, length, length-drop, refl, set, slice_get, subst, sym}
 use Rattle.std.proofs.lemmas.List.{drop-set-lt, get_or-drop}
 use Rattle.std.proofs.lemmas.Option.{slice_get-get_or}
 use Rattle.star_group.specs.Base.{key_of, row_at}
@@ -17,12 +17,11 @@ use Rattle.star_group.proofs.deferred.coarser.add_hidden.Goals as goal
 abbrev Entries : Type 0
 Entries = List (List KeyPart × List (Option ℤ))
 
--- a row of those that are listed from one on
-listed_at : (finer es : Entries) (from index : ℕ) → finer ≡ drop from es → get_or finer index ([], []) ≡ get_or es (from + index) ([], [])
-listed_at finer es from index is = ap (λ xs. get_or xs index ([], [])) is ∙ get_or-drop from es index ([], [])
-
-listed_within : (finer es : Entries) (from index : ℕ) → finer ≡ drop from es → index < length finer → from + index < length es
-listed_within finer es from index is h = omega (arith, h, ap length is, length-drop from es)
+-- a row of those that are listed from one on is one of all rows
+listed_at : (finer es : Entries) (from index : ℕ) → finer ≡ drop from es → index < length finer → slice_get es (from + index) ≡ Some (get_or finer index ([], []))
+listed_at finer es from index is h =
+    let within : from + index < length es = omega (arith, h, ap length is, length-drop from es) in
+    slice_get-get_or es (from + index) ([], []) within ∙ ap Some (sym (ap (λ xs. get_or xs index ([], [])) is ∙ get_or-drop from es index ([], [])))
 
 pub loop-index-init : goal.loop-index-init
 loop-index-init c =
@@ -46,29 +45,23 @@ merge_coarser-requires-clause-stays c = λ grouping.
     let es = entries_of c.args.rows.now in
     let finer = listed_entries c.in_ok-finer.finer in
     let index = c.loop-index.index in
-    let j = c.args.from + index in
-    let here = listed_at finer es c.args.from index c.in_ok-finer.ensures.rows in
-    let within : j < length es = listed_within finer es c.args.from index c.in_ok-finer.ensures.rows (omega (arith, c.loop-index-test.true, c.len-index-end.ensures)) in
-    let e = get_or es j ([], []) in
-    let key : key_of c.hidden-key.result ≡ set (key_of e.0) c.args.place None = c.hidden-key.ensures.key ∙ ap (λ ps. set (key_of ps) c.args.place None) (c.key.ensures.key ∙ ap (λ (x : List KeyPart × List (Option ℤ)). x.0) here) in
-    subst (RowsStay c.args.aggregates.now (row_at (entries_of c.loop-index.rows) (key_of c.hidden-key.result))) (sym (c.row.ensures.row ∙ ap (λ (x : List KeyPart × List (Option ℤ)). x.1) here))
-    (turn_stays c.args.shape c.args.count c.args.aggregates.now c.args.place es (once_rows c.args.rows.now) j e (slice_get-get_or es j ([], []) within) (entries_of c.loop-index.rows) c.hidden-key.result key c.loop-index.invariant.merged c.requires.room grouping)
+    let at = listed_at finer es c.args.from index c.in_ok-finer.ensures.rows (omega (arith, c.loop-index-test.true, c.len-index-end.ensures)) in
+    let key = c.hidden-key.ensures.key ∙ ap (λ ps. set (key_of ps) c.args.place None) c.key.ensures.key in
+    subst (RowsStay c.args.aggregates.now (row_at (entries_of c.loop-index.rows) (key_of c.hidden-key.result))) (sym c.row.ensures.row)
+    (turn_stays c.args.shape c.args.count c.args.aggregates.now c.args.place es (once_rows c.args.rows.now) (c.args.from + index) (get_or finer index ([], [])) at (entries_of c.loop-index.rows) c.hidden-key.result key c.loop-index.invariant.merged c.requires.room grouping)
 
 pub loop-index-preserved : goal.loop-index-preserved
 loop-index-preserved c =
     let es = entries_of c.args.rows.now in
     let finer = listed_entries c.in_ok-finer.finer in
     let index = c.loop-index.index in
-    let j = c.args.from + index in
-    let here = listed_at finer es c.args.from index c.in_ok-finer.ensures.rows in
-    let within : j < length es = listed_within finer es c.args.from index c.in_ok-finer.ensures.rows (omega (arith, c.loop-index-test.true, c.len-index-end.ensures)) in
-    let e = get_or es j ([], []) in
-    let key : key_of c.hidden-key.result ≡ set (key_of e.0) c.args.place None = c.hidden-key.ensures.key ∙ ap (λ ps. set (key_of ps) c.args.place None) (c.key.ensures.key ∙ ap (λ (x : List KeyPart × List (Option ℤ)). x.0) here) in
-    let next : j + 1 ≡ c.args.from + (index + 1) = omega arith in
+    let at = listed_at finer es c.args.from index c.in_ok-finer.ensures.rows (omega (arith, c.loop-index-test.true, c.len-index-end.ensures)) in
+    let key = c.hidden-key.ensures.key ∙ ap (λ ps. set (key_of ps) c.args.place None) c.key.ensures.key in
+    let next : c.args.from + index + 1 ≡ c.args.from + (index + 1) = omega arith in
     record {
       merged = subst (λ n. IsMergedSoFar c.args.shape c.args.count c.args.aggregates.now c.args.place es n (entries_of c.merge_coarser.new.rows)) next
-          (turn_merges c.args.shape c.args.count c.args.aggregates.now c.args.place es (once_rows c.args.rows.now) j e (slice_get-get_or es j ([], []) within) (entries_of c.loop-index.rows) c.hidden-key.result key c.loop-index.invariant.merged (entries_of c.merge_coarser.new.rows)
-          (subst (λ more. IsMergedWhere c.args.shape c.args.count c.args.aggregates.now (key_of c.hidden-key.result) more (entries_of c.loop-index.rows) (entries_of c.merge_coarser.new.rows)) (c.row.ensures.row ∙ ap (λ (x : List KeyPart × List (Option ℤ)). x.1) here) c.in_ok-merge_coarser.ensures.ok));
+          (turn_merges c.args.shape c.args.count c.args.aggregates.now c.args.place es (once_rows c.args.rows.now) (c.args.from + index) (get_or finer index ([], [])) at (entries_of c.loop-index.rows) c.hidden-key.result key c.loop-index.invariant.merged (entries_of c.merge_coarser.new.rows)
+          (subst (λ more. IsMergedWhere c.args.shape c.args.count c.args.aggregates.now (key_of c.hidden-key.result) more (entries_of c.loop-index.rows) (entries_of c.merge_coarser.new.rows)) c.row.ensures.row c.in_ok-merge_coarser.ensures.ok));
       grown = grown_more c.args.rows.now c.loop-index.rows c.merge_coarser.new.rows c.loop-index.invariant.grown c.merge_coarser.ensures.grown;
     }
 

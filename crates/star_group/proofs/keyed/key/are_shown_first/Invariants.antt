@@ -2,7 +2,7 @@ use Rattle.std.proofs.Common.{◌≡◌, drop}
 use Rattle.star_schema.specs.declared.group.Shape.TheVariants.{Rollup}
 use Rattle.star_schema.specs.Groups.{is_grouping}
 use Rattle.star_group.specs.Base.{key_of}
-use Rattle.star_group.proofs.HiddenKeys.{goes_on}
+use Rattle.star_group.proofs.OwnKeyLemmas.{goes_on}
 use Rattle.star_group.proofs.keyed.key.are_shown_first.Given as goal
 
 abbrev pub invariant-loop-part : goal.invariant-loop-part

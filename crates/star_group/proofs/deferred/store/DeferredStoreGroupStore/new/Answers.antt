@@ -1,5 +1,5 @@
 use Rattle.star_group.proofs.Bases.{new_room, no_base}
-use Rattle.star_group.proofs.PutSteps.{blank_none}
+use Rattle.star_group.proofs.Totals.{blank_none}
 use Rattle.star_group.proofs.deferred.store.DeferredStoreGroupStore.new.Goals as goal
 
 pub invariant_of-result-clause-room : goal.invariant_of-result-clause-room

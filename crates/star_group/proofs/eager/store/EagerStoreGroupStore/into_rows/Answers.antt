@@ -1,22 +1,18 @@
-use Rattle.std.proofs.Common.{ap, arith, length, sym, ◌∙◌, subst}
+use Rattle.std.proofs.Common.{arith, sym, ◌∙◌, subst}
 use Rattle.star_group.specs.Eager.{group_of}
 use Rattle.star_group.specs.Entries.{entries_of}
-use Rattle.star_group.specs.Held.{Holds}
 use Rattle.star_group.specs.Private.Coarser.{shown_entries}
 use Rattle.star_group.specs.Private.Given.{rows_given}
 use Rattle.star_group.specs.Shown.{AreRows}
 use Rattle.star_group.proofs.AllRows.{are_rows}
 use Rattle.star_group.proofs.Contents.{if_ok}
 use Rattle.star_group.proofs.KeyedRows.{rows_once}
-use Rattle.star_group.proofs.PlainPuts.{holds_taken}
 use Rattle.star_group.proofs.eager.store.EagerStoreGroupStore.into_rows.Goals as goal
 
 pub returns : goal.returns
 returns c =
     let s = c.args.self in
-    let all = entries_of c.in_ok-rows.rows in
     if_ok _ _ c.rows_given.result
-    (λ rows is puts has. subst (λ xs. AreRows (group_of s) puts xs) (sym (is ∙ (λ i. rows_given s.shape s.count (c.as_slice-aggregates.ensures.value i) (shown_entries (c.into_listed-rows.ensures.rows i)))))
-    (are_rows (group_of s) puts all (omega (arith, s.wide, s.rows.trie.few)) (rows_once c.in_ok-rows.rows)
-    (subst (λ look. Holds (group_of s) look puts) (λ i q. sym (c.in_ok-rows.ensures.rows q) i) (holds_taken (group_of s) puts s.total _ (ap length c.as_slice-aggregates.ensures.value) s.shape (entries_of s.rows) has))))
+    (λ rows is puts has. subst (λ xs. AreRows (group_of s) puts xs) (sym (is ∙ (λ i. rows_given s.shape s.count (c.as_slice-aggregates.ensures.value i) s.total (shown_entries (c.into_listed-rows.ensures.rows i)))))
+    (are_rows (group_of s) puts (entries_of s.rows) s.total (omega (arith, s.wide, s.rows.trie.few)) (rows_once s.rows) has))
     c.rows_given.ensures

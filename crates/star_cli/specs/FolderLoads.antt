@@ -1,0 +1,21 @@
+-- What the load of a folder gives: tables, or what is told of why there are none.
+use Rattle.std.specs.Prelude.{◌≡◌, ◌⊎◌, ℕ}
+use Rattle.star_schema.specs.Most.{most_rows}
+use Rattle.star_schema.specs.Database.{Database, TableTexts}
+use Rattle.star_schema.specs.Loadable.{IsLoadable, database_of}
+use Rattle.star_engine.specs.declared.fault.EngineFault.{EngineFault}
+use Rattle.star_engine.specs.Answered.{Change, IsUntouched}
+use Rattle.star_cli.specs.declared.failure.Failure.{Failure}
+use Rattle.star_cli.specs.Failures.{IsFailureTold}
+use Rattle.star_cli.specs.Lines.{IsFaultTold}
+
+-- the rows of five texts that can be loaded
+abbrev pub AreTables : Database → Type 0
+AreTables database =
+    (texts : TableTexts) × IsLoadable most_rows texts × (database ≡ database_of texts)
+
+-- a failure to read them, or a fault of theirs, is told with its status
+abbrev pub IsFolderRefused : {S E : Type 0} → Change S → Change E → ℕ → Type 0
+IsFolderRefused out err status =
+    ((failure : Failure) × IsFailureTold failure out err status)
+    ⊎ (IsUntouched out × ((fault : EngineFault) × IsFaultTold err fault status))

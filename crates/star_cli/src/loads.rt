@@ -1,0 +1,55 @@
+// The loaded tables of a folder, for other programs than `star`.
+
+ghost use Rattle.std.specs.Prelude.{IfErr, IfOk, OnOk};
+ghost use Rattle.star_engine.specs.Answered.{IsUntouched, change};
+ghost use Rattle.star_cli.specs.FolderLoads.{AreTables, IsFolderRefused};
+
+use crate::failure::Failure;
+use crate::files::Folder;
+use crate::lines::tell_fault;
+use star_catalogue::Catalogue;
+use star_engine::EngineFault;
+use star_schema::{Limits, Sink};
+use std::alloc::{AllocError, Global};
+use std::rt::Files;
+
+// The tables of the files of a folder, under the widest limits.
+fn load_read(alloc: Global, read: &Folder) -> Result<Catalogue, EngineFault>
+    ensures { IfOk result (λ catalogue. AreTables catalogue) }
+{
+    let lineorder = read.lineorder(alloc)?;
+    Ok(Catalogue::load(alloc, &read.texts(lineorder.as_slice()), Limits::widest())?)
+}
+
+// The files of a folder whose name is not empty.
+fn read_named<R: Files + AllocGlobal>(rt: &R, folder: &str) -> Result<Folder, Failure<'static>> {
+    if folder.is_empty() {
+        return Err(Failure::EmptyFolder);
+    }
+    Folder::read(rt, folder)
+}
+
+/// Loads the tables of a folder under the widest limits. Where it can't, it tells why as the
+/// commands of `star` do, and gives the exit status: 2 where the folder's name is empty, 3 for table
+/// files that can't be loaded, 6 for a file that can't be read, 7 for want of memory.
+pub fn load_folder<R: Files + AllocGlobal, S: Sink, E: Sink>(
+    rt: &R,
+    folder: &str,
+    out: &mut S,
+    err: &mut E,
+) -> Result<Catalogue, u8>
+    ensures tables { IfOk result AreTables }
+    ensures silent { OnOk result (IsUntouched (change S.contents S.is_failed out.old out.new)
+        × IsUntouched (change E.contents E.is_failed err.old err.new)) }
+    ensures told { IfErr result (IsFolderRefused (change S.contents S.is_failed out.old out.new)
+        (change E.contents E.is_failed err.old err.new)) }
+{
+    let read = match read_named(rt, folder) {
+        Ok(read) => read,
+        Err(failure) => return Err(failure.tell(rt.alloc(), out, err)),
+    };
+    match load_read(rt.alloc(), &read) {
+        Ok(catalogue) => Ok(catalogue),
+        Err(fault) => Err(tell_fault(rt.alloc(), err, &fault)),
+    }
+}

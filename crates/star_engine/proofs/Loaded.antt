@@ -1,0 +1,58 @@
+-- What is answered over the rows of texts that can be loaded is answered over the texts.
+use Rattle.std.proofs.Common.{◌≡◌, ℕ, List, subst}
+use Rattle.std.specs.Prelude.{Result, Ok, Err}
+use Rattle.star_schema.specs.Database.{Database, TableTexts}
+use Rattle.star_schema.specs.Loadable.{IsLoadable, database_of}
+use Rattle.star_engine.specs.declared.fault.EngineFault.{EngineFault}
+use Rattle.star_engine.specs.declared.fault.EngineFault.TheVariants.{OutOfMemory, Write}
+use Rattle.star_engine.specs.Answered.{Change, IsAnswered}
+use Rattle.star_engine.specs.Loads.{HoldsOfRows}
+use Rattle.star_engine.specs.Noted.{IsNoted, Telling}
+use Rattle.star_engine.proofs.NotedAs.{noted_as}
+
+-- what is answered of one text is answered of another, where all that is due of the one is due of the
+-- other
+pub answered_as : {S A : Type 0} (sink : Change S) (IsText OtherText : List ℕ → Type 0)
+    (IsDue OtherDue : EngineFault → Type 0) (result : Result A EngineFault)
+    → ((text : List ℕ) → IsText text → OtherText text)
+    → ((fault : EngineFault) → IsDue fault → OtherDue fault)
+    → IsAnswered sink IsText IsDue result → IsAnswered sink OtherText OtherDue result
+answered_as sink IsText OtherText IsDue OtherDue (Ok answer) write due is =
+    (is.0, write is.0 is.1, is.2)
+answered_as sink IsText OtherText IsDue OtherDue (Err OutOfMemory) write due is = is
+answered_as sink IsText OtherText IsDue OtherDue (Err (Write sent)) write due is =
+    (is.0, write is.0 is.1, is.2)
+answered_as sink IsText OtherText IsDue OtherDue (Err fault) write due is = (due _ is.0, is.1)
+
+module _ (rows : ℕ) (texts : TableTexts) (held : Database) (loadable : IsLoadable rows texts)
+    (same : held ≡ database_of texts) where
+  pub of_rows : (Holds : Database → Type 0) → Holds held → HoldsOfRows rows texts Holds
+  of_rows Holds holds = record { loadable = loadable; holds = subst Holds same holds }
+
+  pub answered_over : {S A : Type 0} (sink : Change S) (IsText : Database → List ℕ → Type 0)
+      (IsDue : Database → EngineFault → Type 0) (OtherDue : EngineFault → Type 0)
+      (result : Result A EngineFault)
+      → ((fault : EngineFault) → IsLoadable rows texts → IsDue (database_of texts) fault
+      → OtherDue fault)
+      → IsAnswered sink (IsText held) (IsDue held) result
+      → IsAnswered sink (λ text. HoldsOfRows rows texts (λ database. IsText database text))
+      OtherDue result
+  answered_over sink IsText IsDue OtherDue result due is =
+      answered_as sink (IsText held) _ (IsDue held) OtherDue result
+      (λ text. of_rows (λ database. IsText database text))
+      (λ fault holds. due fault loadable (subst (λ database. IsDue database fault) same holds)) is
+
+  pub noted_over : {S N : Type 0} (out : Change S) (notes : Change N)
+      (IsQuote : Database → List ℕ → Type 0) (IsTold : Database → Telling → Type 0)
+      (IsDue : Database → EngineFault → Type 0) (OtherDue : EngineFault → Type 0)
+      (result : Result (Unit {0}) EngineFault)
+      → ((fault : EngineFault) → IsLoadable rows texts → IsDue (database_of texts) fault
+      → OtherDue fault)
+      → IsNoted out notes (IsQuote held) (IsTold held) (IsDue held) result
+      → IsNoted out notes (λ note. HoldsOfRows rows texts (λ database. IsQuote database note))
+      (λ telling. HoldsOfRows rows texts (λ database. IsTold database telling)) OtherDue result
+  noted_over out notes IsQuote IsTold IsDue OtherDue result due is =
+      noted_as out notes (IsQuote held) _ (IsTold held) _ (IsDue held) OtherDue result
+      (λ note. of_rows (λ database. IsQuote database note))
+      (λ telling. of_rows (λ database. IsTold database telling))
+      (λ fault holds. due fault loadable (subst (λ database. IsDue database fault) same holds)) is

@@ -1,0 +1,18 @@
+use Rattle.std.proofs.Common.{◌∙◌}
+use Rattle.star_schema.specs.Database.{rows_in}
+use Rattle.star_engine.specs.Answered.{change}
+use Rattle.star_engine.specs.Listing.{IsListingOver}
+use Rattle.star_engine.proofs.Answering.{written}
+use Rattle.star_engine.proofs.ListingLemmas.{listing_some}
+use Rattle.star_engine.proofs.answers.list.Goals as goal
+
+pub write_text-requires : goal.write_text-requires
+write_text-requires g c =
+    rw (c.as_bytes.ensures.value ∙ c.in_ok-text.ensures)
+    (listing_some (rows_in c.args.catalogue.now))
+
+pub returns : goal.returns
+returns g c =
+    written (change g.S.Sink.contents g.S.Sink.is_failed c.args.out.now c.write_text.new.out)
+    c.as_bytes.result.now (IsListingOver c.args.catalogue.now) (λ fault. ⊥) c.write_text.result
+    (rw c.as_bytes.ensures.value c.in_ok-text.ensures) c.write_text.ensures

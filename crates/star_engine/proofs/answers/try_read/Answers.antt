@@ -1,0 +1,14 @@
+use Rattle.star_engine.specs.Answered.{change}
+use Rattle.star_engine.specs.Trials.{IsBoundedReport, IsNoTrialOver}
+use Rattle.star_engine.proofs.Answering.{written}
+use Rattle.star_engine.proofs.answers.try_read.Goals as goal
+
+pub write_text-requires : goal.write_text-requires
+write_text-requires g c = rw c.as_slice.ensures.value c.in_ok-report.ensures.some
+
+pub returns : goal.returns
+returns g c = λ file of_file.
+    written (change g.S.Sink.contents g.S.Sink.is_failed c.args.out.now c.write_text.new.out)
+    c.as_slice.result.now (IsBoundedReport c.args.catalogue.now file c.args.visits)
+    (IsNoTrialOver c.args.catalogue.now file c.args.visits) c.write_text.result
+    (rw c.as_slice.ensures.value (c.in_ok-report.ensures.told file of_file)) c.write_text.ensures

@@ -1,0 +1,167 @@
+// Five tables that are loaded once and asked often.
+
+ghost use Rattle.std.specs.Prelude.{◌≡◌, ◌≤◌, ◌^◌, true, false, IfErr, IfOk};
+ghost use Rattle.star_schema.specs.Loadable.{IsLoadable};
+ghost use Rattle.star_catalogue.specs.Load.{text_of};
+ghost use Rattle.star_engine.specs.Answered.{IsAnswered, OrMemory, change};
+ghost use Rattle.star_engine.specs.Bench.{AllFit, IsBenchOver, SomeIsUnfit};
+ghost use Rattle.star_engine.specs.Executions.{IsQuoteOver, IsToldOver, IsUntoldOver};
+ghost use Rattle.star_engine.specs.Listing.{IsListingOver};
+ghost use Rattle.star_engine.specs.Loads.{AreLoadedRows, AreOfLoadableTexts, IsUnloaded, loaded_of};
+ghost use Rattle.star_engine.specs.Noted.{IsNoted};
+ghost use Rattle.star_engine.specs.Queries.{IsQueryQuoteOver, IsQueryToldOver, IsUnansweredOver};
+ghost use Rattle.star_engine.specs.QuoteTexts.{IsQuoteTextOver, IsUnquotedOver};
+ghost use Rattle.star_engine.specs.Trials.{IsBoundedReport, IsNoTrialOver};
+
+use crate::answers::{answer_program_over, list, quote_text_over, trial_over};
+use crate::benchmark::bench_over;
+use crate::fault::EngineFault;
+use crate::loading::load;
+use crate::queries::answer_query_over;
+use star_catalogue::{Catalogue, Texts};
+use star_schema::{Limits, Sink};
+use std::alloc::Global;
+use std::marker::Model;
+
+/// The rows of five tables, loaded, and the limits under which they are asked. A contract sees the
+/// rows of each table, the limit on rows under which they were loaded, and the limit on visits. No
+/// call changes it: each borrows it and answers as every other would.
+#[derive(Drop)]
+pub struct Engine {
+    catalogue: Catalogue,
+    limits: Limits,
+}
+
+impl Model for Engine {
+    ghost use Rattle.star_engine.specs.Loads.{AreOfLoadableTexts, Loaded};
+
+    ghost Value = { Loaded };
+
+    ghost view = { λ engine. record {
+      database = engine.catalogue;
+      rows = engine.limits.rows;
+      visits = engine.limits.visits;
+    } };
+
+    ghost invariant = { λ engine. AreOfLoadableTexts engine.limits.rows engine.catalogue };
+}
+
+impl Engine {
+    /// Loads the tables of five texts, which may be let go afterwards, under `limits`; or answers
+    /// the first fault of the texts.
+    pub fn load(alloc: Global, texts: &Texts<'_>, limits: Limits) -> Result<Engine, EngineFault>
+        ensures loadable { IfOk result (λ engine. IsLoadable limits.rows (text_of texts.now)) }
+        ensures loaded { IfOk result
+            (λ engine. engine ≡ loaded_of limits.rows limits.visits (text_of texts.now)) }
+        ensures refused { IfErr result (OrMemory (IsUnloaded limits.rows (text_of texts.now))) }
+    {
+        let catalogue = load(alloc, texts, limits)?;
+        Ok(Engine { catalogue, limits })
+    }
+
+    /// What holds of every engine: its rows are those of texts that can be loaded, so each row has a
+    /// value for each column, of the column's kind; keys tell the rows of each table apart, and each
+    /// foreign key is found; and the bounds of the columns of numbers lie in 64 bits.
+    pub fn law(&self)
+        ensures of_texts { AreOfLoadableTexts self.now.rows self.now.database }
+        ensures loaded { AreLoadedRows self.now.database }
+    {
+        self.catalogue.law();
+    }
+
+    /// Writes how many rows each table has, and the bounds of its columns of numbers.
+    pub fn check<S: Sink>(&self, alloc: Global, out: &mut S) -> Result<(), EngineFault>
+        ensures { IsAnswered (change S.contents S.is_failed out.old out.new)
+            (IsListingOver self.now.database) (λ fault. ⊥) result }
+    {
+        list(alloc, &self.catalogue, out)
+    }
+
+    /// Answers the query that a text means over the loaded tables: writes its report on `out`.
+    ///
+    /// A note of the quote, which is lineorder's row count, goes to `notes` before the query is
+    /// judged, and one of what the run of its program did behind the report. A query that doesn't
+    /// fit is refused.
+    pub fn answer_query<S: Sink, N: Sink>(
+        &self,
+        alloc: Global,
+        query: &[u8],
+        out: &mut S,
+        notes: &mut N,
+    ) -> Result<(), EngineFault>
+        ensures { IsNoted (change S.contents S.is_failed out.old out.new)
+            (change N.contents N.is_failed notes.old notes.new)
+            (IsQueryQuoteOver self.now.database query.now)
+            (IsQueryToldOver self.now.visits self.now.database query.now)
+            (IsUnansweredOver self.now.visits self.now.database query.now) result }
+    {
+        answer_query_over(alloc, &self.catalogue, query, self.limits, out, notes)
+    }
+
+    /// Checks the program whose text a file holds over the loaded tables, runs it, and writes its
+    /// report on `out`. A note of how many visits are quoted goes to `notes` before the check, and
+    /// one of what the run did behind the report. A program is refused where it is not admissible
+    /// over the tables, or more visits are quoted than the limits allow.
+    pub fn answer_program<S: Sink, N: Sink>(
+        &self,
+        alloc: Global,
+        file: &[u8],
+        out: &mut S,
+        notes: &mut N,
+    ) -> Result<(), EngineFault>
+        ensures { IsNoted (change S.contents S.is_failed out.old out.new)
+            (change N.contents N.is_failed notes.old notes.new)
+            (IsQuoteOver self.now.database file.now)
+            (IsToldOver self.now.visits self.now.database file.now)
+            (IsUntoldOver self.now.visits self.now.database file.now) result }
+    {
+        answer_program_over(alloc, &self.catalogue, file, self.limits, out, notes)
+    }
+
+    /// Writes how many visits are quoted over the loaded tables: of the program that a file spells,
+    /// or of the program of the query that it means. A file that begins with `star program ` is
+    /// taken for a program, and any other for a query. Nothing is checked against the tables.
+    pub fn quote_text<S: Sink>(
+        &self,
+        alloc: Global,
+        file: &[u8],
+        out: &mut S,
+    ) -> Result<(), EngineFault>
+        ensures { IsAnswered (change S.contents S.is_failed out.old out.new)
+            (IsQuoteTextOver self.now.database file.now) (IsUnquotedOver file.now) result }
+    {
+        quote_text_over(alloc, &self.catalogue, file, out)
+    }
+
+    /// Runs the program whose text a file holds over the loaded tables, with at most `visits` turns
+    /// of scans, and writes its report. The engine's own limit on visits has no part in it.
+    pub fn trial_program<S: Sink>(
+        &self,
+        alloc: Global,
+        file: &[u8],
+        visits: u64,
+        out: &mut S,
+    ) -> Result<(), EngineFault>
+        requires { visits ≤ 10 ^ 15 }
+        ensures { IsAnswered (change S.contents S.is_failed out.old out.new)
+            (IsBoundedReport self.now.database file.now visits)
+            (IsNoTrialOver self.now.database file.now visits) result }
+    {
+        trial_over(alloc, &self.catalogue, file, visits, out)
+    }
+
+    /// Answers the thirteen queries of the benchmark over the loaded tables: writes of each its
+    /// quote under its name, and then its report or one line that says why it is refused. The whole
+    /// text is made before any of it is written. The answer is whether no query was refused. There
+    /// is none for want of memory and a failed write alone.
+    pub fn bench<S: Sink>(&self, alloc: Global, out: &mut S) -> Result<bool, EngineFault>
+        ensures answered { IsAnswered (change S.contents S.is_failed out.old out.new)
+            (IsBenchOver self.now.visits self.now.database) (λ fault. ⊥) result }
+        ensures all_fit { IfOk result
+            (λ fits. fits ≡ true → AllFit self.now.visits self.now.database) }
+        ensures some_unfit { IfOk result
+            (λ fits. fits ≡ false → SomeIsUnfit self.now.visits self.now.database) }
+    {
+        bench_over(alloc, &self.catalogue, self.limits, out)
+    }
+}

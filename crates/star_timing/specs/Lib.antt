@@ -1,0 +1,5 @@
+pub mod Asked
+pub mod Lines
+pub mod Runs
+pub mod Told
+pub mod Times
