@@ -57,7 +57,7 @@ picked_lies t picks vs h = let r =
     picked_less picks vs in
     sums_lie t (picked picks vs) (omega (arith, r.0, h.above)) (omega (arith, r.1, h.below))
 
--- what all updates of a program may add up to fits 64 bits
+-- what all updates of a program may add up to fits their bits
 record Fits (parts : Parts) (m : Tallies) : Type 0 where
   sums : AllFit parts m
   few : (g a : ℕ) → (m g a).many < 2 ^ 63

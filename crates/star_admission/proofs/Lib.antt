@@ -32,6 +32,10 @@ mod Quoted
 mod Sizes
 mod NarrowRanges
 mod NarrowCode
+mod FewGroups
+mod PutKeys
+mod RowsAtMost
+mod WorkedMostRows
 mod ToldBounds
 mod ToldColumns
 pub mod BeforePuts

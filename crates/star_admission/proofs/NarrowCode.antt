@@ -18,7 +18,7 @@ use Rattle.star_admission.proofs.NarrowRanges.{Fits, zero_narrow, entry_narrow, 
 -- at the first instruction
 pub first_fits : (parts : Parts) → Fits parts at_first
 first_fits parts =
-    record { known = λ r. zero_narrow; sums = λ g a same. zero_narrow; each = λ g a. tt }
+    record { known = λ r. zero_narrow; each = λ g a. tt }
 
 pub op_fits : (w : World) (parts : Parts) (pending : ℕ → Bool) (x : Context) (op : Op) → Fits parts x
     → op_reason w parts pending x op ≡ None → Fits parts (after_op w parts x op)
@@ -31,14 +31,13 @@ pub in_fits : (w : World) (parts : Parts) (x : Context) (table : TableId) (r : �
     → Fits parts x → Fits parts (in_scan w x table r)
 in_fits w parts x table r fits = record {
   known = entry_narrow x.known r (KnownRow table) tt fits.known;
-  sums = fits.sums;
   each = fits.each;
 }
 
 pub past_fits : (parts : Parts) (x end : Context) → Fits parts x → Fits parts end
     → Fits parts (after_scan x end)
 past_fits parts x end fits ended =
-    record { known = fits.known; sums = ended.sums; each = ended.each }
+    record { known = fits.known; each = ended.each }
 
 pub end_fits : (w : World) (parts : Parts) (c : Code) (pending : ℕ → Bool) (at : ℕ) (x : Context) → Fits parts x
     → first_reason w parts pending x at c ≡ None → Fits parts (at_end w parts x c)

@@ -1,9 +1,8 @@
--- What is known where nothing is refused lies within 2 ^ 63 of zero, and each result of it within
--- 2 ^ 126.
-use Rattle.std.proofs.Common.{◌≡◌, ℕ, zero, suc, ◌+◌, ◌*◌, ◌^◌, ◌≤◌, Bool, true, false, List, [], ◌∷◌, ◌++◌, Option, Some, None, refl, sym, subst, arith, FitsSigned, w64, zero-add}
+-- What is known where nothing is refused lies within 2 ^ 63 of zero, each result of it within
+-- 2 ^ 126, and so does what so few numbers add up to.
+use Rattle.std.proofs.Common.{◌≡◌, ℕ, zero, suc, ◌+◌, ◌*◌, ◌^◌, ◌≤◌, ◌<◌, Bool, true, false, List, [], ◌∷◌, ◌++◌, Option, Some, None, refl, arith, FitsSigned, w64}
 use Rattle.std.specs.Prelude.{ℤ, pos, negsuc, ◌+ℤ◌, ◌-ℤ◌, ◌*ℤ◌, map, nat_eq, slice_index_or, unsigned_abs, if◌then◌else◌}
 use Rattle.std.specs.List.{AllByRecursion}
-use Rattle.std.proofs.lemmas.Bool.{eqb-true}
 use Rattle.star_schema.specs.declared.column.ColumnId.{ColumnId}
 use Rattle.star_schema.specs.declared.group.Aggregate.{Aggregate}
 use Rattle.star_schema.specs.declared.group.Aggregate.TheVariants.{Sum, Count, Min, Max}
@@ -19,11 +18,10 @@ use Rattle.star_program.specs.Faults.{group_at}
 use Rattle.star_program.specs.Puts.{aligned}
 use Rattle.star_program.specs.Values.{with_entry}
 use Rattle.star_program.specs.World.{World, is_text}
-use Rattle.star_common.proofs.Firsts.{or_none}
 use Rattle.star_admission.specs.Bounds.{NamesI64}
 use Rattle.star_admission.specs.Contexts.{Context, put_known, put_share, result_known, after_op}
 use Rattle.star_admission.specs.Ranges.{Known, KnownNumber, KnownText, KnownPlace, KnownRow, KnownFlag, Table, range_at, given, loaded_known, answer_known}
-use Rattle.star_admission.specs.Refusals.{overflow_of, sum_overflow, sums_overflow, range_reason}
+use Rattle.star_admission.specs.Refusals.{overflow_of, range_reason}
 use Rattle.star_admission.specs.Tallies.{Share, sum_range, most_of, hull_with, hull_of, read_range, widened}
 use Rattle.star_admission.proofs.Instructions.{not_refuses_none}
 use Rattle.star_admission.proofs.Sizes.{Small, small_more, sum_abs, difference_abs, product_abs, fits_small, small_fits, i64_small, only_small, hull_small, corner_small, widened_small, multiple_small}
@@ -43,8 +41,6 @@ AllNarrow ss = AllByRecursion (λ s. Narrow s.range) ss
 
 pub record Fits (parts : Parts) (x : Context) : Type 0 where
   pub known : (r : ℕ) → Narrow (range_at (x.known r))
-  pub sums : (g a : ℕ) → slice_index_or (group_at parts g).aggregates a Count ≡ Sum
-      → Narrow (sum_range (x.so_far g a))
   pub each : (g a : ℕ) → AllNarrow (x.so_far g a)
 
 pub zero_narrow : Narrow (only (pos 0))
@@ -80,23 +76,6 @@ made_narrow w parts x t (Read g a n) e = fits_small _ (not_refuses_none _ _ e)
 made_narrow w parts x t o e = result_narrow w (result_known w parts x (Assign t o)) e
 
 -- ---- a put
-
--- the SUMs of a put that isn't refused
-sums_narrow : (w : World) (gs : List Aggregate) (from a : ℕ) (ss : ℕ → List Share)
-    → sums_overflow w gs from ss ≡ None → slice_index_or gs a Count ≡ Sum
-    → Narrow (sum_range (ss (from + a)))
-sums_narrow w [] from a ss e same = absurd (cc)
-sums_narrow w (g ∷ gs) from zero ss e same =
-    let first = (or_none (sum_overflow w g (ss from)) (sums_overflow w gs (suc from) ss) e).0 in
-    let here : from ≡ from + 0 = omega arith in
-    subst (λ n. Narrow (sum_range (ss n))) here
-    (fits_small (sum_range (ss from))
-    (not_refuses_none (fits_i64 (sum_range (ss from))) _
-    (subst (λ q. sum_overflow w q (ss from) ≡ None) same first)))
-sums_narrow w (g ∷ gs) from (suc a) ss e same =
-    let rest = (or_none (sum_overflow w g (ss from)) (sums_overflow w gs (suc from) ss) e).1 in
-    let there : suc from + a ≡ from + suc a = omega arith in
-    subst (λ n. Narrow (sum_range (ss n))) there (sums_narrow w gs (suc from) a ss rest same)
 
 -- what is known of the numbers of a put
 mapped_narrow : (known : Table) (vs : List ℕ) → ((r : ℕ) → Narrow (range_at (known r)))
@@ -140,9 +119,8 @@ sum_small (s ∷ ss) all =
         → unsigned_abs (x +ℤ y) ≤ (most_of ss + s.met) * 2 ^ 63
     both x y p q = let h = sum_abs x y (x +ℤ y) refl in omega (arith, h, p, q)
 
--- so what can be put in a run adds up within 128 bits
-pub sum_fits : (ss : List Share) → AllNarrow ss → most_of ss ≤ 4096 * (1 + 10 ^ 15)
-    → FitsI128 (sum_range ss)
+-- so few of them add up within 128 bits
+pub sum_fits : (ss : List Share) → AllNarrow ss → most_of ss < 2 ^ 63 → FitsI128 (sum_range ss)
 sum_fits ss all few =
     small_fits (most_of ss * 2 ^ 63) (sum_range ss) (omega (arith, few)) (sum_small ss all)
 
@@ -153,14 +131,12 @@ pub after_narrow : (w : World) (parts : Parts) (x : Context) (op : Op) → Fits 
 after_narrow w parts x (Assign t o) fits e = record {
   known = entry_narrow x.known t (result_known w parts x (Assign t o))
       (made_narrow w parts x t o e) fits.known;
-  sums = fits.sums;
   each = fits.each;
 }
 after_narrow w parts x (Keep f) fits e =
-    record { known = fits.known; sums = fits.sums; each = fits.each }
+    record { known = fits.known; each = fits.each }
 after_narrow w parts x (Put g ks vs) fits e = record {
   known = fits.known;
-  sums = λ h a same. sums_after h a same (nat_eq h g) refl;
   each = λ h a. each_after h a (nat_eq h g);
 }
   where
@@ -168,22 +144,6 @@ after_narrow w parts x (Put g ks vs) fits e = record {
         → AllNarrow ((if b then put_share parts x g vs a ∷ [] else []) ++ x.so_far h a)
     each_after h a true = (share_narrow parts x g vs a fits, fits.each h a)
     each_after h a false = fits.each h a
-
-    sums_after : (h a : ℕ) → slice_index_or (group_at parts h).aggregates a Count ≡ Sum
-        → (b : Bool) → nat_eq h g ≡ b
-        → Narrow (sum_range ((after_op w parts x (Put g ks vs)).so_far h a))
-    sums_after h a same true p =
-        let there : h ≡ g = eqb-true h g p in
-        subst (λ n. slice_index_or (group_at parts n).aggregates a Count ≡ Sum
-        → Narrow (sum_range ((after_op w parts x (Put g ks vs)).so_far n a))) (sym there)
-        (λ q. subst (λ n. Narrow (sum_range ((after_op w parts x (Put g ks vs)).so_far g n)))
-        (zero-add a)
-        (sums_narrow w (group_at parts g).aggregates 0 a
-        ((after_op w parts x (Put g ks vs)).so_far g) e q)) same
-    sums_after h a same false p = subst
-        (λ b. Narrow
-        (sum_range ((if b then put_share parts x g vs a ∷ [] else []) ++ x.so_far h a))) (sym p)
-        (fits.sums h a same)
 
 -- ---- what is refused
 
@@ -252,19 +212,21 @@ extreme_narrow (s ∷ ss) n all h =
     numbers [] all = tt
     numbers (s ∷ ss) all = one_more (hull_of ss) s.range (numbers ss all.1) all.0
 
-read_wide : (g : Aggregate) (ss : List Share) (n : ℤ) → (g ≡ Sum → Narrow (sum_range ss))
-    → AllNarrow ss → most_of ss ≤ 4096 * (1 + 10 ^ 15) → unsigned_abs n ≤ 2 ^ 63
+read_wide : (g : Aggregate) (ss : List Share) (n : ℤ) → AllNarrow ss
+    → most_of ss ≤ 4096 * (1 + 10 ^ 15) → unsigned_abs n ≤ 2 ^ 63
     → Wide (read_range g ss (only n))
-read_wide Sum ss n sum all many h =
-    narrow_wide (hull (sum_range ss) (only n))
-    (hull_small (2 ^ 63) (sum_range ss) (only n) (sum refl) (only_small (2 ^ 63) n h))
-read_wide Count ss n sum all many h =
+read_wide Sum ss n all many h =
+    hull_small (2 ^ 126) (sum_range ss) (only n)
+    (small_more (most_of ss * 2 ^ 63) (2 ^ 126) (sum_range ss) (omega (arith, many))
+    (sum_small ss all))
+    (only_small (2 ^ 126) n (omega (arith, h)))
+read_wide Count ss n all many h =
     let counts : Range = record { low = pos 0; high = pos (most_of ss) } in
     narrow_wide (hull counts (only n))
     (hull_small (2 ^ 63) counts (only n) (omega arith, omega (arith, many))
     (only_small (2 ^ 63) n h))
-read_wide Min ss n sum all many h = narrow_wide (hull_with (hull_of ss) (only n)) (extreme_narrow ss n all h)
-read_wide Max ss n sum all many h = narrow_wide (hull_with (hull_of ss) (only n)) (extreme_narrow ss n all h)
+read_wide Min ss n all many h = narrow_wide (hull_with (hull_of ss) (only n)) (extreme_narrow ss n all h)
+read_wide Max ss n all many h = narrow_wide (hull_with (hull_of ss) (only n)) (extreme_narrow ss n all h)
 
 -- how often an instruction is met, and how many numbers were put before
 pub record Counts (x : Context) : Type 0 where
@@ -283,7 +245,7 @@ result_wide w parts x t (Binary o l r) fits counts named bounds =
     answer_wide o (x.known l) (x.known r) (fits.known l) (fits.known r)
 result_wide w parts x t (Read g a n) fits counts named bounds =
     read_wide (slice_index_or (group_at parts g).aggregates a Count) (x.so_far g a) n
-    (fits.sums g a) (fits.each g a) (counts.many g a) (named_small n named)
+    (fits.each g a) (counts.many g a) (named_small n named)
 result_wide w parts x t (Edge e c text) fits counts named bounds = tt
 result_wide w parts x t (Find table k) fits counts named bounds = tt
 result_wide w parts x t (Within q a b) fits counts named bounds = tt

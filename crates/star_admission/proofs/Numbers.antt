@@ -1,10 +1,10 @@
--- Numbers in ranges, and in 64 bits.
+-- Numbers in ranges, and in their bits.
 use Rattle.std.proofs.Common.{◌≡◌, ◌^◌, ◌≤◌, ◌<◌, true, refl, arith, inl, inr}
 use Rattle.std.specs.Prelude.{ℤ, pos, negsuc, ◌≤ℤ◌}
 use Rattle.std.proofs.lemmas.Bool.{lt-ltb, and_parts}
 use Rattle.std.proofs.lemmas.Int.{ints}
 use borrow.Author.Differences.{up, down}
-use Rattle.star_interval.specs.Range.{Range, Holds, is_i64, fits_i64, only, hull}
+use Rattle.star_interval.specs.Range.{Range, Holds, is_i64, is_i128, fits_i64, only, hull}
 use Rattle.star_interval.proofs.Ranges as ranges
 
 pub holds_itself : (z : ℤ) → Holds (only z) z
@@ -22,11 +22,11 @@ fits_held r z fits held =
     let fit = ranges.fits_held r z ((ranges.fits_i64_fits r).0 fits) held in
     (and_parts (is_i64 z) (is_i64 z) ((ranges.fits_i64_fits (only z)).1 (fit, fit))).0
 
--- how far a number of 64 bits lies above 0 and below it
-pub fits_in : (z : ℤ) → up z < 2 ^ 63 → down z ≤ 2 ^ 63 → is_i64 z ≡ true
-unfolding is_i64
-fits_in (pos n) p q = lt-ltb n (2 ^ 63) p
-fits_in (negsuc n) p q = lt-ltb n (2 ^ 63) q
+-- how far a number of 128 bits lies above 0 and below it
+pub fits_in : (z : ℤ) → up z < 2 ^ 127 → down z ≤ 2 ^ 127 → is_i128 z ≡ true
+unfolding is_i128
+fits_in (pos n) p q = lt-ltb n (2 ^ 127) p
+fits_in (negsuc n) p q = lt-ltb n (2 ^ 127) q
 
 pub up_grows : (a b : ℤ) → a ≤ℤ b → (up a ≤ up b) × (down b ≤ down a)
 up_grows (pos a) (pos b) h = omega (arith, ints)

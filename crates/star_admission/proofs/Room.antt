@@ -1,4 +1,4 @@
--- Updates that are tallied within 64 bits are such as a put of the newest asks for.
+-- Updates that are tallied within their bits are such as a put of the newest asks for.
 use Rattle.std.proofs.Common.{◌≡◌, ℕ, zero, suc, ◌+◌, ◌^◌, ◌<◌, true, List, [], ◌∷◌, length, refl, subst, arith, zero-add}
 use Rattle.std.specs.Prelude.{ℤ, pos, negsuc, slice_index_or}
 use Rattle.std.proofs.lemmas.Bool.{and_parts}

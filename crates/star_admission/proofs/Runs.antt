@@ -1,8 +1,8 @@
 -- The run of an admissible program: it ends with no trap, within its quote.
-use Rattle.std.proofs.Common.{◌≡◌, ℕ, ◌+◌, ◌*◌, ◌^◌, ◌≤◌, ◌<◌, Bool, true, Option, Some, None, refl, sym, subst, arith, zero-add, le_refl, lt_of_lt_of_le, ◌∙◌}
-use Rattle.std.specs.Prelude.{nat_lt, not}
+use Rattle.std.proofs.Common.{◌≡◌, ℕ, zero, suc, ◌+◌, ◌*◌, ◌^◌, ◌≤◌, ◌<◌, Bool, true, Option, Some, None, refl, sym, subst, arith, zero-add, le_refl, lt_of_lt_of_le, ◌∙◌}
+use Rattle.std.specs.Prelude.{List, pos, neg_ℤ, nat_le, nat_lt, not, unsigned_abs}
 use Rattle.std.proofs.Math.Nat.{mul-le-mul_right, mul-le-mul_left}
-use Rattle.std.proofs.lemmas.Bool.{or_parts}
+use Rattle.std.proofs.lemmas.Bool.{and_from, le-leb, lt-ltb, or_parts}
 use Rattle.star_program.specs.declared.program.Parts.{Parts}
 use Rattle.star_program.specs.Code.{Code, Stop, Then, Each, code_size}
 use Rattle.star_program.specs.World.{World, IsLoaded}
@@ -16,7 +16,8 @@ use Rattle.star_program.specs.Shown.{shown_fault}
 use Rattle.star_program.proofs.Unless.{unless_none}
 use Rattle.star_admission.specs.Laws.{IsAccepted}
 use Rattle.star_admission.specs.Ranges.{KnownRow}
-use Rattle.star_admission.proofs.Tally.{no_tally, plus, times, Tallies, no_tallies, plus_all, times_all, tally_of}
+use Rattle.star_admission.specs.Tallies.{Share, most_of}
+use Rattle.star_admission.proofs.Tally.{no_tally, plus, times, Tallies, no_tallies, plus_all, times_all, tally_of, sum_fits, sum_range_is, most_is}
 use Rattle.star_admission.specs.Contexts.{Context, at_first, after_op, in_scan, after_scan, at_end}
 use Rattle.star_admission.specs.declared.reason.Reason.TheVariants.{Faulty}
 use Rattle.star_admission.specs.Refusals.{op_reason, scan_reason}
@@ -27,11 +28,15 @@ use Rattle.star_common.proofs.Firsts.{first_answer_none, or_none}
 use Rattle.star_admission.proofs.TallyOrder.{AtMost, at_most_refl, at_most_trans, at_most_plus, at_most_assoc, at_most_both, at_most_once}
 use Rattle.star_admission.proofs.Gains.{op_gain, op_counted, gain, gained, whole_gain}
 use Rattle.star_admission.proofs.Forward.{first_standing}
-use Rattle.star_admission.proofs.Tallied.{tallies_fit, tallies_fit_few, nothing_fits}
+use Rattle.star_admission.proofs.Tallied.{tallies_fit, all_tallies_fit}
 use Rattle.star_admission.specs.Fitting.{Agrees}
 use Rattle.star_admission.proofs.Instructions.{unmapped_none, agrees_entry, AreTallied, act_good}
 use Rattle.star_admission.proofs.Turns.{Safe, all_tallied_more, safe_more, safe_follow, safe_scans, safe_each}
-use Rattle.star_admission.proofs.Sound.{quoted_each, in_time, at_place_none, ends_fitting, IsReady, ready_then, ready_in, ready_after, op_room}
+use Rattle.star_admission.proofs.Sound.{quoted_each, in_time, at_place_none, IsReady, ready_then, ready_in, ready_after, op_room}
+use Rattle.star_admission.proofs.Sizes.{Small}
+use Rattle.star_admission.proofs.NarrowRanges.{AllNarrow, sum_small}
+use Rattle.star_admission.proofs.NarrowCode.{end_fits, first_fits}
+use Rattle.star_admission.specs.Moments.{all_shares}
 
 abbrev pub AllFit : Parts → Tallies → Type 0
 AllFit parts m = (g : ℕ) → tallies_fit (group_at parts g).aggregates 0 (m g) ≡ true
@@ -179,21 +184,43 @@ ready_first w parts accepted = record {
   room = all_gained w parts;
 }
 
-pub all_fit : (w : World) (parts : Parts) → IsAccepted w parts → AllFit parts (whole_gain w parts)
-all_fit w parts accepted g =
-    tallies_fit_few (group_at parts g).aggregates 0 (whole_gain w parts g)
-    (ends_fitting w parts none_open at_first 1 parts.body (not_refused w parts accepted)
-    (λ h. nothing_fits (group_at parts h).aggregates 0 (no_tallies h) (λ k. (refl, refl))) g)
-    (λ a. few_enough (code_size parts.body)
-    (quote w.size parts) _ accepted.limits.instructions accepted.cheap
-    (few w parts at_first parts.body g a))
-
 -- few enough to be counted
 pub few_puts : (w : World) (parts : Parts) → IsAccepted w parts
     → (g a : ℕ) → (whole_gain w parts g a).many < 2 ^ 63
 few_puts w parts accepted g a =
     few_enough (code_size parts.body) (quote w.size parts) (whole_gain w parts g a).many
     accepted.limits.instructions accepted.cheap (few w parts at_first parts.body g a)
+
+-- how far below 0 a number lies
+negated : (n : ℕ) → unsigned_abs (neg_ℤ (pos n)) ≡ n
+negated zero = refl
+negated (suc n) = refl
+
+-- few numbers of 64 bits add up within 128
+few_fit : (ss : List Share) → AllNarrow ss → (tally_of ss).many < 2 ^ 63
+    → sum_fits (tally_of ss) ≡ true
+few_fit ss all h =
+    let t = tally_of ss in
+    let small = subst (Small (most_of ss * 2 ^ 63)) (sum_range_is ss) (sum_small ss all) in
+    let many = most_is ss in
+    let low = negated t.below in
+    and_from (nat_le t.below (2 ^ 127)) (nat_lt t.above (2 ^ 127))
+    (le-leb t.below (2 ^ 127) (omega (arith, small.0, low, many, h)))
+    (lt-ltb t.above (2 ^ 127) (omega (arith, small.1, many, h)))
+
+-- each number that is put has 64 bits
+pub all_narrow : (w : World) (parts : Parts) → IsAccepted w parts
+    → (g a : ℕ) → AllNarrow (all_shares w parts g a)
+all_narrow w parts accepted =
+    (end_fits w parts parts.body none_open 1 at_first (first_fits parts)
+    (not_refused w parts accepted)).each
+
+pub all_fit : (w : World) (parts : Parts) → IsAccepted w parts → AllFit parts (whole_gain w parts)
+all_fit w parts accepted g =
+    all_tallies_fit (group_at parts g).aggregates 0 (whole_gain w parts g)
+    (λ a. few_fit (all_shares w parts g a) (all_narrow w parts accepted g a)
+    (few_puts w parts accepted g a))
+    (few_puts w parts accepted g)
 
 pub nothing_tallied : AreTallied no_tallies empty_store
 nothing_tallied g a =

@@ -1,7 +1,7 @@
 -- An admissible program never traps and makes no more turns than its quote.
-use Rattle.std.proofs.Common.{◌≡◌, ℕ, ◌+◌, ◌*◌, ◌≤◌, ◌<◌, Bool, true, false, List, [], ◌∷◌, ◌++◌, Option, Some, None, refl, sym, ap, subst, arith}
+use Rattle.std.proofs.Common.{◌≡◌, ℕ, ◌+◌, ◌*◌, ◌≤◌, ◌<◌, Bool, true, false, Option, Some, None, refl, ap, arith}
 use Rattle.std.specs.Prelude.{nat_eq, if◌then◌else◌}
-use Rattle.std.proofs.lemmas.Bool.{eqb-true, or_parts}
+use Rattle.std.proofs.lemmas.Bool.{or_parts}
 use Rattle.std.proofs.Math.Nat.{mul-le-mul_right}
 use Rattle.star_schema.specs.declared.table.TableId.{TableId}
 use Rattle.star_program.specs.declared.op.Op.{Op}
@@ -11,17 +11,14 @@ use Rattle.star_program.specs.Code.{Code, Stop, Then, Each, code_size}
 use Rattle.star_program.specs.World.{World}
 use Rattle.star_program.specs.Faults.{group_at}
 use Rattle.star_common.proofs.Firsts.{or_none}
-use Rattle.star_admission.specs.Tallies.{Share, Shares}
 use Rattle.star_admission.proofs.Tally.{Tally, no_tally, plus, times, Tallies, plus_all, times_all, tally_of}
-use Rattle.star_admission.specs.Contexts.{Context, put_share, after_op, in_scan, after_scan, at_end}
+use Rattle.star_admission.specs.Contexts.{Context, after_op, in_scan, after_scan, at_end}
 use Rattle.star_admission.specs.Private.Forward.{code_puts_to, open_with, first_reason}
 use Rattle.star_admission.specs.Standing.{op_puts_to, at_place}
-use Rattle.star_admission.specs.Refusals.{source_reason, range_reason, op_reason, kind_reason, scan_reason}
+use Rattle.star_admission.specs.Refusals.{op_reason, scan_reason}
 use Rattle.star_admission.proofs.Gains.{put_tally, op_gain, op_gained, gain, scan_gained}
 use Rattle.star_admission.specs.Quote.{turns_met}
 use Rattle.star_admission.proofs.TallyOrder.{AtMost, at_most_refl, at_most_trans, at_most_plus, at_most_assoc, at_most_both, at_most_turn, at_most_times, at_most_once, at_most_times_both, at_most_nothing}
-use Rattle.star_admission.proofs.Tallied.{sums_fit}
-use Rattle.star_admission.proofs.Instructions.{sums_fit_64}
 
 -- ---- the quote
 
@@ -79,52 +76,6 @@ adds_nothing w parts x (Each t r body rest) g a e =
     (or_parts (code_puts_to g body) (code_puts_to g rest) e).0))
     (record { above = omega arith; below = omega arith; many = omega arith; each = tt }))
     (adds_nothing w parts _ rest g a (or_parts (code_puts_to g body) (code_puts_to g rest) e).1)
-
--- ---- sums that fit at each put fit at the end
-
-abbrev pub SumsFit : Parts → Shares → Type 0
-SumsFit parts y = (g : ℕ)
-    → sums_fit (group_at parts g).aggregates 0 (λ a. tally_of (y g a)) ≡ true
-
-op_fits : (w : World) (parts : Parts) (x : Context) (op : Op) → range_reason w parts x op ≡ None
-    → SumsFit parts x.so_far → SumsFit parts (after_op w parts x op).so_far
-op_fits w parts x (Put h ks vs) e fit g = go (nat_eq g h) refl
-  where
-    put_to : ℕ → Bool → ℕ → List Share
-    put_to g b a = (if b then put_share parts x h vs a ∷ [] else []) ++ x.so_far g a
-
-    go : (b : Bool) → nat_eq g h ≡ b
-        → sums_fit (group_at parts g).aggregates 0
-        (λ a. tally_of ((after_op w parts x (Put h ks vs)).so_far g a)) ≡ true
-    go true p = subst
-        (λ z. sums_fit (group_at parts z).aggregates 0
-        (λ a. tally_of ((after_op w parts x (Put h ks vs)).so_far z a)) ≡ true)
-        (sym (eqb-true g h p)) (sums_fit_64 w (group_at parts h).aggregates 0 _ e)
-    go false p = subst
-        (λ b. sums_fit (group_at parts g).aggregates 0 (λ a. tally_of (put_to g b a)) ≡ true)
-        (sym p) (fit g)
-op_fits w parts x _ e fit g = fit g
-
-pub ends_fitting : (w : World) (parts : Parts) (pending : ℕ → Bool) (x : Context) (at : ℕ)
-    (c : Code)
-    → first_reason w parts pending x at c ≡ None → SumsFit parts x.so_far
-    → SumsFit parts (at_end w parts x c).so_far
-ends_fitting w parts pending x at Stop e fit = fit
-ends_fitting w parts pending x at (Then op rest) e fit =
-    let p = or_none _ _ e in
-    let q = or_none (kind_reason parts x op) _ (at_place_none at _ p.0) in
-    let known = or_none (source_reason (open_with pending rest) x op)
-    (range_reason w parts x op) q.1 in
-    ends_fitting w parts pending (after_op w parts x op) (at + 1) rest p.1
-    (op_fits w parts x op known.1 fit)
-ends_fitting w parts pending x at (Each t r body rest) e fit =
-    let inner = in_scan w x t r in
-    let p = or_none _ _ e in
-    let q = or_none (first_reason w parts (open_with pending (Each t r body rest)) inner
-    (at + 1) body) _ p.1 in
-    ends_fitting w parts pending (after_scan x (at_end w parts inner body))
-    (at + 1 + code_size body) rest
-    q.1 (ends_fitting w parts (open_with pending (Each t r body rest)) inner (at + 1) body q.0 fit)
 
 -- ---- the run
 

@@ -1,6 +1,6 @@
 -- Tallies hold what numbers add up to.
-use Rattle.std.proofs.Common.{◌≡◌, ℕ, zero, suc, ◌+◌, ◌^◌, ◌≤◌, ◌<◌, Bool, true, false, List, [], ◌∷◌, length, Option, Some, None, refl, sym, ap, subst, ◌∙◌, arith}
-use Rattle.std.specs.Prelude.{ℤ, pos, negsuc, neg_ℤ, ◌+ℤ◌, nat_lt, nat_le, ◌&&◌, not, cond, unwrap_or}
+use Rattle.std.proofs.Common.{◌≡◌, ℕ, suc, ◌+◌, ◌^◌, ◌≤◌, ◌<◌, Bool, true, false, List, [], ◌∷◌, length, Option, Some, None, refl, sym, ap, subst, ◌∙◌, arith}
+use Rattle.std.specs.Prelude.{ℤ, pos, negsuc, ◌+ℤ◌, nat_lt, nat_le, ◌&&◌, not, cond, unwrap_or}
 use Rattle.std.specs.List.{list_any}
 use Rattle.std.specs.Int.{int_min, int_max}
 use Rattle.std.proofs.lemmas.Int.{ints, clamps}
@@ -10,13 +10,13 @@ use borrow.Author.Differences.{up, down, sum_is_lem}
 use Rattle.star_schema.specs.declared.group.Aggregate.{Aggregate}
 use Rattle.star_schema.specs.declared.group.Aggregate.TheVariants.{Sum, Count, Min, Max}
 use Rattle.star_schema.specs.Groups.{belongs, members, joined, joined_with, aggregate, numbers_for}
-use Rattle.star_interval.specs.Range.{Range, Holds, only, is_i64, fits_i64}
+use Rattle.star_interval.specs.Range.{Range, Holds, only, is_i128}
 use Rattle.star_interval.proofs.Ranges.{holds_within}
 use Rattle.star_program.specs.declared.key.KeyValue.{KeyValue}
 use Rattle.star_program.specs.Keys.{key_value_cmp}
 use Rattle.star_program.specs.Puts.{Update, leaves, some_leaves}
-use Rattle.star_admission.specs.Tallies.{Share, sum_range, aggregate_range, hull_with, read_range}
-use Rattle.star_admission.proofs.Tally.{Tally, once, joined_range, plus, tally_of, tally_sum, tally_range, sum_fits, sum_range_is, range_is}
+use Rattle.star_admission.specs.Tallies.{Share, aggregate_range, hull_with, read_range}
+use Rattle.star_admission.proofs.Tally.{Tally, once, joined_range, plus, tally_of, tally_sum, tally_range, sum_fits, range_is}
 use Rattle.star_admission.specs.Moments.{sum_of}
 use Rattle.star_admission.specs.Laws.{TotalLies}
 use Rattle.star_admission.proofs.Numbers.{holds_itself, holds_hull_left, holds_hull_right, fits_in, up_grows}
@@ -94,87 +94,43 @@ tallied_put t r v vs w h = record {
 
 -- ---- what fits
 
-abbrev aggregate_fits : Aggregate → Tally → Bool
-aggregate_fits Sum t = sum_fits t
-aggregate_fits _ t = true
-
--- each SUM, from the aggregate at a place on
-abbrev pub sums_fit : List Aggregate → ℕ → (ℕ → Tally) → Bool
-sums_fit [] a t = true
-sums_fit (g ∷ gs) a t = aggregate_fits g (t a) && sums_fit gs (suc a) t
-
 abbrev pub counted_fits : Aggregate → Tally → Bool
 counted_fits Sum t = sum_fits t
 counted_fits Count t = nat_lt t.many (2 ^ 63)
 counted_fits _ t = true
 
--- each SUM and each COUNT
+-- each SUM and each COUNT, from the aggregate at a place on
 abbrev pub tallies_fit : List Aggregate → ℕ → (ℕ → Tally) → Bool
 tallies_fit [] a t = true
 tallies_fit (g ∷ gs) a t = counted_fits g (t a) && tallies_fit gs (suc a) t
 
-tally_fit : (g : Aggregate) (t : Tally) → aggregate_fits g t ≡ true → t.many < 2 ^ 63
+tally_fit : (g : Aggregate) (t : Tally) → sum_fits t ≡ true → t.many < 2 ^ 63
     → counted_fits g t ≡ true
 tally_fit Sum t e h = e
 tally_fit Count t e h = lt-ltb t.many (2 ^ 63) h
 tally_fit Min t e h = refl
 tally_fit Max t e h = refl
 
--- where the sums fit, few numbers make the counts fit too
-pub tallies_fit_few : (gs : List Aggregate) (a : ℕ) (t : ℕ → Tally) → sums_fit gs a t ≡ true
-    → ((k : ℕ) → (t k).many < 2 ^ 63) → tallies_fit gs a t ≡ true
-tallies_fit_few [] a t e h = refl
-tallies_fit_few (g ∷ gs) a t e h =
-    let p = and_parts (aggregate_fits g (t a)) (sums_fit gs (suc a) t) e in
-    and_from (counted_fits g (t a)) (tallies_fit gs (suc a) t) (tally_fit g (t a) p.0 (h a))
-    (tallies_fit_few gs (suc a) t p.1 h)
+-- where all sums fit and the counts are few
+pub all_tallies_fit : (gs : List Aggregate) (a : ℕ) (t : ℕ → Tally)
+    → ((k : ℕ) → sum_fits (t k) ≡ true) → ((k : ℕ) → (t k).many < 2 ^ 63)
+    → tallies_fit gs a t ≡ true
+all_tallies_fit [] a t e h = refl
+all_tallies_fit (g ∷ gs) a t e h =
+    and_from (counted_fits g (t a)) (tallies_fit gs (suc a) t) (tally_fit g (t a) (e a) (h a))
+    (all_tallies_fit gs (suc a) t e h)
 
-pub sum_ends : (t : Tally) → sum_fits t ≡ true → (t.below ≤ 2 ^ 63) × (t.above < 2 ^ 63)
+pub sum_ends : (t : Tally) → sum_fits t ≡ true → (t.below ≤ 2 ^ 127) × (t.above < 2 ^ 127)
 sum_ends t e =
-    let p = and_parts (nat_le t.below (2 ^ 63)) (nat_lt t.above (2 ^ 63)) e in
-    (leb-true t.below (2 ^ 63) p.0, ltb-true t.above (2 ^ 63) p.1)
-
-low_fits : (n : ℕ) → is_i64 (neg_ℤ (pos n)) ≡ true → nat_le n (2 ^ 63) ≡ true
-unfolding is_i64
-low_fits zero e = le-leb 0 (2 ^ 63) (omega arith)
-low_fits (suc n) e = le-leb (suc n) (2 ^ 63) (ltb-true n (2 ^ 63) e)
-
-high_fits : (n : ℕ) → is_i64 (pos n) ≡ true → nat_lt n (2 ^ 63) ≡ true
-unfolding is_i64
-high_fits n e = e
-
--- where the range of what puts give fits 64 bits
-pub range_fits : (ss : List Share) → fits_i64 (sum_range ss) ≡ true
-    → sum_fits (tally_of ss) ≡ true
-range_fits ss e =
-    let t = tally_of ss in
-    let fits : fits_i64 (tally_sum t) ≡ true =
-    subst (λ r. fits_i64 r ≡ true) (sum_range_is ss) e in
-    let p = and_parts (is_i64 (neg_ℤ (pos t.below))) (is_i64 (pos t.above)) fits in
-    and_from (nat_le t.below (2 ^ 63)) (nat_lt t.above (2 ^ 63)) (low_fits t.below p.0)
-    (high_fits t.above p.1)
+    let p = and_parts (nat_le t.below (2 ^ 127)) (nat_lt t.above (2 ^ 127)) e in
+    (leb-true t.below (2 ^ 127) p.0, ltb-true t.above (2 ^ 127) p.1)
 
 sum_fits_less : (t u : Tally) → AtMost t u → sum_fits u ≡ true → sum_fits t ≡ true
 sum_fits_less t u p e =
     let q = sum_ends u e in
-    and_from (nat_le t.below (2 ^ 63)) (nat_lt t.above (2 ^ 63))
-    (le-leb t.below (2 ^ 63) (omega (arith, q.0)))
-    (lt-ltb t.above (2 ^ 63) (omega (arith, q.1)))
-
-fits_less : (g : Aggregate) (t u : Tally) → AtMost t u → aggregate_fits g u ≡ true
-    → aggregate_fits g t ≡ true
-fits_less Sum t u p e = sum_fits_less t u p e
-fits_less Count t u p e = refl
-fits_less Min t u p e = refl
-fits_less Max t u p e = refl
-
-pub sums_fit_less : (gs : List Aggregate) (a : ℕ) (t u : ℕ → Tally) → ((k : ℕ) → AtMost (t k) (u k))
-    → sums_fit gs a u ≡ true → sums_fit gs a t ≡ true
-sums_fit_less [] a t u p e = refl
-sums_fit_less (g ∷ gs) a t u p e =
-    let q = and_parts (aggregate_fits g (u a)) (sums_fit gs (suc a) u) e in
-    and_from (aggregate_fits g (t a)) (sums_fit gs (suc a) t) (fits_less g (t a) (u a) (p a) q.0)
-    (sums_fit_less gs (suc a) t u p q.1)
+    and_from (nat_le t.below (2 ^ 127)) (nat_lt t.above (2 ^ 127))
+    (le-leb t.below (2 ^ 127) (omega (arith, q.0)))
+    (lt-ltb t.above (2 ^ 127) (omega (arith, q.1)))
 
 counted_less : (g : Aggregate) (t u : Tally) → AtMost t u → counted_fits g u ≡ true
     → counted_fits g t ≡ true
@@ -191,27 +147,15 @@ tallies_fit_less (g ∷ gs) a t u p e =
     and_from (counted_fits g (t a)) (tallies_fit gs (suc a) t)
     (counted_less g (t a) (u a) (p a) q.0) (tallies_fit_less gs (suc a) t u p q.1)
 
-pub nothing_fits : (gs : List Aggregate) (a : ℕ) (t : ℕ → Tally)
-    → ((k : ℕ) → ((t k).below ≡ 0) × ((t k).above ≡ 0)) → sums_fit gs a t ≡ true
-nothing_fits [] a t e = refl
-nothing_fits (Sum ∷ gs) a t e = and_from (sum_fits (t a)) (sums_fit gs (suc a) t)
-    (and_from (nat_le (t a).below (2 ^ 63)) (nat_lt (t a).above (2 ^ 63))
-    (le-leb (t a).below (2 ^ 63) (omega (arith, (e a).0)))
-    (lt-ltb (t a).above (2 ^ 63) (omega (arith, (e a).1))))
-    (nothing_fits gs (suc a) t e)
-nothing_fits (Count ∷ gs) a t e = nothing_fits gs (suc a) t e
-nothing_fits (Min ∷ gs) a t e = nothing_fits gs (suc a) t e
-nothing_fits (Max ∷ gs) a t e = nothing_fits gs (suc a) t e
-
 -- ---- aggregates
 
 joined_sum : (v : ℤ) (vs : List ℤ) → joined (λ x y. x +ℤ y) (v ∷ vs) ≡ Some (sum_of (v ∷ vs))
 joined_sum v [] = let e : v ≡ v +ℤ pos 0 = omega (arith, ints) in ap Some e
 joined_sum v (w ∷ ws) = ap (joined_with (λ x y. x +ℤ y) v) (joined_sum w ws)
 
-sum_fits_64 : (t : Tally) (vs : List ℤ) → IsTallied t vs → sum_fits t ≡ true
-    → is_i64 (sum_of vs) ≡ true
-sum_fits_64 t vs w e =
+sum_fits_128 : (t : Tally) (vs : List ℤ) → IsTallied t vs → sum_fits t ≡ true
+    → is_i128 (sum_of vs) ≡ true
+sum_fits_128 t vs w e =
     let q = sum_ends t e in
     let s = sum_between vs in
     fits_in (sum_of vs) (omega (arith, q.1, s.0, w.above)) (omega (arith, q.0, s.1, w.below))
@@ -219,7 +163,7 @@ sum_fits_64 t vs w e =
 stays : (g : Aggregate) (t : Tally) (vs : List ℤ) → IsTallied t vs → counted_fits g t ≡ true
     → leaves g (aggregate g vs) ≡ false
 stays Sum t [] w e = refl
-stays Sum t (v ∷ vs) w e = ap (leaves Sum) (joined_sum v vs) ∙ ap not (sum_fits_64 t (v ∷ vs) w e)
+stays Sum t (v ∷ vs) w e = ap (leaves Sum) (joined_sum v vs) ∙ ap not (sum_fits_128 t (v ∷ vs) w e)
 stays Count t vs w e =
     ap not (count_small (length vs) (omega (arith, w.many, ltb-true t.many (2 ^ 63) e)))
 stays Min t vs w e = refl
@@ -278,7 +222,7 @@ tallied_members t a m us w =
       each = p.each w.each;
     }
 
--- no SUM and no COUNT of a group leaves 64 bits where the tallies fit
+-- no SUM and no COUNT of a group leaves its bits where the tallies fit
 pub no_overflow : (gs : List Aggregate) (t : ℕ → Tally) (us : List Update)
     (ms : List (List (Option KeyValue))) → ((k : ℕ) → IsTallied (t k) (numbers_for k us))
     → tallies_fit gs 0 t ≡ true

@@ -81,9 +81,9 @@ tally_range Count t = Some (record { low = pos 0; high = pos t.many })
 tally_range Min t = t.each
 tally_range Max t = t.each
 
--- a SUM lies in 64 bits
+-- a SUM lies in 128 bits
 abbrev pub sum_fits : Tally → Bool
-sum_fits t = nat_le t.below (2 ^ 63) && nat_lt t.above (2 ^ 63)
+sum_fits t = nat_le t.below (2 ^ 127) && nat_lt t.above (2 ^ 127)
 
 -- ---- it is that of the puts
 

@@ -16,9 +16,9 @@ use Rattle.star_program.specs.World.{World}
 use Rattle.star_program.specs.Values.{with_entry}
 use Rattle.star_program.specs.Faults.{target_of}
 use Rattle.star_admission.specs.Ranges.{Table}
-use Rattle.star_admission.specs.Contexts.{Context, at_first, op_shares, result_known, learned, is_target, after_op, in_scan, after_scan, at_end}
+use Rattle.star_admission.specs.Contexts.{Context, at_first, op_key_shares, op_shares, result_known, learned, is_target, after_op, in_scan, after_scan, at_end}
 use Rattle.star_admission.specs.Standing.{Enclosing, Item, Act, Scan, End, Standing, standing, has_scan, instructions_of}
-use Rattle.star_admission.specs.Told.{is_instruction, writes_to, result_of, shares_of, shares_together, rows_together, scope_of, last_writer, IsTold}
+use Rattle.star_admission.specs.Told.{is_instruction, item_key_shares, key_shares_together, writes_to, result_of, shares_of, shares_together, rows_together, scope_of, last_writer, IsTold}
 use Rattle.star_admission.proofs.Scopes.{AreBelow, below_more, none_above, all_there, not_all, EachOf, each_both, each_so, scoped_in, last_or_both, last_then, last_past, last_within}
 
 -- ---- from context to context
@@ -31,6 +31,7 @@ pub record Tells (w : World) (parts : Parts) (round : List Enclosing) (x : Conte
   pub written : (r : ℕ) → x.written r ≡ list_any (writes_to r) earlier
   pub known : (r : ℕ) → x.known r ≡ option_map (result_of w parts) (last_writer round r earlier)
   pub so_far : (g place : ℕ) → x.so_far g place ≡ shares_together parts earlier g place
+  pub keys_so_far : (g place : ℕ) → x.keys_so_far g place ≡ key_shares_together earlier g place
   pub numbered : EachOf (λ i. i.number ≤ at) earlier
   pub round_below : AreBelow at round
   pub scopes_below : EachOf (λ i. AreBelow at (scope_of i)) earlier
@@ -45,6 +46,12 @@ one_more at earlier i e h =
 numbered_more : (at : ℕ) (earlier : List Standing) (i : Standing) → i.number ≤ at + 1 → EachOf (λ j. j.number ≤ at) earlier
     → EachOf (λ j. j.number ≤ at + 1) (earlier ++ i ∷ [])
 numbered_more at earlier i here h = each_both _ earlier (i ∷ []) (each_so _ _ earlier (λ j b. omega (arith, b)) h) (here, tt)
+
+keys_more : (earlier : List Standing) (i : Standing) (g place : ℕ)
+    → key_shares_together (earlier ++ i ∷ []) g place
+    ≡ item_key_shares i.context i.item g place ++ key_shares_together earlier g place
+keys_more earlier i g place =
+    fold-append (λ so_far j. item_key_shares j.context j.item g place ++ so_far) [] earlier (i ∷ [])
 
 -- a register of the context after an instruction that writes one
 entry_or_kept : (w : World) (parts : Parts) (known : Table) (t r : ℕ) (i : Standing) (last : Option Standing)
@@ -68,6 +75,7 @@ tells_then w parts round x at earlier op told = record {
       ∙ ap (λ b. option_map (result_of w parts) (if is_target (target_of op) r && b then Some i else last_writer round r earlier)) (sym (all_there round))
       ∙ ap (option_map (result_of w parts)) (sym (last_then round r earlier i));
   so_far = λ g a. ap (λ t. op_shares parts x op g a ++ t) (told.so_far g a) ∙ sym (fold-append (λ so_far j. shares_of parts j g a ++ so_far) [] earlier (i ∷ []));
+  keys_so_far = λ g a. ap (λ t. op_key_shares x op g a ++ t) (told.keys_so_far g a) ∙ sym (keys_more earlier i g a);
   numbered = numbered_more at earlier i (omega arith) told.numbered;
   round_below = below_more at (at + 1) round (omega arith) told.round_below;
   scopes_below = each_both _ earlier (i ∷ [])
@@ -95,6 +103,7 @@ tells_in w parts round x at earlier table r told = record {
       ∙ ap (λ b. option_map (result_of w parts) (if nat_eq r q && b then Some i else last_writer (new ∷ round) q earlier)) (sym (all_there (new ∷ round)))
       ∙ ap (option_map (result_of w parts)) (sym (last_then (new ∷ round) q earlier i));
   so_far = λ g a. told.so_far g a ∙ sym (fold-append (λ so_far j. shares_of parts j g a ++ so_far) [] earlier (i ∷ []));
+  keys_so_far = λ g a. told.keys_so_far g a ∙ sym (keys_more earlier i g a);
   numbered = numbered_more at earlier i (omega arith) told.numbered;
   round_below = (omega arith, below_more at (at + 1) round (omega arith) told.round_below);
   scopes_below = each_both _ earlier (i ∷ [])
@@ -135,6 +144,7 @@ tells_after w parts round x at earlier table r body told ended =
           ∙ sym (last_past round q so_far inside
           (each_so _ _ inside (λ i h. not_all round (scope_of i) at gone h) (scoped_in w parts body (new ∷ round) inner (at + 1) at here))));
       so_far = ended.so_far;
+      keys_so_far = ended.keys_so_far;
       numbered = ended.numbered;
       round_below = below_more at (at + 1 + code_size body) round (omega arith) told.round_below;
       scopes_below = ended.scopes_below;
@@ -150,6 +160,7 @@ tells_stop w parts round x at earlier told = record {
   written = λ r. told.written r ∙ sym (or-false (list_any (writes_to r) earlier)) ∙ sym (list_any-append (writes_to r) earlier (i ∷ []));
   known = λ r. told.known r ∙ ap (option_map (result_of w parts)) (sym (last_then round r earlier i));
   so_far = λ g a. told.so_far g a ∙ sym (fold-append (λ so_far j. shares_of parts j g a ++ so_far) [] earlier (i ∷ []));
+  keys_so_far = λ g a. told.keys_so_far g a ∙ sym (keys_more earlier i g a);
   numbered = each_both _ earlier (i ∷ []) told.numbered (omega arith, tt);
   round_below = told.round_below;
   scopes_below = each_both _ earlier (i ∷ []) told.scopes_below (told.round_below, tt);
@@ -181,6 +192,7 @@ told_of w parts round x at earlier item told = record {
   written = told.written;
   known = told.known;
   so_far = told.so_far;
+  keys_so_far = told.keys_so_far;
 }
 
 -- each instruction of some code is told, and so is what stands behind its end
@@ -228,6 +240,7 @@ nothing_told w parts = record {
   written = λ r. refl;
   known = λ r. refl;
   so_far = λ g a. refl;
+  keys_so_far = λ g a. refl;
   numbered = tt;
   round_below = tt;
   scopes_below = tt;

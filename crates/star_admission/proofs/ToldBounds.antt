@@ -1,12 +1,10 @@
 -- Every bound that a refusal tells fits 128 bits.
-use Rattle.std.proofs.Common.{◌≡◌, ℕ, suc, ◌+◌, ◌*◌, ◌^◌, ◌≤◌, Bool, true, false, List, [], ◌∷◌, ◌++◌, Option, Some, None, refl, sym, ap, subst, ◌∙◌, arith, lit<, zero-add, ◌⊎◌, inl, inr, ⊎_elim}
-use Rattle.std.specs.Prelude.{ℤ, pos, ◌+ℤ◌, nat_eq, nat_le, not, slice_index_or, unsigned_abs, if◌then◌else◌}
+use Rattle.std.proofs.Common.{◌≡◌, ℕ, ◌+◌, ◌*◌, ◌^◌, ◌≤◌, Bool, true, false, List, [], ◌∷◌, ◌++◌, Option, Some, None, refl, ap, subst, ◌∙◌, arith, lit<, ◌⊎◌, inl, inr, ⊎_elim}
+use Rattle.std.specs.Prelude.{pos, nat_eq, nat_le, not, if◌then◌else◌}
 use Rattle.std.specs.Option.{option_map, option_or}
-use Rattle.std.proofs.lemmas.Bool.{eq-eqb, leb-true}
+use Rattle.std.proofs.lemmas.Bool.{leb-true}
 use Rattle.std.proofs.Math.Nat.{mul-le-mul_right}
 use Rattle.star_schema.specs.declared.column.ColumnId.{ColumnId}
-use Rattle.star_schema.specs.declared.group.Aggregate.{Aggregate}
-use Rattle.star_schema.specs.declared.group.Aggregate.TheVariants.{Sum, Count, Min, Max}
 use Rattle.star_interval.specs.Range.{Range, FitsI64, FitsI128, fits_i64, only}
 use Rattle.star_program.specs.declared.op.Op.{Op}
 use Rattle.star_program.specs.declared.op.Op.TheVariants.{Assign, Keep, Put}
@@ -14,7 +12,6 @@ use Rattle.star_program.specs.declared.op.Operation.TheVariants.{Const, Edge, Lo
 use Rattle.star_program.specs.declared.program.Parts.{Parts}
 use Rattle.star_program.specs.Code.{Code, Stop, Then, Each, code_size}
 use Rattle.star_program.specs.declared.fault.Fault.{Fault}
-use Rattle.star_program.specs.Faults.{group_at}
 use Rattle.star_program.specs.World.{World, is_text}
 use Rattle.star_admission.specs.Bounds.{NamesI64, AllNameI64, AreI64}
 use Rattle.star_common.specs.First.{first_answer}
@@ -27,14 +24,14 @@ use Rattle.star_admission.specs.Ranges.{Known, KnownNumber, KnownText, KnownPlac
 use Rattle.star_admission.specs.declared.reason.Reached.{Reached}
 use Rattle.star_admission.specs.declared.reason.Reason.{Reason}
 use Rattle.star_admission.specs.declared.reason.Reason.TheVariants.{Faulty, NotAForeignKey, OpenGroup, Overflow}
-use Rattle.star_admission.specs.Refusals.{refuses, overflow_of, sum_overflow, sums_overflow, kind_reason, source_reason, range_reason, op_reason, scan_reason}
+use Rattle.star_admission.specs.Refusals.{refuses, overflow_of, kind_reason, source_reason, range_reason, op_reason, scan_reason}
 use Rattle.star_admission.specs.Private.Forward.{open_with, none_open, first_reason}
 use Rattle.star_admission.specs.Standing.{instructions_of, at_place, reason_of}
-use Rattle.star_admission.specs.Tallies.{Share, sum_range, most_of, widened}
+use Rattle.star_admission.specs.Tallies.{most_of}
 use Rattle.star_admission.proofs.Sound.{at_place_none}
 use Rattle.star_admission.proofs.Forward.{first_standing}
-use Rattle.star_admission.proofs.Sizes.{sum_abs, corner_small, widened_small, multiple_small, small_fits}
-use Rattle.star_admission.proofs.NarrowRanges.{Narrow, Fits, share_narrow, Wide, IsWide, Counts, result_wide}
+use Rattle.star_admission.proofs.Sizes.{small_fits}
+use Rattle.star_admission.proofs.NarrowRanges.{Fits, Wide, IsWide, Counts, result_wide}
 use Rattle.star_admission.proofs.NarrowCode.{op_fits, in_fits, past_fits, end_fits, first_fits}
 
 -- ---- the range that a reason tells
@@ -64,74 +61,11 @@ either_first : {A : Type 0} (a b : Option A) (v : A) → option_or a b ≡ Some 
 either_first None b v e = inr (refl, e)
 either_first (Some x) b v e = inl e
 
--- a SUM of a put
-sums_told : (w : World) (gs : List Aggregate) (from : ℕ) (ss : ℕ → List Share) (r : Range)
-    (columns : List Reached)
-    → ((a : ℕ) → slice_index_or gs a Count ≡ Sum → Wide (sum_range (ss (from + a))))
-    → sums_overflow w gs from ss ≡ Some (Overflow r.low r.high columns) → Wide r
-sums_told w [] from ss r columns wide e = absurd (cc)
-sums_told w (g ∷ gs) from ss r columns wide e =
-    ⊎_elim (λ h. one g refl h)
-    (λ h. sums_told w gs (suc from) ss r columns
-    (λ a same. subst (λ n. Wide (sum_range (ss n))) (past from a) (wide (suc a) same)) h.1)
-    (either_first (sum_overflow w g (ss from)) (sums_overflow w gs (suc from) ss)
-    (Overflow r.low r.high columns) e)
-  where
-    past : (from a : ℕ) → from + suc a ≡ suc from + a
-    past from a = omega arith
-
-    here : (from : ℕ) → from + 0 ≡ from
-    here from = omega arith
-
-    one : (q : Aggregate) → g ≡ q → sum_overflow w q (ss from) ≡ Some (Overflow r.low r.high columns) → Wide r
-    one Sum same h =
-        subst Wide (ap range_in (refused_as (not (fits_i64 (sum_range (ss from)))) _ _ h))
-        (subst (λ n. Wide (sum_range (ss n))) (here from) (wide 0 same))
-    one Count same h = absurd (cc)
-    one Min same h = absurd (cc)
-    one Max same h = absurd (cc)
-
--- one share more
-sum_more : (s : Share) (ss : List Share) → s.met ≤ 1 + 10 ^ 15 → Narrow s.range
-    → Narrow (sum_range ss) → Wide (sum_range (s ∷ ss))
-sum_more s ss met p q =
-    corner_small ◌+ℤ◌ (2 ^ 63) (s.met * 2 ^ 63) (2 ^ 126) within (sum_range ss) _ q
-    (multiple_small s.met (2 ^ 63) (widened s.range) (widened_small (2 ^ 63) s.range p))
-  where
-    within : (x y : ℤ) → unsigned_abs x ≤ 2 ^ 63 → unsigned_abs y ≤ s.met * 2 ^ 63
-        → unsigned_abs (x +ℤ y) ≤ 2 ^ 126
-    within x y a b =
-        let h = sum_abs x y (x +ℤ y) refl in
-        let room : s.met * 2 ^ 63 ≤ (1 + 10 ^ 15) * 2 ^ 63 = mul-le-mul_right (2 ^ 63) met in
-        omega (arith, h, a, b, room)
-
-put_told : (w : World) (parts : Parts) (x : Context) (g : ℕ) (ks vs : List ℕ) (r : Range)
-    (columns : List Reached) → Fits parts x → Counts x
-    → range_reason w parts x (Put g ks vs) ≡ Some (Overflow r.low r.high columns) → Wide r
-put_told w parts x g ks vs r columns fits counts e =
-    sums_told w (group_at parts g).aggregates 0 ((after_op w parts x (Put g ks vs)).so_far g) r
-    columns wide e
-  where
-    here : (a : ℕ) (b : Bool) → b ≡ true → Wide (sum_range (put_share parts x g vs a ∷ x.so_far g a))
-        → Wide (sum_range ((if b then put_share parts x g vs a ∷ [] else []) ++ x.so_far g a))
-    here a true e p = p
-    here a false e p = absurd (cc)
-
-    wide : (a : ℕ) → slice_index_or (group_at parts g).aggregates a Count ≡ Sum
-        → Wide (sum_range ((after_op w parts x (Put g ks vs)).so_far g (0 + a)))
-    wide a same =
-        subst (λ n. Wide (sum_range ((after_op w parts x (Put g ks vs)).so_far g n)))
-        (sym (zero-add a))
-        (here a (nat_eq g g) (eq-eqb g g refl)
-        (sum_more (put_share parts x g vs a) (x.so_far g a) counts.met
-        (share_narrow parts x g vs a fits) (fits.sums g a same)))
-
 range_told : (w : World) (parts : Parts) (x : Context) (op : Op) (r : Range)
     (columns : List Reached) → Fits parts x → Counts x → NamesI64 op
     → ((c : ColumnId) → is_text c ≡ false → FitsI64 (w.bounds c))
     → range_reason w parts x op ≡ Some (Overflow r.low r.high columns) → Wide r
-range_told w parts x (Put g ks vs) r columns fits counts named bounds e =
-    put_told w parts x g ks vs r columns fits counts e
+range_told w parts x (Put g ks vs) r columns fits counts named bounds e = absurd (cc)
 range_told w parts x (Assign t (Read g a n)) r columns fits counts named bounds e =
     subst Wide (ap range_in (refused_as _ _ _ e))
     (result_wide w parts x t (Read g a n) fits counts named bounds)

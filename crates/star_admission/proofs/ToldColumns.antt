@@ -8,7 +8,7 @@ use Rattle.star_schema.specs.declared.table.TableId.{TableId}
 use Rattle.star_schema.specs.declared.column.ColumnId.{ColumnId}
 use Rattle.star_schema.specs.declared.column.TheConstants.{COLUMNS}
 use Rattle.star_schema.specs.declared.group.Aggregate.{Aggregate}
-use Rattle.star_schema.specs.declared.group.Aggregate.TheVariants.{Sum, Count, Min, Max}
+use Rattle.star_schema.specs.declared.group.Aggregate.TheVariants.{Count}
 use Rattle.star_schema.proofs.Same.{column_same}
 use Rattle.star_interval.specs.Range.{FitsI64, fits_i64}
 use Rattle.star_program.specs.declared.fault.Fault.{Fault}
@@ -31,9 +31,9 @@ use Rattle.star_admission.specs.Ranges.{Known, KnownNumber, KnownText, KnownPlac
 use Rattle.star_admission.specs.declared.reason.Reached.{Reached}
 use Rattle.star_admission.specs.declared.reason.Reason.{Reason}
 use Rattle.star_admission.specs.declared.reason.Reason.TheVariants.{Faulty, NotAForeignKey, OpenGroup, Overflow}
-use Rattle.star_admission.specs.Refusals.{with_bounds, refuses, reached, overflow_of, sum_overflow, sums_overflow, kind_reason, source_reason, range_reason, op_reason, scan_reason}
+use Rattle.star_admission.specs.Refusals.{with_bounds, refuses, reached, overflow_of, kind_reason, source_reason, range_reason, op_reason, scan_reason}
 use Rattle.star_admission.specs.Standing.{at_place}
-use Rattle.star_admission.specs.Tallies.{Share, reach_of}
+use Rattle.star_admission.specs.Tallies.{reach_of}
 use Rattle.star_admission.proofs.Forward.{first_standing}
 use Rattle.star_admission.proofs.ToldBounds.{refused_instruction}
 
@@ -234,24 +234,8 @@ module _ (w : World) (parts : Parts)
   overflow_found (KnownRow t) h = tt
   overflow_found KnownFlag h = tt
 
-  sum_found : (g : Aggregate) (ss : List Share) → AreNumbers (reach_of ss)
-      → Found (sum_overflow w g ss)
-  sum_found Sum ss h = refused_found _ (Overflow _ _ (reached w (reach_of ss))) (reached_fit (reach_of ss) h)
-  sum_found Count ss h = tt
-  sum_found Min ss h = tt
-  sum_found Max ss h = tt
-
-  sums_found : (gs : List Aggregate) (place : ℕ) (shares : ℕ → List Share)
-      → ((a : ℕ) → AreNumbers (reach_of (shares a))) → Found (sums_overflow w gs place shares)
-  sums_found [] place shares h = tt
-  sums_found (g ∷ gs) place shares h =
-      either_of Tells (sum_overflow w g (shares place)) (sums_overflow w gs (suc place) shares)
-      (sum_found g (shares place) (h place)) (sums_found gs (suc place) shares h)
-
   range_found : (x : Context) (op : Op) → Reaches x → Found (range_reason w parts x op)
-  range_found x (Put g ks vs) h =
-      sums_found (group_at parts g).aggregates 0 ((after_op w parts x (Put g ks vs)).so_far g)
-      ((after_reaches w parts x (Put g ks vs) h).puts g)
+  range_found x (Put g ks vs) h = tt
   range_found x (Assign t (Read g a n)) h =
       refused_found _ (Overflow _ _ (reached w (reach_of (x.so_far g a))))
       (reached_fit (reach_of (x.so_far g a)) (h.puts g a))

@@ -5,7 +5,7 @@ use Rattle.star_schema.specs.declared.column.ColumnId.TheVariants.{DDatekey, DYe
 use Rattle.star_schema.specs.declared.group.Aggregate.TheVariants.{Sum}
 use Rattle.star_schema.specs.Schema.{column_of}
 use Rattle.star_common.specs.First.{first_answer}
-use Rattle.star_interval.specs.Range.{only, is_i64}
+use Rattle.star_interval.specs.Range.{only, is_i64, is_i128}
 use Rattle.star_program.specs.declared.op.Op.{Op}
 use Rattle.star_program.specs.declared.program.Parts.{Parts}
 use Rattle.star_program.specs.Code.{Stop, Each}
@@ -44,7 +44,7 @@ years_accepted = refl
 
 -- one visit, one look-up, one update, of 7
 years_run : EndsWith (run_of sevens (summing years 3)) (λ s. (s.visits ≡ 1) × (s.lookups ≡ 1) × (s.updates ≡ 1) × (total (plain (Sum ∷ [])) 0 (s.updates_of 0) ≡ Some (pos 7)))
-unfolding column_of is_i64
+unfolding column_of is_i64 is_i128
 years_run = (refl, refl, refl, refl)
 
 -- a date's number finds no customer

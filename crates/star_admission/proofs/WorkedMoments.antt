@@ -1,6 +1,6 @@
 -- What a moment asks of registers and of what comes next, and what it refuses, by computation.
 use Rattle.std.proofs.Common.{◌≡◌, ℕ, zero, suc, ◌^◌, ◌-◌, ◌<◌, true, false, [], ◌∷◌, Some, None, refl, arith}
-use Rattle.std.specs.Prelude.{pos}
+use Rattle.std.specs.Prelude.{ℤ, pos}
 use Rattle.std.proofs.lemmas.Int.{ints}
 use Rattle.star_schema.specs.declared.table.TableId.TheVariants.{Date, Lineorder}
 use Rattle.star_schema.specs.declared.column.ColumnId.TheVariants.{CRegion, CNation, LoQuantity}
@@ -155,15 +155,16 @@ some_sum = refl
 null_lies : TotalLies (Some (only (pos 0))) None
 null_lies = tt
 
--- twice the greatest number leaves 64 bits
-abbrev two_puts : Parts
-two_puts = over (plain (Sum ∷ []) ∷ [])
-    (acts (const 0 (pos 9223372036854775807) ∷ put 0 [] (0 ∷ []) ∷ put 0 [] (0 ∷ []) ∷ []) Stop)
+-- two puts of a number
+abbrev two_puts : ℤ → Parts
+two_puts z = over (plain (Sum ∷ []) ∷ [])
+    (acts (const 0 z ∷ put 0 [] (0 ∷ []) ∷ put 0 [] (0 ∷ []) ∷ []) Stop)
 
-no_greater_sum : SumsFit sample two_puts → ⊥
+-- twice the greatest number of 128 bits leaves them
+no_greater_sum : SumsFit sample (two_puts (pos 170141183460469231731687303715884105727)) → ⊥
 no_greater_sum h = let p = (h.sums 0 0 (omega arith) refl).1.sfits in omega (arith, p)
 
--- and so does a count of so many rows
+-- and a count of so many rows leaves 64
 abbrev vast : World
 vast = record sample { size = λ t. 9223372036854775808 }
 
@@ -172,7 +173,7 @@ no_greater_count : SumsFit vast
 no_greater_count h = let p = h.counts 0 0 in omega (arith, p)
 
 -- no turn begins where none is quoted
-no_more_turns : (known : Table) (regs : Registers) → IsMoment sample two_puts no_shares known regs
+no_more_turns : (known : Table) (regs : Registers) → IsMoment sample (two_puts (pos 1)) no_shares known regs
     (record empty_store { visits = 1 }) → ⊥
 no_more_turns known regs h = let p = h.visits in omega (arith, p)
 

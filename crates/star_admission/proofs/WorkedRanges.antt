@@ -26,7 +26,7 @@ great_bounds LoRevenue = only (pos 5000000000)
 great_bounds LoTax = record { low = neg_ℤ (pos 3000000000000000000); high = pos 4000000000000000000 }
 great_bounds _ = only (pos 0)
 
--- prices and revenues whose product leaves 64 bits
+-- prices and revenues whose product leaves 64 bits, and taxes whose sums do
 abbrev great : World
 great = record sample { bounds = great_bounds }
 
@@ -49,46 +49,59 @@ reached_in_order : refusal great (Sum ∷ []) (Each Lineorder 0 (acts (load 1 Lo
 unfolding column_of is_i64 reached first_answer
 reached_in_order = refl
 
--- a SUM reaches the columns of all that was put for it, and of nothing else
+-- a SUM that is read reaches the columns of all that was put for it, and of nothing else
 sum_reaches : refusal great (Sum ∷ Count ∷ Sum ∷ [])
-    (Each Lineorder 0 (acts (load 1 LoQuantity 0 ∷ load 2 LoRevenue 0 ∷ const 3 (pos 3000000000000000000) ∷ put 0 [] (1 ∷ 2 ∷ []) ∷ put 0 [] (1 ∷ 3 ∷ []) ∷ []) Stop) Stop)
-    ≡ Some (Refused (6, Overflow (pos 0) (pos 15000000025000000000) (between LoRevenue (pos 5000000000) (pos 5000000000) ∷ [])))
+    (Each Lineorder 0 (acts (load 1 LoQuantity 0 ∷ load 2 LoRevenue 0 ∷ const 3 (pos 3000000000000000000) ∷ put 0 [] (1 ∷ 2 ∷ []) ∷ put 0 [] (1 ∷ 3 ∷ []) ∷ []) Stop) (acts (read 4 0 2 (pos 0) ∷ []) Stop))
+    ≡ Some (Refused (7, Overflow (pos 0) (pos 15000000025000000000) (between LoRevenue (pos 5000000000) (pos 5000000000) ∷ [])))
 unfolding column_of is_i64 reached first_answer
 sum_reaches = refl
 
 -- ---- what adds up
 
 -- the turns of a scan in a scan are those of both together
-nested_sum : refusal sample (Sum ∷ []) (Each Date 0 (Each Supplier 1 (acts (const 2 (pos 2000000000000000000) ∷ put 0 [] (2 ∷ []) ∷ []) Stop) Stop) Stop)
-    ≡ Some (Refused (4, leaves (pos 0) (pos 12000000000000000000)))
+nested_sum : refusal sample (Sum ∷ []) (Each Date 0 (Each Supplier 1 (acts (const 2 (pos 2000000000000000000) ∷ put 0 [] (2 ∷ []) ∷ []) Stop) Stop) (acts (read 3 0 0 (pos 0) ∷ []) Stop))
+    ≡ Some (Refused (5, leaves (pos 0) (pos 12000000000000000000)))
 unfolding is_i64 reached first_answer
 nested_sum = refl
 
 -- negative numbers up to 0, since fewer may be put
-negative_sum : refusal sample (Sum ∷ []) (Each Supplier 0 (acts (const 1 (neg_ℤ (pos 5000000000000000000)) ∷ put 0 [] (1 ∷ []) ∷ []) Stop) Stop)
-    ≡ Some (Refused (3, leaves (neg_ℤ (pos 10000000000000000000)) (pos 0)))
+negative_sum : refusal sample (Sum ∷ []) (Each Supplier 0 (acts (const 1 (neg_ℤ (pos 5000000000000000000)) ∷ put 0 [] (1 ∷ []) ∷ []) Stop) (acts (read 2 0 0 (pos 0) ∷ []) Stop))
+    ≡ Some (Refused (4, leaves (neg_ℤ (pos 10000000000000000000)) (pos 0)))
 unfolding is_i64 reached first_answer
 negative_sum = refl
 
 -- numbers of both signs down from 0 and up from it
-sum_both_ways : refusal great (Sum ∷ []) (Each Lineorder 0 (acts (load 1 LoTax 0 ∷ put 0 [] (1 ∷ []) ∷ []) Stop) Stop)
+sum_both_ways : refusal great (Sum ∷ []) (Each Lineorder 0 (acts (load 1 LoTax 0 ∷ put 0 [] (1 ∷ []) ∷ []) Stop) (acts (read 2 0 0 (pos 0) ∷ []) Stop))
     ≡ Some (Refused (
-      3,
+      4,
       Overflow (neg_ℤ (pos 15000000000000000000)) (pos 20000000000000000000)
           (between LoTax (neg_ℤ (pos 3000000000000000000)) (pos 4000000000000000000) ∷ []),
     ))
 unfolding column_of is_i64 reached first_answer
 sum_both_ways = refl
 
--- the first of two sums that leave 64 bits at one put
-first_sum : refusal sample (Sum ∷ Sum ∷ []) (Each Supplier 0 (acts (const 1 (pos 5000000000000000000) ∷ const 2 (pos 6000000000000000000) ∷ put 0 [] (1 ∷ 2 ∷ []) ∷ []) Stop) Stop)
-    ≡ Some (Refused (4, leaves (pos 0) (pos 10000000000000000000)))
+-- of two sums that leave 64 bits at one put the one that is read
+abbrev two_sums : Code → Code
+two_sums behind = Each Supplier 0 (acts (const 1 (pos 5000000000000000000) ∷ const 2 (pos 6000000000000000000) ∷ put 0 [] (1 ∷ 2 ∷ []) ∷ []) Stop) behind
+
+first_sum : refusal sample (Sum ∷ Sum ∷ []) (two_sums (acts (read 3 0 0 (pos 0) ∷ []) Stop))
+    ≡ Some (Refused (5, leaves (pos 0) (pos 10000000000000000000)))
 unfolding first_answer is_i64 reached
 first_sum = refl
 
+second_sum : refusal sample (Sum ∷ Sum ∷ []) (two_sums (acts (read 3 0 1 (pos 0) ∷ []) Stop))
+    ≡ Some (Refused (5, leaves (pos 0) (pos 12000000000000000000)))
+unfolding first_answer is_i64 reached
+second_sum = refl
+
+-- what no read gives may add up to any number
+sums_put_alone : refusal sample (Sum ∷ Sum ∷ []) (two_sums Stop) ≡ None
+unfolding first_answer is_i64 reached
+sums_put_alone = refl
+
 -- one update after another, outside scans too
-added_sum : refusal sample (Sum ∷ []) (acts (const 0 (pos 5000000000000000000) ∷ put 0 [] (0 ∷ []) ∷ put 0 [] (0 ∷ []) ∷ []) Stop)
-    ≡ Some (Refused (3, leaves (pos 0) (pos 10000000000000000000)))
+added_sum : refusal sample (Sum ∷ []) (acts (const 0 (pos 5000000000000000000) ∷ put 0 [] (0 ∷ []) ∷ put 0 [] (0 ∷ []) ∷ read 1 0 0 (pos 0) ∷ []) Stop)
+    ≡ Some (Refused (4, leaves (pos 0) (pos 10000000000000000000)))
 unfolding is_i64 reached first_answer
 added_sum = refl
 

@@ -13,7 +13,7 @@ use Rattle.star_program.specs.declared.op.Op.TheVariants as op
 use Rattle.star_program.specs.declared.op.Operation.TheVariants as operation
 use Rattle.star_program.specs.declared.op.Operator.TheVariants as operator
 use Rattle.star_program.specs.declared.program.Parts.{Parts}
-use Rattle.star_program.specs.Code.{Stop, Then, Each}
+use Rattle.star_program.specs.Code.{Code, Stop, Then, Each}
 use Rattle.star_program.specs.declared.fault.Fault.TheVariants.{WrittenTwice, Misplaced}
 use Rattle.star_program.specs.World.{World}
 use Rattle.star_program.proofs.Sample.{sample, great_prices, plain, program, assign, above_average, find_by_quantity, read_while_putting, written_twice, keep_outside, shows_no_key, scan_in_scan, doubled_difference}
@@ -40,12 +40,21 @@ widest_bounds _ = only (pos 0)
 abbrev widest_price : World
 widest_price = record sample { bounds = widest_bounds }
 
--- the sum of the prices of the first lines
-abbrev first_lines : Parts
-first_lines = program 10 (plain (aggregate.Sum ∷ []) ∷ []) 0
+-- the sum of the prices of the first lines, and then some more
+abbrev first_lines : Code → Parts
+first_lines behind = program 10 (plain (aggregate.Sum ∷ []) ∷ []) 0
     (Each Lineorder 0
     (assign 1 (operation.Load LoLinenumber 0) (assign 2 (operation.Const (pos 1)) (assign 3 (operation.Binary operator.Equal 1 2) (Then (op.Keep 3)
-    (assign 4 (operation.Load LoExtendedprice 0) (Then (op.Put 0 [] (4 ∷ [])) Stop)))))) Stop)
+    (assign 4 (operation.Load LoExtendedprice 0) (Then (op.Put 0 [] (4 ∷ [])) Stop)))))) behind)
+
+-- and of all lines
+abbrev all_lines : Code → Parts
+all_lines behind = program 10 (plain (aggregate.Sum ∷ []) ∷ []) 0
+    (Each Lineorder 0 (assign 1 (operation.Load LoExtendedprice 0) (Then (op.Put 0 [] (1 ∷ [])) Stop)) behind)
+
+-- the sum is read
+abbrev reads_it : Code
+reads_it = assign 5 (operation.Read 0 0 (pos 0)) Stop
 
 abbrev squared_price : Parts
 squared_price = program 10 (plain (aggregate.Sum ∷ []) ∷ []) 0
@@ -87,17 +96,51 @@ shows_no_key_refused = refl
 scan_in_scan_quoted : quote sample.size scan_in_scan ≡ 9
 scan_in_scan_quoted = refl
 
+-- eleven lines are refused at the read, and of ten it is twice the difference that is refused:
 -- nothing is reached through a read, so no columns are named
+doubled_difference_of_eleven : first_refusal one_line_more 11 doubled_difference
+    ≡ Some (Refused (
+      8,
+      Overflow (pos 0) (pos 9900000000000000000) (record {
+        column = LoExtendedprice;
+        low = pos 900000000000000000;
+        high = pos 900000000000000000;
+      } ∷ []),
+    ))
+unfolding column_of is_i64 reached first_answer
+doubled_difference_of_eleven = refl
+
 doubled_difference_refused : first_refusal great_prices 10 doubled_difference
     ≡ Some (Refused
     (12, Overflow (neg_ℤ (pos 18000000000000000000)) (pos 0) []))
 unfolding column_of is_i64 reached first_answer
 doubled_difference_refused = refl
 
--- the filter narrows no range: all eleven prices count
-first_lines_refused : first_refusal one_line_more 11 first_lines
+-- eleven prices add up to more than a number of 64 bits, which no put refuses
+first_lines_put : first_refusal one_line_more 11 (first_lines Stop) ≡ None
+unfolding column_of is_i64 reached first_answer
+first_lines_put = refl
+
+all_lines_put : first_refusal one_line_more 11 (all_lines Stop) ≡ None
+unfolding column_of is_i64 reached first_answer
+all_lines_put = refl
+
+all_lines_read : first_refusal one_line_more 11 (all_lines reads_it)
     ≡ Some (Refused (
-      7,
+      4,
+      Overflow (pos 0) (pos 9900000000000000000) (record {
+        column = LoExtendedprice;
+        low = pos 900000000000000000;
+        high = pos 900000000000000000;
+      } ∷ []),
+    ))
+unfolding column_of is_i64 reached first_answer
+all_lines_read = refl
+
+-- a read of them is refused, and the filter narrows no range: all eleven prices count
+first_lines_refused : first_refusal one_line_more 11 (first_lines reads_it)
+    ≡ Some (Refused (
+      8,
       Overflow (pos 0) (pos 9900000000000000000) (record {
         column = LoExtendedprice;
         low = pos 900000000000000000;
@@ -107,7 +150,7 @@ first_lines_refused : first_refusal one_line_more 11 first_lines
 unfolding column_of is_i64 reached first_answer
 first_lines_refused = refl
 
-first_lines_accepted : first_refusal great_prices 10 first_lines ≡ None
+first_lines_accepted : first_refusal great_prices 10 (first_lines reads_it) ≡ None
 unfolding column_of is_i64 reached first_answer
 first_lines_accepted = refl
 

@@ -27,8 +27,10 @@ pub record Context : Type 0 where
   pub known : Table
   -- the targets of earlier instructions, in scope or not
   pub written : ℕ → Bool
-  -- what earlier puts give
+  -- what earlier puts give the aggregates of groups
   pub so_far : Shares
+  -- and what they give the keys, by their places
+  pub keys_so_far : Shares
 
 -- at the first instruction
 abbrev pub at_first : Context
@@ -38,6 +40,7 @@ at_first = record {
   known = λ r. None;
   written = λ r. false;
   so_far = no_shares;
+  keys_so_far = no_shares;
 }
 
 -- ---- puts
@@ -58,6 +61,15 @@ put_share parts x g vs a =
 abbrev pub op_shares : Parts → Context → Op → Shares
 op_shares parts x (Put g ks vs) h a = if nat_eq h g then put_share parts x g vs a ∷ [] else []
 op_shares parts x _ h a = []
+
+-- what one put gives a key
+abbrev pub key_share : Context → List ℕ → ℕ → Share
+key_share x ks place = known_share x.met (x.known (slice_index_or ks place 0))
+
+-- what an instruction gives each key: a put one share, and others none
+abbrev pub op_key_shares : Context → Op → Shares
+op_key_shares x (Put g ks vs) h place = if nat_eq h g then key_share x ks place ∷ [] else []
+op_key_shares x _ h place = []
 
 -- ---- after an instruction
 
@@ -94,6 +106,7 @@ after_op w parts x op = record x {
   known = learned x.known (target_of op) (result_known w parts x op);
   written = λ q. x.written q || is_target (target_of op) q;
   so_far = λ g a. op_shares parts x op g a ++ x.so_far g a;
+  keys_so_far = λ g place. op_key_shares x op g place ++ x.keys_so_far g place;
 }
 
 -- ---- scans
@@ -105,11 +118,16 @@ in_scan w x table r = record {
   known = with_entry x.known r (KnownRow table);
   written = λ q. x.written q || nat_eq r q;
   so_far = x.so_far;
+  keys_so_far = x.keys_so_far;
 }
 
 -- after a scan, by the context at the end of its body: what was written there is out of scope
 abbrev pub after_scan : Context → Context → Context
-after_scan x body_end = record x { written = body_end.written; so_far = body_end.so_far }
+after_scan x body_end = record x {
+  written = body_end.written;
+  so_far = body_end.so_far;
+  keys_so_far = body_end.keys_so_far;
+}
 
 -- ---- at the end of some code
 

@@ -2,7 +2,7 @@
 use Rattle.std.specs.Prelude.{◌≡◌, ℕ, ◌^◌, ◌≤◌, ◌<◌, ℤ, List, length, Option, Some, None, slice_index_or}
 use Rattle.star_schema.specs.declared.group.Aggregate.TheVariants.{Sum, Count}
 use Rattle.star_schema.specs.Groups.{members, aggregate, numbers_for}
-use Rattle.star_interval.specs.Range.{Range, Holds, FitsI64}
+use Rattle.star_interval.specs.Range.{Range, Holds, FitsI128}
 use Rattle.star_program.specs.declared.key.KeyValue.{KeyValue}
 use Rattle.star_program.specs.declared.program.Parts.{Parts}
 use Rattle.star_program.specs.Limits.{IsWithinLimits}
@@ -42,9 +42,9 @@ TotalsLie w parts s = (g place : ℕ) (keys : List (Option KeyValue))
     (aggregate (slice_index_or (group_at parts g).aggregates place Count)
     (numbers_for place (members key_value_cmp keys (s.updates_of g))))
 
--- what can add up to the SUMs and the COUNTs of all groups fits 64 bits
+-- what can add up to the SUMs of all groups fits 128 bits, and to the COUNTs 64
 pub record SumsFit (w : World) (parts : Parts) : Type 0 where
   pub sums : (g place : ℕ) → place < length (group_at parts g).aggregates
       → slice_index_or (group_at parts g).aggregates place Count ≡ Sum
-      → FitsI64 (sum_range (all_shares w parts g place))
+      → FitsI128 (sum_range (all_shares w parts g place))
   pub counts : (g place : ℕ) → most_of (all_shares w parts g place) < 2 ^ 63

@@ -12,4 +12,5 @@ pub mod Moments
 pub mod Laws
 pub mod Meetings
 pub mod Bounds
+pub mod MostRows
 pub mod Private

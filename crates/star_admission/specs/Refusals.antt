@@ -1,24 +1,22 @@
 -- What refuses an instruction in its context (interval analysis: Moore, Interval Analysis, 1966).
-use Rattle.std.specs.Prelude.{ℕ, suc, Bool, true, false, not, nat_lt, List, [], ◌∷◌, filter, map, Option, Some, None}
+use Rattle.std.specs.Prelude.{ℕ, Bool, true, false, not, nat_lt, List, filter, map, Option, Some, None}
 use Rattle.std.specs.Option.{option_map, option_or}
 use Rattle.star_schema.specs.declared.table.TableId.{TableId}
 use Rattle.star_schema.specs.declared.column.ColumnId.{ColumnId}
 use Rattle.star_schema.specs.declared.column.TheConstants.{COLUMNS}
-use Rattle.star_schema.specs.declared.group.Aggregate.{Aggregate}
-use Rattle.star_schema.specs.declared.group.Aggregate.TheVariants.{Sum}
 use Rattle.star_schema.specs.Schema.{is_table, references}
 use Rattle.star_interval.specs.Range.{Range, fits_i64, only}
 use Rattle.star_program.specs.declared.op.Op.{Op}
-use Rattle.star_program.specs.declared.op.Op.TheVariants.{Assign, Put}
+use Rattle.star_program.specs.declared.op.Op.TheVariants.{Assign}
 use Rattle.star_program.specs.declared.op.Operation.TheVariants.{Find, Read}
 use Rattle.star_program.specs.declared.program.Parts.{Parts}
 use Rattle.star_program.specs.World.{World}
 use Rattle.star_program.specs.declared.fault.Fault.{Fault}
 use Rattle.star_program.specs.declared.fault.Fault.TheVariants.{BadRegister, WrittenTwice}
-use Rattle.star_program.specs.Faults.{unless, group_at, target_of, fault_of}
+use Rattle.star_program.specs.Faults.{unless, target_of, fault_of}
 use Rattle.star_admission.specs.Ranges.{Reach, Known, KnownNumber, origin_at, kinds_known}
-use Rattle.star_admission.specs.Tallies.{Share, reach_of, read_range, sum_range}
-use Rattle.star_admission.specs.Contexts.{Context, aggregate_at, result_known, after_op}
+use Rattle.star_admission.specs.Tallies.{reach_of, read_range}
+use Rattle.star_admission.specs.Contexts.{Context, aggregate_at, result_known}
 use Rattle.star_admission.specs.declared.reason.Reached.{Reached}
 use Rattle.star_admission.specs.declared.reason.Reason.{Reason}
 use Rattle.star_admission.specs.declared.reason.Reason.TheVariants.{Faulty, NotAForeignKey, OpenGroup, Overflow}
@@ -56,16 +54,6 @@ abbrev pub overflow_of : World → Known → Option Reason
 overflow_of w (KnownNumber r reach origin) = overflow w r reach
 overflow_of w _ = None
 
-abbrev pub sum_overflow : World → Aggregate → List Share → Option Reason
-sum_overflow w Sum ss = overflow w (sum_range ss) (reach_of ss)
-sum_overflow w _ ss = None
-
--- the first SUM that leaves 64 bits, from the aggregate at a place on
-abbrev pub sums_overflow : World → List Aggregate → ℕ → (ℕ → List Share) → Option Reason
-sums_overflow w [] place shares = None
-sums_overflow w (g ∷ gs) place shares =
-    option_or (sum_overflow w g (shares place)) (sums_overflow w gs (suc place) shares)
-
 -- ---- an instruction
 
 -- a target that an earlier instruction writes
@@ -86,11 +74,9 @@ source_reason pending x (Assign t (Find table k)) =
 source_reason pending x (Assign t (Read g a n)) = refuses (pending g) OpenGroup
 source_reason pending x _ = None
 
--- by the range of its result, or those of the sums that it puts to; a read tells what the numbers
--- are computed from that are put for its aggregate
+-- by the range of its result; a read tells what the numbers are computed from that are put for its
+-- aggregate
 abbrev pub range_reason : World → Parts → Context → Op → Option Reason
-range_reason w parts x (Put g ks vs) =
-    sums_overflow w (group_at parts g).aggregates 0 ((after_op w parts x (Put g ks vs)).so_far g)
 range_reason w parts x (Assign t (Read g a n)) =
     overflow w (read_range (aggregate_at parts g a) (x.so_far g a) (only n))
     (reach_of (x.so_far g a))

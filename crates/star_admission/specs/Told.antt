@@ -7,7 +7,7 @@ use Rattle.star_program.specs.World.{World}
 use Rattle.star_program.specs.Faults.{target_of}
 use Rattle.star_admission.specs.Ranges.{Known, KnownRow, KnownFlag}
 use Rattle.star_admission.specs.Tallies.{Shares, no_shares}
-use Rattle.star_admission.specs.Contexts.{Context, op_shares, result_known, is_target}
+use Rattle.star_admission.specs.Contexts.{Context, op_shares, op_key_shares, result_known, is_target}
 use Rattle.star_admission.specs.Standing.{Item, Scan, Act, End, Enclosing, Standing, instructions_of, has_scan}
 
 -- ---- each instruction
@@ -44,6 +44,15 @@ item_shares parts x _ = no_shares
 -- what it gives the groups
 abbrev pub shares_of : Parts → Standing → Shares
 shares_of parts i = item_shares parts i.context i.item
+
+abbrev pub item_key_shares : Context → Item → Shares
+item_key_shares x (Act op) = op_key_shares x op
+item_key_shares x _ = no_shares
+
+-- what some instructions give a key of a group together
+abbrev pub key_shares_together : List Standing → Shares
+key_shares_together is g place =
+    fold (λ so_far i. item_key_shares i.context i.item g place ++ so_far) [] is
 
 -- what some instructions give an aggregate of a group together
 abbrev pub shares_together : Parts → List Standing → Shares
@@ -84,6 +93,8 @@ pub record IsTold (w : World) (parts : Parts) (earlier : List Standing) (i : Sta
     pub known : (r : ℕ) → i.context.known r
         ≡ option_map (result_of w parts) (last_writer i.round r earlier)
     pub so_far : (g place : ℕ) → i.context.so_far g place ≡ shares_together parts earlier g place
+    pub keys_so_far : (g place : ℕ)
+        → i.context.keys_so_far g place ≡ key_shares_together earlier g place
 
 -- each instruction is told so, and each end
 abbrev pub AreTold : World → Parts → Type 0

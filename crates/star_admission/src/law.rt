@@ -2,7 +2,7 @@
 
 ghost use Rattle.std.specs.List.{last_or};
 ghost use Rattle.std.specs.Option.{option_map};
-ghost use Rattle.std.specs.Prelude.{◌≡◌, ◌↔◌, ◌≤◌, ◌<◌, ◌^◌, ◌∷◌, ℕ, ℤ, All, List, None, Some};
+ghost use Rattle.std.specs.Prelude.{◌≡◌, ◌↔◌, ◌≤◌, ◌<◌, ◌^◌, ◌∷◌, ℕ, ℤ, All, List, None, Some, length};
 ghost use Rattle.star_common.specs.First.{first_answer};
 ghost use Rattle.star_schema.specs.declared.table.TableId.{TableId};
 ghost use Rattle.star_interval.specs.Range.{FitsI64, FitsI128};
@@ -12,6 +12,8 @@ ghost use Rattle.star_program.specs.Code.{Code, Then};
 ghost use Rattle.star_program.specs.Effects.{Store, update_of};
 ghost use Rattle.star_program.specs.Faults.{group_at};
 ghost use Rattle.star_program.specs.Limits.{IsWithinLimits};
+ghost use Rattle.star_program.specs.Outcome.{IsOutcome};
+ghost use Rattle.star_program.specs.declared.outcome.Outcome.{Outcome};
 ghost use Rattle.star_program.specs.Run.{EndsWith, bounded_run_of, run_of};
 ghost use Rattle.star_program.specs.Values.{Registers};
 ghost use Rattle.star_program.specs.World.{World};
@@ -22,6 +24,7 @@ ghost use Rattle.star_admission.specs.Contexts.{Context, at_end, at_first};
 ghost use Rattle.star_admission.specs.Laws.{EndsWithin, IsAccepted, SumsFit, TotalsLie};
 ghost use Rattle.star_admission.specs.Meetings.{IsMetWithinQuote};
 ghost use Rattle.star_admission.specs.Moments.{AtEveryMoment, Throughout};
+ghost use Rattle.star_admission.specs.MostRows.{most_rows};
 ghost use Rattle.star_admission.specs.Quote.{quote};
 ghost use Rattle.star_admission.specs.Private.Forward.{first_reason, none_open};
 ghost use Rattle.star_admission.specs.declared.reason.Reached.{Reached};
@@ -36,7 +39,7 @@ ghost use Rattle.star_admission.specs.Told.{AreTold};
 /// before each instruction and at each end, its registers hold what is known of them, and nothing
 /// where nothing is known: numbers in their ranges, and where they were loaded from a column its
 /// numbers; codes and places of their columns' texts; rows of their tables. The sums over any of
-/// its updates lie in their ranges, which fit 64 bits, and so do the counts: what the condition of
+/// its updates lie in their ranges, which fit 128 bits, and the counts fit 64: what the condition of
 /// a put asks for holds of each. All totals at the end lie in their ranges.
 pub fn admissible_programs_never_trap()
     ensures ends { (w : World) (parts : Parts)
@@ -51,8 +54,8 @@ pub fn admissible_programs_never_trap()
 {}
 
 /// Before each put of a run in which that holds of every moment, the updates of its group with this
-/// one are such as a store asks for: the sums of each key list add up within 64 bits, and so do the
-/// counts.
+/// one are such as a store asks for: the sums of each key list add up within 128 bits, and the counts
+/// within 64.
 pub fn each_put_has_room()
     ensures { (w : World) (parts : Parts) (all : Shares) (x : Context) (group : ℕ)
         (keys values : List ℕ) (rest : Code) (at : ℕ) (registers : Registers) (s : Store)
@@ -92,6 +95,19 @@ pub fn told_bounds_fit_128_bits()
     ensures visits { (w : World) (most : ℕ) (parts : Parts) (visits : ℕ)
         → IsWithinLimits parts → ((t : TableId) → w.size t < 2 ^ 32)
         → first_refusal w most parts ≡ Some (TooCostly visits) → visits < 2 ^ 128 }
+{}
+
+/// No report of an accepted program has more rows than the values of its keys and the updates of its
+/// group allow, as far as they are known before the run.
+///
+/// They are counted grouping by grouping (Gray et al. 1997, section 3): of each that shows a key at
+/// most as many as updates can be made of the group, and as there are lists of values of the keys
+/// that it shows, by the dictionaries of the columns of texts and the ranges of the numbers that are
+/// put; the grouping that shows none has one.
+pub fn reports_have_no_more_rows_than_keys_allow()
+    ensures { (w : World) (parts : Parts) → IsAccepted w parts
+        → EndsWith (run_of w parts) (λ s. (outcome : Outcome) → IsOutcome w parts s outcome
+        → length outcome.rows ≤ most_rows w parts) }
 {}
 
 /// Nothing refuses a program exactly where it is admissible and its quote is within the limit on

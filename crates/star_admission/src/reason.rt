@@ -29,8 +29,7 @@ pub enum Reason {
     NotAForeignKey,
     /// A read of a group that a later instruction puts to, or one in a scan round the read.
     OpenGroup,
-    /// Numbers that may leave 64 bits: a result of arithmetic, what a read may give, or a SUM of a
-    /// put's group.
+    /// Numbers that may leave 64 bits: a result of arithmetic, or what a read may give.
     Overflow {
         /// The least that they may be.
         low: i128,

@@ -1,10 +1,11 @@
 -- What the load of a folder gives: tables, or what is told of why there are none.
 use Rattle.std.specs.Prelude.{◌≡◌, ◌⊎◌, ℕ}
-use Rattle.star_schema.specs.Most.{most_rows}
+use Rattle.star_schema.specs.Most.{most_rows, most_visits}
 use Rattle.star_schema.specs.Database.{Database, TableTexts}
 use Rattle.star_schema.specs.Loadable.{IsLoadable, database_of}
 use Rattle.star_engine.specs.declared.fault.EngineFault.{EngineFault}
 use Rattle.star_engine.specs.Answered.{Change, IsUntouched}
+use Rattle.star_engine.specs.Loads.{Loaded}
 use Rattle.star_cli.specs.declared.failure.Failure.{Failure}
 use Rattle.star_cli.specs.Failures.{IsFailureTold}
 use Rattle.star_cli.specs.Lines.{IsFaultTold}
@@ -13,6 +14,11 @@ use Rattle.star_cli.specs.Lines.{IsFaultTold}
 abbrev pub AreTables : Database → Type 0
 AreTables database =
     (texts : TableTexts) × IsLoadable most_rows texts × (database ≡ database_of texts)
+
+-- an engine over such rows, under the widest limits
+abbrev pub IsWidest : Loaded → Type 0
+IsWidest loaded = AreTables loaded.database × (loaded.rows ≡ most_rows)
+    × (loaded.visits ≡ most_visits)
 
 -- a failure to read them, or a fault of theirs, is told with its status
 abbrev pub IsFolderRefused : {S E : Type 0} → Change S → Change E → ℕ → Type 0

@@ -4,3 +4,4 @@ pub mod FolderLoads
 pub mod Lines
 pub mod Names
 pub mod Private
+pub mod Sessions

@@ -3,11 +3,16 @@
 use crate::answers::{Bytes, answer};
 use crate::failure::Failure;
 use crate::files::{Folder, read_file};
-use crate::words::{Task, task_of};
-use star_engine::sample;
+use crate::input::StandardInput;
+use crate::lines::tell;
+use crate::loads::load_engine;
+use crate::sessions::hold;
+use crate::words::{Request, Task, request_of};
+use star_engine::{Engine, sample};
 use star_schema::{Out, Sink};
+use star_statements::Source;
 use std::alloc::{AllocError, Global};
-use std::io::Write;
+use std::io::{BufReader, Write};
 use std::rt::{Env, Files};
 use std::{env, io};
 
@@ -67,16 +72,6 @@ impl Read {
     }
 }
 
-// The task of the words, and what was read for it.
-fn prepare<'a, R: Files + AllocGlobal>(
-    rt: &R,
-    words: &'a [String],
-) -> Result<(Task<'a>, Read), Failure<'a>> {
-    let task = task_of(rt.alloc(), words)?;
-    let read = read_for(rt, task)?;
-    Ok((task, read))
-}
-
 // Answers a task over what was read for it.
 fn answer_over<S: Sink, E: Sink>(
     alloc: Global,
@@ -91,21 +86,81 @@ fn answer_over<S: Sink, E: Sink>(
     }
 }
 
+// Answers a task.
+fn answer_task<R: Files + AllocGlobal, S: Sink, E: Sink>(
+    rt: &R,
+    task: Task<'_>,
+    out: &mut S,
+    err: &mut E,
+) -> u8 {
+    match read_for(rt, task) {
+        Ok(read) => answer_over(rt.alloc(), task, &read, out, err),
+        Err(failure) => failure.tell(rt.alloc(), out, err),
+    }
+}
+
+// Holds a session over loaded tables.
+fn hold_over<I: io::Read + Drop, S: Sink, E: Sink>(
+    alloc: Global,
+    engine: &Engine,
+    input: StandardInput<I>,
+    out: &mut S,
+    err: &mut E,
+) -> u8 {
+    let StandardInput {
+        reader,
+        is_terminal,
+    } = input;
+    match BufReader::new(alloc, reader) {
+        Ok(reader) => hold(
+            alloc,
+            engine,
+            &mut Source::new(reader),
+            is_terminal,
+            out,
+            err,
+        ),
+        Err(_) => Failure::from(AllocError).tell(alloc, out, err),
+    }
+}
+
+// Holds a session over the tables of a folder.
+fn hold_session<R: Files + AllocGlobal, I: io::Read + Drop, S: Sink, E: Sink>(
+    rt: &R,
+    folder: &str,
+    input: StandardInput<I>,
+    out: &mut S,
+    err: &mut E,
+) -> u8 {
+    if input.is_terminal {
+        tell(err, b"loading the tables\n");
+    }
+    match load_engine(rt, folder, out, err) {
+        Ok(engine) => hold_over(rt.alloc(), &engine, input, out, err),
+        Err(status) => status,
+    }
+}
+
 /// Does what the words ask for, the program's own name left off, and gives the exit status: 0
 /// where all is well, 1 for a query or a program that is refused, or a program that is trapped or
 /// meets its limit, 2 for words that are no command, 3 for table files that can't be loaded, 4 for
 /// a file that is no query, 5 for a file that is no program, 6 for a file that can't be read or
-/// output that can't be written, 7 for want of memory.
-pub fn command<R: Files + AllocGlobal, W: Write, E: Write>(
+/// output that can't be written, 7 for want of memory. A session reads its statements from `input`;
+/// nothing else does.
+pub fn command<R: Files + AllocGlobal, I: io::Read + Drop, W: Write, E: Write>(
     rt: &R,
     words: &[String],
+    input: StandardInput<I>,
     out: &mut W,
     err: &mut E,
 ) -> u8 {
     let mut answers = Out::new(&mut *out);
     let mut notes = Out::new(&mut *err);
-    match prepare(rt, words) {
-        Ok((task, read)) => answer_over(rt.alloc(), task, &read, &mut answers, &mut notes),
+    match request_of(rt.alloc(), words) {
+        Ok(Request::Answer(task)) => answer_task(rt, task, &mut answers, &mut notes),
+        Ok(Request::Session { folder }) => {
+            hold_session(rt, folder, input, &mut answers, &mut notes)
+        }
         Err(failure) => failure.tell(rt.alloc(), &mut answers, &mut notes),
     }
 }
@@ -129,13 +184,14 @@ fn failure_of_words(error: &io::Error) -> Failure<'static> {
 
 /// Does what the words of the program's own command line ask for, and gives the exit status of
 /// `command`; 2 too where a word is not UTF-8.
-pub fn run<R: Env + Files + AllocGlobal, W: Write, E: Write>(
+pub fn run<R: Env + Files + AllocGlobal, I: io::Read + Drop, W: Write, E: Write>(
     rt: &R,
+    input: StandardInput<I>,
     out: &mut W,
     err: &mut E,
 ) -> u8 {
     match read_words(rt) {
-        Ok(words) => command(rt, words.as_slice(), out, err),
+        Ok(words) => command(rt, words.as_slice(), input, out, err),
         Err(error) => failure_of_words(&error).tell(
             rt.alloc(),
             &mut Out::new(&mut *out),

@@ -32,6 +32,7 @@ pub(crate) const STAR: Help = Help {
         "  star exec data above.star\n",
         "  star quote data revenue.sql\n",
         "  star trial data above.star 1000\n",
+        "  star session data\n",
         "  star help tables\n",
         "\n",
         "Documents:\n",
@@ -191,6 +192,29 @@ pub(crate) const TRIAL: Help = Help {
         "  5  the file is no program\n",
         "  6  a file can't be read, or the report can't be written\n",
         "  7  memory was refused",
+    ),
+};
+
+pub(crate) const SESSION: Help = Help {
+    name: "session",
+    called: "star session",
+    about: "Loads the tables once, and answers statements from standard input as they come",
+    after: concat!(
+        "A statement is a query; it ends with a line that ends with `;`, and the last may lack it. Behind\n",
+        "each report comes an empty line. Standard error gets the two lines that `star query` tells, or a\n",
+        "line of fault, behind which the session goes on. `explain` or `quote` before a query gives what\n",
+        "`star explain` and `star quote` give.\n",
+        "\n",
+        "Examples:\n",
+        "  star session data\n",
+        "  star session data <queries.sql >reports.txt\n",
+        "\n",
+        "Exit status:\n",
+        "  0  the statements came to their end\n",
+        "  2  the words are no command\n",
+        "  3  a table file can't be loaded\n",
+        "  6  a file or a statement can't be read, or a report or a line can't be written\n",
+        "  7  memory was refused to the load, or to a statement that is read",
     ),
 };
 

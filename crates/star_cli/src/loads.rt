@@ -2,13 +2,13 @@
 
 ghost use Rattle.std.specs.Prelude.{IfErr, IfOk, OnOk};
 ghost use Rattle.star_engine.specs.Answered.{IsUntouched, change};
-ghost use Rattle.star_cli.specs.FolderLoads.{AreTables, IsFolderRefused};
+ghost use Rattle.star_cli.specs.FolderLoads.{AreTables, IsFolderRefused, IsWidest};
 
 use crate::failure::Failure;
 use crate::files::Folder;
 use crate::lines::tell_fault;
 use star_catalogue::Catalogue;
-use star_engine::EngineFault;
+use star_engine::{Engine, EngineFault};
 use star_schema::{Limits, Sink};
 use std::alloc::{AllocError, Global};
 use std::rt::Files;
@@ -19,6 +19,14 @@ fn load_read(alloc: Global, read: &Folder) -> Result<Catalogue, EngineFault>
 {
     let lineorder = read.lineorder(alloc)?;
     Ok(Catalogue::load(alloc, &read.texts(lineorder.as_slice()), Limits::widest())?)
+}
+
+// An engine over them.
+fn engine_of(alloc: Global, read: &Folder) -> Result<Engine, EngineFault>
+    ensures { IfOk result (λ engine. IsWidest engine) }
+{
+    let lineorder = read.lineorder(alloc)?;
+    Engine::load(alloc, &read.texts(lineorder.as_slice()), Limits::widest())
 }
 
 // The files of a folder whose name is not empty.
@@ -51,5 +59,28 @@ pub fn load_folder<R: Files + AllocGlobal, S: Sink, E: Sink>(
     match load_read(rt.alloc(), &read) {
         Ok(catalogue) => Ok(catalogue),
         Err(fault) => Err(tell_fault(rt.alloc(), err, &fault)),
+    }
+}
+
+/// Loads an engine over the tables of a folder, as `load_folder` does; the files' bytes are let go.
+pub fn load_engine<R: Files + AllocGlobal, S: Sink, E: Sink>(
+    rt: &R,
+    folder: &str,
+    out: &mut S,
+    err: &mut E,
+) -> Result<Engine, u8>
+    ensures engine { IfOk result IsWidest }
+    ensures silent { OnOk result (IsUntouched (change S.contents S.is_failed out.old out.new)
+        × IsUntouched (change E.contents E.is_failed err.old err.new)) }
+    ensures told { IfErr result (IsFolderRefused (change S.contents S.is_failed out.old out.new)
+        (change E.contents E.is_failed err.old err.new)) }
+{
+    let read = match read_named(rt, folder) {
+        Ok(read) => read,
+        Err(failure) => return Err(failure.tell(rt.alloc(), out, err)),
+    };
+    match engine_of(rt.alloc(), &read) {
+        Ok(engine) => Ok(engine),
+        Err(unloaded) => Err(tell_fault(rt.alloc(), err, &unloaded)),
     }
 }

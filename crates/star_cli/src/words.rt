@@ -6,8 +6,8 @@ ghost use Rattle.star_schema.specs.Most.{most_rows};
 
 use crate::failure::Failure;
 use crate::help::{
-    BENCH, CHECK, EITHER_FILE, EXEC, EXPLAIN, Help, PROGRAM_FILE, QUERY, QUERY_FILE, QUOTE, STAR,
-    TABLES, TRIAL,
+    BENCH, CHECK, EITHER_FILE, EXEC, EXPLAIN, Help, PROGRAM_FILE, QUERY, QUERY_FILE, QUOTE,
+    SESSION, STAR, TABLES, TRIAL,
 };
 use crate::parser::{over_file, over_folder, over_folder_and_file, program, under_limit};
 use clap::{ArgMatches, Command};
@@ -55,6 +55,15 @@ pub enum Task<'a> {
     },
 }
 
+/// What the words of a command line ask for.
+#[derive(Clone, Copy)]
+pub(crate) enum Request<'a> {
+    /// An answer, over what is read before it.
+    Answer(Task<'a>),
+    /// A session over the tables of a folder.
+    Session { folder: &'a str },
+}
+
 fn with<'a>(
     star: Command<'a>,
     command: Result<Command<'a>, AllocError>,
@@ -72,6 +81,7 @@ fn star_command<'a>(alloc: Global) -> Result<Command<'a>, AllocError> {
     let star = with(star, over_folder_and_file(alloc, EXEC, PROGRAM_FILE))?;
     let star = with(star, over_folder_and_file(alloc, QUOTE, EITHER_FILE))?;
     let star = with(star, under_limit(alloc, TRIAL, PROGRAM_FILE))?;
+    let star = with(star, over_folder(alloc, SESSION))?;
     with(star, program(alloc, TABLES))
 }
 
@@ -173,8 +183,8 @@ fn tables_told<'a>(alloc: Global) -> Failure<'a> {
     }
 }
 
-/// What the words ask for.
-pub(crate) fn task_of<'a>(alloc: Global, words: &'a [String]) -> Result<Task<'a>, Failure<'a>> {
+// The task that the words ask for.
+fn task_of<'a>(alloc: Global, words: &'a [String]) -> Result<Task<'a>, Failure<'a>> {
     let Some((name, rest)) = words.split_first() else {
         return Ok(Task::Sample);
     };
@@ -206,5 +216,19 @@ pub(crate) fn task_of<'a>(alloc: Global, words: &'a [String]) -> Result<Task<'a>
         "trial" => trial_of(alloc, rest),
         "tables" if rest.is_empty() => Err(tables_told(alloc)),
         _ => Err(no_command(alloc, words)),
+    }
+}
+
+/// What the words ask for.
+pub(crate) fn request_of<'a>(
+    alloc: Global,
+    words: &'a [String],
+) -> Result<Request<'a>, Failure<'a>> {
+    match words.split_first() {
+        Some((name, rest)) if name.as_str() == "session" => {
+            let folder = folder_of(alloc, SESSION, rest)?;
+            Ok(Request::Session { folder })
+        }
+        _ => Ok(Request::Answer(task_of(alloc, words)?)),
     }
 }

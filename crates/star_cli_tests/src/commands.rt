@@ -1,10 +1,11 @@
 // What commands print, and their exit statuses.
 
-use star_cli::command;
+use star_cli::{StandardInput, command};
 use star_engine::sample;
 use star_fixtures::programs::ABOVE_AVERAGE;
 use star_fixtures::samples::orders_of;
 use std::alloc::{AllocError, Global};
+use std::io::Read;
 use std::process::Abort;
 use std::rt::Files;
 use std::test::Fail;
@@ -21,14 +22,37 @@ pub(crate) struct Ran {
     pub(crate) err: Vec<u8>,
 }
 
-pub(crate) fn run<R: Files + AllocGlobal>(rt: &R, words: &[&str]) -> Result<Ran, AllocError> {
-    let mut owned = Vec::new(rt.alloc());
+// The words of a command.
+pub(crate) fn owned(alloc: Global, words: &[&str]) -> Result<Vec<String>, AllocError> {
+    let mut owned = Vec::new(alloc);
     for word in words {
-        owned.push(String::from_str(rt.alloc(), word)?)?;
+        owned.push(String::from_str(alloc, word)?)?;
     }
+    Ok(owned)
+}
+
+// Standard input that has these bytes, and is no terminal.
+pub(crate) fn piped(bytes: &[u8]) -> StandardInput<&[u8]> {
+    StandardInput {
+        reader: bytes,
+        is_terminal: false,
+    }
+}
+
+pub(crate) fn run<R: Files + AllocGlobal>(rt: &R, words: &[&str]) -> Result<Ran, AllocError> {
+    run_over(rt, words, piped(b""))
+}
+
+// What a command gives that reads this input.
+pub(crate) fn run_over<R: Files + AllocGlobal, I: Read + Drop>(
+    rt: &R,
+    words: &[&str],
+    input: StandardInput<I>,
+) -> Result<Ran, AllocError> {
+    let words = owned(rt.alloc(), words)?;
     let mut out = Vec::with_capacity(rt.alloc(), ROOM)?;
     let mut err = Vec::with_capacity(rt.alloc(), ROOM)?;
-    match command(rt, owned.as_slice(), &mut out, &mut err) {
+    match command(rt, words.as_slice(), input, &mut out, &mut err) {
         7 => Err(AllocError),
         status => Ok(Ran { status, out, err }),
     }
@@ -90,6 +114,8 @@ const NO_COMMANDS: &[&[&str]] = &[
     &["trial", "a", "b", "-1"],
     &["trial", "a", "b", "x"],
     &["tables", "a"],
+    &["session"],
+    &["session", "a", "b"],
     &["--no"],
 ];
 
@@ -194,7 +220,7 @@ fn tells_output_that_fails(rt: HostRuntime) -> Result<(), Fail> {
     let mut err = Vec::with_capacity(rt.alloc(), ROOM)?;
     let mut left = room.as_mut_slice();
     let no_words = Vec::new(rt.alloc());
-    let status = command(&rt, no_words.as_slice(), &mut left, &mut err);
+    let status = command(&rt, no_words.as_slice(), piped(b""), &mut left, &mut err);
     if status == 7 {
         return Err(Fail::from(AllocError));
     }

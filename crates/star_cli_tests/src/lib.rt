@@ -9,6 +9,8 @@ mod damaged;
 #[cfg(test)]
 mod parts;
 #[cfg(test)]
+mod sessions;
+#[cfg(test)]
 mod surroundings;
 #[cfg(test)]
 mod tables;

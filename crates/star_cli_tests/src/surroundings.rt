@@ -1,7 +1,7 @@
 // What commands do where the surroundings are against them: odd words and names, missing files,
 // streams that fail, and answers of many bytes.
 
-use crate::commands::{Case, assert_fault, assert_runs, run, text, write_sample};
+use crate::commands::{Case, assert_fault, assert_runs, owned, piped, run, text, write_sample};
 use star_cli::command;
 use star_fixtures::programs::ABOVE_AVERAGE;
 use star_fixtures::streams::Short;
@@ -60,11 +60,8 @@ fn run_short<R: Files + AllocGlobal>(
     mut out: Short,
     mut err: Short,
 ) -> Result<(u8, Vec<u8>, Vec<u8>), AllocError> {
-    let mut owned = Vec::new(rt.alloc());
-    for word in words {
-        owned.push(String::from_str(rt.alloc(), word)?)?;
-    }
-    match command(rt, owned.as_slice(), &mut out, &mut err) {
+    let words = owned(rt.alloc(), words)?;
+    match command(rt, words.as_slice(), piped(b""), &mut out, &mut err) {
         7 => Err(AllocError),
         status => Ok((status, out.taken, err.taken)),
     }
@@ -231,6 +228,11 @@ const HELP: &[(&[&str], &str, &str)] = &[
         &["trial", "--help"],
         "Usage: star trial <FOLDER> <FILE> <LIMIT>\n",
         "  star trial data above.star 1000\n",
+    ),
+    (
+        &["session", "--help"],
+        "Usage: star session <FOLDER>\n",
+        "  star session data\n",
     ),
 ];
 

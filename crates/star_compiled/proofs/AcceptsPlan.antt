@@ -16,21 +16,19 @@ use Rattle.star_query.specs.Tree.{Expression}
 use Rattle.star_plan.specs.Meaning.{Condition, Measure, counted, summed, least, greatest, aggregate_of, Plan}
 use Rattle.star_plan.specs.Sound.{in_scope, condition_is_sound, expression_is_sound, measure_is_sound, IsSoundPlan}
 use Rattle.star_plan.specs.Spelled.{condition_is_spelled}
-use Rattle.star_plan.specs.Fits.{range_of, nodes_fit, measure_fits, sum_fits}
+use Rattle.star_plan.specs.Fits.{range_of, nodes_fit, measure_fits}
 use Rattle.star_program.specs.declared.fault.Fault.TheVariants.{BadRegister, BadGroup}
 use Rattle.star_program.specs.declared.group.GroupKey.TheVariants as key
 use Rattle.star_program.specs.declared.op.Op.TheVariants.{Keep, Put}
 use Rattle.star_program.specs.declared.program.Parts.{Parts}
 use Rattle.star_program.specs.Code.{Code, Then}
 use Rattle.star_program.specs.Faults.{unless, operand_fault, is_number, is_flag, fits_key, keys_fault, numbers_fault, place_fault, value_count, fault_of}
-use Rattle.star_program.specs.Puts.{aligned}
 use Rattle.star_program.specs.Values.{with_entry}
 use Rattle.star_program.specs.World.{World, is_text}
 use Rattle.star_admission.specs.Contexts.{at_first}
 use Rattle.star_admission.specs.Ranges.{Known, KnownNumber, KnownRow, KnownFlag, known_kind, Table, kinds_known, loaded_known}
 use Rattle.star_admission.specs.declared.reason.Reason.{Reason}
 use Rattle.star_admission.specs.declared.reason.Reason.TheVariants.{Faulty}
-use Rattle.star_admission.specs.Refusals.{sums_overflow}
 use Rattle.star_admission.specs.Standing.{at_place}
 use Rattle.star_admission.specs.Private.Forward.{first_reason, none_open, open_with}
 use Rattle.star_compiled.specs.Compiled.{Env, Rest, env_first, conjuncts_code, keys_code, values_code, put_code, turn_code, body_code, compiled, key_of_group, register_count}
@@ -39,7 +37,6 @@ use Rattle.star_compiled.proofs.ForeignKeys.{AreForeign, are_foreign}
 use Rattle.star_compiled.proofs.Joins.{of_text}
 use Rattle.star_compiled.proofs.Points.{Turn, both_none, or_none_right, Overflows, in_turn}
 use Rattle.star_compiled.proofs.Points as points
-use Rattle.star_compiled.proofs.PutSums.{AreNumbers, SumsIf, one, ranges_of, shares_at, totals_judged}
 use Rattle.star_compiled.proofs.Accepts as pieces
 use Rattle.star_compiled.proofs.AcceptsColumns as columns
 
@@ -59,6 +56,14 @@ number_kind c e = by (kind_of c) refl
     by : (k : Kind) → kind_of c ≡ k → kind_of c ≡ kind.Number
     by kind.Number p = p
     by kind.Text p = let wrong : true ≡ false = sym (ap of_text p) ∙ e in absurd (cc)
+
+-- the ranges of what is put for some measures
+abbrev ranges_of : World → List Measure → List Range
+ranges_of w [] = []
+ranges_of w (counted ∷ ms) = ranges_of w ms
+ranges_of w (summed a ∷ ms) = range_of w.bounds a ∷ ranges_of w ms
+ranges_of w (least a ∷ ms) = range_of w.bounds a ∷ ranges_of w ms
+ranges_of w (greatest a ∷ ms) = range_of w.bounds a ∷ ranges_of w ms
 
 -- a turn of the program that is met so many times
 module _ (w : World) (p : Plan) (sound : IsSoundPlan p) (n : ℕ) (pending : ℕ → Bool) where
@@ -264,17 +269,15 @@ module _ (w : World) (p : Plan) (sound : IsSoundPlan p) (n : ℕ) (pending : ℕ
 
   numbers_fit : (as' : List Range) (vs : List ℕ) (q : Point) → q.env.next ≤ f.registers
       → RangesStand as' q vs
-      → (numbers_fault f.registers (kinds_known q.known) vs ≡ None)
-      × AreNumbers as' (map q.known vs) × (length vs ≡ length as')
-  numbers_fit [] [] q room h = (refl, tt, refl)
+      → (numbers_fault f.registers (kinds_known q.known) vs ≡ None) × (length vs ≡ length as')
+  numbers_fit [] [] q room h = (refl, refl)
   numbers_fit (a ∷ as') (r ∷ rs) q room h =
       let later = numbers_fit as' rs q room h.1 in (
         both_none _ _
             (columns.operand turn q is_number r (KnownNumber a h.0.1.0 h.0.1.1) room
             (h.0.0, h.0.1.2) refl)
             later.0,
-        (h.0.1, later.1),
-        ap suc later.2,
+        ap suc later.1,
       )
   numbers_fit [] (r ∷ rs) q room h = absurd h
   numbers_fit (a ∷ as') [] q room h = absurd h
@@ -288,28 +291,19 @@ module _ (w : World) (p : Plan) (sound : IsSoundPlan p) (n : ℕ) (pending : ℕ
 
   -- ---- the put
 
-  by_sums : (b : Bool) (at : ℕ) (sums : Option Reason) (o : Option (ℕ × Reason)) → SumsIf b sums
-      → o ≡ option_or (at_place at sums) None → Accepted S b o
-  by_sums true at sums o h e = inl (e ∙ ap (λ x. option_or (at_place at x) None) h, refl)
-  by_sums false at sums o h e =
-      inr ((at, h.0, h.1, e ∙ ap (λ x. option_or (at_place at x) None) h.2), λ s. refl)
-
   put_judged : (q : Point) (ks vs : List ℕ) → q.env.next ≤ f.registers → KeysStand p.keys q ks
       → RangesStand (ranges_of w p.measures) q vs
-      → Accepted S (list_all (sum_fits n w.bounds) p.measures) (answer q (put_code ks q.env vs))
+      → Accepted S true (answer q (put_code ks q.env vs))
   put_judged q ks vs room at_k at_v =
       let gs = map aggregate_of p.measures in
       let keys = keys_fit p.keys ks q room at_k in
       let numbers = numbers_fit (ranges_of w p.measures) vs q room at_v in
       let placed : place_fault f true (Put 0 ks vs) ≡ None =
       λ j. unless (true && (eq-eqb (length ks) (length (map key_of_group p.keys)) keys.1 j
-      && eq-eqb (length vs) (value_count gs) (numbers.2 ∙ value_counts p.measures) j)) BadGroup in
+      && eq-eqb (length vs) (value_count gs) (numbers.1 ∙ value_counts p.measures) j)) BadGroup in
       let fault : fault_of f true None (kinds_known q.known) (Put 0 ks vs) ≡ None =
       both_none _ _ placed (both_none _ _ keys.0 numbers.0) in
-      let sums = sums_overflow w gs 0 (shares_at w n (aligned (one w n) gs (map q.known vs))) in
-      by_sums (list_all (sum_fits n w.bounds) p.measures) q.at sums _
-      (totals_judged w n p.measures (map q.known vs) numbers.1)
-      (λ j. option_or (at_place q.at (option_or (option_map Faulty (fault j)) sums)) None)
+      inl (λ j. option_or (at_place q.at (option_or (option_map Faulty (fault j)) None)) None, refl)
 
   -- ---- a turn
 
@@ -330,6 +324,18 @@ module _ (w : World) (p : Plan) (sound : IsSoundPlan p) (n : ℕ) (pending : ℕ
   accepted_then P k true c q o (inr h) g = inr (h.0, λ s. let e = h.1 s in absurd (cc))
   accepted_then P k false c q o (inr h) g = inr h
 
+  and_true : (b : Bool) → (b && true) ≡ b
+  and_true true = refl
+  and_true false = refl
+
+  -- where nothing refuses what comes after it
+  accepted_last : {A : Type 0} (P : Point → A → Type 0) (k : Env → A → Code) (b : Bool)
+      (q : Point) (o : Option (ℕ × Reason)) → Judged b P k q o
+      → ((a : Passed P k q o) → Accepted S true (answer a.after (k a.after.env a.out)))
+      → Accepted S b o
+  accepted_last P k b q o h g =
+      subst (λ c. Accepted S c o) (and_true b) (accepted_then P k b true q o h g)
+
   keys_kept : (cs : List ColumnId) (rs : List ℕ) (a b : Point) → a.env.next ≤ b.env.next
       → ((r : ℕ) → r < a.env.next → b.known r ≡ a.known r) → KeysStand cs a rs → KeysStand cs b rs
   keys_kept [] [] a b onward kept h = tt
@@ -342,21 +348,19 @@ module _ (w : World) (p : Plan) (sound : IsSoundPlan p) (n : ℕ) (pending : ℕ
   pub turn_accepted : (at : ℕ) (known : Table) (written : ℕ → Bool)
       → points.Knows turn env_first known written
       → 1 + register_count (turn_code p) ≤ f.registers
-      → Accepted S
-      (list_all (measure_fits w.bounds) p.measures && list_all (sum_fits n w.bounds) p.measures)
+      → Accepted S (list_all (measure_fits w.bounds) p.measures)
       (first_reason w f pending (in_turn n known written) at (turn_code p))
   turn_accepted at known written knows room =
       let first : Point =
       record { env = env_first; at = at; known = known; written = written; knows = knows } in
       let nodes = list_all (measure_fits w.bounds) p.measures in
-      let sums = list_all (sum_fits n w.bounds) p.measures in
       let k : Env → List ℕ → Code = λ e ks. values_code p.joins p.measures e (put_code ks) in
       let l : Env → Code = λ e. keys_code p.joins p.keys e k in
-      accepted_then Nothing (λ e u. l e) true (nodes && sums) first _
+      accepted_then Nothing (λ e u. l e) true nodes first _
       (conjuncts_judged p.conjuncts sound.conjuncts (λ s. s.1) first l room)
-      (λ a. accepted_then (KeysStand p.keys) k true (nodes && sums) a.after _
+      (λ a. accepted_then (KeysStand p.keys) k true nodes a.after _
       (keys_judged p.keys sound.keys a.after k a.room)
-      (λ b. accepted_then (RangesStand (ranges_of w p.measures)) (put_code b.out) nodes sums b.after _
+      (λ b. accepted_last (RangesStand (ranges_of w p.measures)) (put_code b.out) nodes b.after _
       (values_judged p.measures sound.measures b.after (put_code b.out) b.room)
       (λ c. let space = c.room in
       put_judged c.after b.out c.out (omega arith)
@@ -369,9 +373,7 @@ some_room m = grind arith
 
 -- its instructions alone
 pub instructions_judged : (w : World) (p : Plan) → IsSoundPlan p
-    → Accepted (AreColumnsI64 w p)
-    (list_all (measure_fits w.bounds) p.measures
-    && list_all (sum_fits (w.size Lineorder) w.bounds) p.measures)
+    → Accepted (AreColumnsI64 w p) (list_all (measure_fits w.bounds) p.measures)
     (first_reason w (compiled p) none_open at_first 1 (compiled p).body)
 instructions_judged w p sound =
     let f = compiled p in
@@ -390,13 +392,9 @@ instructions_judged w p sound =
       fresh = λ q h. ne_eqb 0 q (omega arith);
     })
     (omega arith) in
-    let same : n ≡ w.size Lineorder = omega arith in
     let goes : first_reason w f none_open at_first 1 f.body ≡ inside =
     (λ j. option_or (at_place 1 (option_map Faulty
     (option_or (unless (some_room (register_count (turn_code p)) j) BadRegister) None)))
     (option_or inside None))
     ∙ or_none_right inside in
-    subst (λ m. Accepted (AreColumnsI64 w p) (nodes && list_all (sum_fits m w.bounds) p.measures)
-    (first_reason w f none_open at_first 1 f.body)) same
-    (subst (Accepted (AreColumnsI64 w p) (nodes && list_all (sum_fits n w.bounds) p.measures))
-    (sym goes) inner)
+    subst (Accepted (AreColumnsI64 w p) nodes) (sym goes) inner

@@ -26,8 +26,6 @@ mod Constants
 mod Points
 mod AcceptsColumns
 mod Accepts
-mod OneShare
-mod PutSums
 mod AcceptsPlan
 mod Verdicts
 mod OutsideBounds

@@ -41,7 +41,7 @@ untaxed = record {
 }
 
 untaxed_fits : Fits 5 5 wide.bounds untaxed
-untaxed_fits = record { visits = omega arith; nodes = refl; sums = refl }
+untaxed_fits = record { visits = omega arith; nodes = refl }
 
 untaxed_refused : first_refusal wide 5 (compiled untaxed)
     ≡ Some (Refused (2, Overflow (pos 0) (pos (2 ^ 63)) (record { column = LoTax; low = pos 0; high = pos (2 ^ 63) } ∷ [])))
@@ -55,7 +55,7 @@ abbrev below_all : Plan
 below_all = record untaxed { conjuncts = compare LoTax Less (Number (pos (2 ^ 63))) ∷ [] }
 
 below_all_fits : Fits 5 5 sample.bounds below_all
-below_all_fits = record { visits = omega arith; nodes = refl; sums = refl }
+below_all_fits = record { visits = omega arith; nodes = refl }
 
 below_all_refused : first_refusal sample 5 (compiled below_all)
     ≡ Some (Refused (3, Overflow (pos (2 ^ 63)) (pos (2 ^ 63)) []))

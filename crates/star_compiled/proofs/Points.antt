@@ -74,7 +74,14 @@ leaving w KnownFlag at rest e = absurd (cc)
 -- in a scan that is met so many times, where nothing was put
 abbrev pub in_turn : ℕ → Table → (ℕ → Bool) → Context
 in_turn n known written =
-    record { inside = true; met = n; known = known; written = written; so_far = no_shares }
+    record {
+      inside = true;
+      met = n;
+      known = known;
+      written = written;
+      so_far = no_shares;
+      keys_so_far = no_shares;
+    }
 
 -- a turn of a program in a world
 pub record Turn : Type 1 where

@@ -1,7 +1,7 @@
 -- What refuses a compiled program, if anything does.
 use Rattle.std.proofs.Common.{◌≡◌, inl, inr, ℕ, ◌≤◌, ◌<◌, Bool, true, false, Option, Some, None, refl, sym, ap, subst, ◌∙◌, arith}
-use Rattle.std.proofs.lemmas.Bool.{and_parts, and_from, false_from_ne_true, le-leb, leb-true}
-use Rattle.std.specs.Prelude.{◌&&◌, nat_le}
+use Rattle.std.proofs.lemmas.Bool.{false_from_ne_true, le-leb, leb-true}
+use Rattle.std.specs.Prelude.{nat_le}
 use Rattle.std.specs.List.{list_all}
 use Rattle.std.specs.Option.{option_map, option_or}
 use Rattle.star_schema.specs.declared.table.TableId.TheVariants.{Lineorder}
@@ -9,7 +9,7 @@ use Rattle.star_common.specs.First.{first_answer}
 use Rattle.star_plan.specs.Meaning.{Plan}
 use Rattle.star_plan.specs.Sound.{IsSoundPlan}
 use Rattle.star_plan.specs.Spelled.{IsSpelledPlan}
-use Rattle.star_plan.specs.Fits.{measure_fits, sum_fits, Fits}
+use Rattle.star_plan.specs.Fits.{measure_fits, Fits}
 use Rattle.star_program.specs.World.{World}
 use Rattle.star_program.specs.Shown.{shown_fault}
 use Rattle.star_admission.specs.Admissible.{Refusal, TooCostly, Refused, BadShow, cost_refusal, first_refusal}
@@ -70,11 +70,8 @@ module _ (w : World) (most : ℕ) (p : Plan) where
     abbrev nodes : Bool
     nodes = list_all (measure_fits w.bounds) p.measures
 
-    abbrev sums : Bool
-    sums = list_all (sum_fits rows w.bounds) p.measures
-
     abbrev IsJudged : Option (ℕ × Reason) → Type 0
-    IsJudged = Accepted (AreColumnsI64 w p) (nodes && sums)
+    IsJudged = Accepted (AreColumnsI64 w p) nodes
 
     judged : IsJudged reason
     judged = subst IsJudged (first_standing w (compiled p)) (instructions_judged w p sound)
@@ -87,7 +84,7 @@ module _ (w : World) (most : ℕ) (p : Plan) where
     cheap false q e = absurd (cc)
 
     fit_when : (o : Option (ℕ × Reason)) → IsJudged o → option_map Refused o ≡ None
-        → (nodes && sums) ≡ true
+        → nodes ≡ true
     fit_when o (inl h) e = h.1
     fit_when o (inr h) e =
         let over = h.0 in
@@ -97,13 +94,12 @@ module _ (w : World) (most : ℕ) (p : Plan) where
     pub accepted_fits : first_refusal w most (compiled p) ≡ None → Fits rows most w.bounds p
     accepted_fits e =
         let c = cheap (nat_le rows most) (option_map Refused reason) (sym told ∙ e) in
-        let fit = and_parts nodes sums (fit_when reason judged c.1) in
-        record { visits = leb-true rows most c.0; nodes = fit.0; sums = fit.1 }
+        record { visits = leb-true rows most c.0; nodes = fit_when reason judged c.1 }
 
     -- ---- what fits is accepted
 
-    none_when : (o : Option (ℕ × Reason)) → IsJudged o → AreColumnsI64 w p
-        → (nodes && sums) ≡ true → o ≡ None
+    none_when : (o : Option (ℕ × Reason)) → IsJudged o → AreColumnsI64 w p → nodes ≡ true
+        → o ≡ None
     none_when o (inl h) s e = h.0
     none_when o (inr h) s e = let wrong = h.1 s in absurd (cc)
 
@@ -112,8 +108,7 @@ module _ (w : World) (most : ℕ) (p : Plan) where
     fitting_accepted bounds spelled fits =
         within fits.visits
         ∙ ap (option_map Refused)
-        (none_when reason judged (bounds, spelled.conjuncts)
-        (and_from nodes sums fits.nodes fits.sums))
+        (none_when reason judged (bounds, spelled.conjuncts) fits.nodes)
 
     -- ---- and nothing else refuses it
 

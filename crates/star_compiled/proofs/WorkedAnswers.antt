@@ -12,7 +12,7 @@ use Rattle.star_schema.specs.Loadable.{keys_of}
 use Rattle.star_schema.specs.Schema.{column_of, place_of}
 use Rattle.star_schema.specs.Tables.{Value, Number, Text}
 use Rattle.star_schema.specs.Texts.{texts_at}
-use Rattle.star_interval.specs.Range.{is_i64}
+use Rattle.star_interval.specs.Range.{is_i64, is_i128}
 use Rattle.star_query.specs.declared.token.Relation.TheVariants.{AtMost, Less}
 use Rattle.star_query.specs.Tree.{column}
 use Rattle.star_plan.specs.Meaning.{Plan, compare, counted, plan_rows, summed}
@@ -78,7 +78,7 @@ abbrev updates : List Update
 updates = update 1 630 ∷ update 0 495 ∷ update 1 1940 ∷ update 1 980 ∷ []
 
 puts : put_by (run_of (world_of few) (compiled by_nation)) ≡ updates
-unfolding column_of place_of numbers_at texts_at dictionary_of keys_of is_i64
+unfolding column_of place_of numbers_at texts_at dictionary_of keys_of is_i64 is_i128
 puts = refl
 
 are_selected : reverse

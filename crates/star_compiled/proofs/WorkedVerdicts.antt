@@ -1,7 +1,6 @@
 -- What refuses the programs of small queries, by computation.
-use Rattle.std.proofs.Common.{◌≡◌, ℕ, false, [], ◌∷◌, Some, None, refl, arith}
+use Rattle.std.proofs.Common.{◌≡◌, ℕ, [], ◌∷◌, Some, None, refl, arith}
 use Rattle.std.specs.Prelude.{pos, codes}
-use Rattle.std.specs.List.{list_all}
 use Rattle.star_common.specs.First.{first_answer}
 use Rattle.star_schema.specs.declared.table.TableId.{TableId}
 use Rattle.star_schema.specs.declared.table.TableId.TheVariants.{Lineorder}
@@ -15,7 +14,7 @@ use Rattle.star_interval.specs.Range.{Range, only, is_i64}
 use Rattle.star_query.specs.declared.token.Relation.TheVariants.{Equal}
 use Rattle.star_query.specs.Tree.{column}
 use Rattle.star_plan.specs.Meaning.{Plan, compare, summed}
-use Rattle.star_plan.specs.Fits.{Fits, sum_fits}
+use Rattle.star_plan.specs.Fits.{Fits}
 use Rattle.star_program.specs.World.{World}
 use Rattle.star_program.proofs.Sample.{sample, great_prices}
 use Rattle.star_admission.specs.Admissible.{TooCostly, Refused, first_refusal}
@@ -51,7 +50,7 @@ wide_product : first_refusal (record sample { bounds = discounted }) 5 (compiled
 unfolding column_of first_answer is_i64 reached
 wide_product = refl
 
--- ---- a sum: all lines count, though a condition selects one
+-- ---- a sum may leave 64 bits
 
 abbrev line_count : TableId → ℕ
 line_count Lineorder = 11
@@ -75,24 +74,17 @@ first_line = record {
 
 ten_lines_fit : Fits 10 10 great_prices.bounds first_line
 unfolding is_i64
-ten_lines_fit = record { visits = omega arith; nodes = refl; sums = refl }
+ten_lines_fit = record { visits = omega arith; nodes = refl }
 
 ten_lines : first_refusal great_prices 10 (compiled first_line) ≡ None
 unfolding column_of first_answer is_i64 reached
 ten_lines = refl
 
-eleven_lines_wide : list_all (sum_fits 11 one_line_more.bounds) first_line.measures ≡ false
+-- eleven prices of 9 * 10^17
+eleven_lines_fit : Fits 11 11 one_line_more.bounds first_line
 unfolding is_i64
-eleven_lines_wide = refl
+eleven_lines_fit = record { visits = omega arith; nodes = refl }
 
-eleven_lines : first_refusal one_line_more 11 (compiled first_line)
-    ≡ Some (Refused (
-      7,
-      Overflow (pos 0) (pos 9900000000000000000) (record {
-        column = LoExtendedprice;
-        low = pos 900000000000000000;
-        high = pos 900000000000000000;
-      } ∷ []),
-    ))
+eleven_lines : first_refusal one_line_more 11 (compiled first_line) ≡ None
 unfolding column_of first_answer is_i64 reached
 eleven_lines = refl

@@ -1,10 +1,10 @@
 // Programs whose numbers may leave 64 bits, and one that would visit too many rows: refused with the
-// bounds and the columns behind them, or run where they just fit.
+// bounds and the columns behind them, or run where they just fit or only sums leave them.
 
 use crate::executions::{Case, all_agree};
 use crate::tables::dear_lines;
 use star_engine::{Texts, sample};
-use star_fixtures::programs::BELOW_NINE;
+use star_fixtures::programs::{BELOW_NINE, PRICES_READ, WIDE_SUMS_DOWN, WIDE_SUMS_UP};
 use star_schema::MOST_VISITS;
 use std::alloc::Global;
 use std::test::Fail;
@@ -14,6 +14,13 @@ const FIRST_PRICES: &str = concat!(
     "star program 1\nregisters 5\ngroup 0 plain : sum\nscan lineorder r0\n",
     "r1 = load lo_linenumber r0\nr2 = const 1\nr3 = eq r1 r2\nkeep r3\n",
     "r4 = load lo_extendedprice r0\nput 0 : r4\nend\n",
+    "report 0\nshow s aggregate 0\n",
+);
+
+// The sum of all prices.
+const ALL_PRICES: &str = concat!(
+    "star program 1\nregisters 2\ngroup 0 plain : sum\nscan lineorder r0\n",
+    "r1 = load lo_extendedprice r0\nput 0 : r1\nend\n",
     "report 0\nshow s aggregate 0\n",
 );
 
@@ -48,6 +55,12 @@ const OF_TEN_DEAR_LINES: &[Case] = &[
         "quote 10\nvisits 10 lookups 0 updates 1\n",
     ),
     (
+        PRICES_READ,
+        10,
+        "s\n9000000000000000000\n",
+        "quote 10\nvisits 10 lookups 0 updates 10\n",
+    ),
+    (
         BELOW_NINE,
         10,
         "",
@@ -79,9 +92,22 @@ const OF_ELEVEN_DEAR_LINES: &[Case] = &[
     (
         FIRST_PRICES,
         11,
+        "s\n900000000000000000\n",
+        "quote 11\nvisits 11 lookups 0 updates 1\n",
+    ),
+    (
+        ALL_PRICES,
+        11,
+        "s\n9900000000000000000\n",
+        "quote 11\nvisits 11 lookups 0 updates 11\n",
+    ),
+    // A read of the sum is refused, and conditions narrow no range.
+    (
+        PRICES_READ,
+        11,
         "",
         concat!(
-            "quote 11\nrefused 69 Overflow at 7: 0..9900000000000000000",
+            "quote 11\nrefused 69 Overflow at 4: 0..9900000000000000000",
             " from lo_extendedprice 900000000000000000..900000000000000000\n",
         ),
     ),
@@ -90,9 +116,30 @@ const OF_ELEVEN_DEAR_LINES: &[Case] = &[
         11,
         "",
         concat!(
-            "quote 11\nrefused 69 Overflow at 7: 0..9900000000000000000",
+            "quote 11\nrefused 69 Overflow at 8: 0..9900000000000000000",
             " from lo_extendedprice 900000000000000000..900000000000000000\n",
         ),
+    ),
+];
+
+const WIDE_SUMS: &[Case] = &[
+    (
+        WIDE_SUMS_UP,
+        0,
+        concat!(
+            "k|s\n3|-18000000000000000000\n1|9000000000000000000\nALL|9000000000000000000\n",
+            "2|18000000000000000000\n",
+        ),
+        "quote 0\nvisits 0 lookups 0 updates 5\n",
+    ),
+    (
+        WIDE_SUMS_DOWN,
+        0,
+        concat!(
+            "k|s\n2|18000000000000000000\n1|9000000000000000000\nALL|9000000000000000000\n",
+            "3|-18000000000000000000\n",
+        ),
+        "quote 0\nvisits 0 lookups 0 updates 5\n",
     ),
 ];
 
@@ -135,6 +182,11 @@ fn tells_ranges_that_leave_64_bits(rt: HostRuntime) -> Result<(), Fail> {
         ..sample()
     };
     all_agree(rt.alloc(), &great, OF_A_GREAT_PRICE)
+}
+
+#[test]
+fn sums_may_leave_64_bits(rt: HostRuntime) -> Result<(), Fail> {
+    all_agree(rt.alloc(), &sample(), WIDE_SUMS)
 }
 
 // Counts the triples of lines.

@@ -86,6 +86,31 @@ pub const BELOW_NINE: &str = concat!(
     "report 1\nshow m aggregate 0\n",
 );
 
+/// The sum of all prices, which is read.
+pub const PRICES_READ: &str = concat!(
+    "star program 1\nregisters 3\ngroup 0 plain : sum\n",
+    "scan lineorder r0\nr1 = load lo_extendedprice r0\nput 0 : r1\nend\nr2 = read 0 0 0\n",
+    "report 0\nshow s aggregate 0\n",
+);
+
+/// Sums under three keys and over all of them, of which two leave 64 bits: the least first.
+pub const WIDE_SUMS_UP: &str = concat!(
+    "star program 1\nregisters 5\ngroup 0 cube number : sum\n",
+    "r0 = const 1\nr1 = const 2\nr2 = const 3\n",
+    "r3 = const 9000000000000000000\nr4 = const -9000000000000000000\n",
+    "put 0 r0 : r3\nput 0 r1 : r3\nput 0 r1 : r3\nput 0 r2 : r4\nput 0 r2 : r4\n",
+    "report 0\nshow k key 0\nshow s aggregate 0\nsort aggregate 0 ascending\n",
+);
+
+/// The same of a rollup, the greatest first.
+pub const WIDE_SUMS_DOWN: &str = concat!(
+    "star program 1\nregisters 5\ngroup 0 rollup number : sum\n",
+    "r0 = const 1\nr1 = const 2\nr2 = const 3\n",
+    "r3 = const 9000000000000000000\nr4 = const -9000000000000000000\n",
+    "put 0 r0 : r3\nput 0 r1 : r3\nput 0 r1 : r3\nput 0 r2 : r4\nput 0 r2 : r4\n",
+    "report 0\nshow k key 0\nshow s aggregate 0\nsort aggregate 0 descending\n",
+);
+
 /// Suppliers for each date.
 pub const NESTED: &str = "scan date r0\nscan supplier r1\nput 0 :\nend\nend\n";
 

@@ -46,7 +46,7 @@ module _ (d : Group) (us : List Put) (u : Put) (row : List (Option ℤ)) (one : 
   more_over None new was m = subst (IsRowOver d (u ∷ us)) (sym m.1) (refl, subst (λ ws. HasAggregates d (u ∷ ws) m.0) (sym (no_puts us was)) (λ place h. m.2 place h ∙ row_of_one d u row one place h))
   more_over (Some held_row) new was m = subst (IsRowOver d (u ∷ us)) (sym m.1) (refl, merged_more d u us held_row row m.0 one was.1 m.2)
 
-  -- no SUM and no COUNT leaves 64 bits
+  -- no SUM and no COUNT leaves its bits
   pub merge_stays : (all : List Put) (p : List KeyValue → Bool) → HasRoom d all → filter (λ w. p w.keys) all ≡ u ∷ us → (held_row : List (Option ℤ)) → HasAggregates d us held_row → MergeStays d.aggregates held_row row
   merge_stays all p room is held_row so_far = λ place h.
       let g = aggregate_at d place in

@@ -14,7 +14,7 @@ use Rattle.star_group.specs.Stores.{Put, Group, aggregate_at, number_at}
 use Rattle.star_group.proofs.Merging.{held_none, held_one, merged_comm, no_puts}
 use Rattle.star_group.proofs.Totals.{no_more, one_more}
 
--- with this put after those, no SUM or COUNT of a row that it changes leaves 64 bits
+-- with this put after those, no SUM or COUNT of a row that it changes leaves its bits
 pub record PutStays (d : Group) (puts : List Put) (put : Put) : Type 0 where
   pub stays : (q : List (Option KeyValue)) (place : ℕ) → changes d q put ≡ true → place < length d.aggregates → leaves (aggregate_at d place) (held_at d (put ∷ puts) q place) ≡ false
 

@@ -1,4 +1,4 @@
--- Where the sums by key list add up within 64 bits, no put leaves them.
+-- Where the sums by key list add up within 128 bits and the counts within 64, no put overflows.
 use Rattle.std.proofs.Common.{◌≡◌, ℕ, ◌<◌, ◌≤◌, ◌^◌, Bool, true, false, not, ℤ, pos, negsuc, ◌+ℤ◌, ◌≤ℤ◌, List, [], ◌∷◌, Option, Some, None, length, cond, ap, sym, ◌∙◌, refl, true≢false, arith}
 use Rattle.std.proofs.lemmas.Int.{ints}
 use Rattle.std.proofs.lemmas.Bool.{false_from_ne_true, lt-ltb}
@@ -7,7 +7,7 @@ use Rattle.std.specs.List.{filter}
 use Rattle.star_schema.specs.declared.group.Aggregate.{Aggregate}
 use Rattle.star_schema.specs.declared.group.Aggregate.TheVariants.{Sum, Count, Min, Max}
 use Rattle.star_schema.specs.Groups.{aggregate, belongs, joined, numbers_for}
-use Rattle.star_interval.specs.Range.{is_i64}
+use Rattle.star_interval.specs.Range.{is_i64, is_i128}
 use Rattle.star_program.specs.declared.key.KeyValue.{KeyValue}
 use Rattle.star_program.specs.Keys.{key_value_cmp}
 use Rattle.star_program.specs.Puts.{leaves}
@@ -63,10 +63,10 @@ fewer_kept p place (e ∷ es) = by (p e) (fewer_kept p place es)
     by true h = fewer_with (number_at place e) _ _ h
     by false h = fewer_without (number_at place e) _ _ h
 
-fits_between : (z : ℤ) (m n : ℕ) → z ≤ℤ pos m → pos 0 ≤ℤ (z +ℤ pos n) → m < 2 ^ 63 → n ≤ 2 ^ 63 → is_i64 z ≡ true
-unfolding is_i64
-fits_between (pos k) m n a b h l = lt-ltb k (2 ^ 63) (omega (arith, ints))
-fits_between (negsuc k) m n a b h l = lt-ltb k (2 ^ 63) (omega (arith, ints))
+fits_between : (z : ℤ) (m n : ℕ) → z ≤ℤ pos m → pos 0 ≤ℤ (z +ℤ pos n) → m < 2 ^ 127 → n ≤ 2 ^ 127 → is_i128 z ≡ true
+unfolding is_i128
+fits_between (pos k) m n a b h l = lt-ltb k (2 ^ 127) (omega (arith, ints))
+fits_between (negsuc k) m n a b h l = lt-ltb k (2 ^ 127) (omega (arith, ints))
 
 -- ---- counts
 
@@ -77,7 +77,7 @@ count_small n h = lt-ltb n (2 ^ 63) h
 -- ---- the puts whose key lists pass a test
 
 module _ (d : Group) (us : List Put) (room : HasRoom d us) (p : List KeyValue → Bool) (place : ℕ) (declared : place < length d.aggregates) where
-  sum_fits : aggregate_at d place ≡ Sum → (z : ℤ) → joined (λ x y. x +ℤ y) (numbers_for place (filter (λ w. p w.keys) us)) ≡ Some z → is_i64 z ≡ true
+  sum_fits : aggregate_at d place ≡ Sum → (z : ℤ) → joined (λ x y. x +ℤ y) (numbers_for place (filter (λ w. p w.keys) us)) ≡ Some z → is_i128 z ≡ true
   sum_fits same z e =
       let es = made d us in
       let zs = numbers_for place (filter (λ w. p w.keys) es) in
@@ -85,7 +85,7 @@ module _ (d : Group) (us : List Put) (room : HasRoom d us) (p : List KeyValue �
       let up = room.sums es (made_content d us) place declared same in
       let less = fewer_kept (λ w. p w.keys) place es in
       let r = bounded zs in
-      ap is_i64 (sum_is zs z whole) ∙ fits_between (all_of zs) _ _ r.0 r.1 (omega (arith, less.above, up.above)) (omega (arith, less.below, up.below))
+      ap is_i128 (sum_is zs z whole) ∙ fits_between (all_of zs) _ _ r.0 r.1 (omega (arith, less.above, up.above)) (omega (arith, less.below, up.below))
 
   stays_at : (g : Aggregate) → aggregate_at d place ≡ g → leaves g (aggregate g (numbers_for place (filter (λ w. p w.keys) us))) ≡ false
   stays_at Sum same = by (joined (λ x y. x +ℤ y) (numbers_for place (filter (λ w. p w.keys) us))) refl
@@ -105,7 +105,7 @@ module _ (d : Group) (us : List Put) (room : HasRoom d us) (p : List KeyValue �
       by None = refl
       by (Some z) = refl
 
--- what is held of them stays within 64 bits
+-- what is held of them doesn't leave its bits
 pub held_stays : (d : Group) (us : List Put) → HasRoom d us → (p : List KeyValue → Bool) (place : ℕ) → place < length d.aggregates → leaves (aggregate_at d place) (held (aggregate_at d place) (numbers_for place (filter (λ w. p w.keys) us))) ≡ false
 unfolding held
 held_stays d us room p place declared = by (aggregate_at d place) (numbers_for place (filter (λ w. p w.keys) us)) (stays_at d us room p place declared (aggregate_at d place) refl)

@@ -1,10 +1,14 @@
--- Numbers that add up within 64 bits do so by key list too.
-use Rattle.std.proofs.Common.{◌≡◌, ℕ, ◌+◌, ◌<◌, ◌≤◌, ◌^◌, Bool, true, false, ◌&&◌, ◌||◌, ℤ, pos, negsuc, ◌+ℤ◌, List, [], ◌∷◌, Option, Some, None, length, cond, ap, sym, ◌∙◌, subst, refl, arith, true≢false}
+-- Numbers that add up within 128 bits do so by key list too; few numbers of 64 bits do.
+use Rattle.std.proofs.Common.{◌≡◌, ℕ, zero, suc, ◌+◌, ◌*◌, ◌<◌, ◌≤◌, ◌^◌, Bool, true, false, ◌&&◌, ◌||◌, ℤ, pos, negsuc, ◌+ℤ◌, List, [], ◌∷◌, Option, Some, None, length, cond, ap, sym, ◌∙◌, subst, refl, arith, true≢false}
+use Rattle.std.specs.Prelude.{All, slice_index_or}
+use Rattle.std.proofs.lemmas.Bool.{ltb-true}
 use Rattle.std.proofs.lemmas.Int.{ints}
+use Rattle.std.proofs.lemmas.List.Elements.{All-head, All-tail}
 use Rattle.std.proofs.lemmas.Map.Keys.{IsDistinct-head, IsDistinct-tail}
 use Rattle.std.specs.List.{list_any, AllByRecursion, IsDistinct}
 use Rattle.star_schema.specs.declared.group.Aggregate.TheVariants.{Sum}
 use Rattle.star_schema.specs.Groups.{numbers_for}
+use Rattle.star_interval.specs.Range.{is_i64}
 use Rattle.star_program.specs.Keys.{same_keys}
 use Rattle.star_group.specs.Stores.{Put, Group, aggregate_at, IsContent, key_lists, number_at, above_zero, below_zero, AddUp, HasRoom}
 use Rattle.star_group.proofs.ContentByKeys.{told}
@@ -114,3 +118,33 @@ small_room d us small few = record { sums = sums; counts = λ place h same. few 
           above = omega (arith, (sides place es).0, (sides place us).0, up.above, entries_less above (λ x y. above_sum x y (x +ℤ y) refl) (number_at place) us es is.once each);
           below = omega (arith, (sides place es).1, (sides place us).1, up.below, entries_less below (λ x y. below_sum x y (x +ℤ y) refl) (number_at place) us es is.once each);
         }
+
+-- ---- few numbers of 64 bits
+
+-- a number of 64 bits adds no more than 2^63 on either side of 0
+narrow_sides : (z : ℤ) → is_i64 z ≡ true → (above z ≤ 2 ^ 63) × (below z ≤ 2 ^ 63)
+unfolding is_i64
+narrow_sides (pos n) h = let l = ltb-true n (2 ^ 63) h in (omega (arith, l), omega arith)
+narrow_sides (negsuc n) h = let l = ltb-true n (2 ^ 63) h in (omega arith, omega (arith, l))
+
+narrow_at : (place : ℕ) (vs : List ℤ) → All (λ z. is_i64 z ≡ true) vs → is_i64 (slice_index_or vs place (pos 0)) ≡ true
+unfolding is_i64
+narrow_at place [] all = refl
+narrow_at zero (v ∷ vs) all = All-head (λ z. is_i64 z ≡ true) v vs all
+narrow_at (suc place) (v ∷ vs) all = narrow_at place vs (All-tail (λ z. is_i64 z ≡ true) v vs all)
+
+few_sides : (place : ℕ) (us : List Put) → All (λ u. All (λ z. is_i64 z ≡ true) u.values) us
+    → (above_zero (numbers_for place us) ≤ length us * 2 ^ 63) × (below_zero (numbers_for place us) ≤ length us * 2 ^ 63)
+unfolding above_zero below_zero
+few_sides place [] all = (omega arith, omega arith)
+few_sides place (u ∷ us) all =
+    let here = narrow_sides (number_at place u) (narrow_at place u.values (All-head (λ (u : Put). All (λ z. is_i64 z ≡ true) u.values) u us all)) in
+    let rest = few_sides place us (All-tail (λ (u : Put). All (λ z. is_i64 z ≡ true) u.values) u us all) in
+    let sides = one_more (number_at place u) (numbers_for place us) _ _ (refl, refl) in
+    (omega (arith, here.0, rest.0, sides.0), omega (arith, here.1, rest.1, sides.1))
+
+pub few_room : (d : Group) (us : List Put) → All (λ u. All (λ z. is_i64 z ≡ true) u.values) us → length us < 2 ^ 63 → HasRoom d us
+few_room d us all few =
+    small_room d us
+    (λ place h same. let sides = few_sides place us all in
+    record { above = omega (arith, sides.0, few); below = omega (arith, sides.1, few) }) few

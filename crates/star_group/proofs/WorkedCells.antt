@@ -1,11 +1,11 @@
--- What cells hold, which rows a put changes, and which numbers add up within 64 bits, by computation.
+-- What cells hold, which rows a put changes, and which numbers add up within 128 bits, by computation.
 use Rattle.std.proofs.Common.{◌≡◌, ℕ, zero, suc, ◌<◌, ◌^◌, true, false, ℤ, pos, negsuc, List, [], ◌∷◌, Option, Some, None, length, map, arith, refl}
 use Rattle.std.specs.List.{IsDistinct}
 use Rattle.star_schema.specs.declared.group.Aggregate.{Aggregate}
 use Rattle.star_schema.specs.declared.group.Aggregate.TheVariants.{Sum, Count, Min, Max}
 use Rattle.star_schema.specs.declared.group.Shape.TheVariants.{Plain, Cube, Rollup}
 use Rattle.star_schema.specs.Groups.{aggregate, numbers_for}
-use Rattle.star_interval.specs.Range.{is_i64}
+use Rattle.star_interval.specs.Range.{is_i128}
 use Rattle.star_program.specs.declared.group.GroupKey.TheVariants as declared
 use Rattle.star_program.specs.declared.key.KeyValue.{KeyValue}
 use Rattle.star_program.specs.declared.key.KeyValue.TheVariants.{Number, Code}
@@ -120,29 +120,34 @@ numbers_of_puts = refl
 numbers_combined : map (λ g. combined g (pos 4 ∷ pos 6 ∷ [])) all_four ≡ Some (pos 10) ∷ Some (pos 10) ∷ Some (pos 4) ∷ Some (pos 6) ∷ []
 numbers_combined = refl
 
--- ---- 64 bits
+-- ---- 128 bits of a SUM, 64 of a COUNT
 
 abbrev greatest : ℤ
-greatest = pos 9223372036854775807
+greatest = pos 170141183460469231731687303715884105727
 
 sum_leaves : overflows summed (put (Code 1 ∷ []) (greatest ∷ []) ∷ []) (put (Code 1 ∷ []) (pos 1 ∷ [])) ≡ true
-unfolding is_i64
+unfolding is_i128
 sum_leaves = refl
 
--- the row of all puts leaves them too
+-- the total of all puts leaves them too
 total_leaves : overflows summed (put (Code 1 ∷ []) (greatest ∷ []) ∷ []) (put (Code 2 ∷ []) (pos 1 ∷ [])) ≡ true
-unfolding is_i64
+unfolding is_i128
 total_leaves = refl
 
+-- a sum of 64 bits and one more
+sum_past_64_bits : overflows summed (put (Code 1 ∷ []) (pos 9223372036854775807 ∷ []) ∷ []) (put (Code 1 ∷ []) (pos 1 ∷ [])) ≡ false
+unfolding is_i128
+sum_past_64_bits = refl
+
 sum_stays : overflows summed (put (Code 1 ∷ []) (greatest ∷ []) ∷ []) (put (Code 1 ∷ []) (pos 0 ∷ [])) ≡ false
-unfolding is_i64
+unfolding is_i128
 sum_stays = refl
 
 parts : (above_zero (pos 4 ∷ negsuc 2 ∷ pos 5 ∷ negsuc 0 ∷ []) ≡ 9) × (below_zero (pos 4 ∷ negsuc 2 ∷ pos 5 ∷ negsuc 0 ∷ []) ≡ 4)
 unfolding above_zero below_zero
 parts = (refl, refl)
 
-widest : AddUp (greatest ∷ negsuc 9223372036854775807 ∷ [])
+widest : AddUp (greatest ∷ negsuc 170141183460469231731687303715884105727 ∷ [])
 unfolding above_zero below_zero
 widest = record { above = omega arith; below = omega arith }
 
@@ -150,7 +155,7 @@ too_great : AddUp (greatest ∷ pos 1 ∷ []) → ⊥
 unfolding above_zero
 too_great h = let p = h.above in omega (arith, p)
 
-too_small : AddUp (negsuc 9223372036854775807 ∷ negsuc 0 ∷ []) → ⊥
+too_small : AddUp (negsuc 170141183460469231731687303715884105727 ∷ negsuc 0 ∷ []) → ⊥
 unfolding below_zero
 too_small h = let p = h.below in omega (arith, p)
 
@@ -171,13 +176,13 @@ too_many_puts puts e h = let p = h.counts 0 (omega arith) refl in omega (arith, 
 
 -- one put of too great a number: it is its own content
 abbrev too_great_a_put : List Put
-too_great_a_put = put (Code 1 ∷ []) (pos 9223372036854775808 ∷ []) ∷ []
+too_great_a_put = put (Code 1 ∷ []) (pos 170141183460469231731687303715884105728 ∷ []) ∷ []
 
 its_own : IsContent summed too_great_a_put too_great_a_put
 unfolding IsDistinct
 its_own = record { keys = λ ks. refl; once = (tt, tt); numbers = (number, tt) }
   where
-    number : (place : ℕ) → place < 1 → aggregate (aggregate_at summed place) (numbers_for place too_great_a_put) ≡ Some (number_at place (put (Code 1 ∷ []) (pos 9223372036854775808 ∷ [])))
+    number : (place : ℕ) → place < 1 → aggregate (aggregate_at summed place) (numbers_for place too_great_a_put) ≡ Some (number_at place (put (Code 1 ∷ []) (pos 170141183460469231731687303715884105728 ∷ [])))
     number zero h = refl
     number (suc place) h = absurd (omega (arith, h))
 

@@ -45,7 +45,7 @@ pub record IsBase (d : Group) (entries : List (List KeyPart × List (Option ℤ)
   pub rows : (q : List (Option KeyValue)) → IsRowOver d (puts_with q puts) (row_at entries q)
   pub total : HasAggregates d puts all
 
--- they are those of some puts that have room: the positive sums of the rows add up within 64 bits, and so do
+-- they are those of some puts that have room: the positive sums of the rows add up within 128 bits, and so do
 -- the negative ones and the counts
 abbrev pub HasBaseWithRoom : Group → List (List KeyPart × List (Option ℤ)) → List (Option ℤ) → Type 0
 HasBaseWithRoom d entries all = ∥ ((puts : List Put) × IsBase d entries all puts × HasRoom d puts) ∥₁

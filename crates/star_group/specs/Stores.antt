@@ -31,7 +31,7 @@ aggregate_at d place = slice_index_or d.aggregates place Count
 abbrev pub total_of : Group → List Put → ℕ → Option ℤ
 total_of d puts place = aggregate (aggregate_at d place) (numbers_for place puts)
 
--- with this put after those a SUM or a COUNT over one of its groups, or over all of them, leaves 64 bits
+-- with this put after those a SUM or a COUNT over one of its groups, or over all of them, leaves its bits
 abbrev pub overflows : Group → List Put → Put → Bool
 overflows d puts put = list_any (λ keys. some_leaves d.aggregates 0 (members key_value_cmp keys (put ∷ puts))) (own_groups d.shape put.keys)
 
@@ -85,12 +85,12 @@ below_zero [] = 0
 below_zero (pos n ∷ zs) = below_zero zs
 below_zero (negsuc n ∷ zs) = suc n + below_zero zs
 
--- the positive numbers add up within 64 bits, and so do the negative ones
+-- the positive numbers add up within 128 bits, and so do the negative ones
 pub record AddUp (zs : List ℤ) : Type 0 where
-  pub above : above_zero zs < 2 ^ 63
-  pub below : below_zero zs ≤ 2 ^ 63
+  pub above : above_zero zs < 2 ^ 127
+  pub below : below_zero zs ≤ 2 ^ 127
 
--- the sums of each SUM by key list add up, and so do the counts, which are as many as the puts
+-- the sums of each SUM by key list add up, and the counts, which are as many as the puts, within 64 bits
 pub record HasRoom (d : Group) (puts : List Put) : Type 0 where
   pub sums : (content : List Put) → IsContent d puts content
       → (place : ℕ) → place < length d.aggregates → aggregate_at d place ≡ Sum

@@ -47,7 +47,7 @@ impl<T, const MOST: usize> Prefix<T, MOST> {
 pub type RowKeys = Prefix<Option<KeyValue>, 6>;
 
 /// A row's aggregates, in order, in which `None` is NULL.
-pub type RowAggregates = Prefix<Option<i64>, 8>;
+pub type RowAggregates = Prefix<Option<i128>, 8>;
 
 /// One row of a group: its keys and its aggregates.
 #[derive(Drop)]

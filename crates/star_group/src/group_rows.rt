@@ -18,7 +18,7 @@ pub struct GroupRows {
     aggregate_count: usize,
     len: usize,
     keys: Vec<Option<KeyValue>>,
-    aggregates: Vec<Option<i64>>,
+    aggregates: Vec<Option<i128>>,
 }
 
 impl Model for GroupRows {
@@ -53,7 +53,7 @@ impl GroupRows {
 
     /// The aggregates of the row of a number from 0, in order, in which `None` is NULL; none where
     /// there is no such row.
-    pub fn aggregates(&self, number: usize) -> &[Option<i64>]
+    pub fn aggregates(&self, number: usize) -> &[Option<i128>]
         ensures { result.now ≡ (row_at self.now number).aggregates }
     {
         row_of(&self.aggregates, self.aggregate_count, self.len, number)
@@ -65,7 +65,7 @@ impl GroupRows {
 pub(crate) struct Gathered {
     pub(crate) count: usize,
     pub(crate) keys: Vec<Option<KeyValue>>,
-    pub(crate) aggregates: Vec<Option<i64>>,
+    pub(crate) aggregates: Vec<Option<i128>>,
 }
 
 impl Gathered {

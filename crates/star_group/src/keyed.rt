@@ -17,7 +17,7 @@ use trie::Trie;
 pub(crate) struct KeyedRows {
     pub(crate) trie: Trie,
     pub(crate) many: usize,
-    pub(crate) cells: Vec<Option<i64>>,
+    pub(crate) cells: Vec<Option<i128>>,
     ghost few: { many ≤ 8 },
     ghost long: { length cells.items ≡ trie.len * many },
 }
@@ -29,7 +29,7 @@ pub(crate) struct ListedRows {
     pub(crate) len: usize,
     pub(crate) keys: Vec<KeyPart>,
     pub(crate) many: usize,
-    pub(crate) cells: Vec<Option<i64>>,
+    pub(crate) cells: Vec<Option<i128>>,
     ghost few: { width ≤ 6 },
     ghost long_keys: { length keys.items ≡ len * width },
     ghost long_cells: { length cells.items ≡ len * many },

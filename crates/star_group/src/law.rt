@@ -1,8 +1,9 @@
 //! What holds of the content of puts and of the condition of a put by the definitions alone.
 
-ghost use Rattle.std.specs.Prelude.{◌≡◌, ◌<◌, ◌^◌, ℕ, List, ◌∷◌, false, length};
+ghost use Rattle.std.specs.Prelude.{◌≡◌, ◌<◌, ◌^◌, ℕ, All, List, ◌∷◌, false, true, length};
 ghost use Rattle.star_schema.specs.Groups.{numbers_for};
 ghost use Rattle.star_schema.specs.declared.group.Aggregate.TheVariants.{Sum};
+ghost use Rattle.star_interval.specs.Range.{is_i64};
 ghost use Rattle.star_group.specs.OneMore.{IsWithPut};
 ghost use Rattle.star_group.specs.Stores.{AddUp, AreOfContent, Group, HasRoom, IsContent, Put, aggregate_at, overflows};
 
@@ -26,16 +27,24 @@ pub fn groups_are_of_content()
         → AreOfContent d puts content }
 {}
 
-/// Where the sums by key list add up within 64 bits, no aggregate of a row leaves them.
+/// Where the sums by key list add up within 128 bits and the counts within 64, no aggregate of a row
+/// leaves its bits.
 pub fn room_is_enough()
     ensures { (d : Group) (puts : List Put) (put : Put) → HasRoom d (put ∷ puts)
         → overflows d puts put ≡ false }
 {}
 
-/// Where the numbers themselves add up within 64 bits, so do the sums by key list.
+/// Where the numbers themselves add up within 128 bits, so do the sums by key list.
 pub fn small_numbers_have_room()
     ensures { (d : Group) (puts : List Put)
         → ((place : ℕ) → place < length d.aggregates → aggregate_at d place ≡ Sum
         → AddUp (numbers_for place puts))
         → length puts < 2 ^ 63 → HasRoom d puts }
+{}
+
+/// Fewer than 2^63 puts of numbers of 64 bits have room: how many puts there can be is enough.
+pub fn few_numbers_have_room()
+    ensures { (d : Group) (puts : List Put)
+        → All (λ put. All (λ z. is_i64 z ≡ true) put.values) puts → length puts < 2 ^ 63
+        → HasRoom d puts }
 {}

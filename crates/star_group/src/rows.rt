@@ -52,13 +52,13 @@ fn find_places(
     Ok(())
 }
 
-// Whether the row at this place, or one that is missing, stays within 64 bits with one more merged
-// in.
+// Whether no aggregate of the row at this place, or of one that is missing, leaves its bits with one
+// more merged in.
 pub(crate) fn stays_at(
     rows: &KeyedRows,
     place: Place,
     aggregates: &[Aggregate],
-    more: &[Option<i64>],
+    more: &[Option<i128>],
 ) -> bool
     requires within { IsWithin rows.now place }
     requires fits { FitsIn rows.now aggregates.now more.now }
@@ -75,13 +75,14 @@ pub(crate) fn stays_at(
     }
 }
 
-// Whether no row of these keys, which have these places, leaves 64 bits with one more merged in.
+// Whether no aggregate of the rows of these keys, which have these places, leaves its bits with one
+// more merged in.
 fn all_stay_at(
     rows: &KeyedRows,
     own: &[OrderedKey],
     places: &[Place],
     aggregates: &[Aggregate],
-    more: &[Option<i64>],
+    more: &[Option<i128>],
 ) -> bool
     requires narrow { AreNarrow rows.now.trie.width own.now }
     requires places { ArePlaces rows.now own.now places.now }
@@ -105,7 +106,7 @@ fn merge_at(
     key: &OrderedKey,
     place: Place,
     aggregates: &[Aggregate],
-    more: &[Option<i64>],
+    more: &[Option<i128>],
 )
     requires narrow { IsNarrow rows.old.trie.width key.now }
     requires place { IsPlaceAmong rows.old count key.now place }
@@ -131,7 +132,7 @@ fn merge_all_at(
     own: &[OrderedKey],
     places: &[Place],
     aggregates: &[Aggregate],
-    more: &[Option<i64>],
+    more: &[Option<i128>],
 )
     requires narrow { AreNarrow rows.old.trie.width own.now }
     requires places { ArePlaces rows.old own.now places.now }
@@ -164,7 +165,7 @@ pub(crate) fn put_rows(
     own: &[OrderedKey],
     places: &mut Vec<Place>,
     aggregates: &[Aggregate],
-    more: &[Option<i64>],
+    more: &[Option<i128>],
 ) -> Result<(), PutFault>
     requires narrow { AreNarrow rows.old.trie.width own.now }
     requires distinct { IsDistinct key_eq (map key_of own.now) }

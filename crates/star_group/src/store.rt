@@ -28,8 +28,8 @@ pub trait GroupStore: Drop {
 
     /// One more put: a value for each key, and a number for each aggregate, of which that for a
     /// `Count` does not matter. Its condition: with it the positive sums by key list add up within
-    /// 64 bits, and so do the negative ones and the counts. Where memory is refused the content is
-    /// as it was.
+    /// 128 bits, and so do the negative ones, and there are fewer puts than 2^63 where they are
+    /// counted. Where memory is refused the content is as it was.
     fn put(&mut self, keys: &[KeyValue], values: &[i64]) -> Result<(), AllocError>
         requires keys { length keys.now ≡ (group self.old).count }
         requires values { length values.now ≡ length (group self.old).aggregates }
@@ -41,7 +41,7 @@ pub trait GroupStore: Drop {
         ensures group { group self.new ≡ group self.old };
 
     /// An aggregate, by its number from 0, over all puts; `None` is NULL. Takes no memory.
-    fn total(&self, aggregate: usize) -> Option<i64>
+    fn total(&self, aggregate: usize) -> Option<i128>
         requires { aggregate < length (group self.now).aggregates }
         ensures { (puts : List Put) → has self.now puts
             → result ≡ total_of (group self.now) puts aggregate };
@@ -55,9 +55,9 @@ pub trait GroupStore: Drop {
 /// A store that takes puts with no condition on their numbers, and refuses those that overflow.
 pub trait TryPut: GroupStore {
     /// One more put: a value for each key, and a number for each aggregate, of which that for a
-    /// `Count` does not matter. Answers Overflow exactly where with it a `Sum` or a `Count` over
-    /// one of its groups, or over all puts, leaves 64 bits; after an error the content is as it
-    /// was.
+    /// `Count` does not matter. Answers Overflow exactly where with it a `Sum` over one of its
+    /// groups, or over all puts, leaves 128 bits, or a `Count` leaves 64; after an error the content
+    /// is as it was.
     fn try_put(&mut self, keys: &[KeyValue], values: &[i64]) -> Result<(), PutFault>
         requires keys { length keys.now ≡ (Self.group self.old).count }
         requires values { length values.now ≡ length (Self.group self.old).aggregates }

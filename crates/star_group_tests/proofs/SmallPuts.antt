@@ -37,6 +37,10 @@ pub minus_big : AddUp (negsuc 8999999999999999999 ∷ [])
 unfolding above_zero below_zero
 minus_big = record { above = omega arith; below = omega arith }
 
+pub big_twice : AddUp (pos 9000000000000000000 ∷ pos 9000000000000000000 ∷ [])
+unfolding above_zero below_zero
+big_twice = record { above = omega arith; below = omega arith }
+
 pub big_first : AddUp (negsuc 8999999999999999999 ∷ pos 9000000000000000000 ∷ [])
 unfolding above_zero below_zero
 big_first = record { above = omega arith; below = omega arith }

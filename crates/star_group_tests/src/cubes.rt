@@ -91,7 +91,7 @@ fn rollup_of_no_puts_has_one_row(rt: HostRuntime) -> Result<(), Fail> {
 
 // The rows of a rollup by 1, 2 with 7 and by 1, 1 with 5: of both, of each prefix, and of none of
 // the second key alone.
-const OF_TWO_PUTS: [([Option<KeyValue>; 2], i64); 4] = [
+const OF_TWO_PUTS: [([Option<KeyValue>; 2], i128); 4] = [
     ([Some(ONE), Some(TWO)], 7),
     ([Some(ONE), Some(ONE)], 5),
     ([Some(ONE), None], 12),
@@ -99,7 +99,7 @@ const OF_TWO_PUTS: [([Option<KeyValue>; 2], i64); 4] = [
 ];
 
 // Whether the rows are some of these.
-fn are_among(rows: &GroupRows, expected: &[([Option<KeyValue>; 2], i64)]) -> bool {
+fn are_among(rows: &GroupRows, expected: &[([Option<KeyValue>; 2], i128)]) -> bool {
     for row in 0..rows.len() {
         let is_there = expected.iter().any(|(keys, sum)| {
             rows.keys(row) == keys.as_slice() && rows.aggregates(row) == [Some(*sum)].as_slice()
@@ -132,7 +132,7 @@ fn total_of<S: GroupStore>(
     alloc: Global,
     first: i64,
     second: i64,
-) -> Result<Option<i64>, AllocError>
+) -> Result<Option<i128>, AllocError>
     requires first { AddUp (first ∷ []) }
     requires both { AddUp (second ∷ first ∷ []) }
 {
@@ -148,6 +148,31 @@ fn big_puts_in_both_orders_add_up_to_0(rt: HostRuntime) -> Result<(), Fail> {
     assert_eq!(rt; total_of::<EagerStore>(rt.alloc(), -BIG, BIG)?, Some(0));
     assert_eq!(rt; total_of::<DeferredStore>(rt.alloc(), BIG, -BIG)?, Some(0));
     assert_eq!(rt; total_of::<DeferredStore>(rt.alloc(), -BIG, BIG)?, Some(0));
+    Ok(())
+}
+
+const TWICE_BIG: i128 = 18000000000000000000;
+
+// Whether the row and the total of two puts of the same keys have the sum of both, which leaves 64
+// bits.
+fn leaves_64_bits<S: GroupStore>(alloc: Global) -> Result<bool, AllocError> {
+    let mut plain = sums::<S>(alloc, Shape::Plain, 1)?;
+    plain.put(&[ONE], &[BIG])?;
+    plain.put(&[ONE], &[BIG])?;
+    let total = plain.total(0);
+    let rows = plain.into_rows()?;
+    Ok(
+        total == Some(TWICE_BIG)
+            && rows.len() == 1
+            && rows.keys(0) == [Some(ONE)].as_slice()
+            && rows.aggregates(0) == [Some(TWICE_BIG)].as_slice(),
+    )
+}
+
+#[test]
+fn sums_of_big_puts_leave_64_bits(rt: HostRuntime) -> Result<(), Fail> {
+    assert!(rt; leaves_64_bits::<EagerStore>(rt.alloc())?);
+    assert!(rt; leaves_64_bits::<DeferredStore>(rt.alloc())?);
     Ok(())
 }
 

@@ -50,12 +50,11 @@ module _ (database : Database) (parts : Parts) (registers : Registers) (run : Ru
       (subst (λ (a : Option Value). MatchOption a (result ≡ Err (stop.Trap Overflow)) (λ value. result ≡ Ok value)) shown is)
 
   -- what a read gives
-  pub read_made : (result : Value) (z : ℤ) → result ≡ Number z → fits_register result ≡ true
-      → IsMade database parts registers run t (sets_answer registers s t (Number z)) (Ok result)
-  read_made result z given fits =
-      subst (λ v. IsMade database parts registers run t (sets_answer registers s t (Number z)) (Ok v)) (sym given)
-      (subst (λ b. Sets database parts registers run t (unless_trap (unless b Overflow) (GoesOn (with_entry registers t (Number z)) s)) (Number z))
-      (sym fits ∙ ap fits_register given) (sets _ (Number z) refl tt))
+  pub read_made : (z : ℤ) (answer : Option Value) (result : Result Value Stop) → answer ≡ fitting (Number z)
+      → MatchOption answer (result ≡ Err (stop.Trap Overflow)) (λ value. result ≡ Ok value) → IsMade database parts registers run t (sets_answer registers s t (Number z)) result
+  read_made z answer result shown is =
+      made (Number z) (fits_register (Number z)) result tt
+      (subst (λ (a : Option Value). MatchOption a (result ≡ Err (stop.Trap Overflow)) (λ value. result ≡ Ok value)) shown is)
 
 -- a put that is refused
 pub put_stops : (d : GroupDecl) (registers : Registers) (s : Store) (g : ℕ) (update : Update) (fault : PutFault) → (fault ≡ memory.OutOfMemory) ⊎ (overflows d (s.updates_of g) update ≡ true)

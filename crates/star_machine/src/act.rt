@@ -10,7 +10,7 @@ ghost use Rattle.star_machine.specs.declared.fault.Stop.TheVariants as Stop;
 ghost use Rattle.star_program.specs.declared.fault.TrapKind.TheVariants as TrapKind;
 ghost use Rattle.star_program.specs.declared.value.Value.TheVariants as Value;
 ghost use Rattle.star_program.specs.Effects.{Store, kinds_in};
-ghost use Rattle.star_program.specs.Private.Doing.{assigns, does};
+ghost use Rattle.star_program.specs.Private.Doing.{assigns, does, fitting};
 ghost use Rattle.star_program.specs.Effects as effects;
 ghost use Rattle.star_program.specs.Faults as faults;
 ghost use Rattle.star_program.specs.Limits.{IsSmall};
@@ -50,7 +50,7 @@ fn keeps(flag: bool) -> Flow
     if flag { Flow::GoesOn } else { Flow::EndsTurn }
 }
 
-// An operator's answer, unless it leaves 64 bits.
+// An operator's answer, or what a read gives, unless it leaves 64 bits.
 fn answered(answer: Option<Value>) -> Result<Value, Stop>
     ensures { MatchOption answer (result ≡ Err (Stop.Trap TrapKind.Overflow))
         (λ value. result ≡ Ok value) }
@@ -118,18 +118,29 @@ fn update(
     }
 }
 
-// Reads the total of an aggregate, or a default where it is NULL.
-fn read(run: &Work<EagerStore>, group: u16, aggregate: u16, default: i64) -> Value
+// A number in a register, where it has 64 bits.
+#[tactic(auto, unfolding(star_interval::specs::Range::is_i64))]
+fn narrowed(number: i128) -> Option<Value>
+    ensures { result ≡ fitting (Value.Number number) }
+{
+    match i64::try_from(number) {
+        Ok(number) => Some(Value::Number(number)),
+        Err(_) => None,
+    }
+}
+
+// Reads the total of an aggregate, or a default where it is NULL; `None` where it leaves 64 bits.
+fn read(run: &Work<EagerStore>, group: u16, aggregate: u16, default: i64) -> Option<Value>
     requires there { group < length run.now.stores.items }
     requires declared { (store : EagerStore) → slice_get run.now.stores.items group ≡ Some store
         → aggregate < length (group_of store).aggregates }
-    ensures given { (parts : Parts) (updates_of : ℕ → List Update)
+    ensures { (parts : Parts) (updates_of : ℕ → List Update)
         → AreStores parts run.now.stores.items updates_of
-        → result ≡ Value.Number (unwrap_or (puts.total (faults.group_at parts group) aggregate
-        (updates_of group)) default) }
-    ensures fits { effects.fits_register result ≡ true }
+        → result ≡ fitting (Value.Number (unwrap_or
+        (puts.total (faults.group_at parts group) aggregate (updates_of group)) default)) }
 {
-    Value::Number(run.total(group, aggregate).unwrap_or(default))
+    let total = run.total(group, aggregate);
+    narrowed(total.unwrap_or(i128::from(default)))
 }
 
 // What an operation makes in which nothing is wrong.
@@ -171,7 +182,7 @@ fn operate(
             group,
             aggregate,
             default,
-        } => Ok(read(run, *group, *aggregate, *default)),
+        } => answered(read(run, *group, *aggregate, *default)),
     }
 }
 

@@ -1,8 +1,8 @@
 -- Which queries fit (this project's profile): by the bounds of the columns and the number of the fact's rows alone.
-use Rattle.std.specs.Prelude.{ℕ, ◌≤◌, pos, ◌+ℤ◌, ◌-ℤ◌, ◌*ℤ◌, Bool, true, ◌&&◌, IsTrue}
+use Rattle.std.specs.Prelude.{ℕ, ◌≤◌, ◌+ℤ◌, ◌-ℤ◌, ◌*ℤ◌, Bool, true, ◌&&◌, IsTrue}
 use Rattle.std.specs.List.{list_all}
 use Rattle.star_schema.specs.declared.column.ColumnId.{ColumnId}
-use Rattle.star_interval.specs.Range.{Range, only, hull, corner_range, multiple_range, fits_i64}
+use Rattle.star_interval.specs.Range.{Range, only, corner_range, fits_i64}
 use Rattle.star_query.specs.Tree.{Expression, column, constant, add, sub, mul}
 use Rattle.star_plan.specs.Meaning.{Measure, counted, summed, least, greatest, Plan}
 
@@ -28,16 +28,7 @@ measure_fits bounds (summed e) = nodes_fit bounds e
 measure_fits bounds (least e) = nodes_fit bounds e
 measure_fits bounds (greatest e) = nodes_fit bounds e
 
--- so many rows times the range, widened to hold 0, lies in 64 bits
-abbrev pub times_fits : ℕ → Range → Bool
-times_fits rows r = fits_i64 (multiple_range rows (hull r (only (pos 0))))
-
-abbrev pub sum_fits : ℕ → (ColumnId → Range) → Measure → Bool
-sum_fits rows bounds (summed e) = times_fits rows (range_of bounds e)
-sum_fits rows bounds _ = true
-
 -- a query fits the fact's rows within a limit
 pub record Fits (rows most : ℕ) (bounds : ColumnId → Range) (p : Plan) : Type 0 where
   pub visits : rows ≤ most
   pub nodes : IsTrue (list_all (measure_fits bounds) p.measures)
-  pub sums : IsTrue (list_all (sum_fits rows bounds) p.measures)

@@ -8,7 +8,7 @@ use Rattle.star_schema.specs.declared.group.Shape.TheVariants.{Cube, Rollup}
 use Rattle.star_schema.specs.Groups.{AreGroups, GroupRow, IsGroup, IsMasked, is_grouping, members, totals_of}
 use Rattle.star_schema.specs.Order.{AreInOrder}
 use Rattle.star_schema.specs.Order as order
-use Rattle.star_interval.specs.Range.{is_i64}
+use Rattle.star_interval.specs.Range.{is_i64, is_i128}
 use Rattle.star_program.specs.declared.key.KeyValue.{KeyValue}
 use Rattle.star_program.specs.declared.key.KeyValue.TheVariants.{Number}
 use Rattle.star_program.specs.declared.outcome.Cell.TheVariants as cell
@@ -128,7 +128,7 @@ report = record {
 }
 
 one_put_has_four_rows : EndsWith (run_of sample one_put) (λ s. IsOutcome sample one_put s report)
-unfolding is_i64
+unfolding is_i64 is_i128
 one_put_has_four_rows = record {
   names = refl;
   rows = map (decoded_row sample two_keys) rows;

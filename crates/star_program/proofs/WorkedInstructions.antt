@@ -1,4 +1,5 @@
--- What each instruction does to registers and counts, and when it traps, at the ends of 64 bits too.
+-- What each instruction does to registers and counts, and when it traps, at the ends of 64 bits too,
+-- and of 128.
 use Rattle.std.proofs.Common.{◌≡◌, ℕ, ℤ, Bool, true, false, List, [], ◌∷◌, Option, Some, None, pos, negsuc, refl}
 use Rattle.std.specs.Prelude.{codes, map, slice_index_or}
 use Rattle.star_schema.specs.declared.column.ColumnId.TheVariants.{CRegion}
@@ -8,7 +9,7 @@ use Rattle.star_schema.specs.declared.group.Direction.TheVariants.{Ascending}
 use Rattle.star_schema.specs.declared.group.Shape.TheVariants.{Cube, Plain, Rollup}
 use Rattle.star_schema.specs.declared.table.TableId.TheVariants.{Customer}
 use Rattle.star_schema.specs.Schema.{column_of}
-use Rattle.star_interval.specs.Range.{is_i64}
+use Rattle.star_interval.specs.Range.{is_i64, is_i128}
 use Rattle.star_program.specs.declared.group.GroupDecl.{GroupDecl}
 use Rattle.star_program.specs.declared.group.GroupKey.TheVariants as declared
 use Rattle.star_program.specs.declared.key.KeyValue.TheVariants as key
@@ -179,16 +180,28 @@ abbrev an_update : Update
 an_update = record { keys = key.Number (negsuc 2) ∷ []; values = pos 1 ∷ negsuc 2 ∷ negsuc 2 ∷ [] }
 
 one_more_update : (counts (a_put empty_store) ≡ 0 ∷ 0 ∷ 1 ∷ []) × (updates 0 (a_put empty_store) ≡ an_update ∷ []) × (updates 1 (a_put empty_store) ≡ [])
-unfolding is_i64
+unfolding is_i64 is_i128
 one_more_update = (refl, refl, refl)
 
--- a put that would leave 64 bits traps
-abbrev put_most : Store
-put_most = record empty_store { updates_of = λ g. record { keys = key.Number (negsuc 2) ∷ []; values = pos 1 ∷ negsuc 9223372036854775807 ∷ pos 0 ∷ [] } ∷ [] }
+-- a store with one update of each group, of this number for its SUM
+abbrev put_of : ℤ → Store
+put_of z = record empty_store { updates_of = λ g. record { keys = key.Number (negsuc 2) ∷ []; values = pos 1 ∷ z ∷ pos 0 ∷ [] } ∷ [] }
 
-overflowing_put : a_put put_most ≡ Traps Overflow
-unfolding is_i64
+-- the ends of a SUM
+abbrev most_sum : ℤ
+most_sum = pos 170141183460469231731687303715884105727
+
+abbrev least_sum : ℤ
+least_sum = negsuc 170141183460469231731687303715884105727
+
+-- a put with which a SUM would leave 128 bits traps; one with which it leaves 64 doesn't
+overflowing_put : a_put (put_of least_sum) ≡ Traps Overflow
+unfolding is_i64 is_i128
 overflowing_put = refl
+
+past_64_bits : counts (a_put (put_of least)) ≡ 0 ∷ 0 ∷ 1 ∷ []
+unfolding is_i64 is_i128
+past_64_bits = refl
 
 -- a store with one update of the first group
 abbrev put_once : Store
@@ -251,18 +264,23 @@ summing = record { shape = Plain; keys = declared.Number ∷ []; aggregates = Mi
 abbrev one : ℤ → ℤ → ℤ → Update
 one k lower summed = record { keys = key.Number k ∷ []; values = lower ∷ summed ∷ [] }
 
--- only a SUM or a COUNT leaves 64 bits, over its own group or over all updates
-just_fits : (overflows summing [] (one (pos 1) least most) ≡ false) × (overflows summing (one (pos 1) most (pos 1) ∷ []) (one (pos 1) most (negsuc 0)) ≡ false)
-unfolding is_i64
+-- only a SUM or a COUNT leaves its bits, over its own group or over all updates
+just_fits : (overflows summing [] (one (pos 1) least_sum most_sum) ≡ false) × (overflows summing (one (pos 1) most_sum (pos 1) ∷ []) (one (pos 1) most_sum (negsuc 0)) ≡ false)
+unfolding is_i128
 just_fits = (refl, refl)
 
-one_too_many : (overflows summing (one (pos 1) (pos 0) most ∷ []) (one (pos 1) (pos 0) (pos 1)) ≡ true) × (overflows summing (one (pos 2) (pos 0) least ∷ []) (one (pos 1) (pos 0) (negsuc 0)) ≡ true)
-unfolding is_i64
+one_too_many : (overflows summing (one (pos 1) (pos 0) most_sum ∷ []) (one (pos 1) (pos 0) (pos 1)) ≡ true) × (overflows summing (one (pos 2) (pos 0) least_sum ∷ []) (one (pos 1) (pos 0) (negsuc 0)) ≡ true)
+unfolding is_i128
 one_too_many = (refl, refl)
 
--- the group of the update passes 64 bits, though all updates together don't
-in_its_group_alone : overflows summing (one (pos 2) (pos 0) (negsuc 0) ∷ one (pos 1) (pos 0) most ∷ []) (one (pos 1) (pos 0) (pos 1)) ≡ true
-unfolding is_i64
+-- a SUM may leave 64 bits
+one_more_than_most : overflows summing (one (pos 1) (pos 0) most ∷ []) (one (pos 1) (pos 0) (pos 1)) ≡ false
+unfolding is_i128
+one_more_than_most = refl
+
+-- the group of the update passes 128 bits, though all updates together don't
+in_its_group_alone : overflows summing (one (pos 2) (pos 0) (negsuc 0) ∷ one (pos 1) (pos 0) most_sum ∷ []) (one (pos 1) (pos 0) (pos 1)) ≡ true
+unfolding is_i128
 in_its_group_alone = refl
 
 totals : (total summing 0 (one (pos 1) (pos 4) (pos 5) ∷ one (pos 2) (pos 3) (pos 6) ∷ []) ≡ Some (pos 3)) × (total summing 1 (one (pos 1) (pos 4) (pos 5) ∷ one (pos 2) (pos 3) (pos 6) ∷ []) ≡ Some (pos 11)) × (total summing 1 [] ≡ None)

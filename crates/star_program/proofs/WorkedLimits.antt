@@ -10,7 +10,7 @@ use Rattle.star_schema.specs.declared.group.GroupColumn.TheVariants as column
 use Rattle.star_schema.specs.declared.group.Shape.TheVariants.{Plain}
 use Rattle.star_schema.specs.declared.table.TableId.TheVariants.{Customer, Date}
 use Rattle.star_schema.specs.Tables.{Number, Text}
-use Rattle.star_interval.specs.Range.{is_i64}
+use Rattle.star_interval.specs.Range.{is_i64, is_i128}
 use Rattle.star_program.specs.declared.group.GroupDecl.{GroupDecl}
 use Rattle.star_program.specs.declared.group.GroupKey.TheVariants as declared
 use Rattle.star_program.specs.declared.key.KeyValue.TheVariants as key
@@ -120,11 +120,15 @@ too_many_sorts h = let e : 17 ≤ 16 = h.sorts in omega (arith, e)
 keys : (key_value_cmp (key.Number (pos 9)) (key.Number (pos 10)) ≡ Less) × (key_value_cmp (key.Number (pos 1)) (key.Number (negsuc 4)) ≡ Greater) × (key_value_cmp (key.Code 9) (key.Code 10) ≡ Less) × (key_value_cmp (key.Code 3) (key.Code 3) ≡ Equal) × (key_value_cmp (key.Number (pos 9)) (key.Code 0) ≡ Less) × (key_value_cmp (key.Code 0) (key.Number (pos 9)) ≡ Greater)
 keys = (refl, refl, refl, refl, refl, refl)
 
--- ---- what leaves 64 bits
+-- ---- what leaves its bits: a SUM 128, a COUNT 64
 
-leaving : (leaves Sum (Some (pos 9223372036854775808)) ≡ true) × (leaves Count (Some (pos 9223372036854775808)) ≡ true) × (leaves Max (Some (pos 9223372036854775808)) ≡ false) × (leaves Sum None ≡ false) × (leaves Sum (Some (pos 9223372036854775807)) ≡ false)
+sums_leaving : (leaves Sum (Some (pos 170141183460469231731687303715884105728)) ≡ true) × (leaves Sum (Some (pos 170141183460469231731687303715884105727)) ≡ false) × (leaves Sum (Some (negsuc 170141183460469231731687303715884105728)) ≡ true) × (leaves Sum (Some (negsuc 170141183460469231731687303715884105727)) ≡ false) × (leaves Sum (Some (pos 9223372036854775808)) ≡ false) × (leaves Sum None ≡ false)
+unfolding is_i128
+sums_leaving = (refl, refl, refl, refl, refl, refl)
+
+counts_leaving : (leaves Count (Some (pos 9223372036854775808)) ≡ true) × (leaves Count (Some (pos 9223372036854775807)) ≡ false) × (leaves Max (Some (pos 170141183460469231731687303715884105728)) ≡ false)
 unfolding is_i64
-leaving = (refl, refl, refl, refl, refl)
+counts_leaving = (refl, refl, refl)
 
 -- ---- rows of tables, cells and codes
 

@@ -48,7 +48,7 @@ pub enum TrapKind {
     Wrong(Fault),
     /// No row has the key.
     AbsentKey,
-    /// A number leaves 64 bits.
+    /// A number leaves 64 bits, or a SUM 128.
     Overflow,
 }
 

@@ -12,8 +12,8 @@ ghost use Rattle.star_program.specs.Puts.{Update, overflows};
 ghost use Rattle.star_program.specs.Run.{Ended, run_while};
 ghost use Rattle.star_program.specs.World.{World};
 
-/// An update leaves 64 bits exactly where a SUM or a COUNT over one of its groups, or over all
-/// updates, does.
+/// An update overflows exactly where with it a SUM over one of its groups, or over all updates, leaves
+/// 128 bits, or a COUNT leaves 64.
 pub fn updates_overflow_in_their_groups()
     ensures { (d : GroupDecl) (others : List Update) (update : Update)
         → IsTrue (overflows d others update) ↔ LeavesSomewhere d others update }

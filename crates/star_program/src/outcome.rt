@@ -44,7 +44,7 @@ impl CellText {
 #[derive(Drop)]
 pub enum Cell {
     /// A key or an aggregate.
-    Number(i64),
+    Number(i128),
     /// A key that is a text.
     Text(CellText),
     /// The value ALL: a key by which this row of a cube isn't grouped (Gray et al. 1997).

@@ -16,7 +16,7 @@ pub data ColumnKind : Type 0 where
 abbrev pub is_field : List ℕ → Bool
 is_field text = list_all (λ b. not (is_bar b || ends_line b)) text
 
--- as many digits as the toolchain's decimals have at most, more than three times those of 64 bits
+-- as many digits as the toolchain's decimals have at most; numbers of 128 bits have at most 39
 abbrev pub HasDigits : ℤ → Type 0
 HasDigits n = unsigned_abs n < 10 ^ 64
 

@@ -43,7 +43,7 @@ impl Field for Cell {
     }
 }
 
-fn push_number(text: &mut Vec<u8>, number: i64) -> Result<(), AllocError>
+fn push_number(text: &mut Vec<u8>, number: i128) -> Result<(), AllocError>
     ensures { OnOk result (text.new.items ≡ text.old.items ++ signed_decimal number) }
 {
     text.extend_from_slice(Buffer::new().format(number).as_bytes())

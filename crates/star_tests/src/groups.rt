@@ -54,7 +54,7 @@ fn store(
 }
 
 // The keys of a row, and its aggregates.
-type Row = (&'static [Option<KeyValue>], &'static [Option<i64>]);
+type Row = (&'static [Option<KeyValue>], &'static [Option<i128>]);
 
 fn has_row(rows: &GroupRows, row: Row) -> bool {
     let (keys, aggregates) = row;
@@ -84,6 +84,8 @@ const TWO: KeyValue = KeyValue::Number(2);
 const CODE: KeyValue = KeyValue::Code(7);
 
 const BIG: i64 = 9000000000000000000;
+
+const BIG_SUM: i128 = 9000000000000000000;
 
 const OF_ONE_PUT: &[Row] = &[
     (&[Some(ONE), Some(TWO)], &[Some(7), Some(1)]),
@@ -125,7 +127,7 @@ fn totals_of_no_puts(rt: HostRuntime) -> Result<(), Fail> {
     Ok(())
 }
 
-const NOTHING: &[Option<i64>] = &[None, Some(0), None, None];
+const NOTHING: &[Option<i128>] = &[None, Some(0), None, None];
 
 #[test]
 fn rows_of_no_puts(rt: HostRuntime) -> Result<(), Fail> {
@@ -138,68 +140,41 @@ fn rows_of_no_puts(rt: HostRuntime) -> Result<(), Fail> {
     Ok(())
 }
 
-// The second of these puts makes the total leave 64 bits.
-fn put_twice<S: TryPut>(plain: &mut S) -> Result<(), PutFault>
-    requires keys { (S.group plain.old).count ≡ 1 }
-    requires aggregates { length (S.group plain.old).aggregates ≡ 1 }
-    ensures { S.group plain.new ≡ S.group plain.old }
-{
-    plain.try_put(&[ONE], &[BIG])?;
-    plain.try_put(&[TWO], &[BIG])
-}
+const TWICE_BIG: i128 = 18000000000000000000;
 
-// A store of one key and a sum, after a put and one that was refused.
-fn refused(alloc: Global) -> Result<EagerStore, Fail>
-    ensures keys { IfOk result (λ s. (group_of s).count ≡ 1) }
-    ensures aggregates { IfOk result (λ s. length (group_of s).aggregates ≡ 1) }
-{
-    let mut plain = store(alloc, Shape::Plain, 1, &[Aggregate::Sum])?;
-    match put_twice(&mut plain) {
-        Err(PutFault::Overflow) => Ok(plain),
-        answer => Err(Fail::from(format_args!("{answer:?}"))),
-    }
-}
-
-// As if the second put had never been tried.
-#[test]
-fn total_over_two_keys_stays_within_64_bits(rt: HostRuntime) -> Result<(), Fail> {
-    let plain = refused(rt.alloc())?;
-    assert_eq!(rt; plain.total(0), Some(BIG));
-    assert!(rt; gives(plain, 1, &[(&[Some(ONE)], &[Some(BIG)])])?);
-    Ok(())
-}
-
-const OF_TWO_KEYS: &[Row] = &[(&[Some(ONE)], &[Some(BIG)]), (&[Some(TWO)], &[Some(-BIG)])];
-
-#[test]
-fn put_after_a_refused_one_goes_through(rt: HostRuntime) -> Result<(), Fail> {
-    let mut plain = refused(rt.alloc())?;
-    plain.try_put(&[TWO], &[-BIG])?;
-    assert_eq!(rt; plain.total(0), Some(0));
-    assert!(rt; gives(plain, 2, OF_TWO_KEYS)?);
-    Ok(())
-}
-
-const OF_A_BIG_PUT: &[Row] = &[
-    (&[Some(ONE), Some(TWO)], &[Some(BIG)]),
-    (&[Some(ONE), None], &[Some(BIG)]),
-    (&[None, Some(TWO)], &[Some(BIG)]),
-    (&[None, None], &[Some(BIG)]),
+const OF_TWO_BIG_PUTS: &[Row] = &[
+    (&[Some(ONE), Some(TWO)], &[Some(BIG_SUM)]),
+    (&[Some(ONE), Some(ONE)], &[Some(BIG_SUM)]),
+    (&[None, Some(TWO)], &[Some(BIG_SUM)]),
+    (&[Some(ONE), None], &[Some(TWICE_BIG)]),
+    (&[None, None], &[Some(TWICE_BIG)]),
 ];
 
+// The sum of two numbers of 64 bits leaves them, in the total and in the rows of both puts alone.
 #[test]
-fn refused_put_leaves_no_row(rt: HostRuntime) -> Result<(), Fail> {
+fn sums_over_two_keys_may_leave_64_bits(rt: HostRuntime) -> Result<(), Fail> {
     let mut cube = store(rt.alloc(), Shape::Cube, 2, &[Aggregate::Sum])?;
     cube.try_put(&[ONE, TWO], &[BIG])?;
-    assert_eq!(rt;
-        cube.try_put(&[TWO, KeyValue::Code(3)], &[BIG]),
-        Err(PutFault::Overflow)
-    );
-    assert!(rt; gives(cube, 4, OF_A_BIG_PUT)?);
+    cube.try_put(&[ONE, ONE], &[BIG])?;
+    assert_eq!(rt; cube.total(0), Some(TWICE_BIG));
+    assert!(rt; gives(cube, 6, OF_TWO_BIG_PUTS)?);
     Ok(())
 }
 
-const OF_BOTH: &[Option<i64>] = &[
+// As if none had been put.
+#[test]
+fn sums_come_back_from_beyond_64_bits(rt: HostRuntime) -> Result<(), Fail> {
+    let mut plain = store(rt.alloc(), Shape::Plain, 1, &[Aggregate::Sum])?;
+    plain.try_put(&[ONE], &[-BIG])?;
+    plain.try_put(&[ONE], &[-BIG])?;
+    plain.try_put(&[ONE], &[BIG])?;
+    plain.try_put(&[ONE], &[BIG])?;
+    assert_eq!(rt; plain.total(0), Some(0));
+    assert!(rt; gives(plain, 1, &[(&[Some(ONE)], &[Some(0)])])?);
+    Ok(())
+}
+
+const OF_BOTH: &[Option<i128>] = &[
     Some(8),
     Some(2),
     Some(3),
@@ -210,7 +185,7 @@ const OF_BOTH: &[Option<i64>] = &[
     Some(4),
 ];
 
-const OF_ONE: &[Option<i64>] = &[
+const OF_ONE: &[Option<i128>] = &[
     Some(3),
     Some(1),
     Some(3),
@@ -260,7 +235,7 @@ fn seven(alloc: Global) -> Result<EagerStore, AllocError>
     Ok(sums)
 }
 
-fn first_total<S: GroupStore>(store: &S) -> Option<i64>
+fn first_total<S: GroupStore>(store: &S) -> Option<i128>
     requires { 0 < length (S.group store.now).aggregates }
 {
     store.total(0)

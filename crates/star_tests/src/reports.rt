@@ -90,12 +90,14 @@ fn prints_plain_texts_as_they_are(rt: HostRuntime) -> Result<(), Fail> {
 fn prints_numbers_and_null(rt: HostRuntime) -> Result<(), Fail> {
     let alloc = rt.alloc();
     let mut cells = Vec::new(alloc);
-    for number in [i64::MIN, -1, 0, i64::MAX] {
+    for number in [i128::MIN, -9223372036854775809, -1, 0, i128::MAX] {
         cells.push(Cell::Number(number))?;
     }
     cells.push(Cell::Null)?;
-    let expected = "revenue\n-9223372036854775808\n-1\n0\n9223372036854775807\nNULL\n";
-    check_report(&rt, alloc, &["revenue"], 5, cells, expected)?;
+    let expected =
+        "revenue\n-170141183460469231731687303715884105728\n-9223372036854775809\n-1\n0\n\
+        170141183460469231731687303715884105727\nNULL\n";
+    check_report(&rt, alloc, &["revenue"], 6, cells, expected)?;
     Ok(())
 }
 

@@ -3,7 +3,8 @@
 use star_catalogue::{Catalogue, Texts, sample};
 use star_fixtures::programs::{
     ABOVE_AVERAGE, ABSENT_KEY, BELOW_NINE, DISCOUNTED_REVENUE, MISPLACED, NESTED, NO_TEXTS,
-    READ_INSIDE, REVENUES, SIX_NUMBERS, UNSET, counting, read,
+    PRICES_READ, READ_INSIDE, REVENUES, SIX_NUMBERS, UNSET, WIDE_SUMS_DOWN, WIDE_SUMS_UP, counting,
+    read,
 };
 use star_fixtures::samples::loaded;
 use star_machine::{Cell, Outcome, TrialFault, trial};
@@ -290,17 +291,11 @@ fn a_report_of_what_is_not_there_traps_first(rt: HostRuntime) -> Result<(), Fail
     Ok(())
 }
 
-// The sum of two numbers under two keys leaves 64 bits, though that of each key doesn't.
-const TWO_KEYS: &str = concat!(
-    "star program 1\nregisters 3\ngroup 0 plain number : sum\n",
-    "r0 = const 1\nr1 = const 2\nr2 = const 9000000000000000000\nput 0 r0 : r2\nput 0 r1 : r2\n",
-    "report 0\nshow s aggregate 0\n",
-);
-
-// Ten lines of one order, all dear.
-fn dear_lines(alloc: Global) -> Result<String, Fail> {
+// So many lines of one order, all dear.
+fn dear_lines(alloc: Global, count: u64) -> Result<String, Fail> {
     let mut lines = String::new(alloc);
-    for number in 1..11 {
+    for place in 0..count {
+        let number = place + 1;
         writeln!(
             lines,
             "1|{number}|1|1|2|19930210|2-HIGH|0|10|900000000000000000|3000|2|980|600|2|19940105|MAIL|"
@@ -309,20 +304,62 @@ fn dear_lines(alloc: Global) -> Result<String, Fail> {
     Ok(lines)
 }
 
-#[test]
-fn numbers_that_leave_64_bits_trap(rt: HostRuntime) -> Result<(), Fail> {
-    let lines = dear_lines(rt.alloc())?;
+const OF_TEN_DEAR_LINES: &[Case] = &[
+    (BELOW_NINE, MOST_VISITS, "trap Overflow at 12"),
+    (
+        PRICES_READ,
+        MOST_VISITS,
+        "s|\n9000000000000000000|\nvisits 10 lookups 0 updates 10",
+    ),
+];
+
+// The sum of eleven prices leaves 64 bits, and a read of it traps.
+const OF_ELEVEN_DEAR_LINES: &[Case] = &[
+    (BELOW_NINE, MOST_VISITS, "trap Overflow at 12"),
+    (PRICES_READ, MOST_VISITS, "trap Overflow at 4"),
+];
+
+// What a trial answers over so many dear lines.
+fn dear_agree(alloc: Global, count: u64, cases: &[Case]) -> Result<(), Fail> {
+    let lines = dear_lines(alloc, count)?;
     let parts = [lines.as_bytes()];
     let dear = Texts {
         lineorder: &parts,
         ..sample()
     };
-    let catalogue = loaded(rt.alloc(), &dear)?;
-    let leaving = [
-        (BELOW_NINE, MOST_VISITS, "trap Overflow at 12"),
-        (TWO_KEYS, 0, "trap Overflow at 5"),
-    ];
-    all_agree(rt.alloc(), &catalogue, leaving.as_slice())
+    let catalogue = loaded(alloc, &dear)?;
+    all_agree(alloc, &catalogue, cases)
+}
+
+#[test]
+fn numbers_that_leave_64_bits_trap(rt: HostRuntime) -> Result<(), Fail> {
+    dear_agree(rt.alloc(), 10, OF_TEN_DEAR_LINES)?;
+    dear_agree(rt.alloc(), 11, OF_ELEVEN_DEAR_LINES)
+}
+
+const WIDE_SUMS: &[Case] = &[
+    (
+        WIDE_SUMS_UP,
+        0,
+        concat!(
+            "k|s|\n3|-18000000000000000000|\n1|9000000000000000000|\nALL|9000000000000000000|\n",
+            "2|18000000000000000000|\nvisits 0 lookups 0 updates 5",
+        ),
+    ),
+    (
+        WIDE_SUMS_DOWN,
+        0,
+        concat!(
+            "k|s|\n2|18000000000000000000|\n1|9000000000000000000|\nALL|9000000000000000000|\n",
+            "3|-18000000000000000000|\nvisits 0 lookups 0 updates 5",
+        ),
+    ),
+];
+
+#[test]
+fn sums_may_leave_64_bits(rt: HostRuntime) -> Result<(), Fail> {
+    let catalogue = loaded(rt.alloc(), &sample())?;
+    all_agree(rt.alloc(), &catalogue, WIDE_SUMS)
 }
 
 // Customers of the sample, one of them in no region.

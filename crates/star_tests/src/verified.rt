@@ -119,3 +119,37 @@ fn quotes_the_largest_tables(rt: HostRuntime) -> Result<(), Fail> {
     );
     Ok(())
 }
+
+// Counts the lines by the years of their orders and the regions of their suppliers.
+const BY_YEAR_AND_REGION: &str = "scan lineorder r0
+r1 = load lo_orderdate r0
+r2 = find date r1
+r3 = load d_year r2
+r4 = load lo_suppkey r0
+r5 = find supplier r4
+r6 = load s_region r5
+put 0 r3 r6 :
+end
+report 0
+show n aggregate 0
+";
+
+fn most_rows(alloc: Global, catalogue: &Catalogue, shape: &str) -> Result<u128, Fail> {
+    let text = format!(in alloc;
+        "star program 1\nregisters 7\ngroup 0 {shape} number s_region : count\n{BY_YEAR_AND_REGION}"
+    )?;
+    match checked(alloc, catalogue, text.as_str(), 10)? {
+        Ok(verified) => Ok(verified.most_rows()),
+        Err(refused) => Err(failed(refused.refusal)),
+    }
+}
+
+// Five lines, the years 1993 to 1997 and two regions: 5 rows of both, 5 of years, 2 of regions, and 1.
+#[test]
+fn tells_how_many_rows_a_report_has_at_most(rt: HostRuntime) -> Result<(), Fail> {
+    let catalogue = loaded(rt.alloc(), &sample())?;
+    for (shape, rows) in [("plain", 5), ("rollup", 11), ("cube", 13)] {
+        assert_eq!(rt; most_rows(rt.alloc(), &catalogue, shape)?, rows);
+    }
+    Ok(())
+}

@@ -1,10 +1,18 @@
 //! The program `star` once more, for a second run of it: a trial that meets its limit.
 #![tactic(auto)]
 
+use star_cli::StandardInput;
+use std::io::IsTerminal;
 use std::process::ExitCode;
 
 fn main(rt: HostRuntime) -> ExitCode {
     let mut out = rt.stdout();
     let mut err = rt.stderr();
-    ExitCode::from(star_cli::run(&rt, &mut out, &mut err))
+    let reader = rt.stdin();
+    let is_terminal = reader.is_terminal() && err.is_terminal();
+    let input = StandardInput {
+        reader,
+        is_terminal,
+    };
+    ExitCode::from(star_cli::run(&rt, input, &mut out, &mut err))
 }

@@ -4,7 +4,8 @@ use Rattle.std.proofs.lemmas.Bool.{ltb-false, ltb-true}
 use Rattle.std.proofs.lemmas.Bool.Decides.{eqb_tells}
 use Rattle.std.proofs.lemmas.List.Elements.{All-get_or}
 use Rattle.std.specs.Option.{option_or}
-use Rattle.std.specs.Prelude.{All, nat_lt, slice_index_or, if◌then◌else◌}
+use Rattle.std.specs.Prelude.{All, map, nat_lt, slice_index_or, if◌then◌else◌}
+use Rattle.std.proofs.lemmas.List.{get_or-map}
 use Rattle.star_schema.specs.declared.group.Aggregate.{Aggregate}
 use Rattle.star_schema.specs.declared.group.Shape.TheVariants.{Plain}
 use Rattle.star_program.specs.declared.op.Op.TheVariants.{Put}
@@ -12,15 +13,14 @@ use Rattle.star_program.specs.declared.program.Parts.{Parts}
 use Rattle.star_program.specs.Faults.{group_at}
 use Rattle.star_program.specs.Limits.{IsSmall}
 use Rattle.star_program.specs.World.{World}
-use Rattle.star_admission.specs.Contexts.{Context, after_op, known_share, put_share}
+use Rattle.star_admission.specs.Contexts.{Context, after_op, key_share, known_share, put_share}
 use Rattle.star_admission.specs.Ranges as ranges
 use Rattle.star_admission.specs.declared.reason.Reason.{Reason}
-use Rattle.star_admission.specs.Refusals.{sums_overflow}
 use Rattle.star_admission.specs.Standing.{at_place}
 use Rattle.star_admission.specs.Tallies.{Share}
 use Rattle.star_verify.specs.declared.tally.Tally.{Tally}
-use Rattle.star_verify.specs.Private.Kept.{HasShares, numbers_known}
-use Rattle.star_verify.specs.Private.Made.{AreTallies, IsTallyAt}
+use Rattle.star_verify.specs.Private.Kept.{HasKeyShares, HasShares, numbers_known}
+use Rattle.star_verify.specs.Private.Made.{IsTallyAt}
 use Rattle.star_verify.specs.Private.Shown.{IsTally}
 
 -- ---- the first of two reasons
@@ -81,15 +81,37 @@ module _ (w : World) (parts : Parts) (x : Context) (old new : List Tally) (g met
       (subst (λ tally. IsTally tally (x.so_far h a)) (sym kept) (had h lt a below t)))
       (eqb_tells h g)
 
--- what is found of the SUMs of a group, from its first aggregate on
-pub found_from_first : (w : World) (tallies : List Tally) (first : ℕ) (gs hs : List Aggregate)
-    (shares : ℕ → List Share) (found : Option Reason) → gs ≡ hs
-    → AreTallies tallies first hs shares
-    → ((ss : ℕ → List Share) (from : ℕ) → AreTallies tallies first gs (λ a. ss (from + a))
-    → sums_overflow w gs from ss ≡ found)
-    → sums_overflow w hs 0 shares ≡ found
-found_from_first w tallies first gs hs shares found is h finds =
-    ap (λ ls. sums_overflow w ls 0 shares) (sym is)
-    ∙ finds shares 0 (λ a lt. let same : a ≡ 0 + a = omega arith in
-    subst (λ n. IsTallyAt tallies (first + a) (shares n)) same
-    (h a (subst (λ l. a < length l) is lt)))
+-- what a put gives the keys of its group
+pub put_key_shares : (w : World) (parts : Parts) (x : Context) (old new : List Tally) (g met : ℕ)
+    (ks vs keys : List ℕ) (table : ranges.Table)
+    → All IsSmall parts.groups → keys ≡ ks → table ≡ x.known → x.met ≡ met
+    → g < length parts.groups → length ks ≡ length (group_at parts g).keys
+    → HasKeyShares parts old x
+    → ((k : ℕ) (ss : List Share) → k < length keys → IsTallyAt old (8 * g + k) ss
+    → IsTallyAt new (8 * g + k) (known_share met (slice_index_or (map table keys) k None) ∷ ss))
+    → ((p : ℕ) (t : Tally) → (p < 8 * g) ⊎ (8 * g + length keys ≤ p)
+    → slice_index_or new p t ≡ slice_index_or old p t)
+    → HasKeyShares parts new (after_op w parts x (Put g ks vs))
+put_key_shares w parts x old new g met ks vs keys table small same known often there counted had give leave h lt k below t = ⊎_elim
+    (λ p. let share = key_share x ks k in
+    let in_g : k < length ks = omega (arith, counted, ap (λ n. length (group_at parts n).keys) p.1, below) in
+    let in_keys : k < length keys = omega (arith, in_g, ap length same) in
+    let one : known_share met (slice_index_or (map table keys) k None) ≡ share =
+    ap (known_share met) (get_or-map table keys k 0 None in_keys)
+    ∙ (λ i. known_share (sym often i) (known i (slice_index_or (same i) k 0))) in
+    let now : IsTallyAt new (8 * g + k) (share ∷ x.keys_so_far g k) =
+    subst (λ s. IsTallyAt new (8 * g + k) (s ∷ x.keys_so_far g k)) one
+    (give k (x.keys_so_far g k) in_keys (had g there k (omega (arith, counted, in_g)))) in
+    subst (λ (b : Bool). IsTally (slice_index_or new (8 * h + k) t)
+    ((if b then share ∷ [] else []) ++ x.keys_so_far h k)) (sym p.0)
+    (subst (λ n. IsTally (slice_index_or new (8 * n + k) t) (share ∷ x.keys_so_far n k)) (sym p.1)
+    (now t)))
+    (λ p. let share = key_share x ks k in
+    let few = (All-get_or IsSmall parts.groups h (record { shape = Plain; keys = []; aggregates = [] }) lt small).keys in
+    let many = (All-get_or IsSmall parts.groups g (record { shape = Plain; keys = []; aggregates = [] }) there small).keys in
+    let kept = leave (8 * h + k) t
+    (apart h g k (length keys) p.1 (omega (arith, below, few)) (omega (arith, many, counted, ap length same))) in
+    subst (λ (b : Bool). IsTally (slice_index_or new (8 * h + k) t)
+    ((if b then share ∷ [] else []) ++ x.keys_so_far h k)) (sym p.0)
+    (subst (λ tally. IsTally tally (x.keys_so_far h k)) (sym kept) (had h lt k below t)))
+    (eqb_tells h g)

@@ -19,3 +19,4 @@ mod Walking
 mod ColumnBounds
 mod Starting
 mod Refusing
+mod RowLemmas

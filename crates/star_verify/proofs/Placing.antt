@@ -1,5 +1,5 @@
 -- What is so of an instruction with which nothing is wrong by its kinds.
-use Rattle.std.proofs.Common.{◌≡◌, ◌<◌, ℕ, Bool, false, Option, Some, None, Result, Ok, Err, refl}
+use Rattle.std.proofs.Common.{◌≡◌, ◌<◌, ℕ, Bool, false, Option, Some, None, refl}
 use Rattle.std.proofs.lemmas.Bool.Decides.{Decides-ltb}
 use Rattle.std.specs.Option.{option_map}
 use Rattle.std.specs.Prelude.{◌||◌, false, nat_lt}
@@ -7,10 +7,7 @@ use Rattle.star_program.proofs.Unless.{unless_none}
 use Rattle.star_program.specs.declared.fault.Fault.{Fault}
 use Rattle.star_program.specs.declared.fault.Fault.TheVariants.{BadRegister}
 use Rattle.star_program.specs.Faults.{target_fault}
-use Rattle.star_admission.specs.declared.reason.Reason.{Reason}
 use Rattle.star_admission.specs.declared.reason.Reason.TheVariants.{Faulty}
-use Rattle.star_verify.specs.declared.refusal.Refusal.{Refusal}
-use Rattle.star_verify.specs.Private.Judged.{IsJudged}
 use Rattle.star_verify.proofs.Marks.{or_none as none_or}
 
 pub is_declared : (n t : ℕ) → target_fault n (Some t) ≡ None → t < n
@@ -23,9 +20,3 @@ no_fault (Some fault) e = absurd (cc)
 -- a register that is no target is written where it was
 pub written_same : (written : ℕ → Bool) → (λ (q : ℕ). written q || false) ≡ written
 written_same written = λ i q. none_or (written q) i
-
--- what is kept where nothing is refused
-pub judged_so : (result : Result (Unit {0}) Refusal) (at : ℕ) (reason : Option Reason)
-    (A B : Type 0) → (A → B) → IsJudged result at reason A → IsJudged result at reason B
-judged_so (Ok u) at reason A B f h = (h.0, f h.1)
-judged_so (Err refusal) at reason A B f h = h

@@ -9,7 +9,7 @@ use Rattle.star_program.specs.Limits.{IsSmall, IsWithinLimits}
 use Rattle.star_program.specs.declared.program.Parts.{Parts}
 use Rattle.star_admission.specs.Contexts.{at_first}
 use Rattle.star_verify.specs.declared.tally.Tally.{Tally}
-use Rattle.star_verify.specs.Private.Kept.{HasShares, flag_at}
+use Rattle.star_verify.specs.Private.Kept.{HasKeyShares, HasShares, flag_at}
 use Rattle.star_verify.specs.Private.Shown.{IsTally, known_in, known_of, nothing_known}
 
 all_one : {X : Type 0} (n i : ℕ) (x : X) → get_or (replicate n x) i x ≡ x
@@ -25,6 +25,14 @@ pub no_flags : (n : ℕ) → flag_at (replicate n false) ≡ at_first.written
 no_flags n = λ i r. all_one n r false i
 
 -- ---- tallies of no numbers
+
+pub no_key_shares : (parts : Parts) (none : Tally) → IsWithinLimits parts → IsTally none []
+    → HasKeyShares parts (replicate 64 none) at_first
+no_key_shares parts none limits is g there a within t =
+    let small : IsSmall (group_at parts g) =
+    All-get_or IsSmall parts.groups g _ there limits.each_group in
+    let inside : 8 * g + a < 64 = omega (arith, there, within, limits.groups, small.keys) in
+    subst (λ s. IsTally s []) (sym (get_or-replicate 64 (8 * g + a) none t inside)) is
 
 pub no_shares : (parts : Parts) (none : Tally) → IsWithinLimits parts → IsTally none []
     → HasShares parts (replicate 64 none) at_first

@@ -121,7 +121,7 @@ module _ (w : World) (parts : Parts) (pending : ℕ → Bool) (x : Context) (at 
       go : (result : Result ℕ Refusal) → IsWalked result first (AreNoted parts noted there)
           → IsWalked result first (Keeps parts registers noted (after_scan x there))
       go (Ok next) (none, are) =
-          (none, record { known = known; earlier = record { written = are.written; shares = are.shares } })
+          (none, record { known = known; earlier = record { written = are.written; shares = are.shares; keys = are.keys } })
       go (Err refusal) is_first = is_first
 
 -- what the body of a scan and the steps after it put to is open, or was open already

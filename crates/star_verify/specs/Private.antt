@@ -5,4 +5,5 @@ pub mod Bounded
 pub mod Made
 pub mod Kept
 pub mod Judged
+pub mod Rows
 pub mod Walked

@@ -4,11 +4,12 @@ ghost use Rattle.std.specs.Prelude.{◌≡◌, ◌≤◌, ◌^◌, IfOk, MatchRe
 ghost use Rattle.star_schema.specs.Sizes.{size_of};
 ghost use Rattle.star_program.specs.Limits.{IsWithinLimits};
 ghost use Rattle.star_program.specs.World.{World};
-ghost use Rattle.star_admission.specs.Contexts.{at_first};
+ghost use Rattle.star_admission.specs.Contexts.{at_end, at_first};
 ghost use Rattle.star_admission.specs.Private.Forward.{first_reason, none_open};
 ghost use Rattle.star_admission.specs.Quote as spec;
 ghost use Rattle.star_verify.specs.Private.Facts.{AreFacts};
 ghost use Rattle.star_verify.specs.Private.Judged.{AreFewAt, AreNoted, IsChecked, IsFirst};
+ghost use Rattle.star_verify.specs.Private.Kept.{HasKeyShares};
 ghost use Rattle.star_verify.specs.Private.Shown.{known_in};
 
 use crate::facts::Facts;
@@ -39,21 +40,25 @@ fn nothing_noted(alloc: Global, parts: &Parts) -> Result<Noted, AllocError>
     ensures noted { IfOk result (λ noted. AreNoted parts.now noted at_first) }
     ensures flags { IfOk result (λ noted. length noted.written.items ≡ parts.now.registers) }
     ensures tallies { IfOk result (λ noted. length noted.tallies.items ≡ 64) }
+    ensures keys { IfOk result (λ noted. length noted.keys.items ≡ 64) }
     ensures few { IfOk result (λ noted. AreFewAt noted 1) }
 {
     Ok(Noted {
         written: vec![in alloc; false; parts.registers as usize]?,
         tallies: vec![in alloc; Tally::none(); 64]?,
+        keys: vec![in alloc; Tally::none(); 64]?,
     })
 }
 
-// Refuses the first instruction that is to be refused.
-fn check_instructions(alloc: Global, parts: &Parts, facts: &Facts) -> Result<(), Refusal>
+// Refuses the first instruction that is to be refused; or tells what is put to the keys of each group.
+fn check_instructions(alloc: Global, parts: &Parts, facts: &Facts) -> Result<Vec<Tally>, Refusal>
     requires limits { IsWithinLimits parts.now }
     requires quote { spec.quote (size_of facts.now.sizes) parts.now ≤ 10 ^ 15 }
-    ensures { (w : World) → AreFacts w facts.now
+    ensures len { IfOk result (λ keys. length keys.items ≡ 64) }
+    ensures first { (w : World) → AreFacts w facts.now
         → MatchResult result
-        (λ _. first_reason w parts.now none_open at_first 1 parts.now.body ≡ None)
+        (λ keys. (first_reason w parts.now none_open at_first 1 parts.now.body ≡ None)
+        × HasKeyShares parts.now keys.items (at_end w parts.now at_first parts.now.body))
         (λ refusal. IsFirst refusal
         (first_reason w parts.now none_open at_first 1 parts.now.body)) }
 {
@@ -73,16 +78,25 @@ fn check_instructions(alloc: Global, parts: &Parts, facts: &Facts) -> Result<(),
         &mut noted,
         parts.body.as_slice(),
     )?;
-    Ok(())
+    let Noted { keys, .. } = noted;
+    Ok(keys)
 }
 
-// What refuses a program first, or how many visits it is quoted.
+// What is known before its run of a program that nothing refuses: how many visits it is quoted, and what
+// is put to the keys of each group.
+#[derive(Drop)]
+pub(crate) struct Accepted {
+    pub(crate) visits: u128,
+    pub(crate) keys: Vec<Tally>,
+}
+
+// What refuses a program first, or what is known of its run.
 pub(crate) fn check(
     alloc: Global,
     program: &Program,
     facts: &Facts,
     limits: Limits,
-) -> Result<u128, Refusal>
+) -> Result<Accepted, Refusal>
     ensures { (w : World) → AreFacts w facts.now
         → IsChecked result w limits.visits program.now }
 {
@@ -91,9 +105,9 @@ pub(crate) fn check(
         return Err(Refusal::TooCostly { visits });
     }
     let parts = program.parts();
-    check_instructions(alloc, parts, facts)?;
+    let keys = check_instructions(alloc, parts, facts)?;
     match misnamed_line(parts) {
-        None => Ok(visits),
+        None => Ok(Accepted { visits, keys }),
         Some(place) => Err(Refusal::BadShow { place }),
     }
 }

@@ -1,6 +1,6 @@
-// What a put gives the aggregates of its group.
+// What a put gives the aggregates and the keys of its group.
 
-ghost use Rattle.std.specs.Prelude.{◌≡◌, ◌+◌, ◌<◌, ◌≤◌, ◌∷◌, ◌⊎◌, ℕ, List, None, length, slice_index_or};
+ghost use Rattle.std.specs.Prelude.{◌≡◌, ◌+◌, ◌<◌, ◌≤◌, ◌∷◌, ◌⊎◌, ℕ, List, None, length, map, slice_index_or};
 ghost use Rattle.std.specs.Option.{option_map};
 ghost use Rattle.star_schema.specs.declared.group.Aggregate.{Aggregate as Kind};
 ghost use Rattle.star_program.specs.Faults.{value_count};
@@ -83,6 +83,36 @@ pub(crate) fn give(
             let (known, left) = next_number(*aggregate, registers, values);
             add(tallies, first, met, known);
             give(tallies, first + 1, registers, others, left, met);
+        }
+    }
+}
+
+// Adds what a put gives to the tallies of the keys of its group, which stand from a place on.
+pub(crate) fn give_keys(
+    tallies: &mut [Tally],
+    first: usize,
+    registers: &[Register],
+    keys: &[u16],
+    met: u64,
+)
+    requires there { first + length keys.now ≤ length tallies.old }
+    requires room { (p : ℕ) (t : Tally) → first ≤ p → p < length tallies.old
+        → HasRoom (slice_index_or tallies.old p t) met }
+    ensures given { (k : ℕ) (ss : List Share) → k < length keys.now
+        → IsTallyAt tallies.old (first + k) ss
+        → IsTallyAt tallies.new (first + k) (known_share met (slice_index_or
+        (map (known_in registers.now) keys.now) k None) ∷ ss) }
+    ensures grown { (p : ℕ) (t : Tally) → IsBounded (slice_index_or tallies.old p t)
+        → IsGrown (slice_index_or tallies.old p t) (slice_index_or tallies.new p t) met }
+    ensures others { (p : ℕ) (t : Tally) → (p < first) ⊎ (first + length keys.now ≤ p)
+        → slice_index_or tallies.new p t ≡ slice_index_or tallies.old p t }
+    ensures len { length tallies.new ≡ length tallies.old }
+{
+    match keys {
+        [] => {}
+        [key, others @ ..] => {
+            add(tallies, first, met, known_at(registers, *key).known);
+            give_keys(tallies, first + 1, registers, others, met);
         }
     }
 }

@@ -6,6 +6,7 @@ ghost use Rattle.star_program.specs.CodeOfSteps.{code_of_steps};
 ghost use Rattle.star_program.specs.declared.fault.Fault.{Fault as Wrong};
 ghost use Rattle.star_program.specs.declared.op.Op.TheVariants as op;
 ghost use Rattle.star_program.specs.Faults.{fault_of, group_at, place_fault, target_of, value_count};
+ghost use Rattle.star_program.specs.Limits.{IsWithinLimits};
 ghost use Rattle.star_program.specs.World.{World};
 ghost use Rattle.star_admission.specs.Contexts.{Context, after_op};
 ghost use Rattle.star_admission.specs.Private.Forward.{open_with};
@@ -14,27 +15,28 @@ ghost use Rattle.star_admission.specs.declared.reason.Reason.TheVariants.{Faulty
 ghost use Rattle.star_admission.specs.Refusals.{op_reason, range_reason, source_reason, target_again};
 ghost use Rattle.star_verify.specs.Private.Facts.{AreFacts};
 ghost use Rattle.star_verify.specs.Private.Judged.{AreFewAt, InEachContext, IsFirst, IsJudged, IsReady, IsSized, Keeps};
-ghost use Rattle.star_verify.specs.Private.Kept.{AreFew, HasShares, flag_at};
+ghost use Rattle.star_verify.specs.Private.Kept.{AreFew, HasKeyShares, HasShares, flag_at};
 ghost use Rattle.star_verify.specs.Private.Made.{beyond_shown};
 ghost use Rattle.star_verify.specs.Private.Shown.{known_in};
 ghost use Rattle.star_verify.specs.Shown.{IsReason};
 
-use crate::gifts::give;
+use crate::gifts::{give, give_keys};
 use crate::known::Beyond;
 use crate::operations::{check_source, make};
 use crate::refusal::Refusal;
 use crate::register::{Register, check_kinds, learn};
 use crate::subject::Subject;
 use crate::tally::Tally;
-use crate::totals::check_sums;
 use star_admission::Reason;
 use star_program::{Fault, Op, Operation, Parts, RegisterList, Step};
 
-// Which registers earlier instructions write, and what they give the aggregates of each group.
+// Which registers earlier instructions write, and what they give the aggregates and the keys of each
+// group.
 #[derive(Drop)]
 pub(crate) struct Noted {
     pub(crate) written: Vec<bool>,
     pub(crate) tallies: Vec<Tally>,
+    pub(crate) keys: Vec<Tally>,
 }
 
 // Where an instruction stands: its number, whether scans stand round it, how often it is met at
@@ -139,6 +141,7 @@ fn assign(
         (after_op w subject.now.parts.now x (op.Assign target operation.now)))) }
     ensures sized { IsSized subject.now.parts.now registers.new noted.new }
     ensures tallies { noted.new.tallies ≡ noted.old.tallies }
+    ensures keys { noted.new.keys ≡ noted.old.keys }
 {
     let parts = subject.parts;
     match check_source(parts, registers, place.pending, rest, operation) {
@@ -157,7 +160,7 @@ fn assign(
     }
 }
 
-// Judges the sums that a put adds to.
+// Tallies what a put gives the aggregates of its group.
 fn put(
     subject: &Subject<'_>,
     place: Place,
@@ -165,7 +168,7 @@ fn put(
     tallies: &mut [Tally],
     group: u16,
     values: &RegisterList,
-) -> Result<(), Refusal>
+)
     requires there { group < length subject.now.parts.now.groups }
     requires values { length values.now
         ≡ value_count (group_at subject.now.parts.now group).aggregates }
@@ -173,35 +176,52 @@ fn put(
     requires met { place.met ≤ 10 ^ 15 }
     requires tallies { length tallies.old ≡ 64 }
     requires few { AreFew tallies.old (place.at * 10 ^ 15) }
-    ensures judged { (w : World) (x : Context) (keys : List ℕ) → AreFacts w subject.now.facts.now
+    ensures shares { (w : World) (x : Context) (keys : List ℕ)
         → known_in registers.now ≡ x.known → x.met ≡ place.met
         → HasShares subject.now.parts.now tallies.old x
-        → IsJudged result place.at
-        (range_reason w subject.now.parts.now x (op.Put group keys values.now))
-        (HasShares subject.now.parts.now tallies.new
-        (after_op w subject.now.parts.now x (op.Put group keys values.now))) }
+        → HasShares subject.now.parts.now tallies.new
+        (after_op w subject.now.parts.now x (op.Put group keys values.now)) }
     ensures few { AreFew tallies.new ((place.at + 1) * 10 ^ 15) }
     ensures len { length tallies.new ≡ length tallies.old }
 {
-    match subject.parts.group(group) {
-        Some(declared) => {
-            let first = 8 * group as usize;
-            let aggregates = declared.aggregates.as_slice();
-            give(
-                tallies,
-                first,
-                registers,
-                aggregates,
-                values.as_slice(),
-                place.met,
-            );
-            match check_sums(tallies, first, aggregates) {
-                Ok(()) => Ok(()),
-                Err(beyond) => Err(overflow(subject, place.at, beyond)),
-            }
-        }
-        None => Ok(()),
+    if let Some(declared) = subject.parts.group(group) {
+        give(
+            tallies,
+            8 * group as usize,
+            registers,
+            declared.aggregates.as_slice(),
+            values.as_slice(),
+            place.met,
+        );
     }
+}
+
+// Notes what a put gives the keys of its group.
+fn put_keys(
+    parts: &Parts,
+    place: Place,
+    registers: &[Register],
+    tallies: &mut [Tally],
+    group: u16,
+    keys: &RegisterList,
+)
+    requires limits { IsWithinLimits parts.now }
+    requires there { group < length parts.now.groups }
+    requires keys { length keys.now ≡ length (group_at parts.now group).keys }
+    requires at { place.at ≤ 4096 }
+    requires met { place.met ≤ 10 ^ 15 }
+    requires tallies { length tallies.old ≡ 64 }
+    requires few { AreFew tallies.old (place.at * 10 ^ 15) }
+    ensures given { (w : World) (x : Context) (values : List ℕ)
+        → known_in registers.now ≡ x.known → x.met ≡ place.met
+        → HasKeyShares parts.now tallies.old x
+        → HasKeyShares parts.now tallies.new
+        (after_op w parts.now x (op.Put group keys.now values)) }
+    ensures few { AreFew tallies.new ((place.at + 1) * 10 ^ 15) }
+    ensures len { length tallies.new ≡ length tallies.old }
+{
+    let first = 8 * group as usize;
+    give_keys(tallies, first, registers, keys.as_slice(), place.met);
 }
 
 // Judges an instruction with which nothing is wrong by its kinds, and does what it does.
@@ -232,14 +252,29 @@ fn perform(
             subject, place, rest, registers, noted, *target, operation,
         ),
         Op::Keep { .. } => Ok(()),
-        Op::Put { group, values, .. } => put(
-            subject,
-            place,
-            registers,
-            &mut noted.tallies,
-            *group,
+        Op::Put {
+            group,
+            keys,
             values,
-        ),
+        } => {
+            put_keys(
+                subject.parts,
+                place,
+                registers,
+                &mut noted.keys,
+                *group,
+                keys,
+            );
+            put(
+                subject,
+                place,
+                registers,
+                &mut noted.tallies,
+                *group,
+                values,
+            );
+            Ok(())
+        }
     }
 }
 

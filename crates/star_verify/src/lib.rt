@@ -12,6 +12,7 @@ mod reach;
 mod refusal;
 mod register;
 mod report;
+mod rows;
 mod subject;
 mod tally;
 mod totals;

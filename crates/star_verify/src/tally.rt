@@ -2,7 +2,7 @@
 
 ghost use Rattle.std.specs.Prelude.{◌≡◌, ◌≤◌, ◌+◌, ◌^◌, ◌∷◌, [], List, ◌+ℤ◌, ◌≤ℤ◌, pos};
 ghost use Rattle.std.specs.Option.{option_map};
-ghost use Rattle.star_interval.specs.Interval.{bounds_of, range_of, wide_range_of};
+ghost use Rattle.star_interval.specs.Interval.{range_of};
 ghost use Rattle.star_admission.specs.Tallies.{Share, hull_with};
 ghost use Rattle.star_verify.specs.Private.Bounded.{IsBounded};
 ghost use Rattle.star_verify.specs.Private.Shown.{IsTally, reach_shown};
@@ -18,16 +18,6 @@ pub(crate) struct Tally {
     pub(crate) many: u64,
     pub(crate) each: Option<Interval>,
     pub(crate) reach: Reach,
-}
-
-// An answer's bounds.
-fn wide(range: Result<Interval, Wide>) -> Wide
-    ensures { wide_range_of result ≡ bounds_of range }
-{
-    match range {
-        Ok(range) => Wide::from(range),
-        Err(range) => range,
-    }
 }
 
 // The bounds of the sums.
@@ -84,8 +74,7 @@ impl Tally {
         ensures bounded { IsBounded result }
     {
         let widened = range.with_zero();
-        let product = widened.times(times);
-        let more = wide(product);
+        let more = widened.times_wide(times);
         let sum = total(self.sum, more);
         Tally {
             sum,

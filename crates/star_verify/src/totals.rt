@@ -1,6 +1,6 @@
-// What reads give, and the sums of a group that leave 64 bits.
+// What reads give.
 
-ghost use Rattle.std.specs.Prelude.{◌≡◌, ◌+◌, ◌<◌, ◌≤◌, ℕ, List, length, slice_index_or};
+ghost use Rattle.std.specs.Prelude.{◌≡◌, ◌<◌, List, length, slice_index_or};
 ghost use Rattle.std.specs.Option.{option_map};
 ghost use Rattle.star_interval.specs.Interval.{wide_range_of};
 ghost use Rattle.star_interval.specs.Range.{only};
@@ -8,10 +8,10 @@ ghost use Rattle.star_program.specs.World.{World};
 ghost use Rattle.star_admission.specs.Ranges as ranges;
 ghost use Rattle.star_admission.specs.Refusals as refusals;
 ghost use Rattle.star_admission.specs.Tallies.{Share, aggregate_range, hull_with, reach_of, read_range};
-ghost use Rattle.star_verify.specs.Private.Made.{AreTallies, IsMade, IsWithin};
+ghost use Rattle.star_verify.specs.Private.Made.{IsMade};
 ghost use Rattle.star_verify.specs.Private.Shown.{IsTally};
 
-use crate::known::{Beyond, Known, computed, given};
+use crate::known::{Beyond, Known, given};
 use crate::tally::Tally;
 use star_interval::Wide;
 use star_schema::Aggregate;
@@ -66,45 +66,9 @@ pub(crate) fn read(aggregate: Aggregate, tally: Tally, default: i64) -> Result<K
     }
 }
 
-// Whether a SUM may leave 64 bits.
-fn check_sum(aggregate: Aggregate, tally: Tally) -> Result<(), Beyond>
-    ensures { (w : World) (ss : List Share) → IsTally tally ss
-        → IsWithin w result (refusals.sum_overflow w aggregate ss) }
-{
-    match aggregate {
-        Aggregate::Sum => match computed(tally.sum.narrow(), tally.reach) {
-            Ok(_) => Ok(()),
-            Err(beyond) => Err(beyond),
-        },
-        _ => Ok(()),
-    }
-}
-
 pub(crate) fn tally_at(tallies: &[Tally], place: usize) -> Tally
     requires { place < length tallies.now }
     ensures { (t : Tally) → slice_index_or tallies.now place t ≡ result }
 {
     tallies[place]
-}
-
-// The first SUM of a group that may leave 64 bits: their tallies stand from a place on.
-pub(crate) fn check_sums(
-    tallies: &[Tally],
-    first: usize,
-    aggregates: &[Aggregate],
-) -> Result<(), Beyond>
-    requires { first + length aggregates.now ≤ length tallies.now }
-    ensures { (w : World) (shares : ℕ → List Share) (from : ℕ)
-        → AreTallies tallies.now first aggregates.now (λ a. shares (from + a))
-        → IsWithin w result (refusals.sums_overflow w aggregates.now from shares) }
-{
-    match aggregates {
-        [] => Ok(()),
-        [aggregate, others @ ..] => {
-            match check_sum(*aggregate, tally_at(tallies, first)) {
-                Ok(()) => check_sums(tallies, first + 1, others),
-                Err(beyond) => Err(beyond),
-            }
-        }
-    }
 }

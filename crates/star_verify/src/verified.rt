@@ -4,6 +4,7 @@ ghost use Rattle.std.specs.Prelude.{◌≡◌, None, IfErr, IfOk, OnOk};
 ghost use Rattle.star_common.specs.Memory.{UnlessMemory};
 ghost use Rattle.star_world.specs.WorldOf.{world_of};
 ghost use Rattle.star_admission.specs.Admissible.{first_refusal};
+ghost use Rattle.star_admission.specs.MostRows as bound;
 ghost use Rattle.star_admission.specs.Quote as spec;
 ghost use Rattle.star_program.specs.Limits.{IsWithinLimits};
 ghost use Rattle.star_verify.specs.declared.refusal.Refusal.TheVariants.{OutOfMemory};
@@ -13,6 +14,7 @@ ghost use Rattle.star_verify.specs.Shown.{refusal_shown};
 use crate::check::check;
 use crate::facts::Facts;
 use crate::refusal::Refusal;
+use crate::rows::most_rows;
 use star_admission::law::admissible_programs_within_the_limit_are_not_refused;
 use star_catalogue::Catalogue;
 use star_program::Program;
@@ -27,10 +29,12 @@ pub struct Verified<'c> {
     catalogue: &'c Catalogue,
     program: Program,
     quote: u128,
+    most_rows: u128,
 }
 
 impl<'c> Model for Verified<'c> {
     ghost use Rattle.std.specs.Prelude.{◌≡◌};
+    ghost use Rattle.star_admission.specs.MostRows as bound;
     ghost use Rattle.star_admission.specs.Quote as spec;
     ghost use Rattle.star_world.specs.WorldOf.{world_of};
     ghost use Rattle.std.specs.Coded.{codes};
@@ -46,7 +50,8 @@ impl<'c> Model for Verified<'c> {
     ghost invariant = { λ v. (IsVerified (record {
       database = v.catalogue.now;
       program = v.program;
-    })) × (v.quote ≡ spec.quote (world_of v.catalogue.now).size v.program) };
+    })) × (v.quote ≡ spec.quote (world_of v.catalogue.now).size v.program)
+        × (v.most_rows ≡ bound.most_rows (world_of v.catalogue.now) v.program) };
 }
 
 /// What refuses a program, with the program, unchanged.
@@ -87,6 +92,15 @@ impl<'c> Verified<'c> {
         self.quote
     }
 
+    /// How many rows the report of a run has at most, by what is known before it: of each grouping one
+    /// where it shows no key, and else no more than updates can be made of the group, and than there
+    /// are lists of values of the keys that it shows.
+    pub fn most_rows(&self) -> u128
+        ensures { result ≡ bound.most_rows (world_of self.now.database) self.now.program }
+    {
+        self.most_rows
+    }
+
     /// The program, which may be checked again.
     pub fn into_program(self) -> Program
         ensures { result ≡ self.entry.program }
@@ -119,11 +133,15 @@ pub fn verify<'c>(
     admissible_programs_within_the_limit_are_not_refused();
     let facts = Facts::of(catalogue);
     match check(alloc, &program, &facts, limits) {
-        Ok(quote) => Ok(Verified {
-            catalogue,
-            program,
-            quote,
-        }),
+        Ok(accepted) => {
+            let most_rows = most_rows(catalogue, program.parts(), &accepted.keys);
+            Ok(Verified {
+                catalogue,
+                program,
+                quote: accepted.visits,
+                most_rows,
+            })
+        }
         Err(refusal) => Err(Refused { program, refusal }),
     }
 }

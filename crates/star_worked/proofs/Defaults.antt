@@ -1,12 +1,10 @@
--- What stands for what isn't there, and a total of numbers below zero alone.
+-- What stands for what isn't there.
 use Rattle.std.proofs.Common.{◌≡◌, [], ◌∷◌, None, true, refl}
-use Rattle.std.specs.Prelude.{codes, map, pos, neg_ℤ}
+use Rattle.std.specs.Prelude.{codes, map, pos}
 use Rattle.star_schema.specs.declared.column.ColumnId.TheVariants.{DYear}
 use Rattle.star_schema.specs.declared.column.Kind.TheVariants as kind
 use Rattle.star_schema.specs.Schema.{column_of, place_of}
 use Rattle.star_schema.specs.Tables.{Number, Text}
-use Rattle.star_interval.specs.Range.{is_i64, only}
-use Rattle.star_plan.specs.Fits.{times_fits}
 use Rattle.star_plan.specs.Meaning.{number_of, value_in}
 use Rattle.star_plan.specs.Names.{is_of}
 
@@ -21,8 +19,3 @@ no_value = refl
 
 number_of_a_text : number_of (Text (codes "7")) ≡ pos 0
 number_of_a_text = refl
-
--- a total is widened to hold 0 and no more: -1 as often as goes
-least_total : times_fits 9223372036854775808 (only (neg_ℤ (pos 1))) ≡ true
-unfolding is_i64
-least_total = refl

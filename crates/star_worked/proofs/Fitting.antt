@@ -5,10 +5,10 @@ use Rattle.star_schema.specs.declared.column.ColumnId.{ColumnId}
 use Rattle.star_schema.specs.declared.column.ColumnId.TheVariants.{LoQuantity, LoDiscount, LoTax, LoExtendedprice, LoRevenue, LoSupplycost}
 use Rattle.star_schema.specs.declared.group.Shape.TheVariants.{Plain}
 use Rattle.star_schema.specs.declared.group.GroupColumn.TheVariants.{Aggregate}
-use Rattle.star_interval.specs.Range.{Range, hull, is_i64, multiple_range, only}
+use Rattle.star_interval.specs.Range.{Range, is_i64, only}
 use Rattle.star_query.specs.Tree.{Expression, column, constant, add, sub, mul}
 use Rattle.star_plan.specs.Meaning.{Plan, Measure, summed, counted, least, greatest}
-use Rattle.star_plan.specs.Fits.{Fits, range_of, nodes_fit, measure_fits, sum_fits, times_fits}
+use Rattle.star_plan.specs.Fits.{Fits, range_of, nodes_fit, measure_fits}
 use Rattle.star_worked.proofs.Sample.{revenue, cost, tax, discount}
 
 -- ---- ranges
@@ -94,25 +94,6 @@ aggregates_fit : map (measure_fits bounds) (counted ∷ summed product ∷ least
 unfolding is_i64
 aggregates_fit = refl
 
--- ---- sums over all rows
-
-total_of_five : multiple_range 5 (hull (range_of bounds (sub revenue cost)) (only (pos 0))) ≡ record { low = neg_ℤ (pos 3525); high = pos 14500 }
-total_of_five = refl
-
--- the greatest and the least number that fit, and one row more
-totals_fit : map (λ n. times_fits n (only half)) (0 ∷ 1 ∷ 2 ∷ []) ≡ true ∷ true ∷ false ∷ []
-unfolding is_i64
-totals_fit = refl
-
-totals_below_zero_fit : map (λ n. times_fits n (record { low = neg_ℤ half; high = pos 1 })) (2 ∷ 3 ∷ []) ≡ true ∷ false ∷ []
-unfolding is_i64
-totals_below_zero_fit = refl
-
--- of the aggregates a SUM alone has its total checked
-totals_of_sums : map (sum_fits 3 (λ c. only half)) (counted ∷ summed tax ∷ least tax ∷ greatest tax ∷ []) ≡ true ∷ false ∷ true ∷ true ∷ []
-unfolding is_i64
-totals_of_sums = refl
-
 -- ---- whole queries
 
 abbrev asking : List Measure → Plan
@@ -120,21 +101,21 @@ asking measures = record { joins = []; conjuncts = []; shape = Plain; keys = [];
 
 five_fit : Fits 5 5 bounds (asking (summed (sub revenue cost) ∷ counted ∷ []))
 unfolding is_i64
-five_fit = record { visits = omega arith; nodes = refl; sums = refl }
+five_fit = record { visits = omega arith; nodes = refl }
 
 not_more_than_the_limit : Fits 6 5 bounds (asking (counted ∷ [])) → ⊥
 not_more_than_the_limit fits = let few : 6 ≤ 5 = fits.visits in omega (arith, few)
 
--- the least of numbers whose total would leave 64 bits
-a_least_number_fits : Fits 3 3 (λ c. only half) (asking (least tax ∷ greatest tax ∷ []))
+-- a total may leave 64 bits, of the greatest number that fits and of the least
+a_total_fits : Fits 3 3 (λ c. only (pos 9223372036854775807)) (asking (least tax ∷ summed tax ∷ []))
 unfolding is_i64
-a_least_number_fits = record { visits = omega arith; nodes = refl; sums = refl }
+a_total_fits = record { visits = omega arith; nodes = refl }
+
+a_total_below_zero_fits : Fits 3 3 (λ c. only (neg_ℤ (pos 9223372036854775808))) (asking (summed tax ∷ []))
+unfolding is_i64
+a_total_below_zero_fits = record { visits = omega arith; nodes = refl }
 
 -- each aggregate is checked, the last one too
 a_greatest_product_unfit : Fits 1 1 bounds (asking (counted ∷ greatest product ∷ [])) → ⊥
 unfolding is_i64
 a_greatest_product_unfit fits = let nodes : false ≡ true = fits.nodes in cc
-
-a_total_unfit : Fits 3 3 (λ c. only half) (asking (least tax ∷ summed tax ∷ [])) → ⊥
-unfolding is_i64
-a_total_unfit fits = let sums : false ≡ true = fits.sums in cc

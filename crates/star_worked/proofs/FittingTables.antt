@@ -1,14 +1,13 @@
 -- Which queries fit the sample, by the bounds of its columns and its five lines.
 use Rattle.std.proofs.Common.{◌≡◌, true, false, List, [], ◌∷◌, refl, arith}
-use Rattle.std.specs.Prelude.{◌≤◌, pos, neg_ℤ, codes, length, map}
+use Rattle.std.specs.Prelude.{◌≤◌, pos, neg_ℤ, codes, map}
 use Rattle.star_schema.specs.declared.column.ColumnId.TheVariants.{DYear, LoDiscount, LoExtendedprice, LoRevenue, LoSupplycost, PSize}
 use Rattle.star_schema.specs.declared.group.Shape.TheVariants.{Plain}
 use Rattle.star_schema.specs.declared.group.GroupColumn.TheVariants.{Aggregate}
-use Rattle.star_schema.specs.declared.table.TableId.TheVariants.{Lineorder}
 use Rattle.star_schema.specs.Bounds.{greatest, least, numbers_at}
 use Rattle.star_schema.specs.Records.{pieces}
 use Rattle.star_schema.specs.Schema.{column_of, columns_of, place_of}
-use Rattle.star_interval.specs.Range.{hull, is_i64, multiple_range, only}
+use Rattle.star_interval.specs.Range.{is_i64}
 use Rattle.star_plan.specs.Fits.{range_of}
 use Rattle.star_schema.specs.declared.column.ColumnId.{ColumnId}
 use Rattle.star_query.specs.Tree.{Expression, column, constant, mul, sub}
@@ -32,13 +31,9 @@ range_of_profits : range_of (bounds_in sample) profit ≡ record { low = neg_ℤ
 unfolding column_of columns_of place_of pieces greatest least numbers_at
 range_of_profits = refl
 
-range_of_all_profits : multiple_range (length (sample Lineorder)) (hull (range_of (bounds_in sample) profit) (only (pos 0))) ≡ record { low = neg_ℤ (pos 3525); high = pos 14500 }
-unfolding column_of columns_of place_of pieces greatest least numbers_at
-range_of_all_profits = refl
-
 profits_fit : FitsTables 5 sample (asking (summed profit ∷ []))
 unfolding column_of columns_of place_of pieces greatest least numbers_at is_i64
-profits_fit = record { visits = omega arith; nodes = refl; sums = refl }
+profits_fit = record { visits = omega arith; nodes = refl }
 
 -- a limit of one row less
 profits_cost_too_much : FitsTables 4 sample (asking (summed profit ∷ [])) → ⊥

@@ -29,11 +29,11 @@ merged_at gs held more place = merged (slice_index_or gs place Count) (slice_ind
 abbrev pub IsMerged : List Aggregate → List (Option ℤ) → List (Option ℤ) → List (Option ℤ) → Type 0
 IsMerged gs held more row = (place : ℕ) → place < length gs → slice_index_or row place None ≡ merged_at gs held more place
 
--- no SUM or COUNT of two rows merged leaves 64 bits
+-- no SUM or COUNT of two rows merged leaves its bits
 abbrev pub MergeStays : List Aggregate → List (Option ℤ) → List (Option ℤ) → Type 0
 MergeStays gs held more = (place : ℕ) → place < length gs → leaves (slice_index_or gs place Count) (merged_at gs held more place) ≡ false
 
--- a SUM or a COUNT of two rows merged leaves them
+-- a SUM or a COUNT of two rows merged does
 pub record MergeLeaves (gs : List Aggregate) (held more : List (Option ℤ)) : Type 0 where
   pub place : ℕ
   pub declared : place < length gs

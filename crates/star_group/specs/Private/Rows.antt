@@ -27,7 +27,7 @@ is_beside s ks q = not (key_eq q (padded 6 [])) && is_of_put s ks q
 abbrev pub is_one_of : List (List KeyPart) → List (Option KeyValue) → Bool
 is_one_of keys q = list_any (key_eq q) (map key_of keys)
 
--- with one more row merged in no row of these keys leaves 64 bits
+-- with one more row merged in no aggregate of a row of these keys leaves its bits
 pub record AllStay (look : List (Option KeyValue) → Option (List (Option ℤ))) (own : List (Option KeyValue) → Bool) (gs : List Aggregate) (more : List (Option ℤ)) : Type 0 where
   pub stay : (key : List (Option KeyValue)) → own key ≡ true → MergeStays gs (unwrap_or (look key) []) more
 
@@ -42,7 +42,7 @@ pub record MergesAll (own : List (Option KeyValue) → Bool) (gs : List Aggregat
   pub changed : (key : List (Option KeyValue)) → own key ≡ true → IsMergedInto gs more (old key) (new key)
   pub same : (key : List (Option KeyValue)) → own key ≡ false → new key ≡ old key
 
--- and no row leaves 64 bits
+-- and no aggregate of a row leaves its bits
 pub record PutsRows (own : List (Option KeyValue) → Bool) (gs : List Aggregate) (more : List (Option ℤ)) (old new : List (Option KeyValue) → Option (List (Option ℤ))) : Type 0 where
   pub merges : MergesAll own gs more old new
   pub stay : AllStay old own gs more

@@ -21,7 +21,7 @@ fn merge_coarser(
     count: usize,
     key: &OrderedKey,
     aggregates: &[Aggregate],
-    more: &[Option<i64>],
+    more: &[Option<i128>],
 ) -> Result<(), AllocError>
     requires count { count ≤ 6 }
     requires narrow { IsNarrow rows.old.trie.width key.now }

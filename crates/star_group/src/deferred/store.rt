@@ -46,7 +46,7 @@ impl GroupStore for DeferredStore {
         )
     }
 
-    fn total(&self, aggregate: usize) -> Option<i64> {
+    fn total(&self, aggregate: usize) -> Option<i128> {
         shown(self.aggregates[aggregate], self.total[aggregate])
     }
 

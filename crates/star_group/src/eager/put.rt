@@ -20,13 +20,13 @@ use crate::newest::Newest;
 use crate::rows::{PutFault, put_rows, stays_at};
 use star_schema::{Aggregate, Shape};
 
-// A row merged into that of this key, unless it leaves 64 bits.
+// A row merged into that of this key, unless an aggregate leaves its bits.
 fn put_row(
     rows: &mut KeyedRows,
     newest: &mut Newest,
     key: &OrderedKey,
     aggregates: &[Aggregate],
-    more: &[Option<i64>],
+    more: &[Option<i128>],
 ) -> Result<(), PutFault>
     requires narrow { IsNarrow rows.old.trie.width key.now }
     requires fits { FitsIn rows.old aggregates.now more.now }
@@ -59,7 +59,7 @@ fn put_beside(
     shape: Shape,
     aggregates: &[Aggregate],
     keys: &[KeyValue],
-    more: &[Option<i64>],
+    more: &[Option<i128>],
 ) -> Result<(), PutFault>
     requires narrow { length keys.now ≤ rows.old.trie.width }
     requires fits { FitsIn rows.old aggregates.now more.now }
@@ -94,7 +94,7 @@ pub(super) fn put_all(
     shape: Shape,
     aggregates: &[Aggregate],
     keys: &[KeyValue],
-    more: &[Option<i64>],
+    more: &[Option<i128>],
 ) -> Result<(), PutFault>
     requires narrow { length keys.now ≤ rows.old.trie.width }
     requires fits { FitsIn rows.old aggregates.now more.now }

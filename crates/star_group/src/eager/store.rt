@@ -49,7 +49,7 @@ impl GroupStore for EagerStore {
         }
     }
 
-    fn total(&self, aggregate: usize) -> Option<i64> {
+    fn total(&self, aggregate: usize) -> Option<i128> {
         shown(self.aggregates[aggregate], self.total[aggregate])
     }
 

@@ -9,11 +9,11 @@ use star_schema::Aggregate;
 
 // A row merged into that of a number.
 pub(crate) fn merge_at(
-    cells: &mut [Option<i64>],
+    cells: &mut [Option<i128>],
     count: usize,
     number: usize,
     aggregates: &[Aggregate],
-    more: &[Option<i64>],
+    more: &[Option<i128>],
 )
     requires within { number < count }
     requires long { length cells.old ≡ count * length aggregates.now }

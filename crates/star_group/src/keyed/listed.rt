@@ -71,7 +71,7 @@ impl ListedRows {
     }
 
     // The aggregates of the row of a number.
-    pub(crate) fn row(&self, number: usize) -> &[Option<i64>]
+    pub(crate) fn row(&self, number: usize) -> &[Option<i128>]
         requires { number < length (listed_entries self.now) }
         ensures row { result.now ≡ (slice_index_or (listed_entries self.now) number ([], [])).1 }
         ensures wide { length result.now ≡ self.now.many }

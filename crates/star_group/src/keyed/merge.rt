@@ -1,7 +1,8 @@
 // Rows of different puts merged into one.
 
-ghost use Rattle.std.specs.Prelude.{◌≡◌, ◌≤◌, ◌<◌, false, not, length, Some, slice_index_or, MatchBool};
+ghost use Rattle.std.specs.Prelude.{◌≡◌, ◌≤◌, ◌<◌, ◌+ℤ◌, false, not, length, Some, slice_index_or, MatchBool};
 ghost use Rattle.star_schema.specs.declared.group.Aggregate.TheVariants.{Count};
+ghost use Rattle.star_interval.specs.Range.{is_i64, is_i128};
 ghost use Rattle.star_program.specs.Puts.{leaves};
 ghost use Rattle.star_group.specs.Private.Merged as spec;
 ghost use Rattle.star_group.specs.Private.Merged.{IsMerged, IsRowOf, MergeLeaves, MergeStays, merged_at};
@@ -10,8 +11,8 @@ use crate::cell::{BLANK, Row};
 use star_schema::Aggregate;
 
 // An aggregate over some puts and over some others, as one over all of them.
-#[tactic(auto, unfolding(star_interval::specs::Range::is_i64))]
-fn merged(aggregate: Aggregate, held: Option<i64>, more: Option<i64>) -> Option<i64>
+#[tactic(auto, unfolding(star_interval::specs::Range::is_i64, star_interval::specs::Range::is_i128))]
+fn merged(aggregate: Aggregate, held: Option<i128>, more: Option<i128>) -> Option<i128>
     requires { leaves aggregate (spec.merged aggregate held more) ≡ false }
     ensures { result ≡ spec.merged aggregate held more }
 {
@@ -29,10 +30,10 @@ fn merged(aggregate: Aggregate, held: Option<i64>, more: Option<i64>) -> Option<
 // One place of two rows merged.
 fn merged_cell(
     aggregates: &[Aggregate],
-    held: &[Option<i64>],
-    more: &[Option<i64>],
+    held: &[Option<i128>],
+    more: &[Option<i128>],
     place: usize,
-) -> Option<i64>
+) -> Option<i128>
     requires place { place < length aggregates.now }
     requires held { length aggregates.now ≤ length held.now }
     requires more { length aggregates.now ≤ length more.now }
@@ -44,7 +45,7 @@ fn merged_cell(
 }
 
 // A row merged into another.
-pub(crate) fn merge_into(aggregates: &[Aggregate], held: &mut [Option<i64>], more: &[Option<i64>])
+pub(crate) fn merge_into(aggregates: &[Aggregate], held: &mut [Option<i128>], more: &[Option<i128>])
     requires held { length aggregates.now ≤ length held.old }
     requires more { length aggregates.now ≤ length more.now }
     requires stays { MergeStays aggregates.now held.old more.now }
@@ -56,24 +57,41 @@ pub(crate) fn merge_into(aggregates: &[Aggregate], held: &mut [Option<i64>], mor
     }
 }
 
-// Whether an aggregate over some puts and over some others stays within 64 bits over all of them.
+// Whether the sum of two numbers has 64 bits.
 #[tactic(auto, unfolding(star_interval::specs::Range::is_i64))]
-fn stays(aggregate: Aggregate, held: Option<i64>, more: Option<i64>) -> bool
-    ensures { result ≡ not (leaves aggregate (spec.merged aggregate held more)) }
+fn adds_in_64_bits(left: i128, right: i128) -> bool
+    ensures { result ≡ is_i64 (left +ℤ right) }
 {
-    match (aggregate, held, more) {
-        (Aggregate::Sum | Aggregate::Count, Some(held), Some(more)) => {
-            held.checked_add(more).is_some()
-        }
-        _ => true,
+    match left.checked_add(right) {
+        Some(sum) => i64::try_from(sum).is_ok(),
+        None => false,
     }
 }
 
-// Whether one place of two rows merged stays within 64 bits.
+// Whether the sum of two numbers has 128 bits.
+#[tactic(auto, unfolding(star_interval::specs::Range::is_i128))]
+fn adds_up(left: i128, right: i128) -> bool
+    ensures { result ≡ is_i128 (left +ℤ right) }
+{
+    left.checked_add(right).is_some()
+}
+
+// Whether an aggregate over some puts and over some others doesn't leave its bits over all of them.
+fn stays(aggregate: Aggregate, held: Option<i128>, more: Option<i128>) -> bool
+    ensures { result ≡ not (leaves aggregate (spec.merged aggregate held more)) }
+{
+    match aggregate {
+        Aggregate::Sum => adds_up(held.unwrap_or(0), more.unwrap_or(0)),
+        Aggregate::Count => adds_in_64_bits(held.unwrap_or(0), more.unwrap_or(0)),
+        Aggregate::Min | Aggregate::Max => true,
+    }
+}
+
+// Whether one place of two rows merged doesn't leave its bits.
 fn cell_stays(
     aggregates: &[Aggregate],
-    held: &[Option<i64>],
-    more: &[Option<i64>],
+    held: &[Option<i128>],
+    more: &[Option<i128>],
     place: usize,
 ) -> bool
     requires place { place < length aggregates.now }
@@ -85,11 +103,11 @@ fn cell_stays(
     stays(aggregates[place], held[place], more[place])
 }
 
-// Whether no aggregate of two rows merged leaves 64 bits.
+// Whether no aggregate of two rows merged leaves its bits.
 pub(crate) fn row_stays(
     aggregates: &[Aggregate],
-    held: &[Option<i64>],
-    more: &[Option<i64>],
+    held: &[Option<i128>],
+    more: &[Option<i128>],
 ) -> bool
     requires held { length aggregates.now ≤ length held.now }
     requires more { length aggregates.now ≤ length more.now }
@@ -105,12 +123,12 @@ pub(crate) fn row_stays(
 }
 
 // What one put adds to an aggregate.
-fn cell_of(aggregate: Aggregate, value: i64) -> i64
+fn cell_of(aggregate: Aggregate, value: i64) -> i128
     ensures { result ≡ spec.cell_of aggregate value }
 {
     match aggregate {
         Aggregate::Count => 1,
-        _ => value,
+        _ => i128::from(value),
     }
 }
 

@@ -88,7 +88,7 @@ impl KeyedRows {
     }
 
     // The aggregates of the row of a number.
-    pub(crate) fn row(&self, number: usize) -> &[Option<i64>]
+    pub(crate) fn row(&self, number: usize) -> &[Option<i128>]
         requires { number < length (entries_of self.now) }
         ensures row { result.now ≡ (slice_index_or (entries_of self.now) number ([], [])).1 }
         ensures wide { length result.now ≡ self.now.many }
@@ -102,7 +102,7 @@ impl KeyedRows {
         node: usize,
         digit: usize,
         key: &OrderedKey,
-        row: &[Option<i64>],
+        row: &[Option<i128>],
     ) -> Result<(), AllocError>
         requires narrow { IsNarrow self.old.trie.width key.now }
         requires wide { length row.now ≡ self.old.many }
@@ -131,7 +131,7 @@ impl KeyedRows {
         &mut self,
         number: usize,
         aggregates: &[Aggregate],
-        more: &[Option<i64>],
+        more: &[Option<i128>],
     )
         requires within { number < length (entries_of self.old) }
         requires fits { FitsIn self.old aggregates.now more.now }
@@ -156,7 +156,7 @@ impl KeyedRows {
         key: &OrderedKey,
         place: Place,
         aggregates: &[Aggregate],
-        more: &[Option<i64>],
+        more: &[Option<i128>],
     ) -> Result<(), AllocError>
         requires narrow { IsNarrow self.old.trie.width key.now }
         requires place { IsPlace self.old key.now place }

@@ -15,7 +15,7 @@ pub(super) struct Ahead<'a> {
     rest: &'a [usize],
     left: usize,
     keys: Vec<Option<KeyValue>>,
-    aggregates: Vec<Option<i64>>,
+    aggregates: Vec<Option<i128>>,
 }
 
 impl Ahead<'_> {

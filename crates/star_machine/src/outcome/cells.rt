@@ -49,7 +49,7 @@ fn key_cell(
 {
     match (key, declared) {
         (None, _) => Ok(Cell::All),
-        (Some(KeyValue::Number(number)), _) => Ok(Cell::Number(number)),
+        (Some(KeyValue::Number(number)), _) => Ok(Cell::Number(i128::from(number))),
         (Some(KeyValue::Code(code)), GroupKey::Text(column)) => {
             text_cell(alloc, catalogue, column, code)
         }
@@ -58,7 +58,7 @@ fn key_cell(
 }
 
 // An aggregate, as a report shows it.
-fn total_cell(total: Option<i64>) -> Cell
+fn total_cell(total: Option<i128>) -> Cell
     ensures { result ≡ outcome.total_cell total }
 {
     match total {

@@ -18,7 +18,7 @@ use std::cmp::Ordering;
 #[derive(Clone, Copy)]
 pub(super) struct Lead {
     rank: i8,
-    value: i64,
+    value: i128,
 }
 
 const NULL: Lead = Lead { rank: 0, value: 0 };
@@ -29,8 +29,8 @@ const ALL: Lead = Lead { rank: 3, value: 0 };
 // row whose leads are less comes first. Both leads lie flat, as a sort moves these about.
 #[derive(Clone, Copy)]
 pub(super) struct Led {
-    value: i64,
-    next_value: i64,
+    value: i128,
+    next_value: i128,
     rank: i8,
     next_rank: i8,
     number: u32,
@@ -65,7 +65,7 @@ impl Led {
     }
 }
 
-fn number_lead(number: i64) -> Lead
+fn number_lead(number: i128) -> Lead
     ensures { result ≡ spec.number_lead number }
 {
     Lead {
@@ -79,7 +79,7 @@ fn code_lead(code: u32) -> Lead
 {
     Lead {
         rank: 2,
-        value: i64::from(code),
+        value: i128::from(code),
     }
 }
 
@@ -140,12 +140,12 @@ fn key_lead(key: Option<KeyValue>) -> Lead
 {
     match key {
         None => ALL,
-        Some(KeyValue::Number(number)) => number_lead(number),
+        Some(KeyValue::Number(number)) => number_lead(i128::from(number)),
         Some(KeyValue::Code(code)) => code_lead(code),
     }
 }
 
-fn total_lead(total: Option<i64>) -> Lead
+fn total_lead(total: Option<i128>) -> Lead
     ensures { result ≡ spec.total_lead total }
 {
     match total {

@@ -6,13 +6,14 @@ use Rattle.star_schema.specs.declared.table.TableId.{TableId}
 use Rattle.star_program.specs.declared.program.Parts.{Parts}
 use Rattle.star_program.specs.Code.{Code}
 use Rattle.star_program.specs.World.{World}
-use Rattle.star_admission.specs.Contexts.{Context, in_scan}
+use Rattle.star_admission.specs.Contexts.{Context, at_end, at_first, in_scan}
 use Rattle.star_admission.specs.Admissible.{first_refusal}
 use Rattle.star_admission.specs.Private.Forward.{first_reason}
 use Rattle.star_admission.specs.Quote.{quote}
 use Rattle.star_admission.specs.declared.reason.Reason.{Reason}
 use Rattle.star_admission.specs.Refusals.{scan_reason}
 use Rattle.star_admission.specs.Standing.{at_place}
+use Rattle.star_verify.specs.declared.check.Accepted.{Accepted}
 use Rattle.star_verify.specs.declared.instructions.Noted.{Noted}
 use Rattle.star_verify.specs.declared.instructions.Place.{Place}
 use Rattle.star_verify.specs.declared.refusal.Refusal.{Refusal}
@@ -20,7 +21,7 @@ use Rattle.star_verify.specs.declared.refusal.Refusal.TheVariants as told
 use Rattle.star_verify.specs.declared.register.Register.{Register}
 use Rattle.star_verify.specs.declared.subject.Subject.{Subject}
 use Rattle.star_verify.specs.Private.Facts.{AreFacts}
-use Rattle.star_verify.specs.Private.Kept.{AreFew, AreMarked, HasShares, flag_at}
+use Rattle.star_verify.specs.Private.Kept.{AreFew, AreMarked, HasKeyShares, HasShares, flag_at}
 use Rattle.star_verify.specs.Private.Shown.{known_in}
 use Rattle.star_verify.specs.Shown.{refusal_shown}
 
@@ -32,15 +33,18 @@ IsFirst _ found = ⊥
 
 -- ---- what is kept
 
--- so many registers as are declared, a flag for each, and eight tallies for each of eight groups
+-- so many registers as are declared, a flag for each, and eight tallies of aggregates and eight of
+-- keys for each of eight groups
 pub record IsSized (parts : Parts) (registers : List Register) (noted : Noted) : Type 0 where
   pub wide : length registers ≡ parts.registers
   pub written : length noted.written.items ≡ parts.registers
   pub tallies : length noted.tallies.items ≡ 64
+  pub keys : length noted.keys.items ≡ 64
 
 pub record AreNoted (parts : Parts) (noted : Noted) (x : Context) : Type 0 where
   pub written : flag_at noted.written.items ≡ x.written
   pub shares : HasShares parts noted.tallies.items x
+  pub keys : HasKeyShares parts noted.keys.items x
 
 pub record Keeps (parts : Parts) (registers : List Register) (noted : Noted) (x : Context)
     : Type 0 where
@@ -53,7 +57,8 @@ pub record IsPlaced (place : Place) (x : Context) : Type 0 where
 
 -- of at most 10^15 numbers for each instruction so far
 abbrev pub AreFewAt : Noted → ℕ → Type 0
-AreFewAt noted at = AreFew noted.tallies.items (at * 10 ^ 15)
+AreFewAt noted at =
+    AreFew noted.tallies.items (at * 10 ^ 15) × AreFew noted.keys.items (at * 10 ^ 15)
 
 -- a check may go on from an instruction, which is met no more often than any run may visit
 pub record IsReady (parts : Parts) (place : Place) (registers : List Register) (noted : Noted)
@@ -92,10 +97,14 @@ scan_first w parts pending x at table r body =
 
 -- ---- a whole program
 
--- Ok with its quote where nothing refuses it, else what does first, or want of memory
-abbrev pub IsChecked : Result ℕ Refusal → World → ℕ → Parts → Type 0
+-- Ok with its quote and what is put to the keys of its groups, in 64 tallies, where nothing refuses it, else what does
+-- first, or want of memory
+abbrev pub IsChecked : Result Accepted Refusal → World → ℕ → Parts → Type 0
 IsChecked result w most parts =
     MatchResult result
-    (λ visits. (first_refusal w most parts ≡ None) × (visits ≡ quote w.size parts))
+    (λ accepted. (first_refusal w most parts ≡ None)
+    × (accepted.visits ≡ quote w.size parts)
+    × (length accepted.keys.items ≡ 64)
+    × HasKeyShares parts accepted.keys.items (at_end w parts at_first parts.body))
     (λ refusal. UnlessMemory told.OutOfMemory refusal
     (first_refusal w most parts ≡ refusal_shown refusal))

@@ -9,7 +9,7 @@ use Rattle.star_admission.specs.Contexts.{Context}
 use Rattle.star_admission.specs.Ranges as ranges
 use Rattle.star_verify.specs.declared.tally.Tally.{Tally}
 use Rattle.star_verify.specs.Private.Bounded.{IsBounded}
-use Rattle.star_verify.specs.Private.Made.{AreTallies}
+use Rattle.star_verify.specs.Private.Made.{AreTallies, IsTallyAt}
 
 abbrev pub flag_at : List Bool → ℕ → Bool
 flag_at flags n = slice_index_or flags n false
@@ -19,6 +19,12 @@ abbrev pub HasShares : Parts → List Tally → Context → Type 0
 HasShares parts tallies x =
     (g : ℕ) → g < length parts.groups
     → AreTallies tallies (8 * g) (group_at parts g).aggregates (x.so_far g)
+
+-- and for each key
+abbrev pub HasKeyShares : Parts → List Tally → Context → Type 0
+HasKeyShares parts tallies x =
+    (g : ℕ) → g < length parts.groups → (place : ℕ) → place < length (group_at parts g).keys
+    → IsTallyAt tallies (8 * g + place) (x.keys_so_far g place)
 
 -- what is known of the numbers of a put, one for each aggregate
 abbrev pub numbers_known : List Aggregate → ranges.Table → List ℕ → List (Option ranges.Known)

@@ -22,11 +22,6 @@ IsMade w result k reason =
     MatchResult result (λ known. (known_shown known ≡ k) × (reason ≡ None))
     (λ beyond. reason ≡ Some (beyond_shown w beyond))
 
--- Ok where nothing leaves 64 bits, else what does
-abbrev pub IsWithin : World → Result (Unit {0}) Beyond → Option Reason → Type 0
-IsWithin w result reason =
-    MatchResult result (λ _. reason ≡ None) (λ beyond. reason ≡ Some (beyond_shown w beyond))
-
 -- ---- tallies in a list
 
 -- the tally of a place is that of some shares

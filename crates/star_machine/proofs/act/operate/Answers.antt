@@ -1,8 +1,8 @@
 use Rattle.std.proofs.Common.{FitsSigned, ap, rules, subst, sym, to_z-of_z, w64, ◌∙◌}
-use Rattle.std.specs.Prelude.{Ok, unwrap_or}
+use Rattle.std.specs.Prelude.{unwrap_or}
 use Rattle.star_program.specs.declared.value.Value.TheVariants.{Number}
 use Rattle.star_program.specs.Faults.{group_at}
-use Rattle.star_program.specs.Private.Doing.{assigns}
+use Rattle.star_program.specs.Private.Doing.{assigns, fitting}
 use Rattle.star_program.specs.Puts.{total}
 use Rattle.star_machine.specs.Private.Acts.{IsMade}
 use Rattle.star_machine.specs.Private.Shown.{held}
@@ -28,7 +28,7 @@ returns-in-Read-clause-does c = λ parts s target done.
     let registers = held c.args.registers.now in
     let number : FitsSigned w64 c.in-Read.default = search rules in
     let so_far = total (group_at parts c.in-Read.group) c.in-Read.aggregate (s.updates_of c.in-Read.group) in
-    subst (λ o. IsMade c.args.catalogue.now parts registers c.args.run.now target (assigns (world_of c.args.catalogue.now) parts registers s target o) (Ok c.read.result))
+    subst (λ o. IsMade c.args.catalogue.now parts registers c.args.run.now target (assigns (world_of c.args.catalogue.now) parts registers s target o) c.answered-in-Read.result)
     (sym c.in-Read.is)
-    (read_made c.args.catalogue.now parts registers c.args.run.now s done target c.read.result (unwrap_or so_far c.in-Read.default)
-    (c.read.ensures.given parts s.updates_of done.stores ∙ ap (λ n. Number (unwrap_or so_far n)) (to_z-of_z number)) c.read.ensures.fits)
+    (read_made c.args.catalogue.now parts registers c.args.run.now s done target (unwrap_or so_far c.in-Read.default) c.read.result c.answered-in-Read.result
+    (c.read.ensures parts s.updates_of done.stores ∙ ap (λ n. fitting (Number (unwrap_or so_far n))) (to_z-of_z number)) c.answered-in-Read.ensures)

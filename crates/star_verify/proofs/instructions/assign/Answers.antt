@@ -36,6 +36,7 @@ returns-in-Ok-make-clause-judged c = λ w x pending facts keeps placed marked.
               ∙ (λ i q. flag_at (value i) q || nat_eq c.args.target q)
               ∙ (λ i q. keeps.earlier.written i q || nat_eq c.args.target q);
           shares = keeps.earlier.shares;
+          keys = keeps.earlier.keys;
         };
       },
     )

@@ -44,6 +44,7 @@ scan-returns-clause-judged t c = λ w x pending facts keeps placed marked.
             ∙ (λ i q. flag_at (value i) q || nat_eq c.args.target q)
             ∙ (λ i q. keeps.earlier.written i q || nat_eq c.args.target q);
         shares = keeps.earlier.shares;
+        keys = keeps.earlier.keys;
       };
     })
     (record { inside = refl; met = λ i. placed.met i * sym size i })

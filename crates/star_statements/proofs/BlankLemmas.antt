@@ -1,0 +1,37 @@
+-- Blanks in front of a text.
+use Rattle.std.proofs.Common.{◌≡◌, ◌++◌, ◌&&◌, ℕ, List, [], ◌∷◌, Bool, true, false, refl}
+use Rattle.std.specs.Prelude.{if◌then◌else◌}
+use Rattle.star_statements.specs.Blanks.{is_blank, is_blank_at_front, without_blanks}
+use Rattle.star_statements.specs.Private.Drafts.{is_empty}
+
+module _ {X : Type 0} (x y : X) where
+  pub if_true : (b : Bool) → b ≡ true → (if b then x else y) ≡ x
+  if_true true e = refl
+  if_true false e = cc
+
+  pub if_false : (b : Bool) → b ≡ false → (if b then x else y) ≡ y
+  if_false true e = cc
+  if_false false e = refl
+
+-- one less
+pub past_blank : (c : ℕ) (rest : List ℕ) → is_blank c ≡ true
+    → without_blanks (c ∷ rest) ≡ without_blanks rest
+unfolding without_blanks
+past_blank c rest blank = if_true _ _ (is_blank c) blank
+
+-- none in front
+pub no_blank : (c : ℕ) (rest : List ℕ) → is_blank c ≡ false
+    → without_blanks (c ∷ rest) ≡ c ∷ rest
+unfolding without_blanks
+no_blank c rest none = if_false _ _ (is_blank c) none
+
+-- one byte more behind a text
+pub without_blanks-more : (text : List ℕ) (c : ℕ) → without_blanks (text ++ c ∷ [])
+    ≡ (if is_empty (without_blanks text) && is_blank c then [] else without_blanks text ++ c ∷ [])
+unfolding without_blanks
+without_blanks-more [] c = refl
+without_blanks-more (x ∷ text) c =
+    elim (is_blank x) as (λ b. (if b then without_blanks (text ++ c ∷ []) else x ∷ (text ++ c ∷ []))
+    ≡ (if is_empty (if b then without_blanks text else x ∷ text) && is_blank c then []
+    else (if b then without_blanks text else x ∷ text) ++ c ∷ []))
+    [ true ↦ without_blanks-more text c | false ↦ refl ]

@@ -1,0 +1,5 @@
+mod BlankLemmas
+mod StatementLemmas
+mod QuestionLemmas
+pub mod DraftLemmas
+mod WorkedStatements

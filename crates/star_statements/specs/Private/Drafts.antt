@@ -1,0 +1,43 @@
+-- A statement that is being read.
+use Rattle.std.specs.Prelude.{◌≡◌, ◌==◌, ◌&&◌, ◌||◌, ◌++◌, ℕ, List, [], ◌∷◌, Bool, true, false, Option, if◌then◌else◌, length, nat_lt, take}
+use Rattle.std.specs.Io.KnownBytes.{Consumes}
+use Rattle.star_statements.specs.Blanks.{is_blank, without_blanks}
+use Rattle.star_statements.specs.Statements.{joined, statements_of}
+
+-- what is kept of a statement: no blanks before it, and at most one byte more than it may have
+unfoldable pub kept : List ℕ → List ℕ
+kept statement = take 65537 (without_blanks statement)
+
+abbrev pub is_empty : List ℕ → Bool
+is_empty [] = true
+is_empty (c ∷ rest) = false
+
+-- what is kept once a byte more is read
+abbrev pub with_byte : List ℕ → ℕ → List ℕ
+with_byte text c =
+    if (is_empty text && is_blank c) || nat_lt 65536 (length text) then text
+    else text ++ c ∷ []
+
+-- whether there is a semicolon with blanks alone behind it, once a byte more is read
+abbrev pub ends_behind : Bool → ℕ → Bool
+ends_behind ends c = (c == 59) || (ends && is_blank c)
+
+-- whether a byte ends a statement: the line end behind such a semicolon
+abbrev pub closes : Bool → ℕ → Bool
+closes ends c = ends && (c == 10)
+
+-- a text, cut behind each line end before which there are a semicolon and blanks; there may be such
+-- a semicolon before the text
+unfoldable pub cut : Bool → List ℕ → List (List ℕ)
+cut ends [] = [] ∷ []
+cut ends (c ∷ rest) =
+    if closes ends c then (c ∷ []) ∷ cut false rest
+    else joined (c ∷ []) (cut (ends_behind ends c) rest)
+
+-- a statement that has begun, and that no line has ended yet, where a reader has these bytes left before
+-- and behind it
+pub record IsDraft (old new : Option (List ℕ)) (text : List ℕ) (ends : Bool)
+    (begun : List ℕ) : Type 0 where
+  pub read : Consumes old new begun
+  pub keeps : text ≡ kept begun
+  pub splits : (rest : List ℕ) → statements_of (begun ++ rest) ≡ joined begun (cut ends rest)

@@ -1,0 +1,35 @@
+// Blanks: spaces, tabs and line ends.
+
+ghost use Rattle.std.specs.Prelude.{◌≡◌};
+ghost use Rattle.star_statements.specs.Blanks as spec;
+
+/// Whether a byte is a space, a tab, a carriage return or a line end.
+pub(crate) fn is_blank(byte: u8) -> bool
+    ensures { result ≡ spec.is_blank byte }
+{
+    byte == b' ' || byte == b'\t' || byte == b'\r' || byte == b'\n'
+}
+
+/// Whether a text begins with a blank.
+pub(crate) fn is_blank_at_front(text: &[u8]) -> bool
+    ensures { result ≡ spec.is_blank_at_front text.now }
+{
+    match text.split_first() {
+        Some((first, _)) => is_blank(*first),
+        None => false,
+    }
+}
+
+/// A text from its first byte on that is no blank.
+pub(crate) fn without_blanks(text: &[u8]) -> &[u8]
+    ensures { result.now ≡ spec.without_blanks text.now }
+{
+    let mut rest = text;
+    'blanks: while let Some((first, after)) = rest.split_first() {
+        if !is_blank(*first) {
+            break;
+        }
+        rest = after;
+    }
+    rest
+}

@@ -1,0 +1,73 @@
+// Reading statements, one after another.
+
+ghost use Rattle.std.specs.Prelude.{◌≡◌, ◌≤◌, ◌⊎◌, ℕ, List, true, Err, IfOk, OnOk, vec_len};
+ghost use Rattle.star_statements.specs.Sources.{IsPastCounting, IsStatementRead, has_failed, reader_of};
+ghost use Rattle.star_statements.specs.Private.Drafts as spec;
+ghost use Rattle.star_statements.specs.Private.Drafts.{with_byte};
+
+use crate::blanks::is_blank;
+use crate::questions::MOST_BYTES;
+use crate::sources::{ReadFault, Source};
+use std::alloc::AllocError;
+use std::io::Read;
+
+// Adds a byte to what is kept of a statement: no blanks before it, and at most one byte more than it
+// may have.
+fn keep(text: &mut Vec<u8>, byte: u8) -> Result<(), AllocError>
+    ensures { OnOk result (text.new.items ≡ with_byte text.old.items byte) }
+{
+    let is_before = text.is_empty() && is_blank(byte);
+    if !is_before && text.len() <= MOST_BYTES {
+        text.push(byte)?;
+    }
+    Ok(())
+}
+
+// Whether a line ends with a semicolon, blanks left aside, once a byte more is read.
+fn ends_behind(ends: bool, byte: u8) -> bool
+    ensures { result ≡ spec.ends_behind ends byte }
+{
+    byte == b';' || ends && is_blank(byte)
+}
+
+// Whether a byte ends a statement, where there may be such a semicolon before it.
+fn closes(ends: bool, byte: u8) -> bool
+    ensures { result ≡ spec.closes ends byte }
+{
+    ends && byte == b'\n'
+}
+
+/// Reads the next statement, up to the end of a line that ends with a semicolon, and tells whether
+/// there is such a line; if not, the statement is the last. Its text is kept in `text`, from the first
+/// byte on that is no blank: all of it, or of one that is too long one byte more than it may have.
+pub fn read_statement<R: Read>(
+    source: &mut Source<R>,
+    text: &mut Vec<u8>,
+) -> Result<bool, ReadFault>
+    ensures read { IfOk result (λ is_ended. (statement : List ℕ)
+        × IsStatementRead (R.remaining (reader_of source.old)) (R.remaining (reader_of source.new))
+        text.new.items is_ended statement) }
+    ensures within { OnOk result (vec_len text.new ≤ 65537) }
+
+    // Where a read failed, the answer is `Failed`; and it comes for nothing else than it says.
+    ensures unfailed { OnOk result (has_failed source.new ≡ has_failed source.old) }
+    ensures failed { result ≡ Err ReadFault.Failed → (has_failed source.new ≡ true)
+        ⊎ ((read : List ℕ) × IsPastCounting (R.remaining (reader_of source.old))
+        (R.remaining (reader_of source.new)) read) }
+    ensures memory { result ≡ Err ReadFault.OutOfMemory
+        → has_failed source.new ≡ has_failed source.old }
+{
+    text.clear();
+    let mut ends = false;
+    'bytes: for _ in 0..u64::MAX {
+        let Some(byte) = source.next_byte()? else {
+            return Ok(false);
+        };
+        keep(text, byte)?;
+        if closes(ends, byte) {
+            return Ok(true);
+        }
+        ends = ends_behind(ends, byte);
+    }
+    Err(ReadFault::Failed)
+}

@@ -1,0 +1,51 @@
+-- The rows of a report, grouping by grouping, while its keys are shown or hidden one after another.
+use Rattle.std.specs.Prelude.{◌≡◌, ◌⊎◌, ◌≤◌, ◌+◌, ◌*◌, ◌-◌, ◌^◌, ℕ, zero, suc, Bool, true, false, ◌&&◌, not, nat_le, List, ◌∷◌, filter, Option, None, if◌then◌else◌}
+use Rattle.std.specs.List.{list_all, sum_by}
+use Rattle.std.specs.Option.{is_none}
+use Rattle.star_schema.specs.declared.group.Shape.{Shape}
+use Rattle.star_schema.specs.declared.group.Shape.TheVariants.{Plain, Cube}
+use Rattle.star_schema.specs.Groups.{is_grouping}
+use Rattle.star_program.specs.Puts.{masks}
+use Rattle.star_admission.specs.MostRows.{lists_of}
+
+-- two numbers are one, or both are past all counts of updates
+abbrev pub AgreeUpTo : ℕ → ℕ → Type 0
+AgreeUpTo a b = (a ≡ b) ⊎ ((2 ^ 64 - 1 ≤ a) × (2 ^ 64 - 1 ≤ b))
+
+-- no key is hidden of a plain group
+abbrev pub MayHide : Shape → Bool → Type 0
+MayHide Plain true = ⊥
+MayHide _ _ = Unit {0}
+
+-- what keys that are left show and hide is a grouping behind keys of which one is hidden or none
+abbrev pub goes_on : Shape → Bool → List (Option ℕ) → Bool
+goes_on s true counts = is_grouping s (None ∷ counts)
+goes_on s false counts = is_grouping s counts
+
+-- the next key may be shown behind those, and it may be hidden
+abbrev pub may_show : Shape → Bool → Bool
+may_show Cube has_hidden = true
+may_show _ has_hidden = not has_hidden
+
+abbrev pub may_hide : Shape → Bool
+may_hide Plain = false
+may_hide _ = true
+
+abbrev pub lesser : ℕ → ℕ → ℕ
+lesser a b = if nat_le a b then a else b
+
+-- the rows of one grouping behind keys of which some are shown, with so many lists of their values
+unfoldable pub rows_of_rest : ℕ → Bool → ℕ → List (Option ℕ) → ℕ
+rows_of_rest updates has_shown lists counts =
+    if not has_shown && list_all is_none counts then 1
+    else lesser updates (lists * lists_of counts)
+
+-- and of all groupings
+abbrev pub rows_behind : ℕ → Shape → Bool → Bool → ℕ → List ℕ → ℕ
+rows_behind updates s has_shown has_hidden lists counts =
+    sum_by (rows_of_rest updates has_shown lists) (filter (goes_on s has_hidden) (masks counts))
+
+-- how many groupings there are of so many keys at most
+unfoldable pub groupings : ℕ → ℕ
+groupings zero = 1
+groupings (suc n) = groupings n + groupings n

@@ -1,0 +1,214 @@
+// How many rows the report of a program can have at most.
+
+ghost use Rattle.std.specs.Prelude.{◌≡◌, ◌≤◌, ◌<◌, ◌*◌, ◌+◌, ◌^◌, ℕ, List, [], true, length, if◌then◌else◌};
+ghost use Rattle.std.specs.Option.{option_map};
+ghost use Rattle.star_interval.specs.Interval.{range_of};
+ghost use Rattle.star_program.specs.Limits.{IsWithinLimits};
+ghost use Rattle.star_world.specs.WorldOf.{world_of};
+ghost use Rattle.star_admission.specs.Contexts.{at_end, at_first};
+ghost use Rattle.star_admission.specs.MostRows as bound;
+ghost use Rattle.star_admission.specs.MostRows.{each_values};
+ghost use Rattle.star_admission.specs.Tallies.{Share};
+ghost use Rattle.star_verify.specs.Private.Kept.{HasKeyShares};
+ghost use Rattle.star_verify.specs.Private.Made.{IsTallyAt};
+ghost use Rattle.star_verify.specs.Private.Rows as spec;
+ghost use Rattle.star_verify.specs.Private.Rows.{AgreeUpTo, MayHide, groupings, rows_of_rest};
+ghost use Rattle.star_verify.specs.Private.Shown.{IsTally};
+
+use crate::tally::Tally;
+use crate::totals::tally_at;
+use star_catalogue::Catalogue;
+use star_interval::Interval;
+use star_program::{GroupKey, Parts};
+use star_schema::{Shape, is_text};
+
+// How many whole numbers lie in a range; none where there is no range.
+fn width(range: Option<Interval>) -> u128
+    ensures width { result ≡ bound.width_of (option_map range_of range) }
+    ensures few { result ≤ 2 ^ 64 }
+{
+    match range {
+        Some(range) => u128::from(range.high.abs_diff(range.low)) + 1,
+        None => 0,
+    }
+}
+
+// How many values a key may have.
+fn values(catalogue: &Catalogue, key: GroupKey, tally: Tally) -> u128
+    ensures values { (ss : List Share) → IsTally tally ss
+        → result ≡ bound.values_of (world_of catalogue.now) ss key }
+    ensures few { result ≤ 2 ^ 64 }
+{
+    match key {
+        GroupKey::Text(column) if is_text(column) => u128::from(catalogue.entries(column)),
+        GroupKey::Text(_) => 0,
+        GroupKey::Number => width(tally.each),
+    }
+}
+
+fn lesser(left: u128, right: u128) -> u128
+    ensures { result ≡ spec.lesser left right }
+{
+    if left <= right { left } else { right }
+}
+
+// Keys of which each is shown or hidden: whether one is shown, whether one is hidden, and how many lists
+// of values those that are shown have, as far as that tells.
+#[derive(Clone, Copy)]
+struct Front {
+    has_shown: bool,
+    has_hidden: bool,
+    lists: u128,
+}
+
+impl Front {
+    // With a key that is shown and has so many values. Past all counts of updates the lists need not be
+    // told apart.
+    fn shown(self, values: u128) -> Front
+        requires { values ≤ 2 ^ 64 }
+        ensures lists { (lists : ℕ) → AgreeUpTo self.lists lists
+            → AgreeUpTo result.lists (lists * values) }
+        ensures shown { result.has_shown ≡ true }
+        ensures hidden { result.has_hidden ≡ self.has_hidden }
+    {
+        Front {
+            has_shown: true,
+            lists: lesser(self.lists, u128::from(u64::MAX)) * values,
+            ..self
+        }
+    }
+
+    // With a key that is hidden.
+    fn hidden(self) -> Front
+        ensures { result ≡ record self { has_hidden = true } }
+    {
+        Front {
+            has_hidden: true,
+            ..self
+        }
+    }
+
+    // The rows of its grouping.
+    fn rows(self, updates: u64) -> u128
+        ensures rows { (lists : ℕ) → AgreeUpTo self.lists lists
+            → result ≡ rows_of_rest updates self.has_shown lists [] }
+        ensures few { result ≤ 2 ^ 64 }
+    {
+        if self.has_shown {
+            lesser(u128::from(updates), self.lists)
+        } else {
+            1
+        }
+    }
+}
+
+// Whether the next key may be shown behind keys of which one is hidden or none.
+fn may_show(shape: Shape, has_hidden: bool) -> bool
+    ensures { result ≡ spec.may_show shape has_hidden }
+{
+    match shape {
+        Shape::Cube => true,
+        Shape::Plain | Shape::Rollup => !has_hidden,
+    }
+}
+
+fn may_hide(shape: Shape) -> bool
+    ensures { result ≡ spec.may_hide shape }
+{
+    match shape {
+        Shape::Plain => false,
+        Shape::Cube | Shape::Rollup => true,
+    }
+}
+
+// The groupings of a group's keys: their shape, what is put to each key, and how many updates there are at
+// most.
+#[derive(Clone, Copy)]
+struct Groupings<'a> {
+    catalogue: &'a Catalogue,
+    shape: Shape,
+    tallies: &'a [Tally],
+    updates: u64,
+}
+
+impl Groupings<'_> {
+    // The rows of all groupings that go on behind a front. The tallies of the keys that are left stand
+    // from a place on.
+    #[cycle(rows_behind)]
+    fn rows_behind(&self, front: Front, keys: &[GroupKey], first: usize) -> u128
+        requires there { first + length keys.now ≤ length self.now.tallies.now }
+        requires small { length keys.now ≤ 6 }
+        requires hides { MayHide self.now.shape front.has_hidden }
+        ensures rows { (shares : ℕ → List Share) (place lists : ℕ)
+            → ((k : ℕ) → k < length keys.now
+            → IsTallyAt self.now.tallies.now (first + k) (shares (place + k)))
+            → AgreeUpTo front.lists lists
+            → result ≡ spec.rows_behind self.now.updates self.now.shape front.has_shown
+            front.has_hidden lists
+            (each_values (world_of self.now.catalogue.now) shares place keys.now) }
+        ensures few { result ≤ groupings (length keys.now) * 2 ^ 64 }
+    {
+        let [key, others @ ..] = keys else {
+            return front.rows(self.updates);
+        };
+        let shown = front.shown(values(self.catalogue, *key, tally_at(self.tallies, first)));
+        let may_show = may_show(self.shape, front.has_hidden);
+        let with_it = self.rows_if(may_show, shown, others, first + 1);
+        let may_hide = may_hide(self.shape);
+        with_it + self.rows_if(may_hide, front.hidden(), others, first + 1)
+    }
+
+    // The same, where such a front may be; else none.
+    #[cycle(rows_behind)]
+    fn rows_if(&self, may_be: bool, front: Front, keys: &[GroupKey], first: usize) -> u128
+        requires there { first + length keys.now ≤ length self.now.tallies.now }
+        requires small { length keys.now ≤ 6 }
+        requires hides { may_be ≡ true → MayHide self.now.shape front.has_hidden }
+        ensures rows { (shares : ℕ → List Share) (place lists : ℕ)
+            → ((k : ℕ) → k < length keys.now
+            → IsTallyAt self.now.tallies.now (first + k) (shares (place + k)))
+            → AgreeUpTo front.lists lists
+            → result ≡ (if may_be then spec.rows_behind self.now.updates self.now.shape
+            front.has_shown front.has_hidden lists
+            (each_values (world_of self.now.catalogue.now) shares place keys.now) else 0) }
+        ensures few { result ≤ groupings (length keys.now) * 2 ^ 64 }
+    {
+        if may_be {
+            self.rows_behind(front, keys, first)
+        } else {
+            0
+        }
+    }
+}
+
+const NO_KEYS: Front = Front {
+    has_shown: false,
+    has_hidden: false,
+    lists: 1,
+};
+
+// How many rows the report of a program can have at most, by what is put to the keys of each group.
+pub(crate) fn most_rows(catalogue: &Catalogue, parts: &Parts, keys: &[Tally]) -> u128
+    requires limits { IsWithinLimits parts.now }
+    requires len { length keys.now ≡ 64 }
+    ensures { HasKeyShares parts.now keys.now
+        (at_end (world_of catalogue.now) parts.now at_first parts.now.body)
+        → result ≡ bound.most_rows (world_of catalogue.now) parts.now }
+{
+    let Some(declared) = parts.group(parts.report) else {
+        return 1;
+    };
+    let first = 8 * parts.report as usize;
+    match declared.keys.as_slice() {
+        [] => 1,
+        shown => {
+            let groupings = Groupings {
+                catalogue,
+                shape: declared.shape,
+                tallies: keys,
+                updates: tally_at(keys, first).many,
+            };
+            groupings.rows_behind(NO_KEYS, shown, first)
+        }
+    }
+}
