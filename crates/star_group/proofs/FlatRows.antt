@@ -1,11 +1,12 @@
 -- Rows in flat storage: what stands at a number, and what is gathered.
-use Rattle.std.proofs.Common.{◌≡◌, ◌*◌, ◌+◌, ℕ, zero, suc, ℤ, List, [], ◌∷◌, ◌++◌, Option, length, drop, ap, sym, refl, ◌∙◌, arith}
+use Rattle.std.proofs.Common.{◌≡◌, ◌*◌, ◌+◌, ◌<◌, ◌≤◌, ℕ, zero, suc, Bool, true, false, cond, ℤ, List, [], ◌∷◌, ◌++◌, Option, length, take, drop, get_or, ap, sym, refl, ◌∙◌, arith, append-nil}
 use Rattle.std.specs.List.{flat_map, AllByRecursion}
-use Rattle.std.proofs.lemmas.List.{drop_at, length-append, take_at}
-use Rattle.std.proofs.Math.Nat.{add_comm, suc-mul, zero-mul}
+use Rattle.std.proofs.lemmas.List.{drop_at, get_or-drop, get_or-take, get_or_past, length-append, length-take, take_at}
+use Rattle.std.proofs.Math.Nat.{add_comm, mul-le-mul_right, suc-mul, zero-mul}
 use Rattle.std.specs.Prelude.{slice_index_or}
 use Rattle.star_program.specs.declared.key.KeyValue.{KeyValue}
 use Rattle.star_program.specs.Rows.{cut}
+use Rattle.star_program.proofs.Rows.{cut_at, cut_past}
 use Rattle.star_group.specs.declared.group_row.GroupRow.{GroupRow}
 use Rattle.star_group.specs.Private.FlatRows.{AreParts, Fits, rows_of}
 use Rattle.star_group.specs.Shown.{row_at}
@@ -24,7 +25,44 @@ parts_read k a zero keys numbers number = (refl, refl)
 parts_read k a (suc n) keys numbers zero = (refl, refl)
 parts_read k a (suc n) keys numbers (suc number) = parts_read k a n (drop k keys) (drop a numbers) number
 
+-- ---- a place of a row
+
+pub place_read : {X : Type 0} (w n : ℕ) (items : List X) (number place : ℕ) (d : X) → number < n → place < w
+    → slice_index_or items (number * w + place) d ≡ slice_index_or (slice_index_or (cut w n items) number []) place d
+place_read w n items number place d there within =
+    sym (ap (λ row. get_or row place d) (cut_at w n items number there)
+    ∙ get_or-take w (drop (number * w) items) place d within
+    ∙ get_or-drop (number * w) items place d)
+
+-- none past the last row, and none past a row's end
+pub no_row : {X : Type 0} (w n : ℕ) (items : List X) (number place : ℕ) (d : X) → n ≤ number
+    → d ≡ slice_index_or (slice_index_or (cut w n items) number []) place d
+no_row w n items number place d past = sym (ap (λ row. get_or row place d) (cut_past w n items number past))
+
+pub no_place : {X : Type 0} (w n : ℕ) (items : List X) (number place : ℕ) (d : X) → number < n → w ≤ place
+    → d ≡ slice_index_or (slice_index_or (cut w n items) number []) place d
+no_place w n items number place d there past =
+    sym (ap (λ row. get_or row place d) (cut_at w n items number there)
+    ∙ get_or_past (take w (drop (number * w) items)) place d (omega (arith, length-take w (drop (number * w) items))))
+
+-- so many rows have room for each place of one
+pub place_within : (w n number place : ℕ) → number < n → place < w → number * w + place < n * w
+place_within w n number place there within =
+    let rows : (number + 1) * w ≤ n * w = mul-le-mul_right w (omega (arith, there)) in
+    omega (arith, rows, within)
+
 -- ---- gathered
+
+pub starts : (k a n : ℕ) (given : Bool) (first : GroupRow) (keys : List (Option KeyValue)) (numbers : List (Option ℤ)) → Fits k a first
+    → n ≡ cond given 1 0 → keys ≡ cond given first.keys [] → numbers ≡ cond given first.aggregates []
+    → AreParts k a n keys numbers (cond given (first ∷ []) [])
+starts k a n true first keys numbers fits e p q = record {
+  fit = (fits, tt);
+  many = e;
+  key_parts = p ∙ sym (append-nil first.keys);
+  aggregate_parts = q ∙ sym (append-nil first.aggregates);
+}
+starts k a n false first keys numbers fits e p q = record { fit = tt; many = e; key_parts = p; aggregate_parts = q }
 
 fit_more : (k a : ℕ) (rows : List GroupRow) (row : GroupRow) → AllByRecursion (Fits k a) rows → Fits k a row → AllByRecursion (Fits k a) (rows ++ row ∷ [])
 fit_more k a [] row all fits = (fits, tt)

@@ -1,12 +1,13 @@
 -- The rows that a store gives, one after another.
-use Rattle.std.proofs.Common.{◌≡◌, ℕ, suc, ◌+◌, ◌<◌, ◌≤◌, Bool, true, false, ℤ, List, [], ◌∷◌, ◌++◌, Option, Some, None, cond, length, get_or, slice_get, map, take, ap, sym, ◌∙◌, refl, arith, append-nil, append_assoc}
+use Rattle.std.proofs.Common.{◌≡◌, ℕ, suc, ◌+◌, ◌<◌, ◌≤◌, Bool, true, false, ℤ, List, [], ◌∷◌, ◌++◌, Option, Some, None, cond, length, get_or, slice_get, map, take, ap, sym, ◌∙◌, refl, arith, append-nil, append_assoc, true≢false}
 use Rattle.std.specs.List.{filter}
+use Rattle.std.specs.Prelude.{IsSome}
 use Rattle.std.proofs.Math.Seq.{take-suc}
 use Rattle.std.proofs.lemmas.List.{map-append}
 use Rattle.std.proofs.lemmas.List.Elements.{filter-append}
 use Rattle.std.proofs.lemmas.Option.{get_or_from_slice_get, slice_get_within}
 use Rattle.star_schema.specs.declared.group.Aggregate.{Aggregate}
-use Rattle.star_schema.specs.declared.group.Aggregate.TheVariants.{Count}
+use Rattle.star_schema.specs.declared.group.Aggregate.TheVariants.{Count, Sum, Min, Max}
 use Rattle.star_schema.specs.declared.group.Shape.{Shape}
 use Rattle.star_schema.specs.Groups.{is_grouping}
 use Rattle.star_program.specs.declared.key.KeyValue.{KeyValue}
@@ -26,6 +27,20 @@ shown_list (g ∷ gs) p row (x ∷ r) h each =
 
 pub shown_all : (gs : List Aggregate) (row r : List (Option ℤ)) → length gs ≤ 8 → ShownBelow gs row r (length gs) → take (length gs) r ≡ shown_from gs 0 row
 shown_all gs row r few s = shown_list gs 0 row r (omega (arith, s.wide)) (λ a lt. let same : a ≡ 0 + a = omega arith in s.cells a lt ∙ ap (λ n. shown (get_or gs a Count) (get_or row n None)) same)
+
+shown_some : (g : Aggregate) (o : Option ℤ) → IsSome o → o ≡ shown g o
+shown_some Count None h = absurd (true≢false (sym h))
+shown_some Count (Some x) h = refl
+shown_some Sum o h = refl
+shown_some Min o h = refl
+shown_some Max o h = refl
+
+-- the aggregates of a row in which none is NULL
+pub numbers_shown : (gs : List Aggregate) (row : List (Option ℤ)) → length gs ≤ length row → ((place : ℕ) → place < length row → IsSome (get_or row place None))
+    → take (length gs) row ≡ shown_from gs 0 row
+numbers_shown gs row wide some = shown_list gs 0 row row wide (λ a lt.
+    let same : a ≡ 0 + a = omega arith in
+    shown_some (get_or gs a Count) (get_or row a None) (some a (omega (arith, lt, wide))) ∙ ap (λ n. shown (get_or gs a Count) (get_or row n None)) same)
 
 module _ (shape : Shape) (count : ℕ) (gs : List Aggregate) (total : List (Option ℤ)) where
   pub given_none : rows_given shape count gs total [] ≡ if_given (is_grouping shape (take count (padded 6 []))) count gs (padded 6 [], total)

@@ -90,7 +90,7 @@ pub record AddUp (zs : List ℤ) : Type 0 where
   pub above : above_zero zs < 2 ^ 127
   pub below : below_zero zs ≤ 2 ^ 127
 
--- the sums of each SUM by key list add up, and the counts, which are as many as the puts, within 64 bits
+-- the sums of each SUM by key list add up; a COUNT, which is at most the number of puts, stays within 64 bits
 pub record HasRoom (d : Group) (puts : List Put) : Type 0 where
   pub sums : (content : List Put) → IsContent d puts content
       → (place : ℕ) → place < length d.aggregates → aggregate_at d place ≡ Sum

@@ -8,7 +8,7 @@ mod base;
 mod coarser;
 mod store;
 
-use crate::cell::Row;
+use crate::cell::Total;
 use crate::keyed::KeyedRows;
 use crate::newest::Newest;
 use star_schema::{Aggregate, Shape};
@@ -26,7 +26,7 @@ pub struct DeferredStore {
     aggregates: Vec<Aggregate>,
     rows: KeyedRows,
     newest: Newest,
-    total: Row,
+    total: Total,
     ghost wide: { count ≤ rows.trie.width },
     ghost many: { rows.many ≡ vec_len aggregates },
     ghost room: { HasBaseWithRoom

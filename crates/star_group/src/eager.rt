@@ -6,7 +6,7 @@ mod own;
 mod put;
 mod store;
 
-use crate::cell::Row;
+use crate::cell::Total;
 use crate::keyed::KeyedRows;
 use crate::keyed::key::OrderedKey;
 use crate::keyed::trie::Place;
@@ -28,7 +28,7 @@ pub struct EagerStore {
     aggregates: Vec<Aggregate>,
     rows: KeyedRows,
     newest: Newest,
-    total: Row,
+    total: Total,
     // Where rows hide keys: the keys of a put's rows beside the total, and where they are.
     own: Vec<OrderedKey>,
     places: Vec<Place>,

@@ -9,6 +9,7 @@ pub(crate) mod merge;
 mod rows;
 pub(crate) mod trie;
 
+use crate::cell::Held;
 use key::KeyPart;
 use trie::Trie;
 
@@ -17,7 +18,7 @@ use trie::Trie;
 pub(crate) struct KeyedRows {
     pub(crate) trie: Trie,
     pub(crate) many: usize,
-    pub(crate) cells: Vec<Option<i128>>,
+    pub(crate) cells: Vec<Held>,
     ghost few: { many ≤ 8 },
     ghost long: { length cells.items ≡ trie.len * many },
 }
@@ -29,7 +30,7 @@ pub(crate) struct ListedRows {
     pub(crate) len: usize,
     pub(crate) keys: Vec<KeyPart>,
     pub(crate) many: usize,
-    pub(crate) cells: Vec<Option<i128>>,
+    pub(crate) cells: Vec<Held>,
     ghost few: { width ≤ 6 },
     ghost long_keys: { length keys.items ≡ len * width },
     ghost long_cells: { length cells.items ≡ len * many },

@@ -14,7 +14,7 @@ ghost use Rattle.star_group.specs.Private.Tries.{is_missing};
 ghost use Rattle.star_group.specs.declared.keyed.key.KeyPart.{KeyPart};
 ghost use Rattle.star_group.specs.declared.rows.PutFault.TheVariants.{OutOfMemory};
 
-use crate::cell::BLANK;
+use crate::cell::Held;
 use crate::keyed::KeyedRows;
 use crate::keyed::key::OrderedKey;
 use crate::keyed::merge::row_stays;
@@ -58,7 +58,7 @@ pub(crate) fn stays_at(
     rows: &KeyedRows,
     place: Place,
     aggregates: &[Aggregate],
-    more: &[Option<i128>],
+    more: &[Held],
 ) -> bool
     requires within { IsWithin rows.now place }
     requires fits { FitsIn rows.now aggregates.now more.now }
@@ -70,8 +70,8 @@ pub(crate) fn stays_at(
         (unwrap_or (row_at (entries_of rows.now) (key_of key)) []) more.now) }
 {
     match place {
-        Place::Held(number) => row_stays(aggregates, rows.row(number), more),
-        Place::Missing { .. } => row_stays(aggregates, &BLANK, more),
+        Place::Held(number) => row_stays(aggregates, Some(rows.row(number)), more),
+        Place::Missing { .. } => row_stays(aggregates, None, more),
     }
 }
 
@@ -82,7 +82,7 @@ fn all_stay_at(
     own: &[OrderedKey],
     places: &[Place],
     aggregates: &[Aggregate],
-    more: &[Option<i128>],
+    more: &[Held],
 ) -> bool
     requires narrow { AreNarrow rows.now.trie.width own.now }
     requires places { ArePlaces rows.now own.now places.now }
@@ -106,7 +106,7 @@ fn merge_at(
     key: &OrderedKey,
     place: Place,
     aggregates: &[Aggregate],
-    more: &[Option<i128>],
+    more: &[Held],
 )
     requires narrow { IsNarrow rows.old.trie.width key.now }
     requires place { IsPlaceAmong rows.old count key.now place }
@@ -132,7 +132,7 @@ fn merge_all_at(
     own: &[OrderedKey],
     places: &[Place],
     aggregates: &[Aggregate],
-    more: &[Option<i128>],
+    more: &[Held],
 )
     requires narrow { AreNarrow rows.old.trie.width own.now }
     requires places { ArePlaces rows.old own.now places.now }
@@ -165,7 +165,7 @@ pub(crate) fn put_rows(
     own: &[OrderedKey],
     places: &mut Vec<Place>,
     aggregates: &[Aggregate],
-    more: &[Option<i128>],
+    more: &[Held],
 ) -> Result<(), PutFault>
     requires narrow { AreNarrow rows.old.trie.width own.now }
     requires distinct { IsDistinct key_eq (map key_of own.now) }

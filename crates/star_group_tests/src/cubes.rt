@@ -69,9 +69,9 @@ fn is_null_alone<S: GroupStore>(alloc: Global, shape: Shape) -> Result<bool, All
     Ok(
         rows.len() == 1
             && rows.keys(0) == [None, None].as_slice()
-            && rows.aggregates(0) == [None].as_slice()
+            && rows.aggregate(0, 0).is_none()
             && rows.keys(1).is_empty()
-            && rows.aggregates(1).is_empty(),
+            && rows.aggregate(1, 0).is_none(),
     )
 }
 
@@ -102,7 +102,7 @@ const OF_TWO_PUTS: [([Option<KeyValue>; 2], i128); 4] = [
 fn are_among(rows: &GroupRows, expected: &[([Option<KeyValue>; 2], i128)]) -> bool {
     for row in 0..rows.len() {
         let is_there = expected.iter().any(|(keys, sum)| {
-            rows.keys(row) == keys.as_slice() && rows.aggregates(row) == [Some(*sum)].as_slice()
+            rows.keys(row) == keys.as_slice() && rows.aggregate(row, 0) == Some(*sum)
         });
         if !is_there {
             return false;
@@ -165,7 +165,7 @@ fn leaves_64_bits<S: GroupStore>(alloc: Global) -> Result<bool, AllocError> {
         total == Some(TWICE_BIG)
             && rows.len() == 1
             && rows.keys(0) == [Some(ONE)].as_slice()
-            && rows.aggregates(0) == [Some(TWICE_BIG)].as_slice(),
+            && rows.aggregate(0, 0) == Some(TWICE_BIG),
     )
 }
 
@@ -185,7 +185,7 @@ fn is_added_up<S: GroupStore>(alloc: Global) -> Result<bool, AllocError> {
     Ok(
         rows.len() == 1
             && rows.keys(0) == [Some(ONE)].as_slice()
-            && rows.aggregates(0) == [Some(15)].as_slice(),
+            && rows.aggregate(0, 0) == Some(15),
     )
 }
 

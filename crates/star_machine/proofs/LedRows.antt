@@ -1,6 +1,6 @@
 -- Rows sorted by what leads them: by their numbers they ascend by the order of rows.
-use Rattle.std.proofs.Common.{◌≡◌, ◌+◌, ◌<◌, ◌<ℤ◌, ◌-ℤ◌, ℕ, ℤ, pos, negsuc, List, [], ◌∷◌, Option, Some, None, length, get_or, map, arith, ap, sym, subst, refl, ◌∙◌}
-use Rattle.std.specs.Prelude.{IsPermutation}
+use Rattle.std.proofs.Common.{◌≡◌, ◌+◌, ◌<◌, Bool, true, false, ◌&&◌, ◌<ℤ◌, ◌-ℤ◌, ℕ, ℤ, pos, negsuc, List, [], ◌∷◌, Option, Some, None, length, get_or, map, arith, ap, sym, subst, refl, ◌∙◌}
+use Rattle.std.specs.Prelude.{IsPermutation, not, int_lt, if◌then◌else◌}
 use Rattle.std.specs.Cmp.{IsTotalOrder, int_cmp_is, int_ranks, ranks}
 use Rattle.std.specs.List.{Contains, range_with_len}
 use Rattle.std.specs.List.Sorted.{IsSortedBy}
@@ -11,9 +11,9 @@ use Rattle.std.specs.declared.cmp.Ordering.{Ordering}
 use Rattle.std.specs.declared.cmp.Ordering.TheVariants.{Less, Equal, Greater}
 use Rattle.std.specs.Int.Signed.{lt_z_yes}
 use Rattle.std.proofs.Math.Dec.{ltb}
-use Rattle.std.proofs.lemmas.Bool.{lt-ltb}
+use Rattle.std.proofs.lemmas.Bool.{and_parts, lt-ltb}
 use Rattle.std.proofs.lemmas.Float.{T_from_true}
-use Rattle.std.proofs.lemmas.Int.{ints}
+use Rattle.std.proofs.lemmas.Int.{ints, clamps}
 use Rattle.std.proofs.lemmas.Cmp.{int_cmp_total, on_total, then_total}
 use Rattle.std.proofs.lemmas.List.Elements.{Contains-get_or}
 use Rattle.std.proofs.lemmas.List.Sorted.{Contains-permutation, IsPermutation-map, IsPermutation-sym}
@@ -33,7 +33,7 @@ use Rattle.star_group.specs.Shown.{row_at, row_shown}
 use Rattle.star_machine.specs.declared.outcome.leads.Lead.{Lead}
 use Rattle.star_machine.specs.declared.outcome.leads.Led.{Led}
 use Rattle.star_machine.specs.Private.RowOrder.{AllHaveSameNulls, AreApart, column_order, directed_order, row_order, sort_order}
-use Rattle.star_machine.specs.Private.Leads.{column_lead, directed, first_lead, in_direction, key_lead, lead_cmp, lead_in, lead_of, led_at, led_cmp, next_in, next_of, second_lead, sorts_after, total_lead, turned}
+use Rattle.star_machine.specs.Private.Leads.{column_lead, directed, first_lead, greatest_word, in_direction, is_end, key_lead, lead_cmp, lead_in, lead_of, least_word, led_at, led_cmp, nearest, next_beside, next_in, next_of, null_lead, number_lead, second_lead, sorts_after, total_lead, turned}
 use Rattle.star_machine.proofs.SortedRows.{number_cmp, number_total, rows_moved, sorted_by_number, sorted_under}
 
 -- ---- the order of leads is an order, and that of rows is finer
@@ -90,19 +90,93 @@ keys_led None (Some (key.Number y)) = refl
 keys_led None (Some (key.Code n)) = refl
 keys_led None None = refl
 
-column_led : (c : GroupColumn) (a b : Row KeyValue) → lead_cmp (column_lead c a) (column_lead c b) ≡ column_order c a b
-column_led (column.Key place) a b = keys_led (get_or a.keys place None) (get_or b.keys place None)
-column_led (column.Aggregate place) a b = by (get_or a.totals place None) (get_or b.totals place None)
+-- ---- numbers brought to 64 bits decide nothing that the numbers don't
+
+nearest_less : (x y : ℤ) → nearest x <ℤ nearest y → x <ℤ y
+nearest_less x y h = omega (arith, ints, clamps, h)
+
+nearest_coarse : (x y : ℤ) → ordering_then (int_cmp (nearest x) (nearest y)) (int_cmp x y) ≡ int_cmp x y
+nearest_coarse x y = by (int_cmp (nearest x) (nearest y)) (int_ranks (nearest x) (nearest y))
   where
-    by : (x y : Option ℤ) → lead_cmp (total_lead x) (total_lead y) ≡ option_cmp int_cmp x y
-    by (Some x) (Some y) = refl
+    by : (o : Ordering) → MatchOrdering o (nearest x <ℤ nearest y) (nearest x ≡ nearest y) (nearest y <ℤ nearest x) → ordering_then o (int_cmp x y) ≡ int_cmp x y
+    by Less h = int_cmp_is x y Less (nearest_less x y h)
+    by Equal h = refl
+    by Greater h = int_cmp_is x y Greater (nearest_less y x h)
+
+inside : (x : ℤ) → is_end (number_lead (nearest x)) ≡ false → nearest x ≡ x
+inside x e =
+    let low = (and_parts (int_lt least_word (nearest x)) (int_lt (nearest x) greatest_word) (not_false _ e)).0 in
+    let high = (and_parts (int_lt least_word (nearest x)) (int_lt (nearest x) greatest_word) (not_false _ e)).1 in
+    grind (arith, ints, clamps)
+  where
+    not_false : (b : Bool) → not b ≡ false → b ≡ true
+    not_false true h = refl
+    not_false false h = absurd (cc)
+
+nearest_exact : (x y : ℤ) → is_end (number_lead (nearest x)) ≡ false → is_end (number_lead (nearest y)) ≡ false
+    → int_cmp (nearest x) (nearest y) ≡ Equal → int_cmp x y ≡ Equal
+nearest_exact x y a b e = (λ i. int_cmp (sym (inside x a) i) (sym (inside y b) i)) ∙ e
+
+same : (o : Ordering) → ordering_then o o ≡ o
+same Less = refl
+same Equal = refl
+same Greater = refl
+
+column_coarse : (c : GroupColumn) (a b : Row KeyValue) → ordering_then (lead_cmp (column_lead c a) (column_lead c b)) (column_order c a b) ≡ column_order c a b
+column_coarse (column.Key place) a b =
+    let o = key_cmp key_value_cmp (get_or a.keys place None) (get_or b.keys place None) in
+    ap (λ p. ordering_then p o) (keys_led (get_or a.keys place None) (get_or b.keys place None)) ∙ same o
+column_coarse (column.Aggregate place) a b = by (get_or a.totals place None) (get_or b.totals place None)
+  where
+    by : (x y : Option ℤ) → ordering_then (lead_cmp (total_lead x) (total_lead y)) (option_cmp int_cmp x y) ≡ option_cmp int_cmp x y
+    by (Some x) (Some y) = nearest_coarse x y
     by (Some x) None = refl
     by None (Some y) = refl
     by None None = refl
 
-directed_led : (c : GroupColumn) (d : Direction) (a b : Row KeyValue) → directed_cmp d (column_lead c a) (column_lead c b) ≡ directed_order c d a b
-directed_led c Ascending a b = column_led c a b
-directed_led c Descending a b = column_led c b a
+column_exact : (c : GroupColumn) (a b : Row KeyValue) → is_end (column_lead c a) ≡ false → is_end (column_lead c b) ≡ false
+    → lead_cmp (column_lead c a) (column_lead c b) ≡ Equal → column_order c a b ≡ Equal
+column_exact (column.Key place) a b p q e = sym (keys_led (get_or a.keys place None) (get_or b.keys place None)) ∙ e
+column_exact (column.Aggregate place) a b p q e = by (get_or a.totals place None) (get_or b.totals place None) p q e
+  where
+    by : (x y : Option ℤ) → is_end (total_lead x) ≡ false → is_end (total_lead y) ≡ false → lead_cmp (total_lead x) (total_lead y) ≡ Equal → option_cmp int_cmp x y ≡ Equal
+    by (Some x) (Some y) p q e = nearest_exact x y p q e
+    by (Some x) None p q e = absurd (cc)
+    by None (Some y) p q e = absurd (cc)
+    by None None p q e = refl
+
+directed_coarse : (c : GroupColumn) (d : Direction) (a b : Row KeyValue) → ordering_then (directed_cmp d (column_lead c a) (column_lead c b)) (directed_order c d a b) ≡ directed_order c d a b
+directed_coarse c Ascending a b = column_coarse c a b
+directed_coarse c Descending a b = column_coarse c b a
+
+directed_exact : (c : GroupColumn) (d : Direction) (a b : Row KeyValue) → is_end (column_lead c a) ≡ false → is_end (column_lead c b) ≡ false
+    → directed_cmp d (column_lead c a) (column_lead c b) ≡ Equal → directed_order c d a b ≡ Equal
+directed_exact c Ascending a b p q e = column_exact c a b p q e
+directed_exact c Descending a b p q e = column_exact c b a q p e
+
+-- leads that are level have one value
+lead_level : (a b : Lead) → lead_cmp a b ≡ Equal → a.value ≡ b.value
+lead_level a b e = by (int_cmp a.rank b.rank) e
+  where
+    level : (o : Ordering) → MatchOrdering o (a.value <ℤ b.value) (a.value ≡ b.value) (b.value <ℤ a.value) → o ≡ Equal → a.value ≡ b.value
+    level Equal h e = h
+    level Less h e = absurd (cc)
+    level Greater h e = absurd (cc)
+
+    by : (o : Ordering) → ordering_then o (int_cmp a.value b.value) ≡ Equal → a.value ≡ b.value
+    by Equal e = level (int_cmp a.value b.value) (int_ranks a.value b.value) e
+    by Less e = absurd (cc)
+    by Greater e = absurd (cc)
+
+leading_level : (sorts : List SortKey) (a b : Lead) → leading_cmp sorts a b ≡ Equal → a.value ≡ b.value
+leading_level [] a b e = lead_level a b e
+leading_level (sort ∷ sorts) a b e = by sort.direction e
+  where
+    by : (d : Direction) → directed_cmp d a b ≡ Equal → a.value ≡ b.value
+    by Ascending e = lead_level a b e
+    by Descending e = sym (lead_level b a e)
+
+-- ---- two leads, one behind the other
 
 twice : (o p : Ordering) → ordering_then o (ordering_then o p) ≡ ordering_then o p
 twice Less p = refl
@@ -139,26 +213,65 @@ finer_second (k ∷ ks) (l ∷ ls) =
     ap (λ o. ordering_then (ordering_then o (lead_cmp (first_lead ks) (first_lead ls))) (ordering_then (key_cmp key_value_cmp k l) (slice_cmp (key_cmp key_value_cmp) ks ls))) (keys_led k l)
     ∙ twice_behind (key_cmp key_value_cmp k l) (lead_cmp (first_lead ks) (first_lead ls)) (slice_cmp (key_cmp key_value_cmp) ks ls) (finer_keys ks ls)
 
+-- an order that a second one refines, before a third
+coarse_before : (o n p : Ordering) → ordering_then o n ≡ n → ordering_then o (ordering_then n p) ≡ ordering_then n p
+coarse_before Less n p e = ap (λ m. ordering_then m p) e
+coarse_before Equal n p e = refl
+coarse_before Greater n p e = ap (λ m. ordering_then m p) e
+
 finer_first : (sorts : List SortKey) (a b : Row KeyValue) → ordering_then (leading_cmp sorts (lead_of sorts a) (lead_of sorts b)) (row_order sorts a b) ≡ row_order sorts a b
 finer_first [] a b = finer_keys a.keys b.keys
 finer_first (sort ∷ sorts) a b =
-    ap (λ o. ordering_then o (ordering_then (sort_order sort a b) (row_order sorts a b))) (directed_led sort.column sort.direction a b)
-    ∙ twice (sort_order sort a b) (row_order sorts a b)
+    coarse_before _ (sort_order sort a b) (row_order sorts a b) (directed_coarse sort.column sort.direction a b)
 
-abbrev leads_order : List SortKey → Row KeyValue → Row KeyValue → Ordering
-leads_order sorts a b = ordering_then (leading_cmp sorts (lead_of sorts a) (lead_of sorts b)) (leading_cmp (sorts_after sorts) (next_of sorts a) (next_of sorts b))
+-- where the first leads are level and not at an end
+finer_next : (sorts : List SortKey) (a b : Row KeyValue) → is_end (lead_of sorts a) ≡ false → is_end (lead_of sorts b) ≡ false
+    → leading_cmp sorts (lead_of sorts a) (lead_of sorts b) ≡ Equal
+    → ordering_then (leading_cmp (sorts_after sorts) (next_of sorts a) (next_of sorts b)) (row_order sorts a b) ≡ row_order sorts a b
+finer_next [] a b p q e =
+    ap (λ o. ordering_then (ordering_then o (lead_cmp (second_lead a.keys) (second_lead b.keys))) (slice_cmp (key_cmp key_value_cmp) a.keys b.keys)) (sym e)
+    ∙ finer_second a.keys b.keys
+finer_next (sort ∷ sorts) a b p q e =
+    let o = leading_cmp sorts (lead_of sorts a) (lead_of sorts b) in
+    let level = directed_exact sort.column sort.direction a b p q e in
+    ap (λ n. ordering_then o (ordering_then n (row_order sorts a b))) level
+    ∙ finer_first sorts a b
+    ∙ ap (λ n. ordering_then n (row_order sorts a b)) (sym level)
 
-finer : (sorts : List SortKey) (a b : Row KeyValue) → ordering_then (leads_order sorts a b) (row_order sorts a b) ≡ row_order sorts a b
-finer [] a b = finer_second a.keys b.keys
-finer (sort ∷ sorts) a b =
-    ap (λ o. ordering_then (ordering_then o (leading_cmp sorts (lead_of sorts a) (lead_of sorts b))) (ordering_then (sort_order sort a b) (row_order sorts a b))) (directed_led sort.column sort.direction a b)
-    ∙ twice_behind (sort_order sort a b) (leading_cmp sorts (lead_of sorts a) (lead_of sorts b)) (row_order sorts a b) (finer_first sorts a b)
+abbrev beside : Bool → List SortKey → Row KeyValue → Lead
+beside end sorts row = if end then null_lead else in_direction (sorts_after sorts) (next_of sorts row)
+
+next_coarse : (sorts : List SortKey) (a b : Row KeyValue) (x y : Bool) → is_end (lead_of sorts a) ≡ x → is_end (lead_of sorts b) ≡ y → x ≡ y
+    → leading_cmp sorts (lead_of sorts a) (lead_of sorts b) ≡ Equal
+    → ordering_then (lead_cmp (beside x sorts a) (beside y sorts b)) (row_order sorts a b) ≡ row_order sorts a b
+next_coarse sorts a b true true p q level e = refl
+next_coarse sorts a b false false p q level e =
+    ap (λ o. ordering_then o (row_order sorts a b)) (in_direction_cmp (sorts_after sorts) (next_of sorts a) (next_of sorts b))
+    ∙ finer_next sorts a b p q e
+next_coarse sorts a b true false p q level e = absurd (cc)
+next_coarse sorts a b false true p q level e = absurd (cc)
+
+both_coarse : (o n p : Ordering) → ordering_then o p ≡ p → (o ≡ Equal → ordering_then n p ≡ p) → ordering_then (ordering_then o n) p ≡ p
+both_coarse Less n p e next = e
+both_coarse Equal n p e next = next refl
+both_coarse Greater n p e next = e
+
+ends_level : (a b : Lead) → a.value ≡ b.value → is_end a ≡ is_end b
+ends_level a b e = ap (λ z. not (int_lt least_word z && int_lt z greatest_word)) e
+
+finer : (sorts : List SortKey) (a b : Row KeyValue)
+    → ordering_then (ordering_then (leading_cmp sorts (lead_of sorts a) (lead_of sorts b)) (lead_cmp (next_beside sorts a) (next_beside sorts b))) (row_order sorts a b) ≡ row_order sorts a b
+finer sorts a b =
+    both_coarse (leading_cmp sorts (lead_of sorts a) (lead_of sorts b)) (lead_cmp (next_beside sorts a) (next_beside sorts b)) (row_order sorts a b)
+    (finer_first sorts a b)
+    (λ e. next_coarse sorts a b (is_end (lead_of sorts a)) (is_end (lead_of sorts b)) refl refl
+    (ends_level (lead_of sorts a) (lead_of sorts b) (leading_level sorts (lead_of sorts a) (lead_of sorts b) e)) e)
 
 led_finer : (sorts : List SortKey) (rows : List GroupRow) (i j : ℕ) → led_cmp sorts rows (led_at sorts rows i) (led_at sorts rows j) ≡ number_cmp sorts rows i j
 led_finer sorts rows i j =
     let a = row_shown (row_at rows i) in
     let b = row_shown (row_at rows j) in
-    (λ k. ordering_then (ordering_then (in_direction_cmp sorts (lead_of sorts a) (lead_of sorts b) k) (in_direction_cmp (sorts_after sorts) (next_of sorts a) (next_of sorts b) k)) (row_order sorts a b))
+    ap (λ o. ordering_then (ordering_then o (lead_cmp (next_beside sorts a) (next_beside sorts b))) (row_order sorts a b)) (in_direction_cmp sorts (lead_of sorts a) (lead_of sorts b))
     ∙ finer sorts a b
 
 -- ---- the rows of a group

@@ -18,6 +18,6 @@ mod work;
 
 pub use fault::TrialFault;
 pub use puts::numbers_put;
-pub use star_program::{Cell, Fault, Outcome, TrapKind};
+pub use star_program::{Cell, CellView, Fault, Outcome, TrapKind};
 pub use trials::trial;
 pub use work::Work;

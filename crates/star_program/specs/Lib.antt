@@ -13,6 +13,7 @@ pub mod Run
 pub mod Rows
 pub mod Outcome
 pub mod Cells
+pub mod CellViews
 pub mod Overflow
 pub mod Text
 pub mod Private

@@ -7,3 +7,4 @@ pub mod Returns
 pub mod Within
 pub mod Reading
 pub mod Drafts
+pub mod Kept

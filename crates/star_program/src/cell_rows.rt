@@ -3,7 +3,7 @@
 ghost use Rattle.std.specs.Prelude.{◌≡◌, ◌*◌, [], length, slice_index_or};
 ghost use Rattle.star_program.specs.Rows.{cut};
 
-use crate::outcome::Cell;
+use crate::outcome::KeptCell;
 use std::marker::Model;
 
 /// The rows of a report, of as many cells each, one after another. A contract sees the list of the
@@ -12,7 +12,7 @@ use std::marker::Model;
 pub struct CellRows {
     width: usize,
     len: usize,
-    cells: Vec<Cell>,
+    cells: Vec<KeptCell>,
 }
 
 impl Model for CellRows {
@@ -43,7 +43,7 @@ pub fn row_of<T>(items: &[T], width: usize, len: usize, number: usize) -> &[T]
 
 impl CellRows {
     /// The rows of these cells: so many rows, of so many cells each, one after another.
-    pub fn from_cells(width: usize, len: usize, cells: Vec<Cell>) -> CellRows
+    pub fn from_cells(width: usize, len: usize, cells: Vec<KeptCell>) -> CellRows
         requires { length cells.items ≡ len * width }
         ensures { result ≡ cut width len cells.items }
     {
@@ -58,7 +58,7 @@ impl CellRows {
     }
 
     /// The cells of the row of a number from 0; none where there is no such row.
-    pub fn row(&self, number: usize) -> &[Cell]
+    pub fn row(&self, number: usize) -> &[KeptCell]
         ensures { result.now ≡ slice_index_or self.now number [] }
     {
         row_of(&self.cells, self.width, self.len, number)

@@ -24,7 +24,7 @@ pub use fault::{Fault, TrapKind};
 pub use group::{Aggregates, GroupDecl, GroupKey, GroupKeys};
 pub use key::KeyValue;
 pub use op::{Edge, Op, Operation, Operator, RegisterList, Text};
-pub use outcome::{Cell, CellText, Outcome};
+pub use outcome::{Cell, CellText, CellView, KeptCell, Outcome};
 pub use program::{
     Groups, MOST_AGGREGATES, MOST_GROUPS, MOST_INSTRUCTIONS, MOST_KEYS, MOST_REGISTERS, MOST_SCANS,
     MOST_SHOWS, MOST_SORTS, Name, Parts, Program, Show, Shows, Sorts,

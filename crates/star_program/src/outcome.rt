@@ -1,6 +1,8 @@
 // What a run gives: named columns, rows of cells, and how much was done.
 
 ghost use Rattle.std.specs.Prelude.{◌≡◌, IfOk};
+ghost use Rattle.star_program.specs.CellViews.{cell_viewed};
+ghost use Rattle.star_program.specs.Private.Kept.{cell_kept};
 
 use crate::cell_rows::CellRows;
 use crate::op::Text;
@@ -51,6 +53,79 @@ pub enum Cell {
     All,
     /// An aggregate other than a count, over no rows.
     Null,
+}
+
+/// A cell of a report that is lent.
+#[derive(Clone, Copy)]
+pub enum CellView<'a> {
+    Number(i128),
+    Text(&'a [u8]),
+    All,
+    Null,
+}
+
+// What is kept of a cell: a number of 64 bits as it is, and one of more in a box.
+#[derive(Drop)]
+enum Kept {
+    Number(i64),
+    Wide(Box<i128>),
+    Text(CellText),
+    All,
+    Null,
+}
+
+// What is kept of a number.
+fn kept_number(alloc: Global, number: i128) -> Result<Kept, AllocError>
+    ensures { IfOk result (λ kept. cell_kept kept ≡ Cell.Number number) }
+{
+    match i64::try_from(number) {
+        Ok(number) => Ok(Kept::Number(number)),
+        Err(_) => Ok(Kept::Wide(Box::new(alloc, number)?)),
+    }
+}
+
+/// A cell of a report as it is kept: where its number has 64 bits it takes no more memory than a
+/// number of 64 bits and what tells a number from a text. A contract sees the cell.
+#[derive(Drop)]
+pub struct KeptCell {
+    kept: Kept,
+}
+
+impl Model for KeptCell {
+    ghost use Rattle.star_program.specs.declared.outcome.Cell.{Cell as Shown};
+    ghost use Rattle.star_program.specs.Private.Kept.{cell_kept};
+
+    ghost Value = { Shown };
+
+    ghost view = { λ cell. cell_kept cell.kept };
+}
+
+impl KeptCell {
+    /// Keeps a cell.
+    pub fn new(alloc: Global, cell: Cell) -> Result<KeptCell, AllocError>
+        ensures { IfOk result (λ kept. kept ≡ cell) }
+    {
+        let kept = match cell {
+            Cell::Number(number) => kept_number(alloc, number)?,
+            Cell::Text(text) => Kept::Text(text),
+            Cell::All => Kept::All,
+            Cell::Null => Kept::Null,
+        };
+        Ok(KeptCell { kept })
+    }
+
+    /// The cell, lent.
+    pub fn as_view(&self) -> CellView<'_>
+        ensures { cell_viewed result ≡ self.now }
+    {
+        match &self.kept {
+            Kept::Number(number) => CellView::Number(i128::from(*number)),
+            Kept::Wide(number) => CellView::Number(**number),
+            Kept::Text(text) => CellView::Text(text.as_slice()),
+            Kept::All => CellView::All,
+            Kept::Null => CellView::Null,
+        }
+    }
 }
 
 /// What a run gives: a name for each show line, the rows in order, each a cell for each name, and

@@ -7,7 +7,7 @@ ghost use Rattle.star_report.specs.Report.{cell_text, field_of_text, is_ambiguou
 
 use itoa::Buffer;
 use star_common::push_quoted;
-use star_program::{Cell, Items, Outcome};
+use star_program::{CellView, Items, KeptCell, Outcome};
 use std::alloc::{AllocError, Global};
 
 /// What stands in a field of a line.
@@ -29,16 +29,16 @@ impl Field for Items<u8> {
     }
 }
 
-impl Field for Cell {
+impl Field for KeptCell {
     ghost printed = { cell_text };
 
     #[tactic(auto, unfolding(crate::specs::Report::cell_text))]
     fn push_to(&self, text: &mut Vec<u8>) -> Result<(), AllocError> {
-        match self {
-            Cell::Number(number) => push_number(text, *number),
-            Cell::Text(bytes) => push_text(text, bytes.as_slice()),
-            Cell::All => text.extend_from_slice(b"ALL"),
-            Cell::Null => text.extend_from_slice(b"NULL"),
+        match self.as_view() {
+            CellView::Number(number) => push_number(text, number),
+            CellView::Text(bytes) => push_text(text, bytes),
+            CellView::All => text.extend_from_slice(b"ALL"),
+            CellView::Null => text.extend_from_slice(b"NULL"),
         }
     }
 }

@@ -56,10 +56,20 @@ fn store(
 // The keys of a row, and its aggregates.
 type Row = (&'static [Option<KeyValue>], &'static [Option<i128>]);
 
+// Whether the row of a number has these aggregates first.
+fn has_aggregates(rows: &GroupRows, number: usize, aggregates: &[Option<i128>]) -> bool {
+    for (place, aggregate) in aggregates.iter().enumerate() {
+        if rows.aggregate(number, place) != *aggregate {
+            return false;
+        }
+    }
+    true
+}
+
 fn has_row(rows: &GroupRows, row: Row) -> bool {
     let (keys, aggregates) = row;
     for number in 0..rows.len() {
-        if rows.keys(number) == keys && rows.aggregates(number) == aggregates {
+        if rows.keys(number) == keys && has_aggregates(rows, number, aggregates) {
             return true;
         }
     }

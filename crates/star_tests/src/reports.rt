@@ -2,7 +2,7 @@
 
 ghost use Rattle.std.specs.Prelude.{None};
 
-use star_program::{Cell, CellRows, CellText, Items, Outcome};
+use star_program::{Cell, CellRows, CellText, Items, KeptCell, Outcome};
 use star_report::{WriteFault, report_text, write_whole};
 use star_schema::{Out, Sink, SinkFault};
 use std::alloc::{AllocError, Global};
@@ -38,6 +38,14 @@ fn check_text(
     Ok(())
 }
 
+fn kept_cells(alloc: Global, cells: Vec<Cell>) -> Result<Vec<KeptCell>, AllocError> {
+    let mut kept = Vec::with_capacity(alloc, cells.len())?;
+    for cell in cells {
+        kept.push(KeptCell::new(alloc, cell)?)?;
+    }
+    Ok(kept)
+}
+
 // So many rows of these cells under these names are printed so.
 fn check_report(
     rt: &impl Abort,
@@ -48,10 +56,11 @@ fn check_report(
     expected: &str,
 ) -> Result<(), AllocError> {
     let count = len.checked_mul(names.len()).ok_or(AllocError)?;
-    assert_eq!(rt; cells.len(), count);
+    let kept = kept_cells(alloc, cells)?;
+    assert_eq!(rt; kept.len(), count);
     let outcome = Outcome {
         names: names_of(alloc, names)?,
-        rows: CellRows::from_cells(names.len(), len, cells),
+        rows: CellRows::from_cells(names.len(), len, kept),
         visits: 10,
         lookups: 2,
         updates: 7,

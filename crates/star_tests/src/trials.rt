@@ -7,7 +7,7 @@ use star_fixtures::programs::{
     read,
 };
 use star_fixtures::samples::loaded;
-use star_machine::{Cell, Outcome, TrialFault, trial};
+use star_machine::{CellView, Outcome, TrialFault, trial};
 use star_schema::MOST_VISITS;
 use std::alloc::{AllocError, Global};
 use std::fmt::Write;
@@ -16,12 +16,12 @@ use std::test::Fail;
 // The text of a program, a bound on visits, and what a trial answers.
 type Case = (&'static str, u64, &'static str);
 
-fn push_cell(text: &mut String, cell: &Cell) -> Result<(), Fail> {
+fn push_cell(text: &mut String, cell: CellView<'_>) -> Result<(), Fail> {
     match cell {
-        Cell::Number(number) => write!(text, "{number}")?,
-        Cell::Text(bytes) => write!(text, "[{}]", str::from_utf8(bytes.as_slice())?)?,
-        Cell::All => text.push_str("ALL")?,
-        Cell::Null => text.push_str("NULL")?,
+        CellView::Number(number) => write!(text, "{number}")?,
+        CellView::Text(bytes) => write!(text, "[{}]", str::from_utf8(bytes)?)?,
+        CellView::All => text.push_str("ALL")?,
+        CellView::Null => text.push_str("NULL")?,
     }
     Ok(())
 }
@@ -37,7 +37,7 @@ fn told(alloc: Global, outcome: &Outcome) -> Result<String, Fail> {
     for number in 0..outcome.rows.len() {
         text.push('\n')?;
         for cell in outcome.rows.row(number) {
-            push_cell(&mut text, cell)?;
+            push_cell(&mut text, cell.as_view())?;
             text.push('|')?;
         }
     }

@@ -6,10 +6,10 @@ ghost use Rattle.star_group.specs.Private.BasePut.{HasRoomFor, TakesPut};
 ghost use Rattle.star_group.specs.Private.Numbers.{AreAsWide};
 
 use crate::KeyValue;
-use crate::cell::Row;
+use crate::cell::Total;
 use crate::keyed::KeyedRows;
 use crate::keyed::key::base_key;
-use crate::keyed::merge::{merge_into, row_of_put};
+use crate::keyed::merge::row_of_put;
 use crate::newest::Newest;
 use star_schema::Aggregate;
 use std::alloc::AllocError;
@@ -18,7 +18,7 @@ use std::alloc::AllocError;
 pub(super) fn add_put(
     rows: &mut KeyedRows,
     newest: &mut Newest,
-    total: &mut Row,
+    total: &mut Total,
     aggregates: &[Aggregate],
     keys: &[KeyValue],
     values: &[i64],
@@ -41,6 +41,6 @@ pub(super) fn add_put(
     let count = rows.len();
     rows.merge(&key, place, aggregates, &row)?;
     newest.set(rows, &key, place, count);
-    merge_into(aggregates, total, &row);
+    total.merge(aggregates, &row);
     Ok(())
 }

@@ -9,6 +9,7 @@ ghost use Rattle.star_group.specs.Private.Coarser.{IsMergedWhere, IsRolledUpWith
 ghost use Rattle.star_group.specs.Private.Merged.{RowsStay};
 ghost use Rattle.star_group.specs.Private.Numbers.{AreAsWide, FitsIn, IsGrown, IsNarrow};
 
+use crate::cell::Held;
 use crate::keyed::KeyedRows;
 use crate::keyed::key::{OrderedKey, hidden, is_grouping};
 use star_schema::{Aggregate, Shape};
@@ -21,7 +22,7 @@ fn merge_coarser(
     count: usize,
     key: &OrderedKey,
     aggregates: &[Aggregate],
-    more: &[Option<i128>],
+    more: &[Held],
 ) -> Result<(), AllocError>
     requires count { count ≤ 6 }
     requires narrow { IsNarrow rows.old.trie.width key.now }

@@ -6,7 +6,7 @@ ghost use Rattle.star_group.specs.Deferred.{group_of, Has};
 use super::DeferredStore;
 use super::base::add_put;
 use super::coarser::add_coarser;
-use crate::cell::{BLANK, shown};
+use crate::cell::{Total, shown};
 use crate::given::rows_given;
 use crate::keyed::KeyedRows;
 use crate::newest::Newest;
@@ -31,7 +31,7 @@ impl GroupStore for DeferredStore {
             aggregates,
             rows,
             newest: Newest::new(alloc)?,
-            total: BLANK,
+            total: Total::new(),
         })
     }
 
@@ -47,7 +47,7 @@ impl GroupStore for DeferredStore {
     }
 
     fn total(&self, aggregate: usize) -> Option<i128> {
-        shown(self.aggregates[aggregate], self.total[aggregate])
+        shown(self.aggregates[aggregate], self.total.get(aggregate))
     }
 
     fn into_rows(self) -> Result<GroupRows, AllocError> {

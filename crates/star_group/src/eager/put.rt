@@ -11,10 +11,9 @@ ghost use Rattle.star_group.specs.Private.Rows.{PutsRows, SomeLeaves, is_beside}
 
 use super::own::fill_own;
 use crate::KeyValue;
-use crate::cell::Row;
+use crate::cell::{Held, Row, Total};
 use crate::keyed::KeyedRows;
 use crate::keyed::key::{OrderedKey, base_key};
-use crate::keyed::merge::{merge_into, row_stays};
 use crate::keyed::trie::Place;
 use crate::newest::Newest;
 use crate::rows::{PutFault, put_rows, stays_at};
@@ -26,7 +25,7 @@ fn put_row(
     newest: &mut Newest,
     key: &OrderedKey,
     aggregates: &[Aggregate],
-    more: &[Option<i128>],
+    more: &[Held],
 ) -> Result<(), PutFault>
     requires narrow { IsNarrow rows.old.trie.width key.now }
     requires fits { FitsIn rows.old aggregates.now more.now }
@@ -59,7 +58,7 @@ fn put_beside(
     shape: Shape,
     aggregates: &[Aggregate],
     keys: &[KeyValue],
-    more: &[Option<i128>],
+    more: &[Held],
 ) -> Result<(), PutFault>
     requires narrow { length keys.now ≤ rows.old.trie.width }
     requires fits { FitsIn rows.old aggregates.now more.now }
@@ -90,11 +89,11 @@ pub(super) fn put_all(
     newest: &mut Newest,
     own: &mut Vec<OrderedKey>,
     places: &mut Vec<Place>,
-    total: &mut Row,
+    total: &mut Total,
     shape: Shape,
     aggregates: &[Aggregate],
     keys: &[KeyValue],
-    more: &[Option<i128>],
+    more: &Row,
 ) -> Result<(), PutFault>
     requires narrow { length keys.now ≤ rows.old.trie.width }
     requires fits { FitsIn rows.old aggregates.now more.now }
@@ -109,10 +108,10 @@ pub(super) fn put_all(
         (λ q. key_eq q (padded 6 []) || is_of_put shape keys.now q) aggregates.now more.now)) }
     ensures widths { AreAsWide rows.old rows.new }
 {
-    if !row_stays(aggregates, total, more) {
+    if !total.stays(aggregates, more) {
         return Err(PutFault::Overflow);
     }
     put_beside(rows, newest, own, places, shape, aggregates, keys, more)?;
-    merge_into(aggregates, total, more);
+    total.merge(aggregates, more);
     Ok(())
 }

@@ -4,7 +4,7 @@ ghost use Rattle.star_group.specs.Eager.{group_of, Has};
 
 use super::EagerStore;
 use super::put::put_all;
-use crate::cell::{BLANK, shown};
+use crate::cell::{Total, shown};
 use crate::given::rows_given;
 use crate::keyed::KeyedRows;
 use crate::keyed::merge::row_of_put;
@@ -35,7 +35,7 @@ impl GroupStore for EagerStore {
             aggregates,
             rows,
             newest: Newest::new(alloc)?,
-            total: BLANK,
+            total: Total::new(),
             own: Vec::with_capacity(alloc, MOST_OWN)?,
             places: Vec::with_capacity(alloc, MOST_OWN)?,
         })
@@ -50,7 +50,7 @@ impl GroupStore for EagerStore {
     }
 
     fn total(&self, aggregate: usize) -> Option<i128> {
-        shown(self.aggregates[aggregate], self.total[aggregate])
+        shown(self.aggregates[aggregate], self.total.get(aggregate))
     }
 
     fn into_rows(self) -> Result<GroupRows, AllocError> {

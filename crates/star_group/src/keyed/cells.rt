@@ -5,15 +5,16 @@ ghost use Rattle.star_program.specs.Rows.{cut};
 ghost use Rattle.star_group.specs.Private.Merged.{IsMerged, MergeStays};
 
 use super::merge::merge_into;
+use crate::cell::Held;
 use star_schema::Aggregate;
 
 // A row merged into that of a number.
 pub(crate) fn merge_at(
-    cells: &mut [Option<i128>],
+    cells: &mut [Held],
     count: usize,
     number: usize,
     aggregates: &[Aggregate],
-    more: &[Option<i128>],
+    more: &[Held],
 )
     requires within { number < count }
     requires long { length cells.old ≡ count * length aggregates.now }

@@ -7,6 +7,7 @@ ghost use Rattle.star_group.specs.Private.Numbers.{IsNarrow};
 
 use super::key::{OrderedKey, in_six_places};
 use super::{KeyedRows, ListedRows};
+use crate::cell::Held;
 use star_program::row_of;
 use std::alloc::{AllocError, Global};
 
@@ -71,7 +72,7 @@ impl ListedRows {
     }
 
     // The aggregates of the row of a number.
-    pub(crate) fn row(&self, number: usize) -> &[Option<i128>]
+    pub(crate) fn row(&self, number: usize) -> &[Held]
         requires { number < length (listed_entries self.now) }
         ensures row { result.now ≡ (slice_index_or (listed_entries self.now) number ([], [])).1 }
         ensures wide { length result.now ≡ self.now.many }

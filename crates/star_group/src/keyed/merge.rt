@@ -1,39 +1,32 @@
 // Rows of different puts merged into one.
 
-ghost use Rattle.std.specs.Prelude.{◌≡◌, ◌≤◌, ◌<◌, ◌+ℤ◌, false, not, length, Some, slice_index_or, MatchBool};
+ghost use Rattle.std.specs.Prelude.{◌≡◌, ◌≤◌, ◌<◌, ◌+ℤ◌, ℤ, pos, [], false, not, length, None, Option, Some, slice_index_or, MatchBool, MatchOption};
+ghost use Rattle.std.specs.Option.{option_copied, unwrap_or};
 ghost use Rattle.star_schema.specs.declared.group.Aggregate.TheVariants.{Count};
 ghost use Rattle.star_interval.specs.Range.{is_i64, is_i128};
 ghost use Rattle.star_program.specs.Puts.{leaves};
 ghost use Rattle.star_group.specs.Private.Merged as spec;
 ghost use Rattle.star_group.specs.Private.Merged.{IsMerged, IsRowOf, MergeLeaves, MergeStays, merged_at};
 
-use crate::cell::{BLANK, Row};
+use crate::cell::{Held, Row};
 use star_schema::Aggregate;
 
 // An aggregate over some puts and over some others, as one over all of them.
 #[tactic(auto, unfolding(star_interval::specs::Range::is_i64, star_interval::specs::Range::is_i128))]
-fn merged(aggregate: Aggregate, held: Option<i128>, more: Option<i128>) -> Option<i128>
+fn merged(aggregate: Aggregate, held: Held, more: Held) -> Held
     requires { leaves aggregate (spec.merged aggregate held more) ≡ false }
     ensures { result ≡ spec.merged aggregate held more }
 {
-    match (held, more) {
-        (Some(held), Some(more)) => Some(match aggregate {
-            Aggregate::Sum | Aggregate::Count => held + more,
-            Aggregate::Min => held.min(more),
-            Aggregate::Max => held.max(more),
-        }),
-        (Some(held), None) => Some(held),
-        (None, more) => more,
+    let (held, more) = (held.number(), more.number());
+    match aggregate {
+        Aggregate::Sum | Aggregate::Count => Held::new(held + more),
+        Aggregate::Min => Held::new(held.min(more)),
+        Aggregate::Max => Held::new(held.max(more)),
     }
 }
 
 // One place of two rows merged.
-fn merged_cell(
-    aggregates: &[Aggregate],
-    held: &[Option<i128>],
-    more: &[Option<i128>],
-    place: usize,
-) -> Option<i128>
+fn merged_cell(aggregates: &[Aggregate], held: &[Held], more: &[Held], place: usize) -> Held
     requires place { place < length aggregates.now }
     requires held { length aggregates.now ≤ length held.now }
     requires more { length aggregates.now ≤ length more.now }
@@ -45,7 +38,7 @@ fn merged_cell(
 }
 
 // A row merged into another.
-pub(crate) fn merge_into(aggregates: &[Aggregate], held: &mut [Option<i128>], more: &[Option<i128>])
+pub(crate) fn merge_into(aggregates: &[Aggregate], held: &mut [Held], more: &[Held])
     requires held { length aggregates.now ≤ length held.old }
     requires more { length aggregates.now ≤ length more.now }
     requires stays { MergeStays aggregates.now held.old more.now }
@@ -76,43 +69,53 @@ fn adds_up(left: i128, right: i128) -> bool
     left.checked_add(right).is_some()
 }
 
-// Whether an aggregate over some puts and over some others doesn't leave its bits over all of them.
-fn stays(aggregate: Aggregate, held: Option<i128>, more: Option<i128>) -> bool
-    ensures { result ≡ not (leaves aggregate (spec.merged aggregate held more)) }
+// Whether an aggregate over some puts, which is 0 over none, and over some others doesn't leave its
+// bits over all of them.
+fn stays(aggregate: Aggregate, held: i128, more: i128) -> bool
+    ensures { (before : Option ℤ) → unwrap_or before (pos 0) ≡ held
+        → result ≡ not (leaves aggregate (spec.merged aggregate before (Some more))) }
 {
     match aggregate {
-        Aggregate::Sum => adds_up(held.unwrap_or(0), more.unwrap_or(0)),
-        Aggregate::Count => adds_in_64_bits(held.unwrap_or(0), more.unwrap_or(0)),
+        Aggregate::Sum => adds_up(held, more),
+        Aggregate::Count => adds_in_64_bits(held, more),
         Aggregate::Min | Aggregate::Max => true,
     }
 }
 
-// Whether one place of two rows merged doesn't leave its bits.
-fn cell_stays(
-    aggregates: &[Aggregate],
-    held: &[Option<i128>],
-    more: &[Option<i128>],
-    place: usize,
-) -> bool
-    requires place { place < length aggregates.now }
-    requires held { length aggregates.now ≤ length held.now }
-    requires more { length aggregates.now ≤ length more.now }
-    ensures { result ≡ not (leaves (slice_index_or aggregates.now place Count)
-        (merged_at aggregates.now held.now more.now place)) }
+// The number at a place of a row, and 0 where there is none.
+fn number_in(held: Option<&[Held]>, place: usize) -> i128
+    requires { MatchOption held (Unit {0}) (λ row. place < length row.now) }
+    ensures { unwrap_or (slice_index_or (unwrap_or (option_copied held.entry) []) place None)
+        (pos 0) ≡ result }
 {
-    stays(aggregates[place], held[place], more[place])
+    match held {
+        Some(row) => row[place].number(),
+        None => 0,
+    }
 }
 
-// Whether no aggregate of two rows merged leaves its bits.
-pub(crate) fn row_stays(
-    aggregates: &[Aggregate],
-    held: &[Option<i128>],
-    more: &[Option<i128>],
-) -> bool
-    requires held { length aggregates.now ≤ length held.now }
+// Whether one place of a row, or of none, doesn't leave its bits with one more row merged in.
+fn cell_stays(aggregates: &[Aggregate], held: Option<&[Held]>, more: &[Held], place: usize) -> bool
+    requires place { place < length aggregates.now }
+    requires held { MatchOption held (Unit {0}) (λ row. length aggregates.now ≤ length row.now) }
     requires more { length aggregates.now ≤ length more.now }
-    ensures { MatchBool result (MergeStays aggregates.now held.now more.now)
-        (MergeLeaves aggregates.now held.now more.now) }
+    ensures { result ≡ not (leaves (slice_index_or aggregates.now place Count)
+        (merged_at aggregates.now (unwrap_or (option_copied held.entry) []) more.now place)) }
+{
+    stays(
+        aggregates[place],
+        number_in(held, place),
+        more[place].number(),
+    )
+}
+
+// Whether no aggregate of a row, or of none, leaves its bits with one more row merged in.
+pub(crate) fn row_stays(aggregates: &[Aggregate], held: Option<&[Held]>, more: &[Held]) -> bool
+    requires held { MatchOption held (Unit {0}) (λ row. length aggregates.now ≤ length row.now) }
+    requires more { length aggregates.now ≤ length more.now }
+    ensures { MatchBool result
+        (MergeStays aggregates.now (unwrap_or (option_copied held.entry) []) more.now)
+        (MergeLeaves aggregates.now (unwrap_or (option_copied held.entry) []) more.now) }
 {
     for place in 0..aggregates.len() {
         if !cell_stays(aggregates, held, more, place) {
@@ -138,9 +141,9 @@ pub(crate) fn row_of_put(aggregates: &[Aggregate], values: &[i64]) -> Row
     requires few { length aggregates.now ≤ 8 }
     ensures { IsRowOf aggregates.now values.now result }
 {
-    let mut row = BLANK;
+    let mut row = [Held::new(0); 8];
     for place in 0..aggregates.len() {
-        row[place] = Some(cell_of(aggregates[place], values[place]));
+        row[place] = Held::new(cell_of(aggregates[place], values[place]));
     }
     row
 }

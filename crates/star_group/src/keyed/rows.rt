@@ -13,6 +13,7 @@ use super::KeyedRows;
 use super::cells::merge_at;
 use super::key::OrderedKey;
 use super::trie::{Place, Trie, word_of};
+use crate::cell::Held;
 use star_program::row_of;
 use star_schema::Aggregate;
 use std::alloc::{AllocError, Global};
@@ -88,7 +89,7 @@ impl KeyedRows {
     }
 
     // The aggregates of the row of a number.
-    pub(crate) fn row(&self, number: usize) -> &[Option<i128>]
+    pub(crate) fn row(&self, number: usize) -> &[Held]
         requires { number < length (entries_of self.now) }
         ensures row { result.now ≡ (slice_index_or (entries_of self.now) number ([], [])).1 }
         ensures wide { length result.now ≡ self.now.many }
@@ -102,7 +103,7 @@ impl KeyedRows {
         node: usize,
         digit: usize,
         key: &OrderedKey,
-        row: &[Option<i128>],
+        row: &[Held],
     ) -> Result<(), AllocError>
         requires narrow { IsNarrow self.old.trie.width key.now }
         requires wide { length row.now ≡ self.old.many }
@@ -127,12 +128,7 @@ impl KeyedRows {
     }
 
     // A row merged into that of a number.
-    pub(crate) fn merge_row(
-        &mut self,
-        number: usize,
-        aggregates: &[Aggregate],
-        more: &[Option<i128>],
-    )
+    pub(crate) fn merge_row(&mut self, number: usize, aggregates: &[Aggregate], more: &[Held])
         requires within { number < length (entries_of self.old) }
         requires fits { FitsIn self.old aggregates.now more.now }
         requires stays { MergeStays aggregates.now
@@ -156,7 +152,7 @@ impl KeyedRows {
         key: &OrderedKey,
         place: Place,
         aggregates: &[Aggregate],
-        more: &[Option<i128>],
+        more: &[Held],
     ) -> Result<(), AllocError>
         requires narrow { IsNarrow self.old.trie.width key.now }
         requires place { IsPlace self.old key.now place }

@@ -1,5 +1,6 @@
 -- What a row has in the two columns by which it is compared first, and the order of rows beside it.
-use Rattle.std.specs.Prelude.{ℕ, ℤ, pos, negsuc, ◌-ℤ◌, List, [], ◌∷◌, Option, Some, None, slice_index_or}
+use Rattle.std.specs.Prelude.{ℕ, ℤ, pos, negsuc, ◌-ℤ◌, Bool, ◌&&◌, not, int_lt, List, [], ◌∷◌, Option, Some, None, slice_index_or, if◌then◌else◌}
+use Rattle.std.specs.Int.{int_min, int_max}
 use Rattle.std.specs.Ordering.{int_cmp, ordering_then}
 use Rattle.std.specs.declared.cmp.Ordering.{Ordering}
 use Rattle.star_schema.specs.declared.group.GroupColumn.{GroupColumn}
@@ -36,9 +37,23 @@ key_lead None = all_lead
 key_lead (Some (key.Number x)) = number_lead x
 key_lead (Some (key.Code n)) = code_lead n
 
+abbrev pub least_word : ℤ
+least_word = negsuc 9223372036854775807
+
+abbrev pub greatest_word : ℤ
+greatest_word = pos 9223372036854775807
+
+-- the number of 64 bits that is nearest
+abbrev pub nearest : ℤ → ℤ
+nearest x = int_max least_word (int_min x greatest_word)
+
 abbrev pub total_lead : Option ℤ → Lead
 total_lead None = null_lead
-total_lead (Some x) = number_lead x
+total_lead (Some x) = number_lead (nearest x)
+
+-- what leads stands at an end of 64 bits: it may be beyond
+abbrev pub is_end : Lead → Bool
+is_end lead = not (int_lt least_word lead.value && int_lt lead.value greatest_word)
 
 abbrev pub first_lead : List (Option KeyValue) → Lead
 first_lead [] = null_lead
@@ -79,6 +94,12 @@ abbrev pub sorts_after : List SortKey → List SortKey
 sorts_after [] = []
 sorts_after (sort ∷ sorts) = sorts
 
+-- of what is compared next: nothing, where the first may be beyond its end
+abbrev pub next_beside : List SortKey → Row KeyValue → Lead
+next_beside sorts row =
+    if is_end (lead_of sorts row) then null_lead
+    else in_direction (sorts_after sorts) (next_of sorts row)
+
 -- in the column that is compared first
 abbrev pub lead_in : Led → Lead
 lead_in led = record { rank = led.rank; value = led.value }
@@ -107,4 +128,4 @@ led_cmp sorts rows a b = ordering_then (leads_cmp a b)
 
 abbrev pub led_at : List SortKey → List GroupRow → ℕ → Led
 led_at sorts rows number = led_by (in_direction sorts (lead_of sorts (row_shown (row_at rows number))))
-    (in_direction (sorts_after sorts) (next_of sorts (row_shown (row_at rows number)))) number
+    (next_beside sorts (row_shown (row_at rows number))) number

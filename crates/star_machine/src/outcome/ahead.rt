@@ -35,7 +35,7 @@ impl Ahead<'_> {
         self.aggregates.clear();
         for number in numbers {
             self.keys.push(part_at(rows.keys(*number), 0))?;
-            self.aggregates.push(part_at(rows.aggregates(*number), 0))?;
+            self.aggregates.push(rows.aggregate(*number, 0))?;
         }
         Ok(())
     }

@@ -16,7 +16,7 @@ use super::ahead::Ahead;
 use super::order::part_at;
 use star_catalogue::Catalogue;
 use star_group::{GroupRows, KeyValue};
-use star_program::{Cell, CellRows, CellText, GroupDecl, GroupKey, Items, Name, Show};
+use star_program::{Cell, CellRows, CellText, GroupDecl, GroupKey, Items, KeptCell, Name, Show};
 use star_schema::{ColumnId, GroupColumn};
 use std::alloc::{AllocError, Global};
 
@@ -90,7 +90,7 @@ fn cell(
             declared.keys.as_slice()[place as usize],
             part_at(rows.keys(number), place),
         ),
-        GroupColumn::Aggregate(place) => Ok(total_cell(part_at(rows.aggregates(number), place))),
+        GroupColumn::Aggregate(place) => Ok(total_cell(rows.aggregate(number, place as usize))),
     }
 }
 
@@ -102,7 +102,7 @@ fn push_cells(
     rows: &GroupRows,
     number: usize,
     shows: &[Show],
-    cells: &mut Vec<Cell>,
+    cells: &mut Vec<KeptCell>,
 ) -> Result<(), AllocError>
     requires keys { AreDecodable catalogue.now declared.now.keys (row_at rows.now number).keys }
     requires columns { All (λ show. has_column declared.now show.column ≡ true) shows.now }
@@ -111,7 +111,8 @@ fn push_cells(
         ++ row_cells (world_of catalogue.now) declared.now shows.now (row_at rows.now number)) }
 {
     for show in shows {
-        cells.push(cell(alloc, catalogue, declared, rows, number, show.column)?)?;
+        let shown = cell(alloc, catalogue, declared, rows, number, show.column)?;
+        cells.push(KeptCell::new(alloc, shown)?)?;
     }
     Ok(())
 }
@@ -124,7 +125,7 @@ fn all_cells(
     rows: &GroupRows,
     numbers: &[usize],
     shows: &[Show],
-) -> Result<Vec<Cell>, AllocError>
+) -> Result<Vec<KeptCell>, AllocError>
     requires keys { All (λ number. AreDecodable catalogue.now declared.now.keys
         (row_at rows.now number).keys) numbers.now }
     requires columns { All (λ show. has_column declared.now show.column ≡ true) shows.now }

@@ -14,11 +14,11 @@ use std::alloc::{AllocError, Global};
 use std::cmp::Ordering;
 
 // What a key or an aggregate is compared by: NULL comes first, then numbers, codes, and ALL last;
-// or the other way round.
+// or the other way round. An aggregate of more than 64 bits is told by the end that it is beyond.
 #[derive(Clone, Copy)]
 pub(super) struct Lead {
     rank: i8,
-    value: i128,
+    value: i64,
 }
 
 const NULL: Lead = Lead { rank: 0, value: 0 };
@@ -29,8 +29,8 @@ const ALL: Lead = Lead { rank: 3, value: 0 };
 // row whose leads are less comes first. Both leads lie flat, as a sort moves these about.
 #[derive(Clone, Copy)]
 pub(super) struct Led {
-    value: i128,
-    next_value: i128,
+    value: i64,
+    next_value: i64,
     rank: i8,
     next_rank: i8,
     number: u32,
@@ -65,7 +65,7 @@ impl Led {
     }
 }
 
-fn number_lead(number: i128) -> Lead
+fn number_lead(number: i64) -> Lead
     ensures { result ≡ spec.number_lead number }
 {
     Lead {
@@ -79,8 +79,15 @@ fn code_lead(code: u32) -> Lead
 {
     Lead {
         rank: 2,
-        value: i128::from(code),
+        value: i64::from(code),
     }
+}
+
+// Whether what leads may be beyond an end of 64 bits.
+fn is_end(lead: Lead) -> bool
+    ensures { result ≡ spec.is_end lead }
+{
+    !(i64::MIN < lead.value && lead.value < i64::MAX)
 }
 
 fn compare_leads(a: Lead, b: Lead) -> Ordering
@@ -140,8 +147,19 @@ fn key_lead(key: Option<KeyValue>) -> Lead
 {
     match key {
         None => ALL,
-        Some(KeyValue::Number(number)) => number_lead(i128::from(number)),
+        Some(KeyValue::Number(number)) => number_lead(number),
         Some(KeyValue::Code(code)) => code_lead(code),
+    }
+}
+
+// The number of 64 bits that is nearest.
+fn nearest(number: i128) -> i64
+    ensures { result ≡ spec.nearest number }
+{
+    match i64::try_from(number) {
+        Ok(number) => number,
+        Err(_) if number < 0 => i64::MIN,
+        Err(_) => i64::MAX,
     }
 }
 
@@ -150,7 +168,7 @@ fn total_lead(total: Option<i128>) -> Lead
 {
     match total {
         None => NULL,
-        Some(number) => number_lead(number),
+        Some(number) => number_lead(nearest(number)),
     }
 }
 
@@ -168,7 +186,7 @@ fn column_lead(column: GroupColumn, rows: &GroupRows, number: usize) -> Lead
 {
     match column {
         GroupColumn::Key(place) => key_lead(part_at(rows.keys(number), place)),
-        GroupColumn::Aggregate(place) => total_lead(part_at(rows.aggregates(number), place)),
+        GroupColumn::Aggregate(place) => total_lead(rows.aggregate(number, place as usize)),
     }
 }
 
@@ -201,12 +219,26 @@ fn next_of(sorts: &[SortKey], rows: &GroupRows, number: usize) -> Lead
     }
 }
 
+// Of the column that is compared next, in its direction; nothing, where the first lead may be beyond
+// its end, so that rows whose leads are level there are read.
+fn next_beside(sorts: &[SortKey], rows: &GroupRows, number: usize, first: Lead) -> Lead
+    requires { first ≡ spec.lead_of sorts.now (row_shown (row_at rows.now number)) }
+    ensures { result ≡ spec.next_beside sorts.now (row_shown (row_at rows.now number)) }
+{
+    if is_end(first) {
+        NULL
+    } else {
+        in_direction(sorts_after(sorts), next_of(sorts, rows, number))
+    }
+}
+
 fn led_row(sorts: &[SortKey], rows: &GroupRows, number: u32) -> Led
     ensures { result ≡ led_at sorts.now rows.now number }
 {
     let row = number as usize;
-    let lead = in_direction(sorts, lead_of(sorts, rows, row));
-    let next = in_direction(sorts_after(sorts), next_of(sorts, rows, row));
+    let first = lead_of(sorts, rows, row);
+    let next = next_beside(sorts, rows, row, first);
+    let lead = in_direction(sorts, first);
     Led {
         value: lead.value,
         next_value: next.value,

@@ -72,7 +72,8 @@ fn compare_at(column: GroupColumn, rows: &GroupRows, a: usize, b: usize) -> Orde
             compare_keys(part_at(rows.keys(a), place), part_at(rows.keys(b), place))
         }
         GroupColumn::Aggregate(place) => {
-            part_at(rows.aggregates(a), place).cmp(&part_at(rows.aggregates(b), place))
+            rows.aggregate(a, place as usize)
+                .cmp(&rows.aggregate(b, place as usize))
         }
     }
 }
