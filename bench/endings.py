@@ -3,11 +3,13 @@
 import re
 from typing import NamedTuple
 
-AS_EVER, FOR_WANT, OTHERWISE = "as ever", "for want of memory", "otherwise"
+AS_EVER, GONE_ON, FOR_WANT, OTHERWISE = "as ever", "gone on", "for want of memory", "otherwise"
 # The status of a test that answers an error; and of the program for want of memory, with its line.
 FAILED, WANT, LINE = 101, 7, b"memory\n"
 TEST_WANTS = re.compile(rb"error: .*\b(AllocError|AllocFailed|OutOfMemory|Memory)\b.*")
 TEST_FAILED = re.compile(rb"the test (failed: its result gives status 1|exited with status 101)")
+# What a test prints where a call was refused memory and the test goes on behind it.
+TOLD = b"memory was refused"
 NOTE = re.compile(rb"(quote|visits) .*\n")
 
 
@@ -44,13 +46,27 @@ def of_program(end: End, ample: End, printed: tuple[bytes, ...] = (b"",)) -> str
     return OTHERWISE
 
 
+def lines_of(end: End) -> list[bytes]:
+    """The lines on standard output, and then those on standard error."""
+    return [line.strip() for line in (end.out + end.err).splitlines()]
+
+
+def tells_refusals(end: End) -> bool:
+    """Whether a test told that a call was refused memory."""
+    return TOLD in lines_of(end)
+
+
 def of_test(end: End, ample: End) -> str:
-    """The verdict on a run of one test: it may fail with one line that tells of want of memory."""
+    """The verdict on a run of one test: it may tell once that a call was refused memory, and then end
+    as ever; or fail with one line that tells of want of memory.
+    """
     if end.is_as(ample):
         return AS_EVER
-    lines = (end.out + end.err).splitlines()
-    known = (ample.out + ample.err).splitlines()
-    news = [it.strip() for it in lines if it not in known and not TEST_FAILED.fullmatch(it.strip())]
+    lines, known = lines_of(end), lines_of(ample)
+    if end.status == ample.status and tells_refusals(end):
+        lines.remove(TOLD)
+        return GONE_ON if lines == known else OTHERWISE
+    news = [line for line in lines if line not in known and not TEST_FAILED.fullmatch(line)]
     if end.status == FAILED and len(news) == 1 and TEST_WANTS.fullmatch(news[0]):
         return FOR_WANT
     return OTHERWISE
@@ -98,12 +114,18 @@ def wrongly_judged() -> list[str]:
         ("both of two calls, and then memory", want(two.out, LINE), two, both, OTHERWISE),
         ("the first of two calls where one is due", want(b"listing\n", LINE), two, nothing, OTHERWISE),
     ]
+    good, told = b"\ntest result: ok\n", TOLD + b"\n"
     tests = [
+        ("a test that goes on", End(0, told + good, b"", True), GONE_ON),
+        ("a test that goes on, and fails", End(FAILED, told, b"error: 3 is not 4\n", True), OTHERWISE),
+        ("a test that is refused again", End(FAILED, told, b"error: AllocError\n", True), OTHERWISE),
+        ("a test that is refused twice", End(0, told * 2 + good, b"", True), OTHERWISE),
+        ("a test that goes on otherwise", End(0, told + b"3\n" + good, b"", True), OTHERWISE),
         ("a test that tells of memory", End(FAILED, b"", b"error: OutOfMemory\n", True), FOR_WANT),
         ("a test that fails", End(FAILED, b"", b"error: 3 is not 4\n", True), OTHERWISE),
         ("a test that tells two errors", End(FAILED, b"error: 3\n", b"error: AllocError\n", True), OTHERWISE),
         ("a test that is stopped", End(-6, b"", b"error: AllocError\n", True), OTHERWISE),
     ]
     wrong = [name for name, end, due, printed, verdict in cases if of_program(end, due, printed) != verdict]
-    passed = End(0, b"", b"", False)
+    passed = End(0, good, b"", False)
     return wrong + [name for name, end, verdict in tests if of_test(end, passed) != verdict]

@@ -52,6 +52,8 @@ def make_files(place: Path) -> None:
     """Makes what the commands read."""
     for name, text in (QUERIES | PROGRAMS).items():
         (place / name).write_text(text)
+    for name in ["made", "quoted", "refused"]:
+        (place / name).mkdir()
     for name in ["orders", "cube", "rollup"]:
         shutil.copy(HERE / "programs" / f"{name}.star", place)
     shutil.copy(DATA / "above.star", place)
@@ -134,6 +136,31 @@ def of_programs() -> list[Command]:
     ]
 
 
+# What is told of two files' reports, of both before their runs, and of a refusal.
+LINES = (b"cube quote 5 visits 5 lookups 5 updates 5\n", b"above quote 10 visits 10 lookups 0 updates 7\n")
+FORECASTS = (b"cube quote 5 rows 6\n", b"above quote 10 rows 1\n")
+REFUSAL = (
+    b"squares refused 69 Overflow at 3: 250000..999999999999999998000000000000000001"
+    b" from lo_extendedprice 500..999999999999999999\n"
+)
+
+
+def of_reports() -> list[Command]:
+    """Two runs that write reports have folders of their own. What is told of one file may stand where memory is refused to
+    the next.
+    """
+    files = ("cube.sql", "above.star")
+    return [
+        Command("`star reports`, a query and a program", ("reports", "tables", "made", *files), (b"", LINES[0], b"".join(LINES))),
+        Command("`star reports --quote`", ("reports", "--quote", "tables", "quoted", *files), (b"", FORECASTS[0], b"".join(FORECASTS))),
+        Command("`star reports`, refused by 69", ("reports", "outlier", "refused", "squares.sql", "cube.sql"), (b"", REFUSAL, REFUSAL + LINES[0])),
+        Command("`star reports`, no query among the files", ("reports", "tables", "quoted", "cube.sql", "open.sql")),
+        Command("`star reports`, a name twice", ("reports", "tables", "quoted", "cube.sql", "cube.star")),
+        Command("`star reports`, no target", ("reports", "tables", "nowhere", "cube.sql")),
+        Command("`star reports --quote`, no folder", ("reports", "--quote", "nowhere", "quoted", "cube.sql")),
+    ]
+
+
 def of_words() -> list[Command]:
     return [
         Command("`star help query`", ("help", "query")),
@@ -144,4 +171,4 @@ def of_words() -> list[Command]:
 
 
 def all_commands() -> list[Command]:
-    return of_folders() + of_queries() + of_programs() + of_words()
+    return of_folders() + of_queries() + of_programs() + of_reports() + of_words()

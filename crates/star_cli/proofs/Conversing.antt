@@ -1,6 +1,6 @@
 -- A session that is under way, from its first statement to its end.
-use Rattle.std.proofs.Common.{◌≡◌, ◌∙◌, ◌++◌, ◌+◌, ◌-◌, ◌^◌, ◌<◌, ◌≤◌, ℕ, List, [], ◌∷◌, Bool, true, false, Option, ap, arith, inl, inr, length, refl, subst, sym}
-use Rattle.std.specs.Prelude.{◌⊎◌, Ok, Err}
+use Rattle.std.proofs.Common.{◌≡◌, ◌++◌, ◌+◌, ◌-◌, ◌^◌, ◌<◌, ◌≤◌, ℕ, List, [], ◌∷◌, Bool, true, false, Option, arith, inl, inr, length, refl, subst, sym}
+use Rattle.std.specs.Prelude.{Err}
 use Rattle.std.proofs.lemmas.List.{length-append}
 use Rattle.star_engine.specs.Answered.{Change}
 use Rattle.star_engine.specs.Loads.{Loaded}

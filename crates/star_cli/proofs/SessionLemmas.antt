@@ -1,6 +1,6 @@
 -- Rounds of a session, one after another.
-use Rattle.std.proofs.Common.{◌≡◌, ◌∙◌, ◌++◌, ◌+◌, ◌≤◌, ℕ, List, [], ◌∷◌, Bool, true, false, Option, append_assoc, ap, arith, length, refl, subst, sym}
-use Rattle.star_engine.specs.Answered.{Change, change}
+use Rattle.std.proofs.Common.{◌≡◌, ◌∙◌, ◌++◌, ℕ, List, [], ◌∷◌, Bool, true, false, Option, append_assoc, ap, refl, subst, sym}
+use Rattle.star_engine.specs.Answered.{Change}
 use Rattle.star_engine.specs.Loads.{Loaded}
 use Rattle.star_statements.specs.Sources.{IsStatementRead}
 use Rattle.star_statements.specs.Statements.{statements_of}

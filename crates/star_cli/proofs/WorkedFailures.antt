@@ -3,7 +3,11 @@ use Rattle.std.proofs.Common.{◌≡◌, ℕ, List, [], ◌∷◌, Some, refl, a
 use Rattle.std.specs.Borrow.{Bor}
 use Rattle.std.specs.Fmt.{digits}
 use Rattle.std.specs.Prelude.{◌++◌, codes, map}
-use Rattle.star_cli.specs.declared.failure.Failure.TheVariants.{NotText, EmptyFolder, NoCommand, File, Part, OutOfMemory}
+use Rattle.star_query.specs.FaultTexts.{query_fault_text}
+use Rattle.star_query.specs.declared.fault.QueryFault.TheVariants.{Unexpected}
+use Rattle.star_engine.specs.FaultTexts.{engine_fault_text}
+use Rattle.star_engine.specs.declared.fault.EngineFault.TheVariants.{Query}
+use Rattle.star_cli.specs.declared.failure.Failure.TheVariants.{NotText, EmptyFolder, NoCommand, File, Part, Unnamed, NamedTwice, OfFile, Unkept, Unwritten, OutOfMemory}
 use Rattle.star_cli.specs.Failures.{failure_text, status_of}
 use Rattle.star_cli.specs.Names.{shown_name}
 
@@ -22,5 +26,18 @@ lines_of_parts : map failure_text (Part 2 ∷ Part 1001 ∷ [])
 unfolding failure_text digits
 lines_of_parts = refl
 
+lines_of_reports : (name : Bor (List ℕ)) → shown_name name.now ≡ codes "years"
+    → map failure_text (Unnamed name ∷ NamedTwice name ∷ OfFile name (Query (Unexpected 20)) ∷ Unkept name 10 ∷ Unwritten 7 ∷ [])
+    ≡ Some (codes "error: no name for the report of years\n") ∷ Some (codes "error: two reports are named years\n")
+    ∷ Some (codes "years: query 24 Unexpected at 20\n") ∷ Some (codes "years: write 10\n") ∷ Some (codes "write 7\n") ∷ []
+unfolding failure_text engine_fault_text query_fault_text digits
+lines_of_reports name shown =
+    ap (λ word. Some (codes "error: no name for the report of " ++ (word ++ codes "\n"))
+    ∷ Some (codes "error: two reports are named " ++ (word ++ codes "\n"))
+    ∷ Some (word ++ codes ": query 24 Unexpected at 20\n") ∷ Some (word ++ codes ": write 10\n") ∷ Some (codes "write 7\n") ∷ []) shown
+
 statuses : (name : Bor (List ℕ)) → map status_of (NotText ∷ EmptyFolder ∷ NoCommand ∷ File name ∷ Part 2 ∷ OutOfMemory ∷ []) ≡ 2 ∷ 2 ∷ 2 ∷ 6 ∷ 6 ∷ 7 ∷ []
 statuses name = refl
+
+statuses_of_reports : (name : Bor (List ℕ)) → map status_of (Unnamed name ∷ NamedTwice name ∷ OfFile name (Query (Unexpected 20)) ∷ Unkept name 10 ∷ Unwritten 7 ∷ []) ≡ 2 ∷ 2 ∷ 4 ∷ 6 ∷ 6 ∷ []
+statuses_of_reports name = refl

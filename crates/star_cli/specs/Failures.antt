@@ -6,10 +6,16 @@ use Rattle.clap.specs.declared.error.kind.ErrorKind.{ErrorKind}
 use Rattle.clap.specs.declared.error.kind.ErrorKind.TheVariants as kinds
 use Rattle.clap.specs.declared.error.kind.ErrorKind.TheVariants.{DisplayHelp, DisplayVersion}
 use Rattle.star_engine.specs.Answered.{Change, IsUntouched}
-use Rattle.star_cli.specs.Lines.{IsTextTold}
+use Rattle.star_engine.specs.FaultTexts.{engine_fault_text}
+use Rattle.star_engine.specs.declared.fault.EngineFault.{EngineFault}
+use Rattle.star_engine.specs.declared.fault.EngineFault.TheVariants as engine
+use Rattle.std.specs.Borrow.{Bor}
+use Rattle.star_cli.specs.Lines.{IsTextTold, fault_status}
 use Rattle.star_cli.specs.Names.{shown_name}
 use Rattle.star_cli.specs.declared.failure.Failure.{Failure}
-use Rattle.star_cli.specs.declared.failure.Failure.TheVariants.{Words, NotText, EmptyFolder, NoCommand, File, Part, OutOfMemory}
+use Rattle.star_cli.specs.declared.reports.Halt.{Halt}
+use Rattle.star_cli.specs.declared.reports.Halt.TheVariants as halts
+use Rattle.star_cli.specs.declared.failure.Failure.TheVariants.{Words, NotText, EmptyFolder, NoCommand, File, Part, Unnamed, NamedTwice, OfFile, Unkept, Unwritten, OutOfMemory}
 
 -- an error of the parser of the words: it too may want memory
 abbrev pub failure_of_kind : Error → ErrorKind → Failure
@@ -19,6 +25,17 @@ failure_of_kind error kind = Words error
 abbrev pub failure_of_words : Error → Failure
 failure_of_words error = failure_of_kind error (kind_of error)
 
+-- a file that can't be read as a query or a program: that too may be for want of memory
+abbrev pub failure_of_file : Bor (List ℕ) → EngineFault → Failure
+failure_of_file path engine.OutOfMemory = OutOfMemory
+failure_of_file path fault = OfFile path fault
+
+-- what ends reports before the last
+abbrev pub failure_of_halt : Halt → Failure
+failure_of_halt halts.OutOfMemory = OutOfMemory
+failure_of_halt (halts.Unkept name sent) = Unkept name sent
+failure_of_halt (halts.Unwritten sent) = Unwritten sent
+
 -- its line, where that is known: of the words it is the parser's
 unfoldable pub failure_text : Failure → Option (List ℕ)
 failure_text (Words error) = None
@@ -27,6 +44,15 @@ failure_text EmptyFolder = Some (codes "error: the folder's name is empty\n")
 failure_text NoCommand = Some (codes "error: the words are no command\n")
 failure_text (File name) = Some (codes "file " ++ (shown_name name.now ++ codes "\n"))
 failure_text (Part number) = Some (codes "file lineorder.tbl." ++ (decimal number ++ codes "\n"))
+failure_text (Unnamed path) =
+    Some (codes "error: no name for the report of " ++ (shown_name path.now ++ codes "\n"))
+failure_text (NamedTwice name) =
+    Some (codes "error: two reports are named " ++ (shown_name name.now ++ codes "\n"))
+failure_text (OfFile path fault) =
+    Some (shown_name path.now ++ (codes ": " ++ (engine_fault_text fault ++ codes "\n")))
+failure_text (Unkept name sent) =
+    Some (shown_name name.now ++ (codes ": write " ++ (decimal sent ++ codes "\n")))
+failure_text (Unwritten sent) = Some (codes "write " ++ (decimal sent ++ codes "\n"))
 failure_text OutOfMemory = Some (codes "memory\n")
 
 -- ---- the exit status
@@ -44,6 +70,11 @@ status_of EmptyFolder = 2
 status_of NoCommand = 2
 status_of (File name) = 6
 status_of (Part number) = 6
+status_of (Unnamed path) = 2
+status_of (NamedTwice name) = 2
+status_of (OfFile path fault) = fault_status fault
+status_of (Unkept name sent) = 6
+status_of (Unwritten sent) = 6
 status_of OutOfMemory = 7
 
 -- ---- telling it

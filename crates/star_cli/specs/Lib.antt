@@ -4,4 +4,6 @@ pub mod FolderLoads
 pub mod Lines
 pub mod Names
 pub mod Private
+pub mod Reports
 pub mod Sessions
+pub mod Shelves

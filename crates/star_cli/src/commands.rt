@@ -1,13 +1,20 @@
 // The commands of the program.
 
+ghost use Rattle.std.specs.Prelude.{◌≡◌, true};
+ghost use Rattle.star_engine.specs.Answered.{change};
+ghost use Rattle.star_cli.specs.Reports.{AreAllJudged};
+
 use crate::answers::{Bytes, answer};
+use crate::errands::{ReadFile, errands_of, read_files};
 use crate::failure::Failure;
-use crate::files::{Folder, read_file};
+use crate::files::{Folder, find_folder, read_file};
 use crate::input::StandardInput;
 use crate::lines::tell;
 use crate::loads::load_engine;
+use crate::reports::{Errand, Halt, deliver_all, end, judge_all};
 use crate::sessions::hold;
-use crate::words::{Request, Task, request_of};
+use crate::shelf::Directory;
+use crate::words::{Reports, Request, Task, request_of};
 use star_engine::{Engine, sample};
 use star_schema::{Out, Sink};
 use star_statements::Source;
@@ -141,6 +148,70 @@ fn hold_session<R: Files + AllocGlobal, I: io::Read + Drop, S: Sink, E: Sink>(
     }
 }
 
+// Makes the reports of files over loaded tables; or, where quotes are asked for, runs none and tells
+// what is known before their runs. The answer is whether none was refused.
+fn report_over<'f, R: Files + AllocGlobal, S: Sink>(
+    rt: &R,
+    engine: &Engine,
+    asked: &Reports<'_>,
+    errands: &[Errand<'f>],
+    out: &mut S,
+) -> Result<bool, Halt<'f>>
+    ensures { asked.now.is_quote ≡ true → AreAllJudged engine.now errands.now
+        (change S.contents S.is_failed out.old out.new) result }
+{
+    if asked.is_quote {
+        return judge_all(rt.alloc(), engine, errands, out);
+    }
+    let mut shelf = Directory {
+        rt,
+        folder: asked.target,
+    };
+    deliver_all(rt.alloc(), engine, errands, &mut shelf, out)
+}
+
+// Loads the tables, does what is asked of files that were read, and gives the exit status.
+fn report_read<R: Files + AllocGlobal, S: Sink, E: Sink>(
+    rt: &R,
+    asked: &Reports<'_>,
+    files: &[ReadFile<'_>],
+    out: &mut S,
+    err: &mut E,
+) -> u8 {
+    let engine = match load_engine(rt, asked.folder, out, err) {
+        Ok(engine) => engine,
+        Err(status) => return status,
+    };
+    let made = match errands_of(rt.alloc(), files) {
+        Ok(errands) => report_over(rt, &engine, asked, errands.as_slice(), out),
+        Err(error) => Err(Halt::from(error)),
+    };
+    end(rt.alloc(), made, out, err)
+}
+
+// Reads the files that reports are asked of, and sees to it that there is a folder for the reports.
+fn ready<'a, R: Files + AllocGlobal>(
+    rt: &R,
+    asked: &Reports<'a>,
+) -> Result<Vec<ReadFile<'a>>, Failure<'a>> {
+    let files = read_files(rt, asked.files.as_slice())?;
+    find_folder(rt, asked.target)?;
+    Ok(files)
+}
+
+// Does what is asked of files: before any table is read, all of them are.
+fn make_reports<R: Files + AllocGlobal, S: Sink, E: Sink>(
+    rt: &R,
+    asked: &Reports<'_>,
+    out: &mut S,
+    err: &mut E,
+) -> u8 {
+    match ready(rt, asked) {
+        Ok(files) => report_read(rt, asked, files.as_slice(), out, err),
+        Err(failure) => failure.tell(rt.alloc(), out, err),
+    }
+}
+
 /// Does what the words ask for, the program's own name left off, and gives the exit status: 0
 /// where all is well, 1 for a query or a program that is refused, or a program that is trapped or
 /// meets its limit, 2 for words that are no command, 3 for table files that can't be loaded, 4 for
@@ -161,6 +232,7 @@ pub fn command<R: Files + AllocGlobal, I: io::Read + Drop, W: Write, E: Write>(
         Ok(Request::Session { folder }) => {
             hold_session(rt, folder, input, &mut answers, &mut notes)
         }
+        Ok(Request::Reports(asked)) => make_reports(rt, &asked, &mut answers, &mut notes),
         Err(failure) => failure.tell(rt.alloc(), &mut answers, &mut notes),
     }
 }

@@ -3,13 +3,15 @@
 ghost use Rattle.std.specs.Prelude.{◌≡◌, ◌==◌, IfOk, string_bytes};
 ghost use Rattle.star_common.specs.Memory.{TellsMemory};
 ghost use Rattle.star_engine.specs.Answered.{change};
-ghost use Rattle.star_cli.specs.Failures.{IsFailureTold, IsTextOf, IsToldOn, failure_of_words, failure_text, status_of, words_status};
+ghost use Rattle.star_cli.specs.Failures.{IsFailureTold, IsTextOf, IsToldOn, failure_of_file, failure_of_halt, failure_of_words, failure_text, status_of, words_status};
 ghost use Rattle.star_cli.specs.declared.failure.Failure.TheVariants.{OutOfMemory};
 
-use crate::lines::{MEMORY_LINE, MEMORY_STATUS, tell};
+use crate::lines::{MEMORY_LINE, MEMORY_STATUS, status_of, tell};
 use crate::names::Shown;
+use crate::reports::Halt;
 use clap::Error;
 use clap::error::ErrorKind;
+use star_engine::{EngineFault, FaultLine};
 use star_schema::Sink;
 use std::alloc::{AllocError, Global};
 use std::fmt;
@@ -30,6 +32,16 @@ pub(crate) enum Failure<'a> {
     /// The part of lineorder with this number, from 1, could not be read, is too large, or is one
     /// too many.
     Part(u16),
+    /// The path of a file has no last part, so that its report has no name.
+    Unnamed(&'a str),
+    /// The reports of two files would have this name.
+    NamedTwice(&'a str),
+    /// The file at this path is no query and no program.
+    OfFile(&'a str, EngineFault),
+    /// The report of this name was not kept: a write failed, this many bytes into the report.
+    Unkept(&'a str, u64),
+    /// A line was not told: a write failed, this many bytes into the line.
+    Unwritten(u64),
     /// Memory was refused.
     OutOfMemory,
 }
@@ -53,6 +65,18 @@ impl<'a> From<Error> for Failure<'a> {
     }
 }
 
+impl<'a> From<Halt<'a>> for Failure<'a> {
+    ghost from_gives = { λ halt failure. failure ≡ failure_of_halt halt };
+
+    fn from(halt: Halt<'a>) -> Failure<'a> {
+        match halt {
+            Halt::OutOfMemory => Failure::OutOfMemory,
+            Halt::Unkept { name, sent } => Failure::Unkept(name, sent),
+            Halt::Unwritten { sent } => Failure::Unwritten(sent),
+        }
+    }
+}
+
 impl<'a> fmt::Display for Failure<'a> {
     ghost output = { failure_text };
 
@@ -65,6 +89,19 @@ impl<'a> fmt::Display for Failure<'a> {
             Failure::NoCommand => f.write_str("error: the words are no command\n"),
             Failure::File(name) => writeln!(f, "file {}", Shown(name)),
             Failure::Part(number) => writeln!(f, "file lineorder.tbl.{number}"),
+            Failure::Unnamed(path) => writeln!(
+                f,
+                "error: no name for the report of {}",
+                Shown(path)
+            ),
+            Failure::NamedTwice(name) => writeln!(
+                f,
+                "error: two reports are named {}",
+                Shown(name)
+            ),
+            Failure::OfFile(path, fault) => writeln!(f, "{}: {}", Shown(path), FaultLine(fault)),
+            Failure::Unkept(name, sent) => writeln!(f, "{}: write {sent}", Shown(name)),
+            Failure::Unwritten(sent) => writeln!(f, "write {sent}"),
             Failure::OutOfMemory => f.write_str(MEMORY_LINE),
         }
     }
@@ -81,6 +118,16 @@ fn status_of_words(kind: ErrorKind) -> u8
 }
 
 impl<'a> Failure<'a> {
+    /// Why the file at a path is no query and no program; or want of memory.
+    pub(crate) fn of_file(path: &'a str, fault: EngineFault) -> Failure<'a>
+        ensures { result ≡ failure_of_file path.entry fault }
+    {
+        match fault {
+            EngineFault::OutOfMemory => Failure::OutOfMemory,
+            fault => Failure::OfFile(path, fault),
+        }
+    }
+
     /// The exit status.
     pub(crate) fn status(&self) -> u8
         ensures { result ≡ status_of self.now }
@@ -88,7 +135,10 @@ impl<'a> Failure<'a> {
         match self {
             Failure::Words(error) => status_of_words(error.kind()),
             Failure::NotText | Failure::EmptyFolder | Failure::NoCommand => 2,
+            Failure::Unnamed(_) | Failure::NamedTwice(_) => 2,
             Failure::File(_) | Failure::Part(_) => 6,
+            Failure::Unkept(_, _) | Failure::Unwritten(_) => 6,
+            Failure::OfFile(_, fault) => status_of(fault),
             Failure::OutOfMemory => MEMORY_STATUS,
         }
     }

@@ -1,11 +1,11 @@
-// The files that a command reads.
+// The files and folders that a command reads.
 
 use crate::failure::Failure;
 use star_engine::{FileFault, Input, Texts, read_expected};
 use std::alloc::{AllocError, Global};
 use std::fs::{File, OpenFile};
-use std::io;
 use std::rt::Files;
+use std::{fs, io};
 
 /// The most bytes that a table file, or a part of one, may have.
 const MOST_TABLE_BYTES: u64 = 1_000_000_000_000;
@@ -177,6 +177,15 @@ fn read_lineorder<R: Files + AllocGlobal>(
             Ok(parts)
         }
         Err(fault) => Err(failure_of(fault, Failure::File(LINEORDER))),
+    }
+}
+
+/// Sees to it that a folder is there, which a failure names as the words do.
+pub(crate) fn find_folder<'a, R: Files>(rt: &R, folder: &'a str) -> Result<(), Failure<'a>> {
+    match fs::metadata(rt, folder) {
+        Ok(metadata) if metadata.is_dir() => Ok(()),
+        Err(error) if error.kind() == io::ErrorKind::OutOfMemory => Err(Failure::from(AllocError)),
+        _ => Err(Failure::File(folder)),
     }
 }
 

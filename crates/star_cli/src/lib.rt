@@ -5,6 +5,7 @@
 mod answers;
 mod calls;
 mod commands;
+mod errands;
 mod failure;
 mod files;
 mod help;
@@ -13,7 +14,9 @@ mod lines;
 mod loads;
 mod names;
 mod parser;
+mod reports;
 mod sessions;
+mod shelf;
 mod words;
 
 pub use crate::answers::{Bytes, answer};
@@ -21,5 +24,7 @@ pub use crate::commands::{command, run};
 pub use crate::input::StandardInput;
 pub use crate::lines::{tell, tell_fault};
 pub use crate::loads::{load_engine, load_folder};
+pub use crate::reports::{Errand, Halt, deliver_all, judge_all};
 pub use crate::sessions::{Stop, hold, step};
+pub use crate::shelf::{Shelf, ShelfFault};
 pub use crate::words::Task;

@@ -30,7 +30,7 @@ fn line_of(alloc: Global, fault: &EngineFault) -> Result<String, AllocError>
     format!(in alloc; "{}\n", FaultLine(fault))
 }
 
-fn status_of(fault: &EngineFault) -> u8
+pub(crate) fn status_of(fault: &EngineFault) -> u8
     ensures { result ≡ fault_status fault.now }
 {
     match fault {

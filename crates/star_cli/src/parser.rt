@@ -94,6 +94,34 @@ pub(crate) fn over_folder_and_file<'a>(
     over_folder(alloc, help)?.arg(file_word(alloc, file))
 }
 
+// Some words, as they stand.
+fn file_words<'a>(alloc: Global) -> Arg<'a> {
+    Arg::new(alloc, "FILE")
+        .help(
+            "1 to 1000 files with the text of a program or of a query (docs/PROGRAMS.md, docs/QUERIES.md)",
+        )
+        .required(true)
+        .num_args(1..=1000)
+        .action(ArgAction::Append)
+}
+
+fn quote_flag<'a>(alloc: Global) -> Arg<'a> {
+    Arg::new(alloc, "quote")
+        .long("quote")
+        .help(
+            "Tells of each file how many rows it visits and its report can have at most, and runs none",
+        )
+        .action(ArgAction::SetTrue)
+}
+
+/// A command that asks for a folder, a folder for reports, and files.
+pub(crate) fn over_files<'a>(alloc: Global, help: Help) -> Result<Command<'a>, AllocError> {
+    over_folder(alloc, help)?
+        .arg(word(alloc, "TARGET", "A folder that is there, for the reports"))?
+        .arg(file_words(alloc))?
+        .arg(quote_flag(alloc))
+}
+
 /// A command that asks for a folder, a file and a limit on visits.
 pub(crate) fn under_limit<'a>(
     alloc: Global,

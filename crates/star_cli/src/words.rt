@@ -7,9 +7,11 @@ ghost use Rattle.star_schema.specs.Most.{most_rows};
 use crate::failure::Failure;
 use crate::help::{
     BENCH, CHECK, EITHER_FILE, EXEC, EXPLAIN, Help, PROGRAM_FILE, QUERY, QUERY_FILE, QUOTE,
-    SESSION, STAR, TABLES, TRIAL,
+    REPORTS, SESSION, STAR, TABLES, TRIAL,
 };
-use crate::parser::{over_file, over_folder, over_folder_and_file, program, under_limit};
+use crate::parser::{
+    over_file, over_files, over_folder, over_folder_and_file, program, under_limit,
+};
 use clap::{ArgMatches, Command};
 use star_schema::{Limits, MOST_ROWS};
 use std::alloc::{AllocError, Global};
@@ -56,12 +58,24 @@ pub enum Task<'a> {
 }
 
 /// What the words of a command line ask for.
-#[derive(Clone, Copy)]
+#[derive(Drop)]
 pub(crate) enum Request<'a> {
     /// An answer, over what is read before it.
     Answer(Task<'a>),
     /// A session over the tables of a folder.
     Session { folder: &'a str },
+    /// Reports of some files over the tables of a folder, or what is known before their runs.
+    Reports(Reports<'a>),
+}
+
+/// What is asked of some files over the tables of a folder: their reports, into the folder `target`;
+/// or, where it `is_quote`, what is known before their runs.
+#[derive(Drop)]
+pub(crate) struct Reports<'a> {
+    pub(crate) folder: &'a str,
+    pub(crate) target: &'a str,
+    pub(crate) files: Vec<&'a str>,
+    pub(crate) is_quote: bool,
 }
 
 fn with<'a>(
@@ -82,6 +96,7 @@ fn star_command<'a>(alloc: Global) -> Result<Command<'a>, AllocError> {
     let star = with(star, over_folder_and_file(alloc, QUOTE, EITHER_FILE))?;
     let star = with(star, under_limit(alloc, TRIAL, PROGRAM_FILE))?;
     let star = with(star, over_folder(alloc, SESSION))?;
+    let star = with(star, over_files(alloc, REPORTS))?;
     with(star, program(alloc, TABLES))
 }
 
@@ -219,6 +234,30 @@ fn task_of<'a>(alloc: Global, words: &'a [String]) -> Result<Task<'a>, Failure<'
     }
 }
 
+// The folder that a word names. The parser lets no word be missing.
+fn folder_named<'a>(matches: &ArgMatches<'a>, name: &str) -> Result<&'a str, Failure<'a>> {
+    match matches.get_str(name) {
+        Some("") => Err(Failure::EmptyFolder),
+        Some(folder) => Ok(folder),
+        None => Err(Failure::NoCommand),
+    }
+}
+
+fn reports_of<'a>(alloc: Global, words: &'a [String]) -> Result<Reports<'a>, Failure<'a>> {
+    let command = over_files(alloc, REPORTS)?;
+    let matches = command.try_get_matches_from(words)?;
+    let files = match matches.get_strs("FILE") {
+        Some(files) => files.to_vec(alloc)?,
+        None => return Err(Failure::NoCommand),
+    };
+    Ok(Reports {
+        folder: folder_named(&matches, "FOLDER")?,
+        target: folder_named(&matches, "TARGET")?,
+        files,
+        is_quote: matches.get_flag("quote"),
+    })
+}
+
 /// What the words ask for.
 pub(crate) fn request_of<'a>(
     alloc: Global,
@@ -228,6 +267,9 @@ pub(crate) fn request_of<'a>(
         Some((name, rest)) if name.as_str() == "session" => {
             let folder = folder_of(alloc, SESSION, rest)?;
             Ok(Request::Session { folder })
+        }
+        Some((name, rest)) if name.as_str() == "reports" => {
+            Ok(Request::Reports(reports_of(alloc, rest)?))
         }
         _ => Ok(Request::Answer(task_of(alloc, words)?)),
     }

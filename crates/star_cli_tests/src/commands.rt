@@ -76,7 +76,7 @@ pub(crate) fn assert_runs<R: Files + AllocGlobal + Abort>(
     Ok(())
 }
 
-fn assert_run<R: Files + AllocGlobal + Abort>(
+pub(crate) fn assert_run<R: Files + AllocGlobal + Abort>(
     rt: &R,
     words: &[&str],
     out: &str,
@@ -116,6 +116,9 @@ const NO_COMMANDS: &[&[&str]] = &[
     &["tables", "a"],
     &["session"],
     &["session", "a", "b"],
+    &["reports", "a"],
+    &["reports", "a", "b"],
+    &["reports", "a", "b", "c", "--no"],
     &["--no"],
 ];
 

@@ -9,6 +9,8 @@ mod damaged;
 #[cfg(test)]
 mod parts;
 #[cfg(test)]
+mod reports;
+#[cfg(test)]
 mod sessions;
 #[cfg(test)]
 mod surroundings;

@@ -54,7 +54,7 @@ fn names_files_on_one_line(rt: HostRuntime) -> Result<(), Fail> {
 }
 
 // The status of a command whose two streams take so many bytes, and what they took.
-fn run_short<R: Files + AllocGlobal>(
+pub(crate) fn run_short<R: Files + AllocGlobal>(
     rt: &R,
     words: &[&str],
     mut out: Short,
@@ -233,6 +233,11 @@ const HELP: &[(&[&str], &str, &str)] = &[
         &["session", "--help"],
         "Usage: star session <FOLDER>\n",
         "  star session data\n",
+    ),
+    (
+        &["reports", "--help"],
+        "Usage: star reports [OPTIONS] <FOLDER> <TARGET> <FILE>...\n",
+        "  star reports --quote data reports revenue.sql above.star\n",
     ),
 ];
 

@@ -98,7 +98,7 @@ module _ (visits : ℕ) (database : Database) (file : List ℕ) (program : Parts
   of_program : (Holds : Parts → Type 0) → Holds program → HoldsOfFile file Holds
   of_program Holds holds = record { program = program; of_file = spelled; holds = holds }
 
-  fault_of_program : (fault : EngineFault) → IsNotVerified database visits program fault
+  pub fault_of_program : (fault : EngineFault) → IsNotVerified database visits program fault
       → IsUntoldOver visits database file fault
   fault_of_program (Refused refusal) refused = of_program _ refused
   fault_of_program _ refused = absurd refused

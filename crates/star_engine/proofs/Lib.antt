@@ -12,6 +12,7 @@ pub mod QueryFaults
 pub mod QueryAnswers
 pub mod ProgramTexts
 pub mod Quoting
+pub mod TellingLemmas
 pub mod Meanings
 pub mod ThirteenMeant
 pub mod BenchSections

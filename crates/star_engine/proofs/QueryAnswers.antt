@@ -80,7 +80,7 @@ module _ (most : ℕ) (database : Database) (query : List ℕ) (p : Plan)
         first = first;
       }
 
-  fault_told : (fault : EngineFault) → IsNotVerified database most (compiled p) fault
+  pub fault_told : (fault : EngineFault) → IsNotVerified database most (compiled p) fault
       → IsUnansweredOver most database query fault
   fault_told (engine.Refused refusal) is = refusal_told refusal is
   fault_told _ is = absurd is

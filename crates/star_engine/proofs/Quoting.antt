@@ -1,5 +1,5 @@
 -- What is quoted of a file, by the quote of its program.
-use Rattle.std.proofs.Common.{◌≡◌, ◌<◌, ◌∙◌, ℕ, Bool, true, false, List, ap, length}
+use Rattle.std.proofs.Common.{◌≡◌, ◌∙◌, ℕ, Bool, true, false, List, ap}
 use Rattle.star_schema.specs.Database.{Database, TableTexts}
 use Rattle.star_plan.specs.Meaning.{Plan}
 use Rattle.star_program.specs.declared.program.Parts.{Parts}
@@ -12,7 +12,6 @@ use Rattle.star_engine.specs.Notes.{quote_line}
 use Rattle.star_engine.specs.Queries.{fact_rows}
 use Rattle.star_engine.specs.QuoteTexts.{IsNoneOfKind, IsQuoteOfKindOver, IsUnquotedOfKind}
 use Rattle.star_engine.specs.Private.QuerySteps.{IsProgramOfKind}
-use Rattle.star_engine.proofs.Executing.{quote_some}
 
 -- its tables can't be loaded
 pub unquoted_tables : (is_program : Bool) (rows : ℕ) (texts : TableTexts) (file : List ℕ)

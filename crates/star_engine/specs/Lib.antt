@@ -11,6 +11,7 @@ pub mod Reading
 pub mod Queries
 pub mod QueryRuns
 pub mod QuoteTexts
+pub mod Tellings
 pub mod Thirteen
 pub mod Bench
 pub mod Private

@@ -1,6 +1,6 @@
 // Five tables that are loaded once and asked often.
 
-ghost use Rattle.std.specs.Prelude.{◌≡◌, ◌≤◌, ◌^◌, true, false, IfErr, IfOk};
+ghost use Rattle.std.specs.Prelude.{◌≡◌, ◌≤◌, ◌^◌, true, false, IfErr, IfOk, MatchResult, string_bytes};
 ghost use Rattle.star_schema.specs.Loadable.{IsLoadable};
 ghost use Rattle.star_catalogue.specs.Load.{text_of};
 ghost use Rattle.star_engine.specs.Answered.{IsAnswered, OrMemory, change};
@@ -11,6 +11,7 @@ ghost use Rattle.star_engine.specs.Loads.{AreLoadedRows, AreOfLoadableTexts, IsU
 ghost use Rattle.star_engine.specs.Noted.{IsNoted};
 ghost use Rattle.star_engine.specs.Queries.{IsQueryQuoteOver, IsQueryToldOver, IsUnansweredOver};
 ghost use Rattle.star_engine.specs.QuoteTexts.{IsQuoteTextOver, IsUnquotedOver};
+ghost use Rattle.star_engine.specs.Tellings.{IsFileToldOver, IsJudgedOver, IsUnjudgedOver, telling_of};
 ghost use Rattle.star_engine.specs.Trials.{IsBoundedReport, IsNoTrialOver};
 
 use crate::answers::{answer_program_over, list, quote_text_over, trial_over};
@@ -18,6 +19,7 @@ use crate::benchmark::bench_over;
 use crate::fault::EngineFault;
 use crate::loading::load;
 use crate::queries::answer_query_over;
+use crate::tellings::{Told, judge_over, tell_over};
 use star_catalogue::{Catalogue, Texts};
 use star_schema::{Limits, Sink};
 use std::alloc::Global;
@@ -131,6 +133,29 @@ impl Engine {
             (IsQuoteTextOver self.now.database file.now) (IsUnquotedOver file.now) result }
     {
         quote_text_over(alloc, &self.catalogue, file, out)
+    }
+
+    /// The line of what is known before a run of what a file holds over the loaded tables, once it is
+    /// checked: how many visits are quoted, and how many rows the report can have at most. Nothing is
+    /// run. The file is taken for a program or a query as `quote_text` does, and refused as
+    /// `answer_program` and `answer_query` do.
+    pub fn judge_text(&self, alloc: Global, file: &[u8]) -> Result<String, EngineFault>
+        ensures { MatchResult result
+            (λ line. IsJudgedOver self.now.visits self.now.database file.now (string_bytes line))
+            (OrMemory (IsUnjudgedOver self.now.visits self.now.database file.now)) }
+    {
+        judge_over(alloc, &self.catalogue, file, self.limits)
+    }
+
+    /// What is told over the loaded tables of the run of what a file holds: its report and its notes,
+    /// as `answer_program` or `answer_query` write them. The file is taken for a program or a query as
+    /// `quote_text` does.
+    pub fn tell_text(&self, alloc: Global, file: &[u8]) -> Result<Told, EngineFault>
+        ensures { MatchResult result
+            (λ told. IsFileToldOver self.now.visits self.now.database file.now (telling_of told))
+            (OrMemory (IsUnjudgedOver self.now.visits self.now.database file.now)) }
+    {
+        tell_over(alloc, &self.catalogue, file, self.limits)
     }
 
     /// Runs the program whose text a file holds over the loaded tables, with at most `visits` turns

@@ -30,7 +30,7 @@ fn fault_of(refused: Refused) -> EngineFault
 }
 
 // The program, where nothing refuses it.
-fn checked<'c>(
+pub(crate) fn checked<'c>(
     alloc: Global,
     catalogue: &'c Catalogue,
     program: Program,

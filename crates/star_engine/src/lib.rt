@@ -16,6 +16,7 @@ pub mod query_laws;
 mod quotes;
 mod reading;
 mod reports;
+mod tellings;
 mod thirteen;
 mod writing;
 
@@ -32,4 +33,5 @@ pub use star_plan::PlanFault;
 pub use star_program::TextFault;
 pub use star_query::QueryFault;
 pub use star_verify::{Reached, ReachedColumns, Reason, Refusal};
+pub use tellings::{Told, check_text};
 pub use thirteen::{BenchmarkQuery, THIRTEEN};

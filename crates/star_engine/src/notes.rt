@@ -2,12 +2,13 @@
 
 ghost use Rattle.std.specs.Prelude.{◌≡◌, IfOk, string_bytes};
 ghost use Rattle.star_engine.specs.Executions.{quote_over};
-ghost use Rattle.star_engine.specs.Notes.{counts_line, quote_line};
+ghost use Rattle.star_engine.specs.Notes.{counts_line, forecast_line, quote_line};
+ghost use Rattle.star_engine.specs.Tellings.{most_rows_over};
 
 use star_catalogue::Catalogue;
 use star_machine::Outcome;
 use star_program::Program;
-use star_verify::quote;
+use star_verify::{Verified, quote};
 use std::alloc::{AllocError, Global};
 
 // How many visits of a program over loaded tables are quoted.
@@ -29,6 +30,19 @@ pub(crate) fn quote_note(
 {
     let visits = quoted(catalogue, program);
     format!(in alloc; "quote {visits}\n")
+}
+
+// The note of how many visits are quoted of a program that nothing refuses, and how many rows its
+// report can have at most.
+#[tactic(auto, unfolding(crate::specs::Notes::forecast_line))]
+pub(crate) fn forecast_note(alloc: Global, verified: &Verified<'_>) -> Result<String, AllocError>
+    ensures { IfOk result (λ note. string_bytes note
+        ≡ forecast_line (quote_over verified.now.database verified.now.program)
+        (most_rows_over verified.now.database verified.now.program)) }
+{
+    let visits = verified.quote();
+    let rows = verified.most_rows();
+    format!(in alloc; "quote {visits} rows {rows}\n")
 }
 
 // The note of what a run did.

@@ -10,7 +10,11 @@ use std::alloc::{AllocError, Global};
 use std::test::Fail;
 
 // The loaded sample, in a box, since it is dear to let go in a proof.
-fn loaded(alloc: Global, texts: &Texts<'_>, limits: Limits) -> Result<Box<Engine>, Fail> {
+pub(crate) fn loaded(
+    alloc: Global,
+    texts: &Texts<'_>,
+    limits: Limits,
+) -> Result<Box<Engine>, Fail> {
     match Engine::load(alloc, texts, limits) {
         Ok(engine) => Ok(Box::new(alloc, engine)?),
         Err(fault) => Err(Fail::from(format_args!("{fault}"))),

@@ -29,4 +29,6 @@ mod sinks;
 #[cfg(test)]
 mod tables;
 #[cfg(test)]
+mod tellings;
+#[cfg(test)]
 mod thirteen;

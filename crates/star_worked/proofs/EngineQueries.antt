@@ -21,7 +21,7 @@ use Rattle.star_compiled.specs.Judged.{IsOverflow}
 use Rattle.star_engine.specs.declared.fault.EngineFault.TheVariants as engine
 use Rattle.star_engine.specs.Loads.{IsLoadFault}
 use Rattle.star_engine.specs.Noted.{Telling}
-use Rattle.star_engine.specs.Notes.{counts_line, quote_line}
+use Rattle.star_engine.specs.Notes.{counts_line, forecast_line, quote_line}
 use Rattle.star_engine.specs.Queries.{FitsRows, IsNoQuery, IsPlanFault, IsPlanOf, IsQuery, IsQueryFault, IsQueryTold, IsQueryToldOver, IsUnanswered, IsUnansweredOver, IsUnasked, IsUnfit, fact_rows}
 use Rattle.star_engine.specs.QueryRuns.{HasReported, PrintsTheReport}
 
@@ -30,6 +30,10 @@ use Rattle.star_engine.specs.QueryRuns.{HasReported, PrintsTheReport}
 quoted : quote_line 5 ≡ codes "quote 5\n"
 unfolding quote_line digits
 quoted = refl
+
+foretold : forecast_line 5 6 ≡ codes "quote 5 rows 6\n"
+unfolding forecast_line digits
+foretold = refl
 
 counted : counts_line 5 3 2 ≡ codes "visits 5 lookups 3 updates 2\n"
 unfolding counts_line digits

@@ -1,9 +1,9 @@
-use Rattle.std.proofs.Common.{◌≡◌, true, false, arith, refl, rules, subst}
+use Rattle.std.proofs.Common.{◌≡◌, true, false, refl, rules, subst}
 use Rattle.std.proofs.lemmas.Result.{err_from_is_err_and}
-use Rattle.star_engine.specs.Answered.{Change, change}
+use Rattle.star_engine.specs.Answered.{change}
 use Rattle.star_statements.specs.Sources.{has_failed, reader_of}
 use Rattle.star_cli.specs.Private.Turns.{IsAnswered}
-use Rattle.star_cli.proofs.Conversing.{begins, comes_to_its_end, goes_on, is_past, is_stopped}
+use Rattle.star_cli.proofs.Conversing.{begins, comes_to_its_end, goes_on, is_stopped}
 use Rattle.star_cli.proofs.sessions.converse.Goals as goal
 
 pub statements-init : goal.statements-init

@@ -1,4 +1,4 @@
-use Rattle.std.proofs.Common.{◌∙◌, subst, sym}
+use Rattle.std.proofs.Common.{◌∙◌}
 use Rattle.star_engine.specs.Answered.{change}
 use Rattle.star_engine.specs.Executions.{quote_over}
 use Rattle.star_engine.specs.QuoteTexts.{IsQuoteTextOver, is_program_file}

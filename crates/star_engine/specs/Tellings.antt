@@ -1,0 +1,86 @@
+-- What is told of a file, be it a program or a query: whether it can be read, what is known of its run
+-- before it over the rows of five tables, and its report with its notes.
+use Rattle.std.specs.Prelude.{◌≡◌, ℕ, Bool, true, false, List, string_bytes}
+use Rattle.star_schema.specs.Database.{Database}
+use Rattle.star_admission.specs.MostRows.{most_rows}
+use Rattle.star_compiled.specs.Compiled.{compiled}
+use Rattle.star_program.specs.declared.program.Parts.{Parts}
+use Rattle.star_engine.specs.declared.fault.EngineFault.{EngineFault}
+use Rattle.star_engine.specs.declared.tellings.Told.{Told}
+use Rattle.star_engine.specs.Executions.{IsAcceptedWithin, IsToldOver, IsUntoldOver, quote_over}
+use Rattle.star_engine.specs.Loads.{HoldsOfFile, IsProgram}
+use Rattle.star_engine.specs.Noted.{Telling}
+use Rattle.star_engine.specs.Notes.{forecast_line}
+use Rattle.star_engine.specs.Queries.{FitsRows, IsQuery, IsQueryToldOver, IsUnansweredOver, fact_rows}
+use Rattle.star_engine.specs.QuoteTexts.{is_program_file}
+use Rattle.star_world.specs.WorldOf.{world_of}
+
+-- ---- a file alone
+
+abbrev pub IsOfKind : (is_program : Bool) → (file : List ℕ) → Type 0
+IsOfKind true file = IsProgram file
+IsOfKind false file = IsQuery file
+
+-- a file that spells a program, or that means a query, whichever it is taken for
+abbrev pub IsReadable : (file : List ℕ) → Type 0
+IsReadable file = IsOfKind (is_program_file file) file
+
+-- ---- over the rows of five tables
+
+-- how many rows the report of a program over these tables can have at most
+abbrev pub most_rows_over : Database → Parts → ℕ
+most_rows_over database program = most_rows (world_of database) program
+
+-- what is told before a run of a program that nothing refuses: how many visits are quoted, and how many
+-- rows its report can have
+pub record IsProgramForecast (database : Database) (most : ℕ) (program : Parts) (text : List ℕ)
+    : Type 0 where
+  pub accepted : IsAcceptedWithin database most program
+  pub foretold : text
+      ≡ forecast_line (quote_over database program) (most_rows_over database program)
+
+-- the same of a query that fits: each row of lineorder is visited once, and the rows are those that the
+-- report of its program can have
+pub record IsQueryForecast (most : ℕ) (database : Database) (query text : List ℕ) : Type 0 where
+  pub fitting : FitsRows most database query
+  pub foretold : text
+      ≡ forecast_line (fact_rows database) (most_rows_over database (compiled fitting.p))
+
+abbrev pub IsJudgedOfKind : (is_program : Bool) → (visits : ℕ) → Database → (file text : List ℕ)
+    → Type 0
+IsJudgedOfKind true visits database file text =
+    HoldsOfFile file (λ program. IsProgramForecast database visits program text)
+IsJudgedOfKind false visits database file text = IsQueryForecast visits database file text
+
+abbrev pub IsUnjudgedOfKind : (is_program : Bool) → (visits : ℕ) → Database → (file : List ℕ)
+    → EngineFault → Type 0
+IsUnjudgedOfKind true visits database file fault = IsUntoldOver visits database file fault
+IsUnjudgedOfKind false visits database file fault = IsUnansweredOver visits database file fault
+
+abbrev pub IsToldOfKind : (is_program : Bool) → (visits : ℕ) → Database → (file : List ℕ)
+    → Telling → Type 0
+IsToldOfKind true visits database file telling = IsToldOver visits database file telling
+IsToldOfKind false visits database file telling = IsQueryToldOver visits database file telling
+
+-- the line of a file that isn't refused and is not run
+abbrev pub IsJudgedOver : (visits : ℕ) → Database → (file text : List ℕ) → Type 0
+IsJudgedOver visits database file text =
+    IsJudgedOfKind (is_program_file file) visits database file text
+
+-- what is told of its run
+abbrev pub IsFileToldOver : (visits : ℕ) → Database → (file : List ℕ) → Telling → Type 0
+IsFileToldOver visits database file telling =
+    IsToldOfKind (is_program_file file) visits database file telling
+
+-- the texts that are handed over
+abbrev pub telling_of : Told → Telling
+telling_of told = record {
+  quoted = string_bytes told.quoted;
+  report = told.report.items;
+  done = string_bytes told.done;
+}
+
+-- why there is none: the file is read first, and then it is checked
+abbrev pub IsUnjudgedOver : (visits : ℕ) → Database → (file : List ℕ) → EngineFault → Type 0
+IsUnjudgedOver visits database file fault =
+    IsUnjudgedOfKind (is_program_file file) visits database file fault
