@@ -12,15 +12,19 @@ use Rattle.star_engine.specs.Noted.{Telling}
 use Rattle.star_engine.specs.Tellings.{IsFileToldOver, IsJudgedOver, IsUnjudgedOver}
 use Rattle.star_cli.specs.Reports.{AreDelivered, AreJudged, IsDelivered, IsDue, IsHalted, IsJudged, IsJudgingHalted, named_line, refused_line, told_line}
 use Rattle.star_cli.specs.Private.ReportSteps.{IsKeptAndTold, IsLineWritten, IsRefusalTold}
-use Rattle.star_cli.specs.Shelves.{HasKept, HasKeptNone, KeepsAll, Kept, Shelving}
+use Rattle.star_cli.specs.Shelves.{HasKept, HasKeptNone, KeepsAll, Kept, Shelving, shelving}
 use Rattle.star_cli.specs.declared.reports.Errand.{Errand}
 use Rattle.star_cli.specs.declared.reports.Halt.{Halt}
 use Rattle.star_cli.specs.declared.reports.Halt.TheVariants.{OutOfMemory, Unkept, Unwritten}
 
--- a shelf that no report is put on keeps those that it has
-pub keeps_self : (known : Option (List Kept)) → KeepsAll known known
+keeps_self : (known : Option (List Kept)) → KeepsAll known known
 keeps_self None = tt
 keeps_self (Some reports) = refl
+
+-- a shelf that no report is put on keeps those that it has
+pub kept_none : {K : Type 0} (reports : K → Option (List Kept)) (failed_at : K → Option ℕ) (shelf : K)
+    → HasKeptNone (shelving reports failed_at shelf shelf)
+kept_none reports failed_at shelf = record { same = keeps_self (reports shelf); untried = refl }
 
 module _ {K S : Type 0} (loaded : Loaded) where
   pub delivered_more : (errands : List Errand) (errand : Errand) (shelf : Shelving K) (out : Change S)
@@ -161,7 +165,8 @@ kept_halted loaded name file telling shelf out OutOfMemory told is = (
     | inr kept ↦ inr (told_line name telling, record { telling = telling; told = told; kept = kept; lined = refl })
   ],
 )
-kept_halted loaded name file telling shelf out (Unkept named sent) told is = is
+kept_halted loaded name file telling shelf out (Unkept named sent) told is =
+    (is.0, record { telling = telling; told = told; failed = is.1 }, is.2)
 kept_halted loaded name file telling shelf out (Unwritten sent) told is = (
   true,
   (

@@ -8,7 +8,7 @@ use Rattle.star_engine.specs.Tellings.{IsFileToldOver, IsJudgedOver, IsUnjudgedO
 use Rattle.star_cli.specs.Failures.{IsFailureTold, failure_of_halt}
 use Rattle.star_cli.specs.Lines.{fault_line}
 use Rattle.star_cli.specs.Names.{shown_name}
-use Rattle.star_cli.specs.Shelves.{HasKept, HasKeptNone, Shelving}
+use Rattle.star_cli.specs.Shelves.{HasFailedAt, HasKept, HasKeptNone, Shelving}
 use Rattle.star_cli.specs.declared.reports.Errand.{Errand}
 use Rattle.star_cli.specs.declared.reports.Halt.{Halt}
 use Rattle.star_cli.specs.declared.reports.Halt.TheVariants.{OutOfMemory, Unkept, Unwritten}
@@ -48,6 +48,13 @@ pub record IsReportKept {K : Type 0} (loaded : Loaded) (name file : List ℕ) (s
   pub kept : HasKept shelf name telling.report
   pub lined : line ≡ told_line name telling
 
+-- a file is answered, and its report is not kept: a write of it failed
+pub record IsReportUnkept {K : Type 0} (loaded : Loaded) (file : List ℕ) (shelf : Shelving K) (sent : ℕ)
+    : Type 0 where
+  pub telling : Telling
+  pub told : IsFileToldOver loaded.visits loaded.database file telling
+  pub failed : HasFailedAt shelf telling.report sent
+
 -- a file is answered or refused, with the line that is due
 abbrev pub IsDue : {K : Type 0} → Loaded → (name file : List ℕ) → Shelving K → (answered : Bool)
     → (line : List ℕ) → Type 0
@@ -66,7 +73,7 @@ IsDelivered loaded name file shelf out (Err OutOfMemory) =
     IsUntouched out × (HasKeptNone shelf
     ⊎ ((line : List ℕ) × IsReportKept loaded name file shelf line))
 IsDelivered loaded name file shelf out (Err (Unkept named sent)) =
-    IsUntouched out × HasKeptNone shelf × (named.now ≡ name)
+    IsUntouched out × IsReportUnkept loaded file shelf sent × (named.now ≡ name)
 IsDelivered loaded name file shelf out (Err (Unwritten sent)) =
     (answered : Bool) × ((line : List ℕ)
     × (IsDue loaded name file shelf answered line × HasGainedPart out line sent))

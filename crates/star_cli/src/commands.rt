@@ -166,6 +166,7 @@ fn report_over<'f, R: Files + AllocGlobal, S: Sink>(
     let mut shelf = Directory {
         rt,
         folder: asked.target,
+        failed_at: None,
     };
     deliver_all(rt.alloc(), engine, errands, &mut shelf, out)
 }

@@ -104,7 +104,8 @@ fn keep_told<'a, K: Shelf, S: Sink>(
     shelf: &mut K,
     out: &mut S,
 ) -> Result<(), Halt<'a>>
-    ensures { IsKeptAndTold name.now (telling_of told.now) (shelving K.reports shelf.old shelf.new)
+    ensures { IsKeptAndTold name.now (telling_of told.now)
+        (shelving K.reports K.failed_at shelf.old shelf.new)
         (change S.contents S.is_failed out.old out.new) result }
 {
     match shelf.keep(alloc, name, told.report.as_slice()) {
@@ -146,8 +147,8 @@ fn deliver<'a, K: Shelf, S: Sink>(
     out: &mut S,
 ) -> Result<bool, Halt<'a>>
     ensures { IsDelivered engine.now errand.entry.name.now errand.entry.file.now
-        (shelving K.reports shelf.old shelf.new) (change S.contents S.is_failed out.old out.new)
-        result }
+        (shelving K.reports K.failed_at shelf.old shelf.new)
+        (change S.contents S.is_failed out.old out.new) result }
 {
     let Errand { name, file } = errand;
     match engine.tell_text(alloc, file) {
@@ -191,7 +192,8 @@ pub fn deliver_all<'a, K: Shelf, S: Sink>(
     shelf: &mut K,
     out: &mut S,
 ) -> Result<bool, Halt<'a>>
-    ensures { AreAllDelivered engine.now errands.now (shelving K.reports shelf.old shelf.new)
+    ensures { AreAllDelivered engine.now errands.now
+        (shelving K.reports K.failed_at shelf.old shelf.new)
         (change S.contents S.is_failed out.old out.new) result }
 {
     let mut all = true;

@@ -1,11 +1,12 @@
 // Where reports are kept.
 
-ghost use Rattle.std.specs.Prelude.{List, Option, None, OnErr, OnOk};
+ghost use Rattle.std.specs.Prelude.{ℕ, List, Option, None, IfErr, OnOk};
 ghost use Rattle.star_common.specs.Memory.{TellsMemory};
-ghost use Rattle.star_cli.specs.Shelves.{HasKept, HasKeptNone, Kept, shelving};
+ghost use Rattle.star_cli.specs.Private.ReportSteps.{IsFailedBehind, IsFailedWithin};
+ghost use Rattle.star_cli.specs.Shelves.{HasKept, IsUnkept, Kept, shelving};
 ghost use Rattle.star_cli.specs.declared.shelf.ShelfFault.TheVariants.{OutOfMemory};
 
-use star_report::{WriteFault, write_whole};
+use star_report::write_whole;
 use star_schema::Out;
 use std::alloc::{AllocError, Global};
 use std::fs::{File, OpenFile};
@@ -29,22 +30,21 @@ impl From<AllocError> for ShelfFault {
     }
 }
 
-impl From<WriteFault> for ShelfFault {
-    fn from(fault: WriteFault) -> ShelfFault {
-        ShelfFault::Write { sent: fault.sent }
-    }
-}
-
 /// A place that keeps reports, each under a name of its own.
 pub trait Shelf {
     // The reports that were kept, in order, where they are known.
     ghost reports: { Self → Option (List Kept) };
 
-    /// Keeps a whole report under a name. On `Err` nothing is kept.
+    // How many bytes of the last report were sent, where a write of it failed.
+    ghost failed_at: { Self → Option ℕ };
+
+    /// Keeps a whole report under a name. On `Err` nothing is kept: a write failed, as far into the
+    /// report as is told, or at its end; or memory was refused.
     fn keep(&mut self, alloc: Global, name: &str, report: &[u8]) -> Result<(), ShelfFault>
         ensures kept { OnOk result
-            (HasKept (shelving reports self.old self.new) name.now report.now) }
-        ensures unkept { OnErr result (HasKeptNone (shelving reports self.old self.new)) };
+            (HasKept (shelving reports failed_at self.old self.new) name.now report.now) }
+        ensures unkept { IfErr result
+            (IsUnkept (shelving reports failed_at self.old self.new) report.now) };
 }
 
 /// A folder as a shelf. A report is the file `NAME.report`. It is written whole under another name,
@@ -53,10 +53,14 @@ pub trait Shelf {
 pub(crate) struct Directory<'a, R> {
     pub(crate) rt: &'a R,
     pub(crate) folder: &'a str,
+    // How many bytes of the last report were sent, where a write of it failed.
+    pub(crate) failed_at: Option<u64>,
 }
 
 // What a failure is told as behind the first `sent` bytes of a report.
-fn fault_of(error: &io::Error, sent: usize) -> ShelfFault {
+fn fault_of(error: &io::Error, sent: usize) -> ShelfFault
+    ensures { IsFailedBehind sent result }
+{
     match error.kind() {
         io::ErrorKind::OutOfMemory => ShelfFault::OutOfMemory,
         _ => ShelfFault::Write { sent: sent as u64 },
@@ -64,12 +68,16 @@ fn fault_of(error: &io::Error, sent: usize) -> ShelfFault {
 }
 
 // Writes a whole report to a file, and sees to it that the file is stored.
-fn write_file<R: Files>(rt: &R, path: &str, report: &[u8]) -> Result<(), ShelfFault> {
+fn write_file<R: Files>(rt: &R, path: &str, report: &[u8]) -> Result<(), ShelfFault>
+    ensures { IfErr result (IsFailedWithin report.now) }
+{
     let mut file = match File::create(rt, path) {
         Ok(file) => file,
         Err(error) => return Err(fault_of(&error, 0)),
     };
-    write_whole(&mut Out::new(&mut file), report)?;
+    if let Err(fault) = write_whole(&mut Out::new(&mut file), report) {
+        return Err(ShelfFault::Write { sent: fault.sent });
+    }
     match file.sync_all() {
         Ok(()) => Ok(()),
         Err(error) => Err(fault_of(&error, report.len())),
@@ -77,30 +85,39 @@ fn write_file<R: Files>(rt: &R, path: &str, report: &[u8]) -> Result<(), ShelfFa
 }
 
 // Writes a whole report to a file of another name, and gives it its own.
-fn write_renamed<R: Files>(
-    rt: &R,
-    part: &str,
-    path: &str,
-    report: &[u8],
-) -> Result<(), ShelfFault> {
-    write_file(rt, part, report)?;
-    match fs::rename(rt, part, path) {
-        Ok(()) => Ok(()),
-        Err(error) => Err(fault_of(&error, report.len())),
+fn write_renamed<R: Files>(rt: &R, part: &str, path: &str, report: &[u8]) -> Result<(), ShelfFault>
+    ensures { IfErr result (IsFailedWithin report.now) }
+{
+    match write_file(rt, part, report) {
+        Ok(()) => match fs::rename(rt, part, path) {
+            Ok(()) => Ok(()),
+            Err(error) => Err(fault_of(&error, report.len())),
+        },
+        Err(fault) => Err(fault),
     }
 }
 
 impl<'a, R: Files> Shelf for Directory<'a, R> {
     ghost reports = { λ directory. None };
 
+    ghost failed_at = { λ directory. directory.failed_at };
+
     fn keep(&mut self, alloc: Global, name: &str, report: &[u8]) -> Result<(), ShelfFault> {
         let folder = self.folder;
         let path = format!(in alloc; "{folder}/{name}.report")?;
         let part = format!(in alloc; "{folder}/{name}.report.part")?;
-        let kept = write_renamed(self.rt, part.as_str(), path.as_str(), report);
-        if kept.is_err() {
-            let _ = fs::remove_file(self.rt, part.as_str());
+        match write_renamed(self.rt, part.as_str(), path.as_str(), report) {
+            Ok(()) => {
+                self.failed_at = None;
+                Ok(())
+            }
+            Err(fault) => {
+                let _ = fs::remove_file(self.rt, part.as_str());
+                if let ShelfFault::Write { sent } = fault {
+                    self.failed_at = Some(sent);
+                }
+                Err(fault)
+            }
         }
-        kept
     }
 }

@@ -1,12 +1,14 @@
 -- The steps of a report that is kept and told.
-use Rattle.std.specs.Prelude.{◌≡◌, ◌⊎◌, ℕ, List, Bool, false, Result, Ok, Err}
+use Rattle.std.specs.Prelude.{◌≡◌, ◌≤◌, ◌⊎◌, ℕ, List, Bool, false, Result, Ok, Err, length}
 use Rattle.star_engine.specs.declared.fault.EngineFault.{EngineFault}
 use Rattle.star_engine.specs.Answered.{Change, HasGained, HasGainedPart, IsUntouched}
 use Rattle.star_engine.specs.Noted.{Telling}
 use Rattle.star_cli.specs.Reports.{refused_line, told_line}
-use Rattle.star_cli.specs.Shelves.{HasKept, HasKeptNone, Shelving}
+use Rattle.star_cli.specs.Shelves.{HasFailedAt, HasKept, HasKeptNone, Shelving}
 use Rattle.star_cli.specs.declared.reports.Halt.{Halt}
 use Rattle.star_cli.specs.declared.reports.Halt.TheVariants.{OutOfMemory, Unkept, Unwritten}
+use Rattle.star_cli.specs.declared.shelf.ShelfFault.{ShelfFault}
+use Rattle.star_cli.specs.declared.shelf.ShelfFault.TheVariants as fault
 
 -- a line was written, or its first bytes
 abbrev pub IsLineWritten : {S : Type 0} → Change S → List ℕ → Result (Unit {0}) Halt → Type 0
@@ -22,7 +24,7 @@ IsKeptAndTold name telling shelf out (Ok answer) =
 IsKeptAndTold name telling shelf out (Err OutOfMemory) =
     IsUntouched out × (HasKeptNone shelf ⊎ HasKept shelf name telling.report)
 IsKeptAndTold name telling shelf out (Err (Unkept named sent)) =
-    IsUntouched out × HasKeptNone shelf × (named.now ≡ name)
+    IsUntouched out × HasFailedAt shelf telling.report sent × (named.now ≡ name)
 IsKeptAndTold name telling shelf out (Err (Unwritten sent)) =
     HasKept shelf name telling.report × HasGainedPart out (told_line name telling) sent
 
@@ -35,3 +37,13 @@ IsRefusalTold name fault out (Err OutOfMemory) = IsUntouched out
 IsRefusalTold name fault out (Err (Unkept named sent)) = ⊥
 IsRefusalTold name fault out (Err (Unwritten sent)) =
     HasGainedPart out (refused_line name fault) sent
+
+-- a write failed behind the first `sent` bytes, or memory was refused
+abbrev pub IsFailedBehind : (sent : ℕ) → ShelfFault → Type 0
+IsFailedBehind sent fault.OutOfMemory = Unit {0}
+IsFailedBehind sent (fault.Write at) = at ≡ sent
+
+-- a write of a report failed before its end or at it, or memory was refused
+abbrev pub IsFailedWithin : (report : List ℕ) → ShelfFault → Type 0
+IsFailedWithin report fault.OutOfMemory = Unit {0}
+IsFailedWithin report (fault.Write at) = at ≤ length report

@@ -7,5 +7,5 @@ use Rattle.star_cli.proofs.reports.deliver_all.Given as goal
 abbrev pub invariant-loop-errand : goal.invariant-loop-errand
 invariant-loop-errand g l =
     AreDelivered l.engine (take l.errand-index l.errands)
-    (shelving g.K.Shelf.reports l.initial.shelf l.shelf)
+    (shelving g.K.Shelf.reports g.K.Shelf.failed_at l.initial.shelf l.shelf)
     (change g.S.Sink.contents g.S.Sink.is_failed l.initial.out l.out) l.all
