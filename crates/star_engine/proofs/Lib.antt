@@ -1,4 +1,6 @@
 pub mod Answering
+pub mod ByClauses
+mod Reported
 pub mod ListingLemmas
 pub mod Trials
 pub mod OneReport

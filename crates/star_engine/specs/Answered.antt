@@ -52,3 +52,21 @@ IsAnswered sink IsText IsDue (Err OutOfMemory) = IsUntouched sink
 IsAnswered sink IsText IsDue (Err (Write sent)) =
     (text : List ℕ) × IsText text × HasGainedPart sink text sent
 IsAnswered sink IsText IsDue (Err fault) = IsDue fault × IsUntouched sink
+
+-- ---- the same, clause by clause
+
+-- the sink has gained the whole of a text that is due
+abbrev pub HasWritten : {S : Type 0} → Change S → (List ℕ → Type 0) → Type 0
+HasWritten sink IsText = (text : List ℕ) × IsText text × HasGained sink text
+
+-- of a failed write: the sink has gained so many bytes of a text that is due
+abbrev pub IsBrokenOff : {S : Type 0} → Change S → (List ℕ → Type 0) → EngineFault → Type 0
+IsBrokenOff sink IsText (Write sent) =
+    (text : List ℕ) × IsText text × HasGainedPart sink text sent
+IsBrokenOff sink IsText _ = Unit {0}
+
+-- of any fault but a failed write and want of memory: it is due, and the sink is as it was
+abbrev pub IsRefused : {S : Type 0} → Change S → (EngineFault → Type 0) → EngineFault → Type 0
+IsRefused sink IsDue OutOfMemory = Unit {0}
+IsRefused sink IsDue (Write sent) = Unit {0}
+IsRefused sink IsDue fault = IsDue fault × IsUntouched sink

@@ -39,6 +39,12 @@ pub record IsRefusal (database : Database) (most : ℕ) (program : Parts) (refus
   pub first : first_refusal (world_of database) most program ≡ Some shown
   pub told : refusal_shown refusal ≡ Some shown
 
+-- the printed rows of a program's run over these tables
+pub record IsRunReport (database : Database) (program : Parts) (report : List ℕ) : Type 0 where
+  pub outcome : Outcome
+  pub yields : Yields (world_of database) program (run_of (world_of database) program) outcome
+  pub printed : report ≡ report_text outcome.names outcome.rows
+
 -- what is told of an accepted program: its quote, the printed rows of its run, which visits no more
 -- than that, and what the run did
 pub record IsProgramTold (database : Database) (most : ℕ) (program : Parts) (telling : Telling)
@@ -56,6 +62,11 @@ pub record IsProgramTold (database : Database) (most : ℕ) (program : Parts) (t
 -- the note of its quote
 abbrev pub IsQuoteOver : Database → (file text : List ℕ) → Type 0
 IsQuoteOver database file text = HoldsOfFile file (λ program. IsQuote database program text)
+
+-- the printed rows of its run
+abbrev pub IsFileReportOver : Database → (file report : List ℕ) → Type 0
+IsFileReportOver database file report =
+    HoldsOfFile file (λ program. IsRunReport database program report)
 
 -- what is told of it
 abbrev pub IsToldOver : (visits : ℕ) → Database → List ℕ → Telling → Type 0
@@ -78,6 +89,11 @@ IsUntoldOver visits database file fault = IsNoProgram file fault
 abbrev pub IsQuoteOf : ℕ → TableTexts → (file text : List ℕ) → Type 0
 IsQuoteOf most texts file text =
     HoldsOfRows most texts (λ database. IsQuoteOver database file text)
+
+-- the printed rows of its run
+abbrev pub IsFileReport : (most : ℕ) → TableTexts → (file report : List ℕ) → Type 0
+IsFileReport most texts file report =
+    HoldsOfRows most texts (λ database. IsFileReportOver database file report)
 
 -- what is told of it
 abbrev pub IsToldOf : (most visits : ℕ) → TableTexts → List ℕ → Telling → Type 0

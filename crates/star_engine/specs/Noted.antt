@@ -46,3 +46,32 @@ IsNoted out notes IsQuote IsTold IsDue (Err (Refused refusal)) =
     IsDue (Refused refusal) × IsUntouched out × IsQuoted notes IsQuote
 IsNoted out notes IsQuote IsTold IsDue (Err fault) =
     IsDue fault × IsUntouched out × IsUntouched notes
+
+-- ---- the same, clause by clause
+
+-- both sinks have gained the whole of what is told of a run
+abbrev pub HasTold : {S N : Type 0} → Change S → Change N → (Telling → Type 0) → Type 0
+HasTold out notes IsTold =
+    (telling : Telling) × IsTold telling × HasGained out telling.report
+    × HasGained notes (telling.quoted ++ telling.done)
+
+-- of a failed write: both sinks have gained what was written before it and no more
+abbrev pub IsTellingBrokenOff : {S N : Type 0} → Change S → Change N → (List ℕ → Type 0)
+    → (Telling → Type 0) → EngineFault → Type 0
+IsTellingBrokenOff out notes IsQuote IsTold (Write sent) = IsBroken out notes IsQuote IsTold sent
+IsTellingBrokenOff out notes IsQuote IsTold _ = Unit {0}
+
+-- of any fault but a failed write and want of memory: it is due, and nothing of the report is written; a
+-- refusal is told behind the note of the quote, and any other before all notes
+abbrev pub IsTellingRefused : {S N : Type 0} → Change S → Change N → (List ℕ → Type 0)
+    → (EngineFault → Type 0) → EngineFault → Type 0
+IsTellingRefused out notes IsQuote IsDue OutOfMemory = Unit {0}
+IsTellingRefused out notes IsQuote IsDue (Write sent) = Unit {0}
+IsTellingRefused out notes IsQuote IsDue (Refused refusal) =
+    IsDue (Refused refusal) × IsUntouched out × IsQuoted notes IsQuote
+IsTellingRefused out notes IsQuote IsDue fault =
+    IsDue fault × IsUntouched out × IsUntouched notes
+
+-- of want of memory: nothing of the report is written, and of the notes that of the quote at most
+abbrev pub IsTellingUntold : {S N : Type 0} → Change S → Change N → (List ℕ → Type 0) → Type 0
+IsTellingUntold out notes IsQuote = IsUntouched out × (IsUntouched notes ⊎ IsQuoted notes IsQuote)

@@ -128,7 +128,12 @@ pub record IsQueryToldOver (visits : ℕ) (database : Database) (query : List �
   pub within : s.visits ≤ fact_rows database
   pub done : telling.done ≡ counts_line s.visits s.lookups s.updates
 
--- over five texts
+-- the report of the query that a text means, over five texts that can be loaded
+abbrev pub IsReportOf : (rows : ℕ) → TableTexts → (query report : List ℕ) → Type 0
+IsReportOf rows texts query report =
+    HoldsOfRows rows texts (λ database. IsReport database query report)
+
+-- what is told of a query, over five texts
 abbrev pub IsQueryTold : (rows visits : ℕ) → TableTexts → (query : List ℕ) → Telling → Type 0
 IsQueryTold rows visits texts query telling =
     HoldsOfRows rows texts (λ database. IsQueryToldOver visits database query telling)

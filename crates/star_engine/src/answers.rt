@@ -121,8 +121,8 @@ pub(crate) fn quote_text_over<S: Sink>(
     quote_read(alloc, catalogue, &program, out)
 }
 
-/// Writes how many rows each table has, and the bounds of its columns of numbers.
-pub fn check<S: Sink>(
+// Writes the listing of the tables of five texts.
+pub(crate) fn check<S: Sink>(
     alloc: Global,
     texts: &Texts<'_>,
     limits: Limits,
@@ -136,9 +136,8 @@ pub fn check<S: Sink>(
     list(alloc, &catalogue, out)
 }
 
-/// Runs the program whose text a file holds over the tables, with at most so many turns of scans,
-/// and writes its report. The file is read first, and then the tables.
-pub fn trial_program<S: Sink>(
+// Runs the program whose text a file holds over the tables of five texts, under a bound.
+pub(crate) fn trial_program<S: Sink>(
     alloc: Global,
     texts: &Texts<'_>,
     file: &[u8],
@@ -156,11 +155,8 @@ pub fn trial_program<S: Sink>(
     try_read(alloc, &catalogue, &program, visits, out)
 }
 
-/// Checks the program whose text a file holds over the tables, runs it, and writes its report on
-/// `out`. A note of how many visits are quoted goes to `notes` before the check, and one of what
-/// the run did behind the report. A program is refused where it is not admissible over the tables,
-/// or more visits are quoted than the limits allow. The file is read first, and then the tables.
-pub fn answer_program<S: Sink, N: Sink>(
+// Checks the program whose text a file holds over the tables of five texts, and runs it.
+pub(crate) fn answer_program<S: Sink, N: Sink>(
     alloc: Global,
     texts: &Texts<'_>,
     file: &[u8],
@@ -179,11 +175,8 @@ pub fn answer_program<S: Sink, N: Sink>(
     execute(alloc, &catalogue, program, limits, out, notes)
 }
 
-/// Writes how many visits are quoted over the tables: of the program that a file spells, or of the
-/// program of the query that it means. A file that begins with `star program ` is taken for a
-/// program, and any other for a query. Nothing is checked against the tables. The file is read
-/// first, and then the tables.
-pub fn quote_text<S: Sink>(
+// Writes how many visits are quoted of what a file holds, over the tables of five texts.
+pub(crate) fn quote_text<S: Sink>(
     alloc: Global,
     texts: &Texts<'_>,
     file: &[u8],

@@ -178,11 +178,8 @@ pub(crate) fn bench_over<S: Sink>(
     Ok(found.fits)
 }
 
-/// Answers the thirteen queries of the benchmark over one load of the tables of five texts: writes
-/// of each its quote under its name, and then its report or one line that says why it is refused.
-/// The whole text is made before any of it is written. The answer is whether no query was refused.
-/// There is none for the faults of the tables, want of memory and a failed write alone.
-pub fn bench<S: Sink>(
+// Answers the thirteen queries over the tables of five texts.
+pub(crate) fn bench<S: Sink>(
     alloc: Global,
     texts: &Texts<'_>,
     limits: Limits,

@@ -1,14 +1,15 @@
 // Five tables that are loaded once and asked often.
 
-ghost use Rattle.std.specs.Prelude.{◌≡◌, ◌≤◌, ◌^◌, true, false, IfErr, IfOk, MatchResult, string_bytes};
+ghost use Rattle.std.specs.Prelude.{◌≡◌, ◌≤◌, ◌^◌, true, false, Err, IfErr, IfOk, MatchResult, OnOk, string_bytes};
 ghost use Rattle.star_schema.specs.Loadable.{IsLoadable};
 ghost use Rattle.star_catalogue.specs.Load.{text_of};
-ghost use Rattle.star_engine.specs.Answered.{IsAnswered, OrMemory, change};
+ghost use Rattle.star_answers.specs.Reports.{IsReport};
+ghost use Rattle.star_engine.specs.Answered.{HasWritten, IsBrokenOff, IsRefused, IsUntouched, OrMemory, change};
 ghost use Rattle.star_engine.specs.Bench.{AllFit, IsBenchOver, SomeIsUnfit};
-ghost use Rattle.star_engine.specs.Executions.{IsQuoteOver, IsToldOver, IsUntoldOver};
+ghost use Rattle.star_engine.specs.Executions.{IsFileReportOver, IsQuoteOver, IsToldOver, IsUntoldOver};
 ghost use Rattle.star_engine.specs.Listing.{IsListingOver};
 ghost use Rattle.star_engine.specs.Loads.{AreLoadedRows, AreOfLoadableTexts, IsUnloaded, loaded_of};
-ghost use Rattle.star_engine.specs.Noted.{IsNoted};
+ghost use Rattle.star_engine.specs.Noted.{HasTold, IsTellingBrokenOff, IsTellingRefused, IsTellingUntold};
 ghost use Rattle.star_engine.specs.Queries.{IsQueryQuoteOver, IsQueryToldOver, IsUnansweredOver};
 ghost use Rattle.star_engine.specs.QuoteTexts.{IsQuoteTextOver, IsUnquotedOver};
 ghost use Rattle.star_engine.specs.Tellings.{IsFileToldOver, IsJudgedOver, IsUnjudgedOver, telling_of};
@@ -73,8 +74,14 @@ impl Engine {
 
     /// Writes how many rows each table has, and the bounds of its columns of numbers.
     pub fn check<S: Sink>(&self, alloc: Global, out: &mut S) -> Result<(), EngineFault>
-        ensures { IsAnswered (change S.contents S.is_failed out.old out.new)
-            (IsListingOver self.now.database) (λ fault. ⊥) result }
+        ensures written { OnOk result (HasWritten (change S.contents S.is_failed out.old out.new)
+            (IsListingOver self.now.database)) }
+        ensures broken { IfErr result (IsBrokenOff (change S.contents S.is_failed out.old out.new)
+            (IsListingOver self.now.database)) }
+        ensures refused { IfErr result (IsRefused (change S.contents S.is_failed out.old out.new)
+            (λ fault. ⊥)) }
+        ensures memory { result ≡ Err EngineFault.OutOfMemory
+            → IsUntouched (change S.contents S.is_failed out.old out.new) }
     {
         list(alloc, &self.catalogue, out)
     }
@@ -91,11 +98,24 @@ impl Engine {
         out: &mut S,
         notes: &mut N,
     ) -> Result<(), EngineFault>
-        ensures { IsNoted (change S.contents S.is_failed out.old out.new)
+        // The report alone, and then with its notes.
+        ensures reported { OnOk result (HasWritten (change S.contents S.is_failed out.old out.new)
+            (IsReport self.now.database query.now)) }
+        ensures noted { OnOk result (HasTold (change S.contents S.is_failed out.old out.new)
+            (change N.contents N.is_failed notes.old notes.new)
+            (IsQueryToldOver self.now.visits self.now.database query.now)) }
+        ensures broken { IfErr result (IsTellingBrokenOff (change S.contents S.is_failed out.old out.new)
             (change N.contents N.is_failed notes.old notes.new)
             (IsQueryQuoteOver self.now.database query.now)
-            (IsQueryToldOver self.now.visits self.now.database query.now)
-            (IsUnansweredOver self.now.visits self.now.database query.now) result }
+            (IsQueryToldOver self.now.visits self.now.database query.now)) }
+        ensures refused { IfErr result (IsTellingRefused (change S.contents S.is_failed out.old out.new)
+            (change N.contents N.is_failed notes.old notes.new)
+            (IsQueryQuoteOver self.now.database query.now)
+            (IsUnansweredOver self.now.visits self.now.database query.now)) }
+        ensures memory { result ≡ Err EngineFault.OutOfMemory
+            → IsTellingUntold (change S.contents S.is_failed out.old out.new)
+            (change N.contents N.is_failed notes.old notes.new)
+            (IsQueryQuoteOver self.now.database query.now) }
     {
         answer_query_over(alloc, &self.catalogue, query, self.limits, out, notes)
     }
@@ -111,11 +131,24 @@ impl Engine {
         out: &mut S,
         notes: &mut N,
     ) -> Result<(), EngineFault>
-        ensures { IsNoted (change S.contents S.is_failed out.old out.new)
+        // The report alone, and then with its notes.
+        ensures reported { OnOk result (HasWritten (change S.contents S.is_failed out.old out.new)
+            (IsFileReportOver self.now.database file.now)) }
+        ensures noted { OnOk result (HasTold (change S.contents S.is_failed out.old out.new)
+            (change N.contents N.is_failed notes.old notes.new)
+            (IsToldOver self.now.visits self.now.database file.now)) }
+        ensures broken { IfErr result (IsTellingBrokenOff (change S.contents S.is_failed out.old out.new)
             (change N.contents N.is_failed notes.old notes.new)
             (IsQuoteOver self.now.database file.now)
-            (IsToldOver self.now.visits self.now.database file.now)
-            (IsUntoldOver self.now.visits self.now.database file.now) result }
+            (IsToldOver self.now.visits self.now.database file.now)) }
+        ensures refused { IfErr result (IsTellingRefused (change S.contents S.is_failed out.old out.new)
+            (change N.contents N.is_failed notes.old notes.new)
+            (IsQuoteOver self.now.database file.now)
+            (IsUntoldOver self.now.visits self.now.database file.now)) }
+        ensures memory { result ≡ Err EngineFault.OutOfMemory
+            → IsTellingUntold (change S.contents S.is_failed out.old out.new)
+            (change N.contents N.is_failed notes.old notes.new)
+            (IsQuoteOver self.now.database file.now) }
     {
         answer_program_over(alloc, &self.catalogue, file, self.limits, out, notes)
     }
@@ -129,8 +162,14 @@ impl Engine {
         file: &[u8],
         out: &mut S,
     ) -> Result<(), EngineFault>
-        ensures { IsAnswered (change S.contents S.is_failed out.old out.new)
-            (IsQuoteTextOver self.now.database file.now) (IsUnquotedOver file.now) result }
+        ensures written { OnOk result (HasWritten (change S.contents S.is_failed out.old out.new)
+            (IsQuoteTextOver self.now.database file.now)) }
+        ensures broken { IfErr result (IsBrokenOff (change S.contents S.is_failed out.old out.new)
+            (IsQuoteTextOver self.now.database file.now)) }
+        ensures refused { IfErr result (IsRefused (change S.contents S.is_failed out.old out.new)
+            (IsUnquotedOver file.now)) }
+        ensures memory { result ≡ Err EngineFault.OutOfMemory
+            → IsUntouched (change S.contents S.is_failed out.old out.new) }
     {
         quote_text_over(alloc, &self.catalogue, file, out)
     }
@@ -168,9 +207,14 @@ impl Engine {
         out: &mut S,
     ) -> Result<(), EngineFault>
         requires { visits ≤ 10 ^ 15 }
-        ensures { IsAnswered (change S.contents S.is_failed out.old out.new)
-            (IsBoundedReport self.now.database file.now visits)
-            (IsNoTrialOver self.now.database file.now visits) result }
+        ensures written { OnOk result (HasWritten (change S.contents S.is_failed out.old out.new)
+            (IsBoundedReport self.now.database file.now visits)) }
+        ensures broken { IfErr result (IsBrokenOff (change S.contents S.is_failed out.old out.new)
+            (IsBoundedReport self.now.database file.now visits)) }
+        ensures refused { IfErr result (IsRefused (change S.contents S.is_failed out.old out.new)
+            (IsNoTrialOver self.now.database file.now visits)) }
+        ensures memory { result ≡ Err EngineFault.OutOfMemory
+            → IsUntouched (change S.contents S.is_failed out.old out.new) }
     {
         trial_over(alloc, &self.catalogue, file, visits, out)
     }
@@ -180,8 +224,14 @@ impl Engine {
     /// text is made before any of it is written. The answer is whether no query was refused. There
     /// is none for want of memory and a failed write alone.
     pub fn bench<S: Sink>(&self, alloc: Global, out: &mut S) -> Result<bool, EngineFault>
-        ensures answered { IsAnswered (change S.contents S.is_failed out.old out.new)
-            (IsBenchOver self.now.visits self.now.database) (λ fault. ⊥) result }
+        ensures written { OnOk result (HasWritten (change S.contents S.is_failed out.old out.new)
+            (IsBenchOver self.now.visits self.now.database)) }
+        ensures broken { IfErr result (IsBrokenOff (change S.contents S.is_failed out.old out.new)
+            (IsBenchOver self.now.visits self.now.database)) }
+        ensures refused { IfErr result (IsRefused (change S.contents S.is_failed out.old out.new)
+            (λ fault. ⊥)) }
+        ensures memory { result ≡ Err EngineFault.OutOfMemory
+            → IsUntouched (change S.contents S.is_failed out.old out.new) }
         ensures all_fit { IfOk result
             (λ fits. fits ≡ true → AllFit self.now.visits self.now.database) }
         ensures some_unfit { IfOk result

@@ -3,6 +3,7 @@
 
 mod answers;
 mod benchmark;
+mod calls;
 mod engine;
 mod executions;
 mod fault;
@@ -20,12 +21,12 @@ mod tellings;
 mod thirteen;
 mod writing;
 
-pub use answers::{answer_program, check, quote_text, trial_program};
-pub use benchmark::bench;
+pub use calls::{
+    answer_program, answer_query, bench, check, explain_query, quote_text, trial_program,
+};
 pub use engine::Engine;
 pub use fault::{EngineFault, FaultLine};
 pub use input::Input;
-pub use queries::{answer_query, explain_query};
 pub use reading::{FileFault, read_expected, read_whole};
 pub use star_catalogue::{LoadFault, Texts, sample};
 pub use star_machine::{Fault, TrapKind, TrialFault};

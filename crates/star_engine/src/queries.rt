@@ -39,9 +39,12 @@ fn explanation(alloc: Global, query: &[u8]) -> Result<Vec<u8>, EngineFault>
     Ok(program.to_text()?)
 }
 
-/// Writes the text of the program of a query, as `answer_program` and `trial_program` read it. No
-/// table is asked for.
-pub fn explain_query<S: Sink>(alloc: Global, query: &[u8], out: &mut S) -> Result<(), EngineFault>
+// Writes the text of the program of a query.
+pub(crate) fn explain_query<S: Sink>(
+    alloc: Global,
+    query: &[u8],
+    out: &mut S,
+) -> Result<(), EngineFault>
     ensures { IsAnswered (change S.contents S.is_failed out.old out.new)
         (IsExplained query.now) (IsNoQuery query.now) result }
 {
@@ -90,12 +93,8 @@ pub(crate) fn answer_query_over<S: Sink, N: Sink>(
     answer_compiled(alloc, catalogue, program, limits, out, notes)
 }
 
-/// Answers the query that a text means over the tables of five texts: writes its report on `out`.
-///
-/// A note of the quote, which is lineorder's row count, goes to `notes` before the query is judged,
-/// and one of what the run of its program did behind the report. A query that doesn't fit is
-/// refused. The query is read first, and then the tables.
-pub fn answer_query<S: Sink, N: Sink>(
+// Answers the query that a text means over the tables of five texts.
+pub(crate) fn answer_query<S: Sink, N: Sink>(
     alloc: Global,
     texts: &Texts<'_>,
     query: &[u8],

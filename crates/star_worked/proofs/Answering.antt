@@ -28,17 +28,17 @@ use Rattle.star_worked.proofs.Checks.{are_groups, checked_groups, checked_order,
 use Rattle.star_worked.proofs.Sample.{number, text, sample}
 
 -- a name, and where it stands
-abbrev called : List ℕ → ℕ → Name
+abbrev pub called : List ℕ → ℕ → Name
 called word at = record { text = word; place = at }
 
-abbrev tokens_in : Result (List Placed) QueryFault → List Placed
+abbrev pub tokens_in : Result (List Placed) QueryFault → List Placed
 tokens_in (Ok tokens) = tokens
 tokens_in (Err fault) = []
 
-abbrev group : List (Option Value) → List (Option ℤ) → GroupRow Value
+abbrev pub group : List (Option Value) → List (Option ℤ) → GroupRow Value
 group keys totals = record { keys = keys; totals = totals }
 
-abbrev integer : ℕ → Cell
+abbrev pub integer : ℕ → Cell
 integer n = cell.Number (pos n)
 
 -- ---- the first query of the benchmark
@@ -149,10 +149,10 @@ second_report = refl
 
 -- ---- a cube, sorted by a total, with a tie
 
-abbrev cube_text : List ℕ
+abbrev pub cube_text : List ℕ
 cube_text = codes "select d_year, s_region, sum(lo_revenue) as revenue, count(*) as n from lineorder, date, supplier where lo_orderdate = d_datekey and lo_suppkey = s_suppkey group by cube(d_year, s_region) order by revenue desc"
 
-abbrev cube_query : Tree
+abbrev pub cube_query : Tree
 cube_query = record {
   items =
       plain (called (codes "d_year") 7) ∷ plain (called (codes "s_region") 15)
@@ -165,14 +165,14 @@ cube_query = record {
   keys = record { name = called (codes "revenue") 197; direction = Descending } ∷ [];
 }
 
-cube_means : Means cube_text cube_query
+pub cube_means : Means cube_text cube_query
 unfolding cut_from reserved reserved_words spelling
 cube_means = record { short = lit≤ tt; tokens = tokens_in (cut_of cube_text); cut = refl; derives = derives _ _ refl }
 
-abbrev cube_names : List (List ℕ)
+abbrev pub cube_names : List (List ℕ)
 cube_names = codes "d_year" ∷ codes "s_region" ∷ codes "revenue" ∷ codes "n" ∷ []
 
-abbrev cube_rows : List (List Cell)
+abbrev pub cube_rows : List (List Cell)
 cube_rows =
     (cell.All ∷ cell.All ∷ integer 7045 ∷ integer 5 ∷ [])
     ∷ (cell.All ∷ cell.Text (codes "AMERICA") ∷ integer 4475 ∷ integer 3 ∷ [])
@@ -187,7 +187,7 @@ cube_rows =
     ∷ (integer 1994 ∷ cell.All ∷ integer 495 ∷ integer 1 ∷ []) ∷ []
 
 -- the rows of 495 stand by their keys, of which ALL is the last
-cube_answer : IsAnswer sample cube_query cube_names cube_rows
+pub cube_answer : IsAnswer sample cube_query cube_names cube_rows
 unfolding column_of columns_of place_of pieces table_name column_called table_called are_groups each_mask in_order is_group is_masked is_right is_there is_there_where same_each same_value
 cube_answer = record {
   headed = refl;
@@ -208,7 +208,7 @@ cube_answer = record {
   cells = refl;
 }
 
-cube_report : report_text cube_names cube_rows
+pub cube_report : report_text cube_names cube_rows
     ≡ codes "d_year|s_region|revenue|n\nALL|ALL|7045|5\nALL|AMERICA|4475|3\n1997|ALL|3630|2\n1997|AMERICA|3000|1\n1993|ALL|2920|2\nALL|EUROPE|2570|2\n1993|EUROPE|1940|1\n1993|AMERICA|980|1\n1997|EUROPE|630|1\n1994|AMERICA|495|1\n1994|ALL|495|1\n"
 unfolding report_text line_text cell_text digits
 cube_report = refl

@@ -1,6 +1,7 @@
 mod Sample
 mod Checks
 mod Answering
+mod ReportOfBytes
 mod Products
 mod FittingTables
 mod Conditions
@@ -34,8 +35,6 @@ mod QueryWords
 mod KeyPairs
 mod CompiledPrograms
 mod CompiledLooks
-mod EngineAnswers
-mod EngineNotes
 mod EngineQueries
 mod EngineRuns
 mod EngineTexts

@@ -1,7 +1,35 @@
+use Rattle.star_engine.specs.Bench.{IsBenchOver}
+use Rattle.star_engine.specs.Answered.{change}
+use Rattle.star_engine.proofs.ByClauses.{has_written, is_broken_off, is_refused, is_untouched}
 use Rattle.star_engine.proofs.engine.Engine.bench.Goals as goal
 
-pub returns-clause-answered : goal.returns-clause-answered
-returns-clause-answered g c = rw (← c.self.view_is) c.bench_over.ensures.answered
+pub returns-clause-written : goal.returns-clause-written
+returns-clause-written g c =
+    rw (← c.self.view_is) (has_written (change g.S.Sink.contents g.S.Sink.is_failed c.args.out.now c.bench_over.new.out)
+    (IsBenchOver c.self.inside.limits.visits c.self.inside.catalogue)
+    (λ fault. ⊥)
+    c.bench_over.result c.bench_over.ensures.answered)
+
+pub returns-clause-broken : goal.returns-clause-broken
+returns-clause-broken g c =
+    rw (← c.self.view_is) (is_broken_off (change g.S.Sink.contents g.S.Sink.is_failed c.args.out.now c.bench_over.new.out)
+    (IsBenchOver c.self.inside.limits.visits c.self.inside.catalogue)
+    (λ fault. ⊥)
+    c.bench_over.result c.bench_over.ensures.answered)
+
+pub returns-clause-refused : goal.returns-clause-refused
+returns-clause-refused g c =
+    (is_refused (change g.S.Sink.contents g.S.Sink.is_failed c.args.out.now c.bench_over.new.out)
+    (IsBenchOver c.self.inside.limits.visits c.self.inside.catalogue)
+    (λ fault. ⊥)
+    c.bench_over.result c.bench_over.ensures.answered)
+
+pub returns-clause-memory : goal.returns-clause-memory
+returns-clause-memory g c =
+    (is_untouched (change g.S.Sink.contents g.S.Sink.is_failed c.args.out.now c.bench_over.new.out)
+    (IsBenchOver c.self.inside.limits.visits c.self.inside.catalogue)
+    (λ fault. ⊥)
+    c.bench_over.result c.bench_over.ensures.answered)
 
 pub returns-clause-all_fit : goal.returns-clause-all_fit
 returns-clause-all_fit g c = rw (← c.self.view_is) c.bench_over.ensures.all_fit

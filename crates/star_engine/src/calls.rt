@@ -1,0 +1,195 @@
+// The engine's calls over the tables of five texts.
+
+ghost use Rattle.std.specs.Prelude.{◌≡◌, ◌≤◌, ◌^◌, true, false, Err, IfErr, IfOk, OnOk};
+ghost use Rattle.star_schema.specs.Loadable.{database_of};
+ghost use Rattle.star_catalogue.specs.Load.{text_of};
+ghost use Rattle.star_engine.specs.Answered.{HasWritten, IsBrokenOff, IsRefused, IsUntouched, change};
+ghost use Rattle.star_engine.specs.Bench.{AllFit, IsBench, SomeIsUnfit};
+ghost use Rattle.star_engine.specs.Executions.{IsFileReport, IsQuoteOf, IsToldOf, IsUntold};
+ghost use Rattle.star_engine.specs.Listing.{IsListing};
+ghost use Rattle.star_engine.specs.Loads.{IsUnloaded};
+ghost use Rattle.star_engine.specs.Noted.{HasTold, IsTellingBrokenOff, IsTellingRefused, IsTellingUntold};
+ghost use Rattle.star_engine.specs.Queries.{IsExplained, IsNoQuery, IsQueryQuote, IsQueryTold, IsReportOf, IsUnanswered};
+ghost use Rattle.star_engine.specs.QuoteTexts.{IsQuoteText, IsUnquoted};
+ghost use Rattle.star_engine.specs.Trials.{IsNoTrial, IsTrialReport};
+
+use crate::fault::EngineFault;
+use crate::{answers, benchmark, queries};
+use star_catalogue::Texts;
+use star_schema::{Limits, Sink};
+use std::alloc::Global;
+
+/// Writes how many rows each table has, and the bounds of its columns of numbers.
+pub fn check<S: Sink>(
+    alloc: Global,
+    texts: &Texts<'_>,
+    limits: Limits,
+    out: &mut S,
+) -> Result<(), EngineFault>
+    ensures written { OnOk result (HasWritten (change S.contents S.is_failed out.old out.new)
+        (IsListing limits.rows (text_of texts.now))) }
+    ensures broken { IfErr result (IsBrokenOff (change S.contents S.is_failed out.old out.new)
+        (IsListing limits.rows (text_of texts.now))) }
+    ensures refused { IfErr result (IsRefused (change S.contents S.is_failed out.old out.new)
+        (IsUnloaded limits.rows (text_of texts.now))) }
+    ensures memory { result ≡ Err EngineFault.OutOfMemory
+        → IsUntouched (change S.contents S.is_failed out.old out.new) }
+{
+    answers::check(alloc, texts, limits, out)
+}
+
+/// Answers the query that a text means over the tables of five texts: writes its report on `out`.
+///
+/// A note of the quote, which is lineorder's row count, goes to `notes` before the query is judged,
+/// and one of what the run of its program did behind the report. A query that doesn't fit is
+/// refused. The query is read first, and then the tables.
+pub fn answer_query<S: Sink, N: Sink>(
+    alloc: Global,
+    texts: &Texts<'_>,
+    query: &[u8],
+    limits: Limits,
+    out: &mut S,
+    notes: &mut N,
+) -> Result<(), EngineFault>
+    // The report alone, and then with its notes.
+    ensures reported { OnOk result (HasWritten (change S.contents S.is_failed out.old out.new)
+        (IsReportOf limits.rows (text_of texts.now) query.now)) }
+    ensures noted { OnOk result (HasTold (change S.contents S.is_failed out.old out.new)
+        (change N.contents N.is_failed notes.old notes.new)
+        (IsQueryTold limits.rows limits.visits (text_of texts.now) query.now)) }
+    ensures broken { IfErr result (IsTellingBrokenOff (change S.contents S.is_failed out.old out.new)
+        (change N.contents N.is_failed notes.old notes.new)
+        (IsQueryQuote limits.rows (text_of texts.now) query.now)
+        (IsQueryTold limits.rows limits.visits (text_of texts.now) query.now)) }
+    ensures refused { IfErr result (IsTellingRefused (change S.contents S.is_failed out.old out.new)
+        (change N.contents N.is_failed notes.old notes.new)
+        (IsQueryQuote limits.rows (text_of texts.now) query.now)
+        (IsUnanswered limits.rows limits.visits (text_of texts.now) query.now)) }
+    ensures memory { result ≡ Err EngineFault.OutOfMemory
+        → IsTellingUntold (change S.contents S.is_failed out.old out.new)
+        (change N.contents N.is_failed notes.old notes.new)
+        (IsQueryQuote limits.rows (text_of texts.now) query.now) }
+{
+    queries::answer_query(alloc, texts, query, limits, out, notes)
+}
+
+/// Checks the program whose text a file holds over the tables, runs it, and writes its report on
+/// `out`. A note of how many visits are quoted goes to `notes` before the check, and one of what
+/// the run did behind the report. A program is refused where it is not admissible over the tables,
+/// or more visits are quoted than the limits allow. The file is read first, and then the tables.
+pub fn answer_program<S: Sink, N: Sink>(
+    alloc: Global,
+    texts: &Texts<'_>,
+    file: &[u8],
+    limits: Limits,
+    out: &mut S,
+    notes: &mut N,
+) -> Result<(), EngineFault>
+    // The report alone, and then with its notes.
+    ensures reported { OnOk result (HasWritten (change S.contents S.is_failed out.old out.new)
+        (IsFileReport limits.rows (text_of texts.now) file.now)) }
+    ensures noted { OnOk result (HasTold (change S.contents S.is_failed out.old out.new)
+        (change N.contents N.is_failed notes.old notes.new)
+        (IsToldOf limits.rows limits.visits (text_of texts.now) file.now)) }
+    ensures broken { IfErr result (IsTellingBrokenOff (change S.contents S.is_failed out.old out.new)
+        (change N.contents N.is_failed notes.old notes.new)
+        (IsQuoteOf limits.rows (text_of texts.now) file.now)
+        (IsToldOf limits.rows limits.visits (text_of texts.now) file.now)) }
+    ensures refused { IfErr result (IsTellingRefused (change S.contents S.is_failed out.old out.new)
+        (change N.contents N.is_failed notes.old notes.new)
+        (IsQuoteOf limits.rows (text_of texts.now) file.now)
+        (IsUntold limits.rows limits.visits (text_of texts.now) file.now)) }
+    ensures memory { result ≡ Err EngineFault.OutOfMemory
+        → IsTellingUntold (change S.contents S.is_failed out.old out.new)
+        (change N.contents N.is_failed notes.old notes.new)
+        (IsQuoteOf limits.rows (text_of texts.now) file.now) }
+{
+    answers::answer_program(alloc, texts, file, limits, out, notes)
+}
+
+/// Writes how many visits are quoted over the tables: of the program that a file spells, or of the
+/// program of the query that it means. A file that begins with `star program ` is taken for a
+/// program, and any other for a query. Nothing is checked against the tables. The file is read
+/// first, and then the tables.
+pub fn quote_text<S: Sink>(
+    alloc: Global,
+    texts: &Texts<'_>,
+    file: &[u8],
+    limits: Limits,
+    out: &mut S,
+) -> Result<(), EngineFault>
+    ensures written { OnOk result (HasWritten (change S.contents S.is_failed out.old out.new)
+        (IsQuoteText limits.rows (text_of texts.now) file.now)) }
+    ensures broken { IfErr result (IsBrokenOff (change S.contents S.is_failed out.old out.new)
+        (IsQuoteText limits.rows (text_of texts.now) file.now)) }
+    ensures refused { IfErr result (IsRefused (change S.contents S.is_failed out.old out.new)
+        (IsUnquoted limits.rows (text_of texts.now) file.now)) }
+    ensures memory { result ≡ Err EngineFault.OutOfMemory
+        → IsUntouched (change S.contents S.is_failed out.old out.new) }
+{
+    answers::quote_text(alloc, texts, file, limits, out)
+}
+
+/// Writes the text of the program of a query, as `answer_program` and `trial_program` read it. No
+/// table is asked for.
+pub fn explain_query<S: Sink>(alloc: Global, query: &[u8], out: &mut S) -> Result<(), EngineFault>
+    ensures written { OnOk result (HasWritten (change S.contents S.is_failed out.old out.new)
+        (IsExplained query.now)) }
+    ensures broken { IfErr result (IsBrokenOff (change S.contents S.is_failed out.old out.new)
+        (IsExplained query.now)) }
+    ensures refused { IfErr result (IsRefused (change S.contents S.is_failed out.old out.new)
+        (IsNoQuery query.now)) }
+    ensures memory { result ≡ Err EngineFault.OutOfMemory
+        → IsUntouched (change S.contents S.is_failed out.old out.new) }
+{
+    queries::explain_query(alloc, query, out)
+}
+
+/// Runs the program whose text a file holds over the tables, with at most `visits` turns of
+/// scans, and writes its report. The file is read first, and then the tables.
+pub fn trial_program<S: Sink>(
+    alloc: Global,
+    texts: &Texts<'_>,
+    file: &[u8],
+    visits: u64,
+    limits: Limits,
+    out: &mut S,
+) -> Result<(), EngineFault>
+    requires { visits ≤ 10 ^ 15 }
+    ensures written { OnOk result (HasWritten (change S.contents S.is_failed out.old out.new)
+        (IsTrialReport limits.rows (text_of texts.now) file.now visits)) }
+    ensures broken { IfErr result (IsBrokenOff (change S.contents S.is_failed out.old out.new)
+        (IsTrialReport limits.rows (text_of texts.now) file.now visits)) }
+    ensures refused { IfErr result (IsRefused (change S.contents S.is_failed out.old out.new)
+        (IsNoTrial limits.rows (text_of texts.now) file.now visits)) }
+    ensures memory { result ≡ Err EngineFault.OutOfMemory
+        → IsUntouched (change S.contents S.is_failed out.old out.new) }
+{
+    answers::trial_program(alloc, texts, file, visits, limits, out)
+}
+
+/// Answers the thirteen queries of the benchmark over one load of the tables of five texts: writes
+/// of each its quote under its name, and then its report or one line that says why it is refused.
+/// The whole text is made before any of it is written. The answer is whether no query was refused.
+/// There is none for the faults of the tables, want of memory and a failed write alone.
+pub fn bench<S: Sink>(
+    alloc: Global,
+    texts: &Texts<'_>,
+    limits: Limits,
+    out: &mut S,
+) -> Result<bool, EngineFault>
+    ensures written { OnOk result (HasWritten (change S.contents S.is_failed out.old out.new)
+        (IsBench limits.rows limits.visits (text_of texts.now))) }
+    ensures broken { IfErr result (IsBrokenOff (change S.contents S.is_failed out.old out.new)
+        (IsBench limits.rows limits.visits (text_of texts.now))) }
+    ensures refused { IfErr result (IsRefused (change S.contents S.is_failed out.old out.new)
+        (IsUnloaded limits.rows (text_of texts.now))) }
+    ensures memory { result ≡ Err EngineFault.OutOfMemory
+        → IsUntouched (change S.contents S.is_failed out.old out.new) }
+    ensures all_fit { IfOk result
+        (λ fits. fits ≡ true → AllFit limits.visits (database_of (text_of texts.now))) }
+    ensures some_unfit { IfOk result
+        (λ fits. fits ≡ false → SomeIsUnfit limits.visits (database_of (text_of texts.now))) }
+{
+    benchmark::bench(alloc, texts, limits, out)
+}
