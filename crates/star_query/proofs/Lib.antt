@@ -1,3 +1,5 @@
+pub mod Quotes
+pub mod Signs
 pub mod Lexing
 pub mod Accepting
 pub mod Passed
@@ -15,5 +17,6 @@ pub mod Parsing
 pub mod Within
 pub mod Spelling
 pub mod Spelled
+pub mod Cuts
 pub mod Reserved
 pub mod FirstFaults

@@ -1,24 +1,24 @@
 -- The names, numbers and texts of tokens are spelled as the grammar wants.
-use Rattle.std.proofs.Common.{◌≡◌, sym, subst, refl, ℕ, zero, suc, ◌+◌, ◌-◌, ◌^◌, ◌<◌, ◌≤◌, Bool, true, false, ◌&&◌, ◌||◌, List, [], ◌∷◌, take, drop, length, Option, Some, None, Result, Ok, Err, arith}
-use Rattle.std.specs.Prelude.{nat_lt, if◌then◌else◌, ◌==◌}
-use Rattle.std.specs.List.{list_all, prefix_len, slice_get}
+use Rattle.std.proofs.Common.{◌≡◌, subst, refl, ℕ, zero, suc, ◌+◌, ◌-◌, ◌^◌, ◌<◌, ◌≤◌, Bool, true, false, ◌&&◌, ◌||◌, List, [], ◌∷◌, take, drop, length, Option, Some, None, Result, Ok, Err, arith}
+use Rattle.std.specs.Prelude.{cond, find, nat_eq, nat_lt, if◌then◌else◌, ◌==◌}
+use Rattle.std.specs.List.{list_all, prefix_len, starts_with}
 use Rattle.std.specs.Char.{is_ascii_digit, to_ascii_lowercase}
 use Rattle.std.specs.Int.{is_in_range}
-use Rattle.std.proofs.lemmas.Bool.{and_from, and_parts, eqb-true, le-leb, lt-ltb, ltb-true, ltb-false, or_left, or_parts, or_right}
+use Rattle.std.proofs.lemmas.Bool.{and_from, and_parts, le-leb, lt-ltb, ltb-true, ltb-false, or_left, or_parts, or_right}
 use Rattle.std.specs.Str.Parse.{digits_value}
 use Rattle.std.proofs.lemmas.Int.Digits.{digits_value-lt}
 use Rattle.std.proofs.lemmas.List.Folds.{length-prefix_len}
 use Rattle.star_common.proofs.NumeralLemmas.{all_digits, below_power}
-use Rattle.star_schema.specs.Tables.{is_printable}
 use Rattle.star_query.specs.declared.token.Word.{Word}
 use Rattle.star_query.specs.declared.token.Word.TheVariants as words
 use Rattle.star_query.specs.declared.fault.QueryFault.{QueryFault}
 use Rattle.star_query.specs.declared.fault.QueryFault.TheVariants.{BadNumber}
-use Rattle.star_query.specs.Symbols.{Symbol, Placed, name, number, text, symbols, word_symbol, lowered, unquoted_after}
-use Rattle.star_query.specs.Cut.{Piece, blank, token, bad, Ending, closed, stopped, open_ended, farther, goes_on, ending_after, is_blank, is_letter, is_word_byte, begins_with_letter, reserved, word_of, word_piece, number_piece, text_piece, sign_piece, less_piece, greater_piece, piece_at, with_token, before_rest, cut_from, cut_of}
+use Rattle.star_query.specs.Symbols.{Symbol, Placed, name, number, text, symbols, word_symbol, lowered}
+use Rattle.star_query.specs.Cut.{Piece, blank, token, bad, said, signs, is_blank, is_letter, is_word_byte, begins_with_letter, reserved, word_of, word_piece, number_piece, text_piece, sign_piece, piece_at, with_first, before_rest, cut_from, cut_of}
 use Rattle.star_query.specs.Spelled.{is_text}
 use Rattle.star_query.proofs.Counting.{by_bool}
 use Rattle.star_query.proofs.Lexing.{prefix_passes}
+use Rattle.star_query.proofs.Quotes.{said_printed}
 
 -- as the token is spelled; a name's length is asked for elsewhere
 abbrev pub token_is_spelled : Symbol → Bool
@@ -71,51 +71,7 @@ word_spelled place word begins all = go (reserved word) refl
     go None h = rw h (and_from _ _ begins all)
     go (Some w) h = rw h (reserved_spelled w place)
 
--- ---- texts
-
-quote_printed : (b : ℕ) → (b == 39) ≡ true → is_printable b ≡ true
-quote_printed b e = subst (λ c. is_printable c ≡ true) (sym (eqb-true b 39 e)) refl
-
--- what a text goes on with is printed
-goes_on_printed : (q p : Bool) (b : ℕ) → goes_on q b ≡ Some p → is_printable b ≡ true
-goes_on_printed true p b e = by_bool (b == 39) (λ quote. quote_printed b quote) (λ other. absurd (let wrong = rw other at e in cc))
-goes_on_printed false p b e =
-    by_bool (b == 39) (λ quote. quote_printed b quote) (λ other. by_bool (is_printable b) (λ printed. printed) (λ bad. absurd (let wrong = rw (other, bad) at e in cc)))
-
-farther_closed : (e : Ending) (n : ℕ) → farther e ≡ closed n → (m : ℕ) × (e ≡ closed m) × (n ≡ m + 1)
-farther_closed (closed m) n h = (m, refl, cc)
-farther_closed (stopped m) n h = absurd (cc)
-farther_closed open_ended n h = absurd (cc)
-
-ended_printed : (q : Bool) (n : ℕ) (xs : List ℕ) → (if q then closed 0 else stopped 0) ≡ closed n → list_all is_printable (take n xs) ≡ true
-ended_printed true n xs e = let none : 0 ≡ n = cc in rw (← none) refl
-ended_printed false n xs e = absurd (cc)
-
-text_printed : (q : Bool) (bytes : List ℕ) (n : ℕ) → ending_after q bytes ≡ closed n → list_all is_printable (take n bytes) ≡ true
-text_printed true [] n e = ended_printed true n [] e
-text_printed false [] n e = absurd (cc)
-text_printed q (b ∷ bs) n e = go (goes_on q b) refl e (λ p m h. text_printed p bs m h)
-  where
-    go : (o : Option Bool) → goes_on q b ≡ o → ending_after q (b ∷ bs) ≡ closed n → ((p : Bool) (m : ℕ) → ending_after p bs ≡ closed m → list_all is_printable (take m bs) ≡ true) → list_all is_printable (take n (b ∷ bs)) ≡ true
-    go None h e rest = ended_printed q n (b ∷ bs) (rw h at e)
-    go (Some p) h e rest =
-        let f = farther_closed (ending_after p bs) n (rw h at e) in
-        rw f.2 (let next : f.0 + 1 ≡ suc f.0 = omega arith in rw next (and_from _ _ (goes_on_printed q p b h) (rest p f.0 f.1)))
-
-fewer_pass : (p : ℕ → Bool) (xs : List ℕ) (n : ℕ) → list_all p (take n xs) ≡ true → list_all p (take (n - 1) xs) ≡ true
-fewer_pass p xs zero e = e
-fewer_pass p xs (suc n) e = let same : suc n - 1 ≡ n = omega arith in rw same (one_fewer xs n e)
-  where
-    one_fewer : (ys : List ℕ) (m : ℕ) → list_all p (take (suc m) ys) ≡ true → list_all p (take m ys) ≡ true
-    one_fewer [] zero e = refl
-    one_fewer [] (suc m) e = refl
-    one_fewer (y ∷ ys) zero e = refl
-    one_fewer (y ∷ ys) (suc m) e = let both = and_parts (p y) (list_all p (take (suc m) ys)) e in and_from _ _ both.0 (one_fewer ys m both.1)
-
-unquoted_passes : (p : ℕ → Bool) (q : Bool) (xs : List ℕ) → list_all p xs ≡ true → list_all p (unquoted_after q xs) ≡ true
-unquoted_passes p q [] e = refl
-unquoted_passes p true (b ∷ bs) e = let both = and_parts (p b) (list_all p bs) e in unquoted_passes p false bs both.1
-unquoted_passes p false (b ∷ bs) e = let both = and_parts (p b) (list_all p bs) e in and_from _ _ both.0 (unquoted_passes p (b == 39) bs both.1)
+-- ---- texts and signs
 
 -- ---- pieces
 
@@ -139,29 +95,32 @@ number_piece_spelled place bytes =
     either_way (nat_lt 18 (prefix_len is_ascii_digit bytes) || begins_with_letter (drop (prefix_len is_ascii_digit bytes) bytes)) (bad (BadNumber place)) (token (number (digits_value 10 (take (prefix_len is_ascii_digit bytes) bytes))) (prefix_len is_ascii_digit bytes)) (λ e. tt)
     (λ e. few_digits bytes (ltb-false 18 (prefix_len is_ascii_digit bytes) ((or_parts (nat_lt 18 (prefix_len is_ascii_digit bytes)) (begins_with_letter (drop (prefix_len is_ascii_digit bytes) bytes)) e).0)))
 
+-- what is found is one of all that pass
+found_in : {X : Type 0} (good test : X → Bool) (xs : List X) (x : X) → find test xs ≡ Some x → list_all good xs ≡ true → good x ≡ true
+found_in good test [] x e all = cc
+found_in good test (y ∷ ys) x e all = let both = and_parts (good y) (list_all good ys) all in go (test y) refl e both.0 (λ later. found_in good test ys x later both.1)
+  where
+    go : (b : Bool) → test y ≡ b → cond b (Some y) (find test ys) ≡ Some x → good y ≡ true → (find test ys ≡ Some x → good x ≡ true) → good x ≡ true
+    go true passes e here later = let same : y ≡ x = cc in rw (← same) here
+    go false fails e here later = later e
+
 text_piece_spelled : (place : ℕ) (bytes : List ℕ) → IsSpelledPiece (text_piece place bytes)
 unfolding is_text
-text_piece_spelled place bytes = go (ending_after false bytes) refl
+text_piece_spelled place bytes = go (said place (place + 1) false bytes) refl
   where
-    go : (e : Ending) → ending_after false bytes ≡ e → IsSpelledPiece (text_piece place bytes)
-    go (closed n) h = rw h (unquoted_passes is_printable false (take (n - 1) bytes) (fewer_pass is_printable bytes n (text_printed false bytes n h)))
-    go (stopped n) h = rw h tt
-    go open_ended h = rw h tt
+    go : (r : Result (List ℕ) QueryFault) → said place (place + 1) false bytes ≡ r → IsSpelledPiece (text_piece place bytes)
+    go (Ok t) h = rw h (said_printed place (place + 1) bytes t h)
+    go (Err e) h = rw h tt
 
-less_spelled : (next : Option ℕ) → IsSpelledPiece (less_piece next)
-less_spelled None = refl
-less_spelled (Some b) = by_bool (b == 61) (λ e. rw e refl) (λ e. by_bool (b == 62) (λ f. rw (e, f) refl) (λ f. rw (e, f) refl))
-
-greater_spelled : (next : Option ℕ) → IsSpelledPiece (greater_piece next)
-greater_spelled None = refl
-greater_spelled (Some b) = by_bool (b == 61) (λ e. rw e refl) (λ e. rw e refl)
-
-sign_spelled : (place b : ℕ) (next : Option ℕ) → IsSpelledPiece (sign_piece place b next)
-sign_spelled place b next =
-    by_bool (b == 44) (λ h44. rw h44 refl) (λ h44. by_bool (b == 40) (λ h40. rw (h44, h40) refl) (λ h40. by_bool (b == 41) (λ h41. rw (h44, h40, h41) refl) (λ h41. by_bool (b == 42) (λ h42. rw (h44, h40, h41, h42) refl) (λ h42. by_bool (b == 43) (λ h43. rw (h44, h40, h41, h42, h43) refl) (λ h43. by_bool (b == 45) (λ h45. rw (h44, h40, h41, h42, h43, h45) refl) (λ h45. by_bool (b == 59) (λ h59. rw (h44, h40, h41, h42, h43, h45, h59) refl) (λ h59. by_bool (b == 61) (λ h61. rw (h44, h40, h41, h42, h43, h45, h59, h61) refl) (λ h61. by_bool (b == 60) (λ h60. rw (h44, h40, h41, h42, h43, h45, h59, h61, h60) (less_spelled next)) (λ h60. by_bool (b == 62) (λ h62. rw (h44, h40, h41, h42, h43, h45, h59, h61, h60, h62) (greater_spelled next)) (λ h62. rw (h44, h40, h41, h42, h43, h45, h59, h61, h60, h62) tt))))))))))
+sign_spelled : (place : ℕ) (bytes : List ℕ) → IsSpelledPiece (sign_piece place bytes)
+sign_spelled place bytes = go (find (λ (spelled, x). starts_with nat_eq bytes spelled) signs) refl
+  where
+    go : (o : Option (List ℕ × Symbol)) → find (λ (spelled, x). starts_with nat_eq bytes spelled) signs ≡ o → IsSpelledPiece (sign_piece place bytes)
+    go None h = rw h tt
+    go (Some (spelled, x)) h = rw h (found_in (λ (word, y). token_is_spelled y) (λ (word, y). starts_with nat_eq bytes word) signs (spelled, x) h refl)
 
 abbrev behind_digit : ℕ → ℕ → List ℕ → Piece
-behind_digit place b bs = if b == 39 then text_piece place bs else sign_piece place b (slice_get bs 0)
+behind_digit place b bs = if b == 39 then text_piece place bs else sign_piece place (b ∷ bs)
 
 abbrev behind_letter : ℕ → ℕ → List ℕ → Piece
 behind_letter place b bs = if is_ascii_digit b then number_piece place (b ∷ bs) else behind_digit place b bs
@@ -174,11 +133,11 @@ piece_spelled place b bs =
     either_way (is_blank b) blank (behind_blank place b bs) (λ e. tt)
     (λ e. either_way (is_letter b) (word_piece place (b ∷ bs)) (behind_letter place b bs) (word_piece_spelled place b bs)
     (λ f. either_way (is_ascii_digit b) (number_piece place (b ∷ bs)) (behind_digit place b bs) (λ g. number_piece_spelled place (b ∷ bs))
-    (λ g. either_way (b == 39) (text_piece place bs) (sign_piece place b (slice_get bs 0)) (λ h. text_piece_spelled place bs) (λ h. sign_spelled place b (slice_get bs 0)))))
+    (λ g. either_way (b == 39) (text_piece place bs) (sign_piece place (b ∷ bs)) (λ h. text_piece_spelled place bs) (λ h. sign_spelled place (b ∷ bs)))))
 
 -- ---- the cut
 
-with_token_gave : (t : Placed) (r : Result (List Placed) QueryFault) (ts : List Placed) → with_token t r ≡ Ok ts → (us : List Placed) × (r ≡ Ok us) × (t ∷ us ≡ ts)
+with_token_gave : (t : Placed) (r : Result (List Placed) QueryFault) (ts : List Placed) → with_first t r ≡ Ok ts → (us : List Placed) × (r ≡ Ok us) × (t ∷ us ≡ ts)
 with_token_gave t (Ok us) ts e = (us, refl, cc)
 with_token_gave t (Err f) ts e = absurd (cc)
 

@@ -9,7 +9,8 @@ use Rattle.star_query.specs.declared.counts.Counts.{Counts}
 use Rattle.star_query.specs.declared.fault.ParseError.{ParseError}
 use Rattle.star_query.specs.declared.fault.ParseError.TheVariants as errors
 use Rattle.star_query.specs.declared.fault.Fault.TheVariants.{Unexpected, TooDeep, TooMany}
-use Rattle.star_query.specs.Symbols.{Symbol, name, number, unquoted, unquoted_after}
+use Rattle.star_query.specs.Symbols.{Symbol, name, number}
+use Rattle.star_query.specs.Private.Quoted.{unquoted, unquoted_after}
 use Rattle.star_query.specs.Maxima.{limit}
 use Rattle.star_query.specs.Private.Machine.{number_of, bump}
 use Rattle.star_query.specs.Private.Reads.{Spot, spot_of, Takes, IsName, IsNumber, NoName, NoNumber, IsBeyond, ReadsToken}

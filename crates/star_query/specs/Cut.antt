@@ -1,18 +1,19 @@
 -- How a text is cut into tokens, and its first fault from the left where it can't be (this project's profile of SQL).
-use Rattle.std.specs.Prelude.{ℕ, zero, suc, ◌+◌, ◌-◌, nat_lt, Bool, true, false, ◌==◌, ◌||◌, if◌then◌else◌, List, [], ◌∷◌, find, drop, take, nat_eq, Option, Some, None, Result, Ok, Err}
-use Rattle.std.specs.List.{prefix_len, slice_get}
+use Rattle.std.specs.Prelude.{ℕ, zero, suc, ◌+◌, ◌-◌, nat_lt, Bool, true, false, ◌==◌, ◌||◌, if◌then◌else◌, List, [], ◌∷◌, codes, find, drop, take, length, nat_eq, Option, Some, None, Result, Ok, Err}
+use Rattle.std.specs.List.{flat_map, prefix_len, starts_with}
 use Rattle.std.specs.Char.{is_ascii_alphabetic, is_ascii_digit}
 use Rattle.std.specs.Str.Parse.{digits_value}
 use Rattle.std.specs.Cmp.Lexicographic.{pointwise}
+use Rattle.star_common.specs.Quotes.{doubled}
 use Rattle.star_schema.specs.Tables.{is_printable}
 use Rattle.star_query.specs.declared.token.Word.{Word}
 use Rattle.star_query.specs.declared.token.Relation.TheVariants as r
 use Rattle.star_query.specs.declared.token.Sign.TheVariants as s
-use Rattle.star_query.specs.declared.token.Additive.TheVariants as signs
+use Rattle.star_query.specs.declared.token.Additive.TheVariants as q
 use Rattle.star_query.specs.declared.fault.QueryFault.{QueryFault}
 use Rattle.star_query.specs.declared.fault.QueryFault.TheVariants.{BadCharacter, BadNumber, OpenText}
 use Rattle.star_query.specs.Maxima.{most_digits}
-use Rattle.star_query.specs.Symbols.{Symbol, Placed, relation, sign, additive, name, number, text, spelling, reserved_words, word_symbol, lowered, unquoted}
+use Rattle.star_query.specs.Symbols.{Symbol, Placed, relation, sign, additive, name, number, text, spelling, reserved_words, word_symbol, lowered}
 
 -- space, tab, carriage return and line feed part tokens
 abbrev pub is_blank : ℕ → Bool
@@ -61,73 +62,44 @@ number_piece place bytes =
     let width = prefix_len is_ascii_digit bytes in
     if nat_lt most_digits width || begins_with_letter (drop width bytes) then bad (BadNumber place) else token (number (digits_value 10 (take width bytes))) width
 
--- how a text ends: by its closing quote, behind this many bytes; at a byte that may not stand in it; or not at all
-pub data Ending : Type 0 where
-  closed : ℕ → Ending
-  stopped : ℕ → Ending
-  open_ended : Ending
+-- one more in front of what was read
+abbrev pub with_first : {A : Type 0} → A → Result (List A) QueryFault → Result (List A) QueryFault
+with_first x (Ok xs) = Ok (x ∷ xs)
+with_first x (Err e) = Err e
 
-abbrev pub farther : Ending → Ending
-farther (closed n) = closed (n + 1)
-farther (stopped n) = stopped (n + 1)
-farther open_ended = open_ended
-
--- whether a text goes on with a byte, and whether that byte is then a quote that closes the text unless another follows
-abbrev pub goes_on : (a_quote : Bool) → ℕ → Option Bool
-goes_on true b = if b == 39 then Some false else None
-goes_on false b = if b == 39 then Some true else if is_printable b then Some false else None
-
--- the end of a text, behind a quote that closes it unless another one follows, or behind any other byte
-abbrev pub ending_after : (a_quote : Bool) → List ℕ → Ending
-ending_after q [] = if q then closed 0 else open_ended
-ending_after q (b ∷ bs) = behind (goes_on q b) (λ p. ending_after p bs)
+-- what a text says: from behind its opening quote, or from behind a quote of it that closes it unless another one follows
+abbrev pub said : (opened at : ℕ) → (a_quote : Bool) → List ℕ → Result (List ℕ) QueryFault
+said opened at true [] = Ok []
+said opened at false [] = Err (OpenText opened)
+said opened at true (b ∷ bs) = if b == 39 then with_first b (said opened (at + 1) false bs) else Ok []
+said opened at false (b ∷ bs) = before (said opened (at + 1) (b == 39) bs)
   where
-    behind : Option Bool → (Bool → Ending) → Ending
-    behind None rest = if q then closed 0 else stopped 0
-    behind (Some p) rest = farther (rest p)
+    before : Result (List ℕ) QueryFault → Result (List ℕ) QueryFault
+    before rest = if b == 39 then rest else if is_printable b then with_first b rest else Err (BadCharacter at)
 
--- a text, from behind its opening quote
+-- a text, from behind its opening quote: it is written in quotes, each quote of it twice
 abbrev pub text_piece : ℕ → List ℕ → Piece
-text_piece place bytes = ended (ending_after false bytes)
+text_piece place bytes = read (said place (place + 1) false bytes)
   where
-    ended : Ending → Piece
-    ended (closed n) = token (text (unquoted (take (n - 1) bytes))) (n + 1)
-    ended (stopped n) = bad (BadCharacter (place + 1 + n))
-    ended open_ended = bad (OpenText place)
+    read : Result (List ℕ) QueryFault → Piece
+    read (Ok t) = token (text t) (length (flat_map doubled t) + 2)
+    read (Err e) = bad e
 
-abbrev pub less_piece : Option ℕ → Piece
-less_piece None = token (relation r.Less) 1
-less_piece (Some b) =
-    if b == 61 then token (relation r.AtMost) 2 else if b == 62 then token (relation r.Unequal) 2 else token (relation r.Less) 1
+-- the signs as they are written, those of two bytes first
+abbrev pub signs : List (List ℕ × Symbol)
+signs =
+    (codes "<=", relation r.AtMost) ∷ (codes "<>", relation r.Unequal) ∷ (codes ">=", relation r.AtLeast)
+    ∷ (codes "<", relation r.Less) ∷ (codes ">", relation r.Greater) ∷ (codes "=", relation r.Equal)
+    ∷ (codes ",", sign s.Comma) ∷ (codes "(", sign s.Open) ∷ (codes ")", sign s.Close) ∷ (codes "*", sign s.Star)
+    ∷ (codes ";", sign s.Semicolon) ∷ (codes "+", additive q.Plus) ∷ (codes "-", additive q.Minus) ∷ []
 
-abbrev pub greater_piece : Option ℕ → Piece
-greater_piece None = token (relation r.Greater) 1
-greater_piece (Some b) = if b == 61 then token (relation r.AtLeast) 2 else token (relation r.Greater) 1
-
--- a sign, the longest that fits
-abbrev pub sign_piece : ℕ → ℕ → Option ℕ → Piece
-sign_piece place b next =
-    if b == 44
-    then token (sign s.Comma) 1
-    else if b == 40
-    then token (sign s.Open) 1
-    else if b == 41
-    then token (sign s.Close) 1
-    else if b == 42
-    then token (sign s.Star) 1
-    else if b == 43
-    then token (additive signs.Plus) 1
-    else if b == 45
-    then token (additive signs.Minus) 1
-    else if b == 59
-    then token (sign s.Semicolon) 1
-    else if b == 61
-    then token (relation r.Equal) 1
-    else if b == 60
-    then less_piece next
-    else if b == 62
-    then greater_piece next
-    else bad (BadCharacter place)
+-- the first of the signs that the bytes begin with
+abbrev pub sign_piece : ℕ → List ℕ → Piece
+sign_piece place bytes = found (find (λ (spelled, x). starts_with nat_eq bytes spelled) signs)
+  where
+    found : Option (List ℕ × Symbol) → Piece
+    found (Some (spelled, x)) = token x (length spelled)
+    found None = bad (BadCharacter place)
 
 -- what begins with this byte, before these
 abbrev pub piece_at : ℕ → ℕ → List ℕ → Piece
@@ -140,16 +112,12 @@ piece_at place b bs =
     then number_piece place (b ∷ bs)
     else if b == 39
     then text_piece place bs
-    else sign_piece place b (slice_get bs 0)
-
-abbrev pub with_token : Placed → Result (List Placed) QueryFault → Result (List Placed) QueryFault
-with_token t (Ok ts) = Ok (t ∷ ts)
-with_token t (Err e) = Err e
+    else sign_piece place (b ∷ bs)
 
 -- a piece, and what is cut behind its first byte and as many more
 abbrev pub before_rest : ℕ → Piece → (ℕ → Result (List Placed) QueryFault) → Result (List Placed) QueryFault
 before_rest place blank rest = rest 0
-before_rest place (token x width) rest = with_token (record { symbol = x; place = place }) (rest (width - 1))
+before_rest place (token x width) rest = with_first (record { symbol = x; place = place }) (rest (width - 1))
 before_rest place (bad e) rest = Err e
 
 -- the tokens from a place on, whose first bytes lie inside a token before

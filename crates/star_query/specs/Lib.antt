@@ -1,6 +1,7 @@
 pub mod Symbols
 pub mod Maxima
 pub mod Cut
+pub mod Tokens
 pub mod Tree
 pub mod Grammar
 pub mod Derives

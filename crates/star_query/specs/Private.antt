@@ -1,3 +1,4 @@
+pub mod Quoted
 pub mod Lexed
 pub mod Terminals
 pub mod Machine

@@ -1,5 +1,5 @@
 -- The symbols of a query: its tokens, of which names and functions keep their place.
-use Rattle.std.specs.Prelude.{ℕ, List, [], ◌∷◌, Bool, true, false, ◌==◌, codes, map}
+use Rattle.std.specs.Prelude.{ℕ, List, [], ◌∷◌, codes, map}
 use Rattle.std.specs.Char.{to_ascii_lowercase}
 use Rattle.star_query.specs.declared.token.Keyword.{Keyword}
 use Rattle.star_query.specs.declared.token.Keyword.TheVariants as k
@@ -67,13 +67,3 @@ word_symbol words.Count place = count place
 -- letters in lower case
 abbrev pub lowered : List ℕ → List ℕ
 lowered word = map to_ascii_lowercase word
-
--- of two quotes in a row the second is left out
-abbrev pub unquoted_after : (a_quote : Bool) → List ℕ → List ℕ
-unquoted_after q [] = []
-unquoted_after true (b ∷ bs) = unquoted_after false bs
-unquoted_after false (b ∷ bs) = b ∷ unquoted_after (b == 39) bs
-
--- what a text says, of whose quotes each is doubled
-abbrev pub unquoted : List ℕ → List ℕ
-unquoted inside = unquoted_after false inside

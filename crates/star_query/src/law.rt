@@ -1,11 +1,12 @@
-//! Laws of the grammar: functions with no body, whose clauses hold of all texts.
+//! Laws of the cut and the grammar: functions with no body, whose clauses hold of all texts.
 
-ghost use Rattle.std.specs.Prelude.{◌≡◌, ◌≢◌, ◌↔◌, ℕ, List, Some};
+ghost use Rattle.std.specs.Prelude.{◌≡◌, ◌≢◌, ◌↔◌, ℕ, List, [], length, Some, Ok, Err};
 ghost use Rattle.star_query.specs.declared.token.Word.{Word};
 ghost use Rattle.star_query.specs.declared.fault.QueryFault.{QueryFault};
 ghost use Rattle.star_query.specs.declared.fault.QueryFault.TheVariants.{OutOfMemory};
-ghost use Rattle.star_query.specs.Symbols.{spelling, lowered};
-ghost use Rattle.star_query.specs.Cut.{reserved};
+ghost use Rattle.star_query.specs.Symbols.{Placed, spelling, lowered};
+ghost use Rattle.star_query.specs.Cut.{cut_of, reserved};
+ghost use Rattle.star_query.specs.Tokens.{AreTokens, IsStopped};
 ghost use Rattle.star_query.specs.Tree.{Tree};
 ghost use Rattle.star_query.specs.Grammar.{Mark};
 ghost use Rattle.star_query.specs.Derives.{Means, Begins, IsFirstFault, symbols_at};
@@ -38,4 +39,19 @@ pub fn one_first_fault()
 pub fn texts_that_mean_a_tree_have_no_fault()
     ensures { (bytes : List ℕ) (tree : Tree) (fault : QueryFault)
         → fault ≢ OutOfMemory → Means bytes tree → IsFirstFault bytes fault → ⊥ }
+{}
+
+/// The tokens of a text, with white space between them, make it: each is as it is written, and the
+/// longest that begins at its place. So no text has two cuts.
+pub fn tokens_make_their_text()
+    ensures { (bytes : List ℕ) (tokens : List Placed)
+        → (cut_of bytes ≡ Ok tokens) ↔ AreTokens (length bytes) [] 0 bytes tokens }
+{}
+
+/// A text has no cut exactly where behind some tokens something stops it: a byte that begins none,
+/// digits that are too many or that a letter follows, a text in quotes that nothing closes, or a
+/// byte in one that may not stand there.
+pub fn what_is_no_token_stops_the_cut()
+    ensures { (bytes : List ℕ) (fault : QueryFault)
+        → (cut_of bytes ≡ Err fault) ↔ IsStopped bytes fault }
 {}

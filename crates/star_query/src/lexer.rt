@@ -6,6 +6,7 @@ ghost use Rattle.std.specs.Char.{is_ascii_digit};
 ghost use Rattle.star_schema.specs.Tables as tables;
 ghost use Rattle.star_query.specs.Cut as spec;
 ghost use Rattle.star_query.specs.Private.Lexed as lexed;
+ghost use Rattle.star_query.specs.Private.Quoted as quoting;
 
 use crate::counts::MAX_DIGITS;
 use crate::fault::QueryFault;
@@ -91,7 +92,7 @@ fn word_width(text: &[u8]) -> usize
 
 // Whether a text goes on with a byte, and whether it then ends unless a quote follows.
 fn goes_on(quote: bool, byte: u8) -> Option<bool>
-    ensures { result ≡ spec.goes_on quote byte }
+    ensures { result ≡ quoting.goes_on quote byte }
 {
     if quote {
         if byte == b'\'' { Some(false) } else { None }
@@ -106,7 +107,7 @@ fn goes_on(quote: bool, byte: u8) -> Option<bool>
 
 // How a text ends, from behind its opening quote.
 fn end_of_text(text: &[u8]) -> Ending
-    ensures ending { lexed.ending_of result ≡ spec.ending_after false text.now }
+    ensures ending { lexed.ending_of result ≡ quoting.ending_after false text.now }
     ensures within { lexed.EndsWithin result (length text.now) }
 {
     let mut quote = false;
@@ -129,7 +130,7 @@ fn end_of_text(text: &[u8]) -> Ending
 
 // A sign, the longest that fits, and how many bytes it has.
 fn sign<'a>(byte: u8, next: Option<u8>, place: usize) -> Piece<'a>
-    ensures { lexed.IsPiece place (spec.sign_piece place byte next)
+    ensures { lexed.IsPiece place (quoting.sign_piece place byte next)
         (1 + length (option_to_list next)) result }
 {
     match byte {
@@ -199,7 +200,7 @@ fn word<'a>(text: &'a [u8], place: usize) -> Piece<'a>
 // A text, from behind its opening quote.
 fn quoted<'a>(text: &'a [u8], place: usize) -> Piece<'a>
     requires { place + 1 + length text.now ≤ usize.MAX }
-    ensures { lexed.IsPiece place (spec.text_piece place text.now) (1 + length text.now) result }
+    ensures { lexed.IsPiece place (quoting.text_piece place text.now) (1 + length text.now) result }
 {
     match end_of_text(text) {
         Ending::Closed(end) => {

@@ -1,5 +1,5 @@
 use Rattle.std.proofs.Common.{◌≡◌, ◌++◌, drop}
-use Rattle.star_query.specs.Symbols.{unquoted, unquoted_after}
+use Rattle.star_query.specs.Private.Quoted.{unquoted, unquoted_after}
 use Rattle.star_query.proofs.parser.unquoted.Given as goal
 
 abbrev pub invariant-loop-byte : goal.invariant-loop-byte

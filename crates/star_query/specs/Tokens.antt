@@ -1,0 +1,96 @@
+-- How tokens are written, and what stops a text from being cut: what the laws of the cut say.
+use Rattle.std.specs.Prelude.{◌≡◌, ℕ, ◌+◌, ◌<◌, ◌≤◌, ◌⊎◌, Bool, true, false, ◌==◌, ◌||◌, not, List, [], ◌∷◌, ◌++◌, length, Contains, Some}
+use Rattle.std.specs.List.{flat_map, list_all}
+use Rattle.std.specs.Char.{is_ascii_digit}
+use Rattle.star_common.specs.Numerals.{numeral_of}
+use Rattle.star_common.specs.Quotes.{doubled, quoted}
+use Rattle.star_schema.specs.Tables.{is_printable}
+use Rattle.star_query.specs.declared.token.Relation.TheVariants as r
+use Rattle.star_query.specs.declared.fault.QueryFault.{QueryFault}
+use Rattle.star_query.specs.declared.fault.QueryFault.TheVariants.{BadCharacter, BadNumber, OpenText}
+use Rattle.star_query.specs.Maxima.{most_digits}
+use Rattle.star_query.specs.Symbols.{Symbol, Placed, relation, sign, additive, number, text}
+use Rattle.star_query.specs.Cut.{is_blank, is_word_byte, begins_with_letter, word_of, signs}
+
+-- ---- tokens
+
+-- the bytes of a token that begins at a place, and its symbol: a word of letters, digits and _, of which the first is no
+-- digit; a number; a text in quotes; or a sign
+pub data IsToken (place : ℕ) (bytes : List ℕ) (x : Symbol) : Type 0 where
+  a_word : begins_with_letter bytes ≡ true → list_all is_word_byte bytes ≡ true → x ≡ word_of place bytes → IsToken place bytes x
+  a_number : (n : ℕ) → numeral_of most_digits bytes ≡ Some n → x ≡ number n → IsToken place bytes x
+  a_text : (said : List ℕ) → list_all is_printable said ≡ true → bytes ≡ quoted said → x ≡ text said → IsToken place bytes x
+  a_sign : Contains signs (bytes, x) → IsToken place bytes x
+
+-- whether a byte behind a token would be one of it: so each token is the longest that begins at its place
+abbrev pub goes_on : Symbol → ℕ → Bool
+goes_on (text said) b = b == 39
+goes_on (relation r.Less) b = (b == 61) || (b == 62)
+goes_on (relation r.Greater) b = b == 61
+goes_on (relation _) b = false
+goes_on (sign _) b = false
+goes_on (additive _) b = false
+goes_on _ b = is_word_byte b
+
+abbrev pub is_over : Symbol → List ℕ → Bool
+is_over x [] = true
+is_over x (b ∷ bs) = not (goes_on x b)
+
+-- the bytes from a place on are white space and these tokens, up to what is left from the end of these on
+pub data AreTokens (end : ℕ) (left : List ℕ) : (place : ℕ) → (bytes : List ℕ) → List Placed → Type 0 where
+  no_more : AreTokens end left end left []
+  white_space : (place b : ℕ) (bytes : List ℕ) (tokens : List Placed) → is_blank b ≡ true
+      → AreTokens end left (place + 1) bytes tokens → AreTokens end left place (b ∷ bytes) tokens
+  a_token : (place : ℕ) (word bytes : List ℕ) (x : Symbol) (tokens : List Placed) → IsToken place word x → is_over x bytes ≡ true
+      → AreTokens end left (place + length word) bytes tokens
+      → AreTokens end left place (word ++ bytes) (record { symbol = x; place = place } ∷ tokens)
+
+-- ---- faults
+
+-- digits that are too many, or that a letter follows
+pub record IsBadNumber (bytes : List ℕ) : Type 0 where
+  pub digits : List ℕ
+  pub rest : List ℕ
+  pub cut : bytes ≡ digits ++ rest
+  pub some : 1 ≤ length digits
+  pub all : list_all is_ascii_digit digits ≡ true
+  pub wrong : (most_digits < length digits) ⊎ (begins_with_letter rest ≡ true)
+
+-- a byte that may not stand in it follows the front of a text from behind its opening quote, with each of its quotes twice
+pub record HasBadByte (bytes : List ℕ) (before : ℕ) : Type 0 where
+  pub said : List ℕ
+  pub b : ℕ
+  pub rest : List ℕ
+  pub cut : bytes ≡ flat_map doubled said ++ b ∷ rest
+  pub printed : list_all is_printable said ≡ true
+  pub bad : is_printable b ≡ false
+  pub where_it_is : before ≡ length (flat_map doubled said)
+
+-- a text from behind its opening quote that nothing closes
+pub record IsOpen (bytes : List ℕ) : Type 0 where
+  pub said : List ℕ
+  pub cut : bytes ≡ flat_map doubled said
+  pub printed : list_all is_printable said ≡ true
+
+-- no token begins with this byte, and it is no white space
+pub record IsStray (b : ℕ) (bytes : List ℕ) : Type 0 where
+  pub no_blank : is_blank b ≡ false
+  pub no_word : is_word_byte b ≡ false
+  pub no_quote : (b == 39) ≡ false
+  pub no_sign : (sign : List ℕ) (x : Symbol) (rest : List ℕ) → Contains signs (sign, x) → b ∷ bytes ≡ sign ++ rest → ⊥
+
+-- what stops the cut at these bytes
+abbrev pub Stops : (place : ℕ) → List ℕ → QueryFault → Type 0
+Stops place bytes (BadNumber at) = (at ≡ place) × IsBadNumber bytes
+Stops place (b ∷ bytes) (OpenText at) = (at ≡ place) × (b ≡ 39) × IsOpen bytes
+Stops place (b ∷ bytes) (BadCharacter at) =
+    ((at ≡ place) × IsStray b bytes) ⊎ ((before : ℕ) × (at ≡ place + 1 + before) × (b ≡ 39) × HasBadByte bytes before)
+Stops place bytes fault = ⊥
+
+-- white space and tokens, and then what stops the cut
+pub record IsStopped (bytes : List ℕ) (fault : QueryFault) : Type 0 where
+  pub tokens : List Placed
+  pub end : ℕ
+  pub left : List ℕ
+  pub before : AreTokens end left 0 bytes tokens
+  pub stops : Stops end left fault
