@@ -5,4 +5,5 @@ pub mod Choices
 pub mod OwnConditions
 pub mod OwnTables
 pub mod OwnShows
+pub mod OwnFits
 pub mod OwnWords

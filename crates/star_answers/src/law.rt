@@ -18,6 +18,7 @@ ghost use Rattle.star_plan.specs.WellNamed.{IsWellNamed};
 ghost use Rattle.star_program.specs.declared.outcome.Cell.{Cell};
 ghost use Rattle.star_report.specs.Report.{report_text};
 ghost use Rattle.star_answers.specs.Answers.{IsAnswer, IsPlanAnswer};
+ghost use Rattle.star_answers.specs.Fitting.{FitsTables, PlanFitsTables};
 ghost use Rattle.star_answers.specs.Reports.{IsReport};
 ghost use Rattle.star_answers.specs.Rows.{selected, tables_of};
 
@@ -56,6 +57,12 @@ pub fn plans_answer_their_queries()
         (names : List (List ℕ)) (rows : List (List Cell))
         → IsWellNamed query → IsResolved query p
         → IsAnswer tables query names rows ↔ IsPlanAnswer tables p names rows }
+{}
+
+/// A query fits tables exactly where its plan does.
+pub fn plans_fit_where_their_queries_do()
+    ensures { (most : ℕ) (tables : Tables) (query : Tree) (p : Plan)
+        → IsResolved query p → FitsTables most tables query ↔ PlanFitsTables most tables p }
 {}
 
 /// A query has one answer over given tables.

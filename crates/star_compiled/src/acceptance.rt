@@ -10,7 +10,7 @@ ghost use Rattle.star_plan.specs.Spelled.{IsSpelledPlan};
 ghost use Rattle.star_program.specs.World.{World};
 ghost use Rattle.star_world.specs.WorldOf.{world_of};
 ghost use Rattle.star_admission.specs.Admissible.{TooCostly, first_refusal};
-ghost use Rattle.star_answers.specs.Fitting.{FitsTables, bounds_in};
+ghost use Rattle.star_answers.specs.Fitting.{PlanFitsTables, bounds_in};
 ghost use Rattle.star_compiled.specs.Compiled.{compiled};
 ghost use Rattle.star_compiled.specs.Judged.{AreBoundsI64, IsOverflow};
 
@@ -43,7 +43,7 @@ pub fn compiled_programs_are_accepted_where_they_fit()
 pub fn compiled_programs_are_accepted_where_they_fit_the_tables()
     ensures fits { (database : Database) (most : ℕ) (p : Plan)
         → AreBoundsI64 (bounds_in (rows_in database)) → IsSoundPlan p → IsSpelledPlan p
-        → FitsTables most (rows_in database) p
+        → PlanFitsTables most (rows_in database) p
         ↔ (first_refusal (world_of database) most (compiled p) ≡ None) }
     ensures costly { (database : Database) (most : ℕ) (p : Plan)
         → most < length (rows_in database Lineorder)
@@ -51,6 +51,6 @@ pub fn compiled_programs_are_accepted_where_they_fit_the_tables()
         ≡ Some (TooCostly (length (rows_in database Lineorder))) }
     ensures wide { (database : Database) (most : ℕ) (p : Plan)
         → IsSoundPlan p → length (rows_in database Lineorder) ≤ most
-        → (FitsTables most (rows_in database) p → ⊥)
+        → (PlanFitsTables most (rows_in database) p → ⊥)
         → IsOverflow (first_refusal (world_of database) most (compiled p)) }
 {}

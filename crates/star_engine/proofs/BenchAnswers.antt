@@ -66,7 +66,7 @@ module _ (most : ℕ) (database : Database)
   found_told query p meant true text (outcome, run, printed) =
       let laws = judged query p meant in
       inl (
-        record { p = p; meant = meant; fits = laws.accepted.1 run.accepted },
+        laws.accepted.1 run.accepted,
         rw printed (laws.printed run.yields.s run.yields.ended outcome run.yields.told),
       )
   found_told query p meant false text (refusal, refused, printed) =
@@ -80,11 +80,7 @@ module _ (most : ℕ) (database : Database)
       (text : List ℕ) → IsFound database most (compiled p) fits text
       → IsVerdictOnOne most database q fits
   judgement q p meant true text (outcome, run, printed) =
-      record {
-        p = p;
-        meant = meant;
-        fits = (judged (query_text q) p meant).accepted.1 run.accepted;
-      }
+      (judged (query_text q) p meant).accepted.1 run.accepted
   judgement q p meant false text (refusal, refused, printed) = (
     refusal,
     refusal_told most database (query_text q) p meant (judged (query_text q) p meant) refusal

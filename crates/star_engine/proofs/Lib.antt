@@ -9,6 +9,7 @@ pub mod Executing
 pub mod NotedAs
 pub mod Loaded
 pub mod PlansOfQueries
+pub mod FittingTexts
 pub mod QueryRuns
 pub mod QueryFaults
 pub mod QueryAnswers

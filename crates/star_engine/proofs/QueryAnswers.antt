@@ -1,7 +1,7 @@
 -- What is told of the program of a query is what is told of the query.
 use Rattle.std.proofs.Common.{◌≡◌, ◌≤◌, ◌<◌, ◌∙◌, ℕ, List, Some, ap, subst, sym}
 use Rattle.std.specs.Prelude.{◌↔◌, Result}
-use Rattle.star_schema.specs.Database.{Database, TableTexts, rows_in}
+use Rattle.star_schema.specs.Database.{Database, TableTexts}
 use Rattle.star_schema.specs.Loadable.{IsLoadable, database_of}
 use Rattle.star_plan.specs.Meaning.{Plan}
 use Rattle.star_program.specs.declared.program.Parts.{Parts}
@@ -10,7 +10,6 @@ use Rattle.star_program.specs.Run.{Ended, run_of}
 use Rattle.star_admission.specs.Admissible.{TooCostly, first_refusal}
 use Rattle.star_world.specs.WorldOf.{world_of}
 use Rattle.star_verify.specs.declared.refusal.Refusal.{Refusal}
-use Rattle.star_answers.specs.Fitting.{FitsTables}
 use Rattle.star_compiled.specs.Compiled.{compiled}
 use Rattle.star_compiled.specs.Judged.{IsOverflow}
 use Rattle.star_engine.specs.declared.fault.EngineFault.{EngineFault}
@@ -19,7 +18,7 @@ use Rattle.star_engine.specs.Answered.{Change}
 use Rattle.star_engine.specs.Executions.{IsAcceptedWithin, IsQuote, IsRefusal, IsProgramTold, quote_over}
 use Rattle.star_engine.specs.Noted.{IsNoted, Telling}
 use Rattle.star_engine.specs.Notes.{counts_line, quote_line}
-use Rattle.star_engine.specs.Queries.{IsPlanOf, IsQueryQuoteOver, IsQueryToldOver, IsUnanswered, IsUnansweredOver, IsUnfit, fact_rows}
+use Rattle.star_engine.specs.Queries.{FitsRows, IsPlanOf, IsQueryQuoteOver, IsQueryToldOver, IsUnanswered, IsUnansweredOver, IsUnfit, fact_rows}
 use Rattle.star_engine.specs.QueryRuns.{PrintsTheReport}
 use Rattle.star_engine.specs.Private.QuerySteps.{IsProgramOfQuery}
 use Rattle.star_engine.specs.Private.Steps.{IsNotVerified}
@@ -27,12 +26,12 @@ use Rattle.star_engine.proofs.NotedAs.{noted_as}
 
 -- what the laws say of the program of a query over the rows of five tables
 pub record IsJudged (most : ℕ) (database : Database) (query : List ℕ) (p : Plan) : Type 0 where
-  pub accepted : FitsTables most (rows_in database) p
+  pub accepted : FitsRows most database query
       ↔ IsAcceptedWithin database most (compiled p)
   pub costly : most < fact_rows database
       → first_refusal (world_of database) most (compiled p)
       ≡ Some (TooCostly (fact_rows database))
-  pub wide : fact_rows database ≤ most → ¬ FitsTables most (rows_in database) p
+  pub wide : fact_rows database ≤ most → ¬ FitsRows most database query
       → IsOverflow (first_refusal (world_of database) most (compiled p))
   pub quoted : quote_over database (compiled p) ≡ fact_rows database
   pub printed : (s : Store) → run_of (world_of database) (compiled p) ≡ Ended s
@@ -51,10 +50,12 @@ module _ (most : ℕ) (database : Database) (query : List ℕ) (p : Plan)
       let s = told.yields.s in
       let outcome = told.yields.told in
       record {
-        fitting = record { p = p; meant = meant; fits = judged.accepted.1 told.accepted };
+        fitting = judged.accepted.1 told.accepted;
         quoted = told.quoted ∙ ap quote_line judged.quoted;
         reported =
             rw told.reported (judged.printed s told.yields.ended told.outcome told.yields.told);
+        p = p;
+        meant = meant;
         s = s;
         ended = told.yields.ended;
         within =
@@ -68,7 +69,7 @@ module _ (most : ℕ) (database : Database) (query : List ℕ) (p : Plan)
   pub refusal_told : (refusal : Refusal) → IsRefusal database most (compiled p) refusal
       → IsUnfit most database query refusal
   refusal_told refusal is =
-      let unfit : ¬ FitsTables most (rows_in database) p =
+      let unfit : ¬ FitsRows most database query =
       λ fits. is.not_accepted (judged.accepted.0 fits) in
       let first = is.told ∙ sym is.first in
       record {

@@ -58,11 +58,9 @@ module _ (most : ℕ) (database : Database) (file : List ℕ) (program : Parts)
   judged false of_kind text is =
       let law = laws of_kind.p of_kind.meant in
       let made = subst (λ m. IsProgramForecast database most m text) of_kind.made is in record {
-        fitting = record {
-          p = of_kind.p;
-          meant = of_kind.meant;
-          fits = law.accepted.1 made.accepted;
-        };
+        fitting = law.accepted.1 made.accepted;
+        p = of_kind.p;
+        meant = of_kind.meant;
         foretold = made.foretold
             ∙ ap (λ visits. forecast_line visits (most_rows_over database (compiled of_kind.p))) law.quoted;
       }

@@ -51,9 +51,10 @@ fact_rows database = length (rows_in database Lineorder)
 -- the text means a well named query, which fits the rows of five tables, where at most this many of
 -- them may be visited
 pub record FitsRows (most : ℕ) (database : Database) (query : List ℕ) : Type 0 where
-  pub p : Plan
-  pub meant : IsPlanOf query p
-  pub fits : FitsTables most (rows_in database) p
+  pub tree : Tree
+  pub means : Means query tree
+  pub named : IsWellNamed tree
+  pub fits : FitsTables most (rows_in database) tree
 
 -- ---- faults
 
@@ -85,7 +86,7 @@ pub record IsUnfit (most : ℕ) (database : Database) (query : List ℕ) (refusa
     : Type 0 where
   pub p : Plan
   pub meant : IsPlanOf query p
-  pub unfit : ¬ FitsTables most (rows_in database) p
+  pub unfit : ¬ FitsRows most database query
   pub costly : most < fact_rows database
       → refusal_shown refusal ≡ Some (TooCostly (fact_rows database))
   pub wide : fact_rows database ≤ most → IsOverflow (refusal_shown refusal)
@@ -123,8 +124,10 @@ pub record IsQueryToldOver (visits : ℕ) (database : Database) (query : List �
   pub fitting : FitsRows visits database query
   pub quoted : telling.quoted ≡ quote_line (fact_rows database)
   pub reported : IsReport database query telling.report
+  pub p : Plan
+  pub meant : IsPlanOf query p
   pub s : Store
-  pub ended : run_of (world_of database) (compiled fitting.p) ≡ Ended s
+  pub ended : run_of (world_of database) (compiled p) ≡ Ended s
   pub within : s.visits ≤ fact_rows database
   pub done : telling.done ≡ counts_line s.visits s.lookups s.updates
 

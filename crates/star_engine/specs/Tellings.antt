@@ -4,6 +4,7 @@ use Rattle.std.specs.Prelude.{◌≡◌, ℕ, Bool, true, false, List, string_by
 use Rattle.star_schema.specs.Database.{Database}
 use Rattle.star_admission.specs.MostRows.{most_rows}
 use Rattle.star_compiled.specs.Compiled.{compiled}
+use Rattle.star_plan.specs.Meaning.{Plan}
 use Rattle.star_program.specs.declared.program.Parts.{Parts}
 use Rattle.star_engine.specs.declared.fault.EngineFault.{EngineFault}
 use Rattle.star_engine.specs.declared.tellings.Told.{Told}
@@ -11,7 +12,7 @@ use Rattle.star_engine.specs.Executions.{IsAcceptedWithin, IsToldOver, IsUntoldO
 use Rattle.star_engine.specs.Loads.{HoldsOfFile, IsProgram}
 use Rattle.star_engine.specs.Noted.{Telling}
 use Rattle.star_engine.specs.Notes.{forecast_line}
-use Rattle.star_engine.specs.Queries.{FitsRows, IsQuery, IsQueryToldOver, IsUnansweredOver, fact_rows}
+use Rattle.star_engine.specs.Queries.{FitsRows, IsPlanOf, IsQuery, IsQueryToldOver, IsUnansweredOver, fact_rows}
 use Rattle.star_engine.specs.QuoteTexts.{is_program_file}
 use Rattle.star_world.specs.WorldOf.{world_of}
 
@@ -43,8 +44,10 @@ pub record IsProgramForecast (database : Database) (most : ℕ) (program : Parts
 -- report of its program can have
 pub record IsQueryForecast (most : ℕ) (database : Database) (query text : List ℕ) : Type 0 where
   pub fitting : FitsRows most database query
+  pub p : Plan
+  pub meant : IsPlanOf query p
   pub foretold : text
-      ≡ forecast_line (fact_rows database) (most_rows_over database (compiled fitting.p))
+      ≡ forecast_line (fact_rows database) (most_rows_over database (compiled p))
 
 abbrev pub IsJudgedOfKind : (is_program : Bool) → (visits : ℕ) → Database → (file text : List ℕ)
     → Type 0

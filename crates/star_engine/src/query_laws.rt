@@ -1,7 +1,7 @@
 //! Laws of what queries are answered: functions with no body, whose clauses are the laws.
 
 ghost use Rattle.std.specs.Prelude.{◌≡◌, ◌≢◌, ◌≤◌, ◌<◌, ◌^◌, ◌↔◌, ℕ, List, Some, None};
-ghost use Rattle.star_schema.specs.Database.{Database, rows_in};
+ghost use Rattle.star_schema.specs.Database.{Database};
 ghost use Rattle.star_query.specs.Derives.{Means};
 ghost use Rattle.star_query.specs.Tree.{Tree};
 ghost use Rattle.star_plan.specs.Meaning.{Plan};
@@ -11,20 +11,20 @@ ghost use Rattle.star_program.specs.Run.{Ended, EndsWith, run_of};
 ghost use Rattle.star_program.specs.Text.Spellable.{IsSpellable};
 ghost use Rattle.star_admission.specs.Admissible.{TooCostly, first_refusal};
 ghost use Rattle.star_world.specs.WorldOf.{world_of};
-ghost use Rattle.star_answers.specs.Fitting.{FitsTables};
 ghost use Rattle.star_compiled.specs.Compiled.{compiled};
 ghost use Rattle.star_compiled.specs.Judged.{IsOverflow};
 ghost use Rattle.star_engine.specs.Executions.{IsAcceptedWithin, quote_over};
 ghost use Rattle.star_engine.specs.declared.fault.EngineFault.{EngineFault};
 ghost use Rattle.star_engine.specs.declared.thirteen.BenchmarkQuery.{BenchmarkQuery};
 ghost use Rattle.star_engine.specs.Loads.{AreLoadedRows};
-ghost use Rattle.star_engine.specs.Queries.{IsNoQuery, IsPlanOf, fact_rows};
+ghost use Rattle.star_engine.specs.Queries.{FitsRows, IsNoQuery, IsPlanOf, fact_rows};
 ghost use Rattle.star_engine.specs.QueryRuns.{HasReported, PrintsTheReport};
 ghost use Rattle.star_engine.specs.Thirteen.{query_text};
 
 use star_admission::law::{
     admissible_programs_never_trap, admissible_programs_within_the_limit_are_not_refused,
 };
+use star_answers::law::plans_fit_where_their_queries_do;
 use star_compiled::acceptance::compiled_programs_are_accepted_where_they_fit_the_tables;
 use star_compiled::answers::compiled_programs_report_their_queries;
 use star_compiled::law::{compiled_plans_are_programs, compiled_programs_visit_each_row_once};
@@ -39,10 +39,10 @@ use star_world::law::sound_rows_are_loaded;
 pub fn queries_that_fit_are_answered()
     ensures accepted { (most : ℕ) (database : Database) (query : List ℕ) (p : Plan)
         → AreLoadedRows database → IsPlanOf query p
-        → FitsTables most (rows_in database) p ↔ IsAcceptedWithin database most (compiled p) }
+        → FitsRows most database query ↔ IsAcceptedWithin database most (compiled p) }
     ensures answered { (most : ℕ) (database : Database) (query : List ℕ) (p : Plan)
         → AreLoadedRows database → IsPlanOf query p
-        → FitsTables most (rows_in database) p → most ≤ 10 ^ 15
+        → FitsRows most database query → most ≤ 10 ^ 15
         → EndsWith (run_of (world_of database) (compiled p)) (HasReported database query p) }
     ensures costly { (most : ℕ) (database : Database) (p : Plan)
         → most < fact_rows database
@@ -50,11 +50,12 @@ pub fn queries_that_fit_are_answered()
         ≡ Some (TooCostly (fact_rows database)) }
     ensures wide { (most : ℕ) (database : Database) (query : List ℕ) (p : Plan)
         → IsPlanOf query p → fact_rows database ≤ most
-        → ¬ FitsTables most (rows_in database) p
+        → ¬ FitsRows most database query
         → IsOverflow (first_refusal (world_of database) most (compiled p)) }
 {
     compiled_plans_are_programs();
     compiled_programs_visit_each_row_once();
+    plans_fit_where_their_queries_do();
     compiled_programs_are_accepted_where_they_fit_the_tables();
     compiled_programs_report_their_queries();
     admissible_programs_never_trap();

@@ -6,8 +6,8 @@ use Rattle.star_interval.specs.Range.{Range, only, corner_range, fits_i64}
 use Rattle.star_query.specs.Tree.{Expression, column, constant, add, sub, mul}
 use Rattle.star_plan.specs.Meaning.{Measure, counted, summed, least, greatest, Plan}
 
--- the range of an expression: the least and greatest result over the corners of its parts' ranges
-abbrev pub range_of : (ColumnId → Range) → Expression ColumnId → Range
+-- the range of an expression whose columns have these: the least and greatest result over the corners of its parts' ranges
+abbrev pub range_of : {C : Type 0} → (C → Range) → Expression C → Range
 range_of bounds (column c) = bounds c
 range_of bounds (constant z) = only z
 range_of bounds (add a b) = corner_range ◌+ℤ◌ (range_of bounds a) (range_of bounds b)
@@ -15,7 +15,7 @@ range_of bounds (sub a b) = corner_range ◌-ℤ◌ (range_of bounds a) (range_o
 range_of bounds (mul a b) = corner_range ◌*ℤ◌ (range_of bounds a) (range_of bounds b)
 
 -- each node of an expression has its range in 64 bits
-abbrev pub nodes_fit : (ColumnId → Range) → Expression ColumnId → Bool
+abbrev pub nodes_fit : {C : Type 0} → (C → Range) → Expression C → Bool
 nodes_fit bounds (column c) = fits_i64 (bounds c)
 nodes_fit bounds (constant z) = fits_i64 (only z)
 nodes_fit bounds (add a b) = nodes_fit bounds a && (nodes_fit bounds b && fits_i64 (range_of bounds (add a b)))
@@ -28,7 +28,7 @@ measure_fits bounds (summed e) = nodes_fit bounds e
 measure_fits bounds (least e) = nodes_fit bounds e
 measure_fits bounds (greatest e) = nodes_fit bounds e
 
--- a query fits the fact's rows within a limit
+-- a plan fits the fact's rows within a limit
 pub record Fits (rows most : ℕ) (bounds : ColumnId → Range) (p : Plan) : Type 0 where
   pub visits : rows ≤ most
   pub nodes : IsTrue (list_all (measure_fits bounds) p.measures)

@@ -14,7 +14,6 @@ use Rattle.star_admission.specs.Admissible.{TooCostly, first_refusal}
 use Rattle.star_world.specs.WorldOf.{world_of}
 use Rattle.star_verify.specs.declared.refusal.Refusal.{Refusal}
 use Rattle.star_verify.specs.Shown.{refusal_shown}
-use Rattle.star_answers.specs.Fitting.{FitsTables}
 use Rattle.star_answers.specs.Reports.{IsReport}
 use Rattle.star_compiled.specs.Compiled.{compiled}
 use Rattle.star_compiled.specs.Judged.{IsOverflow}
@@ -67,7 +66,7 @@ module _ (rows : ℕ) (texts : TableTexts) (query : List ℕ) where
 
 module _ (most : ℕ) (database : Database) (query : List ℕ) (refusal : Refusal) where
   -- as many rows as may be visited are not too many
-  as_many_rows_as_may_be : (p : Plan) → IsPlanOf query p → (FitsTables most (rows_in database) p → ⊥) → fact_rows database ≡ most
+  as_many_rows_as_may_be : (p : Plan) → IsPlanOf query p → (FitsRows most database query → ⊥) → fact_rows database ≡ most
       → IsOverflow (refusal_shown refusal) → refusal_shown refusal ≡ first_refusal (world_of database) most (compiled p)
       → IsUnfit most database query refusal
   as_many_rows_as_may_be p meant unfit many wide first = record {
@@ -105,13 +104,15 @@ module _ (rows visits : ℕ) (texts : TableTexts) (query : List ℕ) where
 
 module _ (visits : ℕ) (database : Database) (query : List ℕ) where
   -- each row of lineorder may be visited, and the counts are told in their order
-  every_row_visited : (fitting : FitsRows visits database query) (report : List ℕ) → IsReport database query report
-      → (s : Store) → run_of (world_of database) (compiled fitting.p) ≡ Ended s → s.visits ≡ fact_rows database
+  every_row_visited : FitsRows visits database query → (report : List ℕ) → IsReport database query report → (p : Plan) → IsPlanOf query p
+      → (s : Store) → run_of (world_of database) (compiled p) ≡ Ended s → s.visits ≡ fact_rows database
       → IsQueryToldOver visits database query (record { quoted = quote_line (fact_rows database); report = report; done = counts_line s.visits s.lookups s.updates })
-  every_row_visited fitting report reported s ended all = record {
+  every_row_visited fitting report reported p meant s ended all = record {
     fitting = fitting;
     quoted = refl;
     reported = reported;
+    p = p;
+    meant = meant;
     s = s;
     ended = ended;
     within = omega arith;

@@ -12,7 +12,7 @@ use Rattle.star_plan.specs.Fits.{range_of}
 use Rattle.star_schema.specs.declared.column.ColumnId.{ColumnId}
 use Rattle.star_query.specs.Tree.{Expression, column, constant, mul, sub}
 use Rattle.star_plan.specs.Meaning.{Measure, greatest as greatest_of, summed, Plan}
-use Rattle.star_answers.specs.Fitting.{FitsTables, bounds_in}
+use Rattle.star_answers.specs.Fitting.{PlanFitsTables, bounds_in}
 use Rattle.star_worked.proofs.Sample.{sample}
 
 abbrev asking : List Measure → Plan
@@ -31,18 +31,18 @@ range_of_profits : range_of (bounds_in sample) profit ≡ record { low = neg_ℤ
 unfolding column_of columns_of place_of pieces greatest least numbers_at
 range_of_profits = refl
 
-profits_fit : FitsTables 5 sample (asking (summed profit ∷ []))
+profits_fit : PlanFitsTables 5 sample (asking (summed profit ∷ []))
 unfolding column_of columns_of place_of pieces greatest least numbers_at is_i64
 profits_fit = record { visits = omega arith; nodes = refl }
 
 -- a limit of one row less
-profits_cost_too_much : FitsTables 4 sample (asking (summed profit ∷ [])) → ⊥
+profits_cost_too_much : PlanFitsTables 4 sample (asking (summed profit ∷ [])) → ⊥
 profits_cost_too_much fits = let few : 5 ≤ 4 = fits.visits in omega (arith, few)
 
 -- 3000 times this number leaves 64 bits, though no other price does
 abbrev steep : Expression ColumnId
 steep = mul (column LoExtendedprice) (constant (pos 3074457345618259))
 
-steep_unfit : FitsTables 5 sample (asking (greatest_of steep ∷ [])) → ⊥
+steep_unfit : PlanFitsTables 5 sample (asking (greatest_of steep ∷ [])) → ⊥
 unfolding column_of columns_of place_of pieces greatest least numbers_at is_i64
 steep_unfit fits = let nodes : false ≡ true = fits.nodes in cc

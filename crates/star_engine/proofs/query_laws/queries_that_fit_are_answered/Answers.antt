@@ -1,10 +1,12 @@
 -- From the laws of compiled programs and of admission, for the plans of texts.
 use Rattle.std.proofs.Common.{◌≡◌, true, arith}
+use Rattle.star_schema.specs.Database.{rows_in}
 use Rattle.star_admission.specs.Laws.{IsAccepted}
 use Rattle.star_admission.specs.Quote.{quote}
 use Rattle.star_world.specs.WorldOf.{world_of}
 use Rattle.star_compiled.specs.Compiled.{compiled}
 use Rattle.star_engine.specs.Queries.{fact_rows}
+use Rattle.star_engine.proofs.FittingTexts.{text_fits}
 use Rattle.star_engine.proofs.PlansOfQueries.{plan_sound, plan_spelled, plan_within}
 use Rattle.star_engine.proofs.QueryRuns.{ends_reported}
 use Rattle.star_engine.proofs.query_laws.queries_that_fit_are_answered.Goals as goal
@@ -16,10 +18,12 @@ returns-clause-accepted c = λ most database query p loaded meant.
     c.compiled_programs_are_accepted_where_they_fit_the_tables.ensures.fits database most p
     loaded.bounds (plan_sound query p meant) (plan_spelled query p meant)
     in
+    let own = text_fits most database query p meant
+    (c.plans_fit_where_their_queries_do.ensures most (rows_in database) meant.tree p meant.resolved) in
     let admitted =
     c.admissible_programs_within_the_limit_are_not_refused.ensures w most (compiled p) in (
-      λ fits. let both = admitted.0 (free.0 fits) in record { admissible = both.0; cheap = both.1 },
-      λ accepted. free.1 (admitted.1 (accepted.admissible, accepted.cheap)),
+      λ fits. let both = admitted.0 (free.0 (own.0 fits)) in record { admissible = both.0; cheap = both.1 },
+      λ accepted. own.1 (free.1 (admitted.1 (accepted.admissible, accepted.cheap))),
     )
 
 pub returns-clause-costly : goal.returns-clause-costly
@@ -27,9 +31,11 @@ returns-clause-costly c = λ most database p.
     c.compiled_programs_are_accepted_where_they_fit_the_tables.ensures.costly database most p
 
 pub returns-clause-wide : goal.returns-clause-wide
-returns-clause-wide c = λ most database query p meant.
+returns-clause-wide c = λ most database query p meant within unfit.
+    let own = text_fits most database query p meant
+    (c.plans_fit_where_their_queries_do.ensures most (rows_in database) meant.tree p meant.resolved) in
     c.compiled_programs_are_accepted_where_they_fit_the_tables.ensures.wide database most p
-    (plan_sound query p meant)
+    (plan_sound query p meant) within (λ fits. unfit (own.1 fits))
 
 pub returns-clause-answered : goal.returns-clause-answered
 returns-clause-answered c = λ most database query p loaded meant fits small.
