@@ -11,14 +11,14 @@ use Rattle.star_schema.specs.declared.column.ColumnId.{ColumnId}
 use Rattle.star_schema.specs.Order.{value_cmp}
 use Rattle.star_schema.specs.Tables.{Value}
 use Rattle.star_query.specs.Tree as tree
-use Rattle.star_query.specs.Tree.{Condition, Name}
+use Rattle.star_query.specs.Tree.{Condition, Name, Test, or, and, not, test, compare, between}
 use Rattle.star_report.proofs.OneOrder.{value_turned}
 use Rattle.star_plan.specs.declared.tree.Join.{Join}
 use Rattle.star_plan.specs.Joins.{Pair, is_foreign, join_by, join_of, joins_of, pairs_of, where_pairs}
 use Rattle.star_plan.specs.Meaning as plan
-use Rattle.star_plan.specs.Meaning.{Joined, all_hold, holds, tests, value_of, or, and, not, compare, between}
+use Rattle.star_plan.specs.Meaning.{Joined, all_hold, holds, tests, value_of}
 use Rattle.star_plan.specs.Names.{column_at, literal_value}
-use Rattle.star_plan.specs.Resolved.{conjuncts_of, resolved_condition, where_conjuncts}
+use Rattle.star_plan.specs.Resolved.{conjuncts_of, resolved_condition, resolved_test, where_conjuncts}
 use Rattle.star_plan.proofs.Known.{each_left, each_right}
 use Rattle.star_plan.proofs.Options.{both_gave, first_or_second, mapped_gave}
 use Rattle.star_answers.specs.Rows.{is_true, value_if, value_named, where_is_true}
@@ -31,7 +31,7 @@ named n c row e = ap (λ o. value_if o row) e
 
 -- ---- conditions in which no two columns are compared
 
-condition_same : (q : Condition) (x : plan.Condition) (row : Joined) → resolved_condition q ≡ Some x → is_true q row ≡ holds x row
+condition_same : (q : Condition Test) (x : plan.RowCondition) (row : Joined) → resolved_condition q ≡ Some x → is_true q row ≡ holds x row
 condition_same (tree.or a b) x row e =
     let g = both_gave or (resolved_condition a) (resolved_condition b) x e in
     (λ i. condition_same a g.left row g.first i || condition_same b g.right row g.second i) ∙ ap (λ y. holds y row) g.made
@@ -41,23 +41,25 @@ condition_same (tree.and a b) x row e =
 condition_same (tree.not a) x row e =
     let g = mapped_gave not (resolved_condition a) x e in
     ap negated (condition_same a g.0 row g.1) ∙ ap (λ y. holds y row) g.2
-condition_same (tree.pair m n) x row e = absurd (cc)
-condition_same (tree.compare n s l) x row e =
-    let g = mapped_gave (λ c. compare c s (literal_value l)) (column_at n) x e in
-    (λ i. tests s (value_cmp (named n g.0 row g.1 i) (literal_value l))) ∙ ap (λ y. holds y row) g.2
-condition_same (tree.between n from upto) x row e =
-    let g = mapped_gave (λ c. between c (literal_value from) (literal_value upto)) (column_at n) x e in
-    (λ i. is_le (value_cmp (literal_value from) (named n g.0 row g.1 i)) && is_le (value_cmp (named n g.0 row g.1 i) (literal_value upto))) ∙ ap (λ y. holds y row) g.2
+condition_same (tree.test (tree.pair m n)) x row e = absurd (cc)
+condition_same (tree.test (tree.comparison (tree.compare n s l))) x row e =
+    let t = mapped_gave test (resolved_test (tree.comparison (tree.compare n s l))) x e in
+    let g = mapped_gave (λ c. compare c s (literal_value l)) (column_at n) t.0 t.1 in
+    (λ i. tests s (value_cmp (named n g.0 row g.1 i) (literal_value l))) ∙ ap (λ y. holds (test y) row) g.2 ∙ ap (λ y. holds y row) t.2
+condition_same (tree.test (tree.comparison (tree.between n from upto))) x row e =
+    let t = mapped_gave test (resolved_test (tree.comparison (tree.between n from upto))) x e in
+    let g = mapped_gave (λ c. between c (literal_value from) (literal_value upto)) (column_at n) t.0 t.1 in
+    (λ i. is_le (value_cmp (literal_value from) (named n g.0 row g.1 i)) && is_le (value_cmp (named n g.0 row g.1 i) (literal_value upto))) ∙ ap (λ y. holds (test y) row) g.2 ∙ ap (λ y. holds y row) t.2
 
-no_pairs : (q : Condition) (x : plan.Condition) (b : Bool) → resolved_condition q ≡ Some x → pairs_of b q ≡ []
+no_pairs : (q : Condition Test) (x : plan.RowCondition) (b : Bool) → resolved_condition q ≡ Some x → pairs_of b q ≡ []
 no_pairs (tree.or a d) x b e =
     let g = both_gave or (resolved_condition a) (resolved_condition d) x e in λ i. no_pairs a g.left false g.first i ++ no_pairs d g.right false g.second i
 no_pairs (tree.and a d) x b e =
     let g = both_gave and (resolved_condition a) (resolved_condition d) x e in λ i. no_pairs a g.left b g.first i ++ no_pairs d g.right b g.second i
 no_pairs (tree.not a) x b e = let g = mapped_gave not (resolved_condition a) x e in no_pairs a g.0 false g.1
-no_pairs (tree.pair m n) x b e = absurd (cc)
-no_pairs (tree.compare n s l) x b e = refl
-no_pairs (tree.between n from upto) x b e = refl
+no_pairs (tree.test (tree.pair m n)) x b e = absurd (cc)
+no_pairs (tree.test (tree.comparison (tree.compare n s l))) x b e = refl
+no_pairs (tree.test (tree.comparison (tree.between n from upto))) x b e = refl
 
 -- ---- comparisons of two columns
 
@@ -102,13 +104,13 @@ and_true true = refl
 and_true false = refl
 
 -- a condition that is one conjunct
-lone_same : (q : Condition) (xs : List plan.Condition) (row : Joined) → option_map (λ x. x ∷ []) (resolved_condition q) ≡ Some xs
+lone_same : (q : Condition Test) (xs : List plan.RowCondition) (row : Joined) → option_map (λ x. x ∷ []) (resolved_condition q) ≡ Some xs
     → is_true q row ≡ (all_joined (joins_of (pairs_of true q)) row && all_hold xs row)
 lone_same q xs row e =
     let g = mapped_gave (λ x. x ∷ []) (resolved_condition q) xs e in
     condition_same q g.0 row g.1 ∙ and_true (holds g.0 row) ∙ (λ i. all_joined (joins_of (sym (no_pairs q g.0 true g.1) i)) row && all_hold (g.2 i) row)
 
-conjuncts_same : (q : Condition) (xs : List plan.Condition) (row : Joined) → conjuncts_of q ≡ Some xs → AreJoins (pairs_of true q)
+conjuncts_same : (q : Condition Test) (xs : List plan.RowCondition) (row : Joined) → conjuncts_of q ≡ Some xs → AreJoins (pairs_of true q)
     → is_true q row ≡ (all_joined (joins_of (pairs_of true q)) row && all_hold xs row)
 conjuncts_same (tree.and a b) xs row e all =
     let g = both_gave (λ ys zs. ys ++ zs) (conjuncts_of a) (conjuncts_of b) xs e in
@@ -123,18 +125,18 @@ conjuncts_same (tree.and a b) xs row e all =
     (λ i. left i && right i)
     ∙ ands_crossed (all_joined (joins_of ps) row) (all_hold g.left row) (all_joined (joins_of qs) row) (all_hold g.right row)
     ∙ (λ i. sym joins i && sym others i)
-conjuncts_same (tree.pair m n) xs row e all =
+conjuncts_same (tree.test (tree.pair m n)) xs row e all =
     let none : [] ≡ xs = cc in
     let j = all.0.0 in
-    let joins : j ∷ [] ≡ joins_of (pairs_of true (tree.pair m n)) = λ i. option_to_list (sym all.0.1 i) ++ [] in
+    let joins : j ∷ [] ≡ joins_of (pairs_of true (tree.test (tree.pair m n))) = λ i. option_to_list (sym all.0.1 i) ++ [] in
     join_same (column_at m) (column_at n) j row all.0.1 ∙ and_true (is_joined_by row j) ∙ and_true (is_joined_by row j && true)
     ∙ (λ i. all_joined (joins i) row && all_hold (none i) row)
 conjuncts_same (tree.or a b) xs row e all = lone_same (tree.or a b) xs row e
 conjuncts_same (tree.not a) xs row e all = lone_same (tree.not a) xs row e
-conjuncts_same (tree.compare n s l) xs row e all = lone_same (tree.compare n s l) xs row e
-conjuncts_same (tree.between n from upto) xs row e all = lone_same (tree.between n from upto) xs row e
+conjuncts_same (tree.test (tree.comparison (tree.compare n s l))) xs row e all = lone_same (tree.test (tree.comparison (tree.compare n s l))) xs row e
+conjuncts_same (tree.test (tree.comparison (tree.between n from upto))) xs row e all = lone_same (tree.test (tree.comparison (tree.between n from upto))) xs row e
 
-pub where_same : (o : Option Condition) (xs : List plan.Condition) (row : Joined) → where_conjuncts o ≡ Some xs → AreJoins (where_pairs o)
+pub where_same : (o : Option (Condition Test)) (xs : List plan.RowCondition) (row : Joined) → where_conjuncts o ≡ Some xs → AreJoins (where_pairs o)
     → where_is_true o row ≡ (all_joined (joins_of (where_pairs o)) row && all_hold xs row)
 where_same None xs row e all = let none : [] ≡ xs = cc in ap (λ cs. all_hold cs row) none
 where_same (Some q) xs row e all = conjuncts_same q xs row e all

@@ -4,20 +4,15 @@ use Rattle.std.specs.Prelude.{◌+ℤ◌, ◌-ℤ◌, ◌*ℤ◌, ◌&&◌}
 use Rattle.std.specs.List.{list_all}
 use Rattle.star_schema.specs.declared.column.ColumnId.{ColumnId}
 use Rattle.star_interval.specs.Range.{Range, corner_range, fits_i64, only}
-use Rattle.star_query.specs.declared.token.Fold.{Fold}
-use Rattle.star_query.specs.declared.token.Fold.TheVariants as fold
 use Rattle.star_query.specs.Tree as tree
-use Rattle.star_query.specs.Tree.{Expression, Item, Name, Tree, add, column, constant, mul, sub}
-use Rattle.star_plan.specs.Fits as of_plan
-use Rattle.star_plan.specs.Fits.{nodes_fit, range_of}
-use Rattle.star_plan.specs.Meaning as plan
+use Rattle.star_query.specs.Tree.{Expression, Item, Measure, Name, Tree, add, column, constant, mul, sub}
+use Rattle.star_plan.specs.Fits.{measure_fits, nodes_fit, range_of}
 use Rattle.star_plan.specs.Meaning.{Plan, Tables}
 use Rattle.star_plan.specs.Names.{column_at}
 use Rattle.star_plan.specs.Resolved as resolved
 use Rattle.star_plan.specs.Resolved.{IsResolved, resolved_expression, resolved_measure}
-use Rattle.star_plan.specs.Shown.{folded}
 use Rattle.star_plan.proofs.Options.{both_gave, mapped_gave}
-use Rattle.star_answers.specs.Fitting.{FitsTables, PlanFitsTables, bounds_in, measure_fits, range_named}
+use Rattle.star_answers.specs.Fitting.{FitsTables, PlanFitsTables, bounds_in, range_named}
 use Rattle.star_answers.specs.Rows.{measures_of}
 
 module _ (ts : Tables) where
@@ -60,25 +55,20 @@ module _ (ts : Tables) where
       let range : range_of (range_named ts) (mul a b) ≡ range_of (bounds_in ts) (mul g.left g.right) = λ i. corner_range ◌*ℤ◌ (ranges_same a g.left g.first i) (ranges_same b g.right g.second i) in
       (λ i. nodes_same a g.left g.first i && (nodes_same b g.right g.second i && fits_i64 (range i))) ∙ whole
 
-  folded_same : (f : Fold) (x : Expression ColumnId) → nodes_fit (bounds_in ts) x ≡ of_plan.measure_fits (bounds_in ts) (folded f x)
-  folded_same fold.Sum x = refl
-  folded_same fold.Min x = refl
-  folded_same fold.Max x = refl
-
-  measure_same : (m : tree.Measure) (x : plan.Measure) → resolved_measure m ≡ Some x
-      → measure_fits (range_named ts) m ≡ of_plan.measure_fits (bounds_in ts) x
-  measure_same tree.count x e = let same : plan.counted ≡ x = cc in ap (of_plan.measure_fits (bounds_in ts)) same
+  measure_same : (m : Measure Name) (x : Measure ColumnId) → resolved_measure m ≡ Some x
+      → measure_fits (range_named ts) m ≡ measure_fits (bounds_in ts) x
+  measure_same tree.count x e = let same : tree.count ≡ x = cc in ap (measure_fits (bounds_in ts)) same
   measure_same (tree.fold f e) x h =
-      let g = mapped_gave (folded f) (resolved_expression e) x h in
-      nodes_same e g.0 g.1 ∙ folded_same f g.0 ∙ ap (of_plan.measure_fits (bounds_in ts)) g.2
+      let g = mapped_gave (tree.fold f) (resolved_expression e) x h in
+      nodes_same e g.0 g.1 ∙ ap (measure_fits (bounds_in ts)) g.2
 
-  measures_same : (items : List Item) (ms : List plan.Measure) → resolved.measures_of items ≡ Some ms
-      → list_all (measure_fits (range_named ts)) (measures_of items) ≡ list_all (of_plan.measure_fits (bounds_in ts)) ms
-  measures_same [] ms e = let none : [] ≡ ms = cc in ap (list_all (of_plan.measure_fits (bounds_in ts))) none
+  measures_same : (items : List Item) (ms : List (Measure ColumnId)) → resolved.measures_of items ≡ Some ms
+      → list_all (measure_fits (range_named ts)) (measures_of items) ≡ list_all (measure_fits (bounds_in ts)) ms
+  measures_same [] ms e = let none : [] ≡ ms = cc in ap (list_all (measure_fits (bounds_in ts))) none
   measures_same (tree.plain n ∷ items) ms e = measures_same items ms e
   measures_same (tree.aggregate a ∷ items) ms e =
       let g = both_gave (λ x xs. x ∷ xs) (resolved_measure a.measure) (resolved.measures_of items) ms e in
-      (λ i. measure_same a.measure g.left g.first i && measures_same items g.right g.second i) ∙ ap (list_all (of_plan.measure_fits (bounds_in ts))) g.made
+      (λ i. measure_same a.measure g.left g.first i && measures_same items g.right g.second i) ∙ ap (list_all (measure_fits (bounds_in ts))) g.made
 
 pub own_fits : (most : ℕ) (ts : Tables) (q : Tree) (p : Plan) → IsResolved q p → FitsTables most ts q ↔ PlanFitsTables most ts p
 own_fits most ts q p is =

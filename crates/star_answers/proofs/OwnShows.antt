@@ -16,18 +16,17 @@ use Rattle.star_schema.proofs.NamesApart.{found_named}
 use Rattle.star_query.specs.declared.token.Fold.{Fold}
 use Rattle.star_query.specs.declared.token.Fold.TheVariants as fold
 use Rattle.star_query.specs.Tree as tree
-use Rattle.star_query.specs.Tree.{Expression, Item, Name, SortKey, Tree, add, column, constant, mul, sub}
+use Rattle.star_query.specs.Tree.{Expression, Item, Measure, Name, SortKey, Tree, add, column, constant, mul, sub}
 use Rattle.star_plan.specs.Meaning as plan
 use Rattle.star_plan.specs.Meaning.{Joined, Plan, value_of}
 use Rattle.star_plan.specs.Names.{column_at, column_called}
 use Rattle.star_plan.specs.Naming.{aggregate_name, aggregate_names, names_from}
 use Rattle.star_plan.specs.Resolved as resolved
 use Rattle.star_plan.specs.Resolved.{items_from, key_column, option_all, resolved_expression, resolved_key, resolved_measure}
-use Rattle.star_plan.specs.Shown.{folded}
 use Rattle.star_plan.proofs.Options.{both_gave, mapped_gave}
 use Rattle.star_answers.specs.Answers.{shown_name}
-use Rattle.star_answers.specs.Rows.{measured, measures_of, value_named}
-use Rattle.star_answers.specs.Shows.{columns_from, function_of, item_names_from}
+use Rattle.star_answers.specs.Rows.{measures_of, value_named}
+use Rattle.star_answers.specs.Shows.{columns_from, item_names_from}
 use Rattle.star_answers.proofs.OwnConditions.{named}
 
 -- ---- the values of a row
@@ -52,35 +51,31 @@ expression_same (tree.mul a b) x row e =
     let g = both_gave mul (resolved_expression a) (resolved_expression b) x e in
     (λ i. expression_same a g.left row g.first i *ℤ expression_same b g.right row g.second i) ∙ ap (λ y. plan.expression_number y row) g.made
 
-folded_number : (f : Fold) (x : Expression ColumnId) (row : Joined) → plan.expression_number x row ≡ plan.measured (folded f x) row
-folded_number fold.Sum x row = refl
-folded_number fold.Min x row = refl
-folded_number fold.Max x row = refl
+measure_same : (m : Measure Name) (x : Measure ColumnId) (row : Joined) → resolved_measure m ≡ Some x
+    → plan.measured (λ n. value_named n row) m ≡ plan.measured (λ c. value_of c row) x
+measure_same tree.count x row e = let same : tree.count ≡ x = cc in ap (plan.measured (λ c. value_of c row)) same
+measure_same (tree.fold f e) x row h =
+    let g = mapped_gave (tree.fold f) (resolved_expression e) x h in
+    expression_same e g.0 row g.1 ∙ ap (plan.measured (λ c. value_of c row)) g.2
 
-folded_function : (f : Fold) (e : Expression Name) (x : Expression ColumnId) → function_of (tree.fold f e) ≡ plan.aggregate_of (folded f x)
+folded_function : (f : Fold) (e : Expression Name) (x : Expression ColumnId) → plan.aggregate_of (tree.fold f e) ≡ plan.aggregate_of (tree.fold f x)
 folded_function fold.Sum e x = refl
 folded_function fold.Min e x = refl
 folded_function fold.Max e x = refl
 
-measure_same : (m : tree.Measure) (x : plan.Measure) (row : Joined) → resolved_measure m ≡ Some x → measured m row ≡ plan.measured x row
-measure_same tree.count x row e = let same : plan.counted ≡ x = cc in ap (λ y. plan.measured y row) same
-measure_same (tree.fold f e) x row h =
-    let g = mapped_gave (folded f) (resolved_expression e) x h in
-    expression_same e g.0 row g.1 ∙ folded_number f g.0 row ∙ ap (λ y. plan.measured y row) g.2
-
-function_same : (m : tree.Measure) (x : plan.Measure) → resolved_measure m ≡ Some x → function_of m ≡ plan.aggregate_of x
-function_same tree.count x e = let same : plan.counted ≡ x = cc in ap plan.aggregate_of same
+function_same : (m : Measure Name) (x : Measure ColumnId) → resolved_measure m ≡ Some x → plan.aggregate_of m ≡ plan.aggregate_of x
+function_same tree.count x e = let same : tree.count ≡ x = cc in ap plan.aggregate_of same
 function_same (tree.fold f e) x h =
-    let g = mapped_gave (folded f) (resolved_expression e) x h in folded_function f e g.0 ∙ ap plan.aggregate_of g.2
+    let g = mapped_gave (tree.fold f) (resolved_expression e) x h in folded_function f e g.0 ∙ ap plan.aggregate_of g.2
 
-pub values_same : (items : List Item) (ms : List plan.Measure) (row : Joined) → resolved.measures_of items ≡ Some ms → map (λ m. measured m row) (measures_of items) ≡ map (λ m. plan.measured m row) ms
-values_same [] ms row e = let none : [] ≡ ms = cc in ap (map (λ m. plan.measured m row)) none
+pub values_same : (items : List Item) (ms : List (Measure ColumnId)) (row : Joined) → resolved.measures_of items ≡ Some ms → map (plan.measured (λ n. value_named n row)) (measures_of items) ≡ map (plan.measured (λ c. value_of c row)) ms
+values_same [] ms row e = let none : [] ≡ ms = cc in ap (map (plan.measured (λ c. value_of c row))) none
 values_same (tree.plain n ∷ items) ms row e = values_same items ms row e
 values_same (tree.aggregate a ∷ items) ms row e =
     let g = both_gave (λ x xs. x ∷ xs) (resolved_measure a.measure) (resolved.measures_of items) ms e in
-    (λ i. measure_same a.measure g.left row g.first i ∷ values_same items g.right row g.second i) ∙ ap (map (λ m. plan.measured m row)) g.made
+    (λ i. measure_same a.measure g.left row g.first i ∷ values_same items g.right row g.second i) ∙ ap (map (plan.measured (λ c. value_of c row))) g.made
 
-pub functions_same : (items : List Item) (ms : List plan.Measure) → resolved.measures_of items ≡ Some ms → map function_of (measures_of items) ≡ map plan.aggregate_of ms
+pub functions_same : (items : List Item) (ms : List (Measure ColumnId)) → resolved.measures_of items ≡ Some ms → map plan.aggregate_of (measures_of items) ≡ map plan.aggregate_of ms
 functions_same [] ms e = let none : [] ≡ ms = cc in ap (map plan.aggregate_of) none
 functions_same (tree.plain n ∷ items) ms e = functions_same items ms e
 functions_same (tree.aggregate a ∷ items) ms e =

@@ -16,7 +16,7 @@ use Rattle.star_schema.specs.declared.column.ColumnId.TheVariants.{DDatekey, CCu
 use Rattle.star_schema.specs.Schema.{column_of, is_table, table_name, table_of}
 use Rattle.star_schema.proofs.NamesApart.{found_named}
 use Rattle.star_query.specs.Tree as tree
-use Rattle.star_query.specs.Tree.{Condition, Name}
+use Rattle.star_query.specs.Tree.{Condition, Name, Test}
 use Rattle.star_plan.specs.declared.tree.Join.{Join}
 use Rattle.star_plan.specs.Joins.{Pair, join_by, join_of, joins_of, pairs_of, where_pairs}
 use Rattle.star_plan.specs.Names.{column_at, has_name, table_at, table_called}
@@ -188,18 +188,17 @@ pair_named tables m n a b = by (join_of m n) refl
     by None e = tt
     by (Some j) e = (key m n j e a b, tt)
 
-joins_named : (tables : List Name) (b : Bool) (q : Condition) → AllByRecursion (λ u. is_in_from tables u.column ≡ true) (condition_uses q) → AllByRecursion (IsNamed tables) (joins_of (pairs_of b q))
+joins_named : (tables : List Name) (b : Bool) (q : Condition Test) → AllByRecursion (λ u. is_in_from tables u.column ≡ true) (condition_uses q) → AllByRecursion (IsNamed tables) (joins_of (pairs_of b q))
 joins_named tables b (tree.and c d) all =
     every_join (IsNamed tables) (pairs_of b c) (pairs_of b d) (joins_named tables b c (each_left _ (condition_uses c) (condition_uses d) all)) (joins_named tables b d (each_right _ (condition_uses c) (condition_uses d) all))
 joins_named tables b (tree.or c d) all =
     every_join (IsNamed tables) (pairs_of false c) (pairs_of false d) (joins_named tables false c (each_left _ (condition_uses c) (condition_uses d) all)) (joins_named tables false d (each_right _ (condition_uses c) (condition_uses d) all))
 joins_named tables b (tree.not c) all = joins_named tables false c all
-joins_named tables true (tree.pair m n) all = pair_named tables (column_at m) (column_at n) all.0 all.1.0
-joins_named tables false (tree.pair m n) all = tt
-joins_named tables b (tree.compare n s l) all = tt
-joins_named tables b (tree.between n from upto) all = tt
+joins_named tables true (tree.test (tree.pair m n)) all = pair_named tables (column_at m) (column_at n) all.0 all.1.0
+joins_named tables false (tree.test (tree.pair m n)) all = tt
+joins_named tables b (tree.test (tree.comparison c)) all = tt
 
-pub where_named : (tables : List Name) (o : Option Condition) → AllByRecursion (λ u. is_in_from tables u.column ≡ true) (where_uses o) → AllByRecursion (IsNamed tables) (joins_of (where_pairs o))
+pub where_named : (tables : List Name) (o : Option (Condition Test)) → AllByRecursion (λ u. is_in_from tables u.column ≡ true) (where_uses o) → AllByRecursion (IsNamed tables) (joins_of (where_pairs o))
 where_named tables None all = tt
 where_named tables (Some q) all = joins_named tables true q all
 

@@ -26,7 +26,7 @@ use Rattle.star_program.specs.declared.outcome.Cell.{Cell}
 use Rattle.star_program.specs.Outcome.{cell_of}
 use Rattle.star_answers.specs.Answers.{IsAnswer, IsPlanAnswer, shown_name}
 use Rattle.star_answers.specs.Rows.{query_entry, measures_of, product, selected, tables_of}
-use Rattle.star_answers.specs.Shows.{function_of, item_columns, item_names, sorts_of}
+use Rattle.star_answers.specs.Shows.{item_columns, item_names, sorts_of}
 use Rattle.star_answers.proofs.Choices.{IsStar, all_joined, dimensions_apart, dimensions_of, filter_both, is_star, joined_product, no_fact_among, product_reordered}
 use Rattle.star_answers.proofs.GroupOrders.{groups_reordered}
 use Rattle.star_answers.proofs.OwnConditions.{where_same}
@@ -83,7 +83,7 @@ module _ (ts : Tables) (t : Tree) (p : Plan) (named : IsWellNamed t) (resolved :
 
   -- groups by the query's own words, and by the plan
   own_groups : (entries : List (Entry Value)) (groups : List (GroupRow Value))
-      → AreGroups value_cmp t.grouping.shape (length t.grouping.columns) (map function_of (measures_of t.items)) entries groups
+      → AreGroups value_cmp t.grouping.shape (length t.grouping.columns) (map plan.aggregate_of (measures_of t.items)) entries groups
       ≡ AreGroups value_cmp p.shape (length p.keys) (map plan.aggregate_of p.measures) entries groups
   own_groups entries groups =
       λ i. AreGroups value_cmp (sym resolved.shape i) (count_same i) (functions_same t.items p.measures resolved.measures i) entries groups

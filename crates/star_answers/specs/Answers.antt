@@ -13,7 +13,7 @@ use Rattle.star_plan.specs.Meaning.{Plan, Tables}
 use Rattle.star_program.specs.declared.outcome.Cell.{Cell}
 use Rattle.star_program.specs.Outcome.{cell_of}
 use Rattle.star_answers.specs.Rows.{query_entry, measures_of, selected}
-use Rattle.star_answers.specs.Shows.{function_of, item_columns, item_names, sorts_of}
+use Rattle.star_answers.specs.Shows.{item_columns, item_names, sorts_of}
 
 -- a header and rows: the groups of the selected rows with their aggregates, in the query's order,
 -- each cut to the items of SELECT in their order, under their names
@@ -22,7 +22,7 @@ pub record IsAnswer (ts : Tables) (q : Tree) (names : List (List ℕ)) (rows : L
   pub headed : names ≡ item_names q.items
   pub groups : List (GroupRow Value)
   pub each_group : AreGroups value_cmp q.grouping.shape (length q.grouping.columns)
-      (map function_of (measures_of q.items)) (map (query_entry q) (selected ts q)) groups
+      (map of_plan.aggregate_of (measures_of q.items)) (map (query_entry q) (selected ts q)) groups
   pub in_order : AreInOrder value_cmp (sorts_of q) groups
   pub cells : rows ≡ map (λ group. map (cell_of group) (item_columns q)) groups
 

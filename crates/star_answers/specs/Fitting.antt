@@ -7,8 +7,8 @@ use Rattle.star_schema.specs.declared.table.TableId.TheVariants.{Lineorder}
 use Rattle.star_schema.specs.Bounds.{greatest, least, numbers_of}
 use Rattle.star_schema.specs.Schema.{table_of}
 use Rattle.star_interval.specs.Range.{Range, only}
-use Rattle.star_query.specs.Tree.{Name, Measure, count, fold, Tree}
-use Rattle.star_plan.specs.Fits.{Fits, nodes_fit}
+use Rattle.star_query.specs.Tree.{Name, Tree}
+use Rattle.star_plan.specs.Fits.{Fits, measure_fits}
 use Rattle.star_plan.specs.Meaning.{Plan, Tables}
 use Rattle.star_plan.specs.Names.{column_at}
 use Rattle.star_answers.specs.Rows.{measures_of}
@@ -28,10 +28,6 @@ range_named ts n = range_if (column_at n)
     range_if : Option ColumnId → Range
     range_if None = only (pos 0)
     range_if (Some c) = bounds_in ts c
-
-abbrev pub measure_fits : (Name → Range) → Measure → Bool
-measure_fits ranges count = true
-measure_fits ranges (fold function e) = nodes_fit ranges e
 
 -- a query fits tables: lineorder has no more rows than may be visited, and of each aggregate each
 -- node has its range in 64 bits

@@ -1,16 +1,17 @@
 -- Which rows a query selects, by its own words: those of the product of FROM's tables for which
 -- WHERE is true (Star Schema Benchmark, revision 3, section 3).
-use Rattle.std.specs.Prelude.{ℤ, pos, Bool, true, ◌&&◌, ◌||◌, not as negated, List, [], ◌∷◌, filter, map, Option, Some, None}
+use Rattle.std.specs.Prelude.{pos, Bool, true, List, [], ◌∷◌, filter, map, Option, Some, None}
 use Rattle.std.specs.List.{flat_map}
 use Rattle.std.specs.Option.{option_to_list}
-use Rattle.std.specs.Ordering.{is_eq, is_le}
+use Rattle.std.specs.Ordering.{is_eq}
 use Rattle.star_schema.specs.declared.table.TableId.{TableId}
 use Rattle.star_schema.specs.declared.column.ColumnId.{ColumnId}
 use Rattle.star_schema.specs.Groups.{Entry}
 use Rattle.star_schema.specs.Order.{value_cmp}
 use Rattle.star_schema.specs.Tables.{Value, Number}
-use Rattle.star_query.specs.Tree.{Name, Condition, or, and, not, pair, compare, between, Measure, count, fold, Item, plain, aggregate, Tree}
-use Rattle.star_plan.specs.Meaning.{Joined, Tables, number_with, tests, value_of, with_row}
+use Rattle.star_query.specs.Leaves.{is_so}
+use Rattle.star_query.specs.Tree.{Name, Test, pair, comparison, Condition, Measure, Item, plain, aggregate, Tree}
+use Rattle.star_plan.specs.Meaning.{Joined, Tables, comparison_holds, measured, value_of, with_row}
 use Rattle.star_plan.specs.Names.{column_at, literal_value, table_at}
 
 -- ---- the product
@@ -40,19 +41,16 @@ value_if (Some c) row = value_of c row
 abbrev pub value_named : Name → Joined → Value
 value_named n row = value_if (column_at n) row
 
--- numbers compare by value, texts by their bytes; BETWEEN has both its ends
-abbrev pub is_true : Condition → Joined → Bool
-is_true (or a b) row = is_true a row || is_true b row
-is_true (and a b) row = is_true a row && is_true b row
-is_true (not a) row = negated (is_true a row)
-is_true (pair m n) row = is_eq (value_cmp (value_named m row) (value_named n row))
-is_true (compare n sign l) row = tests sign (value_cmp (value_named n row) (literal_value l))
-is_true (between n from upto) row =
-    is_le (value_cmp (literal_value from) (value_named n row))
-    && is_le (value_cmp (value_named n row) (literal_value upto))
+-- numbers compare by value, texts by their bytes
+abbrev pub test_is_true : Joined → Test → Bool
+test_is_true row (pair m n) = is_eq (value_cmp (value_named m row) (value_named n row))
+test_is_true row (comparison c) = comparison_holds (λ n. value_named n row) literal_value c
+
+abbrev pub is_true : Condition Test → Joined → Bool
+is_true c row = is_so (test_is_true row) c
 
 -- with no WHERE each row is selected
-abbrev pub where_is_true : Option Condition → Joined → Bool
+abbrev pub where_is_true : Option (Condition Test) → Joined → Bool
 where_is_true None row = true
 where_is_true (Some c) row = is_true c row
 
@@ -62,13 +60,8 @@ selected ts q = filter (where_is_true q.condition) (product ts (tables_of q.tabl
 
 -- ---- what a selected row adds to its groups
 
--- 1 to a count
-abbrev pub measured : Measure → Joined → ℤ
-measured count row = pos 1
-measured (fold function e) row = number_with (λ n. value_named n row) e
-
 -- what SELECT computes of each group, from the left
-abbrev pub measures_of : List Item → List Measure
+abbrev pub measures_of : List Item → List (Measure Name)
 measures_of [] = []
 measures_of (plain n ∷ items) = measures_of items
 measures_of (aggregate a ∷ items) = a.measure ∷ measures_of items
@@ -78,5 +71,5 @@ abbrev pub query_entry : Tree → Joined → Entry Value
 query_entry q row =
     record {
       keys = map (λ n. value_named n row) q.grouping.columns;
-      values = map (λ m. measured m row) (measures_of q.items);
+      values = map (measured (λ n. value_named n row)) (measures_of q.items);
     }

@@ -2,13 +2,10 @@
 use Rattle.std.specs.Prelude.{ℕ, ◌+◌, List, [], ◌∷◌, ◌++◌}
 use Rattle.std.specs.List.{flat_map}
 use Rattle.std.specs.Option.{option_to_list}
-use Rattle.star_schema.specs.declared.group.Aggregate as of_group
-use Rattle.star_schema.specs.declared.group.Aggregate.TheVariants as function
 use Rattle.star_schema.specs.declared.group.GroupColumn.{GroupColumn}
 use Rattle.star_schema.specs.declared.group.GroupColumn.TheVariants.{Aggregate}
 use Rattle.star_schema.specs.declared.group.SortKey.{SortKey}
-use Rattle.star_query.specs.declared.token.Fold.TheVariants.{Sum, Min, Max}
-use Rattle.star_query.specs.Tree.{Name, Measure, count, fold, Item, plain, aggregate, Tree}
+use Rattle.star_query.specs.Tree.{Name, Item, plain, aggregate, Tree}
 use Rattle.star_plan.specs.Naming.{aggregate_name, aggregate_names}
 use Rattle.star_plan.specs.Resolved.{key_column, resolved_key}
 
@@ -40,12 +37,6 @@ abbrev pub item_columns : Tree → List GroupColumn
 item_columns q = columns_from q.grouping.columns 0 q.items
 
 -- ---- groups and their order
-
-abbrev pub function_of : Measure → of_group.Aggregate
-function_of count = function.Count
-function_of (fold Sum e) = function.Sum
-function_of (fold Min e) = function.Min
-function_of (fold Max e) = function.Max
 
 -- a name of ORDER BY is a group column's or else an aggregate's
 abbrev pub sorts_of : Tree → List SortKey

@@ -4,10 +4,10 @@ use Rattle.std.specs.declared.alloc.AllocError.{AllocError}
 use Rattle.star_schema.specs.declared.column.ColumnId.{ColumnId}
 use Rattle.star_schema.specs.declared.table.TableId.{TableId}
 use Rattle.star_plan.specs.declared.tree.Join.{Join}
-use Rattle.star_query.specs.Limits.{operands_of}
-use Rattle.star_plan.specs.Limits.{comparisons_of}
-use Rattle.star_query.specs.Tree.{Expression, column, constant, add, sub, mul}
-use Rattle.star_plan.specs.Meaning.{Condition, or, and, not, compare, between, Measure, counted, summed, least, greatest}
+use Rattle.star_query.specs.Limits.{operands_of, comparisons_of}
+use Rattle.star_query.specs.declared.token.Fold.{Fold}
+use Rattle.star_query.specs.Tree.{Expression, column, constant, add, sub, mul, or, and, not, test, compare, between, Measure, count, fold}
+use Rattle.star_plan.specs.Meaning.{RowCondition}
 use Rattle.star_program.specs.declared.op.Op.{Op}
 use Rattle.star_program.specs.declared.op.Op.TheVariants.{Assign, Keep}
 use Rattle.star_program.specs.declared.op.Operation.{Operation}
@@ -170,17 +170,15 @@ module _ (js : List Join) where
       one_behind (column_code js c) (keys_after js cs) (keys_code js cs) (keys_behind cs) so_far env
       k
 
-  number_behind : (a : Expression ColumnId) (ms : List Measure)
+  number_behind : (f : Fold) (a : Expression ColumnId) (ms : List (Measure ColumnId))
       → Behind (values_after js ms) (values_code js ms)
-      → Behind (values_after js (summed a ∷ ms)) (values_code js (summed a ∷ ms))
-  number_behind a ms = one_behind (expression_code js a) (values_after js ms) (values_code js ms)
+      → Behind (values_after js (fold f a ∷ ms)) (values_code js (fold f a ∷ ms))
+  number_behind f a ms = one_behind (expression_code js a) (values_after js ms) (values_code js ms)
 
-  pub values_behind : (ms : List Measure) → Behind (values_after js ms) (values_code js ms)
+  pub values_behind : (ms : List (Measure ColumnId)) → Behind (values_after js ms) (values_code js ms)
   values_behind [] so_far env k = ap (k env) (sym (append-nil so_far))
-  values_behind (counted ∷ ms) so_far env k = values_behind ms so_far env k
-  values_behind (summed a ∷ ms) so_far env k = number_behind a ms (values_behind ms) so_far env k
-  values_behind (least a ∷ ms) so_far env k = number_behind a ms (values_behind ms) so_far env k
-  values_behind (greatest a ∷ ms) so_far env k = number_behind a ms (values_behind ms) so_far env k
+  values_behind (count ∷ ms) so_far env k = values_behind ms so_far env k
+  values_behind (fold f a ∷ ms) so_far env k = number_behind f a ms (values_behind ms) so_far env k
 
   -- the next key
   pub room_for_key : {old new : Emitter} (cs : List ColumnId) {left : List ColumnId} {c : ColumnId}
@@ -192,8 +190,8 @@ module _ (js : List Join) where
       (room_for_left (keys_after js) (keys_code js) keys_behind cs left so_far follows same room)
 
   -- the next number
-  pub room_for_value : {old new : Emitter} (ms : List Measure) {left : List Measure} {m : Measure}
-      {rest : List Measure} (so_far : List ℕ) → left ≡ m ∷ rest
+  pub room_for_value : {old new : Emitter} (ms : List (Measure ColumnId)) {left : List (Measure ColumnId)} {m : Measure ColumnId}
+      {rest : List (Measure ColumnId)} (so_far : List ℕ) → left ≡ m ∷ rest
       → Follows old new (values_after js ms []) (values_after js left so_far)
       → HasRoom old (values_code js ms) → HasRoom new (value_after js m so_far)
   room_for_value ms {left = left} {rest = rest} so_far same follows room =
@@ -202,7 +200,7 @@ module _ (js : List Join) where
       record { rest = λ e rs. values_after js rest rs e here.rest; fits = here.fits }
 
 -- a condition, and a keep of it
-pub conjunct_written : (result : Result (Unit {0}) AllocError) (js : List Join) (c : Condition)
+pub conjunct_written : (result : Result (Unit {0}) AllocError) (js : List Join) (c : RowCondition)
     {old middle : Emitter} (new : Emitter) {x : ℕ} → Writes old middle (condition_code js c) x
     → IfOk result (λ _. new.steps.items ≡ middle.steps.items ++ Act (Keep x) ∷ [])
     → new.next ≡ middle.next → new.loaded ≡ middle.loaded → new.found ≡ middle.found
@@ -227,9 +225,9 @@ some_operand (add a b) = omega (arith, some_operand a)
 some_operand (sub a b) = omega (arith, some_operand a)
 some_operand (mul a b) = omega (arith, some_operand a)
 
-pub some_comparison : (c : Condition) → 1 ≤ comparisons_of c
+pub some_comparison : (c : RowCondition) → 1 ≤ comparisons_of c
 some_comparison (or a b) = omega (arith, some_comparison a)
 some_comparison (and a b) = omega (arith, some_comparison a)
 some_comparison (not a) = omega arith
-some_comparison (compare c s v) = omega arith
-some_comparison (between c a b) = omega arith
+some_comparison (test (compare c s v)) = omega arith
+some_comparison (test (between c a b)) = omega arith

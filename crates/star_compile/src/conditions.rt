@@ -2,6 +2,7 @@
 
 ghost use Rattle.std.specs.Prelude.{◌≡◌, true, map, IfOk};
 ghost use Rattle.std.specs.List.{list_all};
+ghost use Rattle.star_query.specs.Tree.{test};
 ghost use Rattle.star_plan.specs.Shown.{comparison_shown, condition_shown};
 ghost use Rattle.star_plan.specs.Spelled.{condition_is_spelled};
 ghost use Rattle.star_compiled.specs.Compiled as spec;
@@ -23,10 +24,10 @@ impl Emitter {
         comparison: &Comparison<ColumnId>,
     ) -> Result<u16, AllocError>
         requires room { HasRoom self.old
-            (condition_code joins.now (comparison_shown comparison.now)) }
-        requires spelled { condition_is_spelled (comparison_shown comparison.now) ≡ true }
+            (condition_code joins.now (test (comparison_shown comparison.now))) }
+        requires spelled { condition_is_spelled (test (comparison_shown comparison.now)) ≡ true }
         ensures written { IfOk result (Writes self.old self.new
-            (condition_code joins.now (comparison_shown comparison.now))) }
+            (condition_code joins.now (test (comparison_shown comparison.now)))) }
     {
         match comparison {
             Comparison::Compare(column, relation, literal) => {

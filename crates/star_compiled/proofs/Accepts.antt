@@ -12,8 +12,8 @@ use Rattle.star_interval.specs.Range.{Range, only, corner_range, fits_i64}
 use Rattle.star_query.specs.declared.token.Relation.{Relation}
 use Rattle.star_query.specs.declared.token.Relation.TheVariants as sign
 use Rattle.star_plan.specs.declared.tree.Join.{Join}
-use Rattle.star_query.specs.Tree.{Expression, column, constant, add, sub, mul}
-use Rattle.star_plan.specs.Meaning.{Condition, or, and, not, compare, between}
+use Rattle.star_query.specs.Tree.{Expression, column, constant, add, sub, mul, or, and, not, test, compare, between}
+use Rattle.star_plan.specs.Meaning.{RowCondition}
 use Rattle.star_plan.specs.Names.{same_kind}
 use Rattle.star_plan.specs.Sound.{in_scope, condition_is_sound, expression_is_sound}
 use Rattle.star_plan.specs.Spelled.{value_is_spelled, condition_is_spelled}
@@ -312,14 +312,14 @@ module _ (turn : Turn) where
         })
         room
 
-    abbrev JudgesFlag : Condition → Type 0
+    abbrev JudgesFlag : RowCondition → Type 0
     JudgesFlag c =
         condition_is_sound js c ≡ true → (turn.Asked → condition_is_spelled c ≡ true)
         → (p : Point) (k : Rest)
         → Judges true (At KnownFlag) k p (condition_code js c p.env k)
 
     -- and after its two parts
-    conditions_judged : (a b : Condition) (o : Operator) → TakesFlags o → JudgesFlag a
+    conditions_judged : (a b : RowCondition) (o : Operator) → TakesFlags o → JudgesFlag a
         → JudgesFlag b → (condition_is_sound js a && condition_is_sound js b) ≡ true
         → (turn.Asked → (condition_is_spelled a && condition_is_spelled b) ≡ true)
         → (p : Point) (k : Rest)
@@ -338,7 +338,7 @@ module _ (turn : Turn) where
         (λ y. flags_judged o is x.out y.out y.after k
         (columns.still turn (At KnownFlag) m x.after _ y KnownFlag x.out x.says) y.says y.room))
 
-    pub condition_judged : (c : Condition) → JudgesFlag c
+    pub condition_judged : (c : RowCondition) → JudgesFlag c
     condition_judged (or a b) sound said p k room =
         conditions_judged a b operator.Or disjunction (condition_judged a) (condition_judged b)
         sound said p k room
@@ -350,14 +350,14 @@ module _ (turn : Turn) where
         points.judged_then turn (At KnownFlag) (At KnownFlag) l k true true p _
         (condition_judged a sound said p l room)
         (λ x. not_judged x.out x.after k x.says x.room)
-    condition_judged (compare c s v) sound said p k room =
+    condition_judged (test (compare c s v)) sound said p k room =
         let parts = and_parts (in_scope js (table_of c))
         (same_kind (kind_of c) (kind_of_value v)) sound in
         let l : Rest = λ e x. test_code s c x v e k in
         points.judged_then turn (At (column_known c)) (At KnownFlag) l k true true p _
         (columns.column_passes turn js foreign within c p l parts.0 room)
         (λ x. test_judged s c x.out v parts.1 said x.after k x.says x.room)
-    condition_judged (between c from upto) sound said p k room =
+    condition_judged (test (between c from upto)) sound said p k room =
         let parts = and_parts (in_scope js (table_of c))
         (same_kind (kind_of c) (kind_of_value from) && same_kind (kind_of c) (kind_of_value upto))
         sound in

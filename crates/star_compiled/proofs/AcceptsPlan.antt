@@ -12,8 +12,9 @@ use Rattle.star_schema.specs.Schema.{kind_of, table_of}
 use Rattle.star_schema.proofs.Same.{column_itself}
 use Rattle.star_interval.specs.Range.{Range, fits_i64}
 use Rattle.star_interval.proofs.Ranges.{fits_i64_fits}
-use Rattle.star_query.specs.Tree.{Expression}
-use Rattle.star_plan.specs.Meaning.{Condition, Measure, counted, summed, least, greatest, aggregate_of, Plan}
+use Rattle.star_query.specs.declared.token.Fold.TheVariants.{Sum, Min, Max}
+use Rattle.star_query.specs.Tree.{Expression, Measure, count, fold}
+use Rattle.star_plan.specs.Meaning.{aggregate_of, Plan, RowCondition}
 use Rattle.star_plan.specs.Sound.{in_scope, condition_is_sound, expression_is_sound, measure_is_sound, IsSoundPlan}
 use Rattle.star_plan.specs.Spelled.{condition_is_spelled}
 use Rattle.star_plan.specs.Fits.{range_of, nodes_fit, measure_fits}
@@ -31,7 +32,7 @@ use Rattle.star_admission.specs.declared.reason.Reason.{Reason}
 use Rattle.star_admission.specs.declared.reason.Reason.TheVariants.{Faulty}
 use Rattle.star_admission.specs.Standing.{at_place}
 use Rattle.star_admission.specs.Private.Forward.{first_reason, none_open, open_with}
-use Rattle.star_compiled.specs.Compiled.{Env, Rest, env_first, conjuncts_code, keys_code, values_code, put_code, turn_code, body_code, compiled, key_of_group, register_count}
+use Rattle.star_compiled.specs.Compiled.{Env, Rest, env_first, conjuncts_code, keys_code, values_code, put_code, turn_code, body_code, compiled, key_of_group, register_count, before, expression_code}
 use Rattle.star_compiled.specs.Judged.{AreBoundsI64}
 use Rattle.star_compiled.proofs.ForeignKeys.{AreForeign, are_foreign}
 use Rattle.star_compiled.proofs.Joins.{of_text}
@@ -58,12 +59,10 @@ number_kind c e = by (kind_of c) refl
     by kind.Text p = let wrong : true ≡ false = sym (ap of_text p) ∙ e in absurd (cc)
 
 -- the ranges of what is put for some measures
-abbrev ranges_of : World → List Measure → List Range
+abbrev ranges_of : World → List (Measure ColumnId) → List Range
 ranges_of w [] = []
-ranges_of w (counted ∷ ms) = ranges_of w ms
-ranges_of w (summed a ∷ ms) = range_of w.bounds a ∷ ranges_of w ms
-ranges_of w (least a ∷ ms) = range_of w.bounds a ∷ ranges_of w ms
-ranges_of w (greatest a ∷ ms) = range_of w.bounds a ∷ ranges_of w ms
+ranges_of w (count ∷ ms) = ranges_of w ms
+ranges_of w (fold f a ∷ ms) = range_of w.bounds a ∷ ranges_of w ms
 
 -- a turn of the program that is met so many times
 module _ (w : World) (p : Plan) (sound : IsSoundPlan p) (n : ℕ) (pending : ℕ → Bool) where
@@ -153,7 +152,7 @@ module _ (w : World) (p : Plan) (sound : IsSoundPlan p) (n : ℕ) (pending : ℕ
             (answer (after_keep q) (k q.env));
       }
 
-  conjuncts_judged : (cs : List Condition) → list_all (condition_is_sound p.joins) cs ≡ true
+  conjuncts_judged : (cs : List RowCondition) → list_all (condition_is_sound p.joins) cs ≡ true
       → (S → list_all condition_is_spelled cs ≡ true) → (q : Point) (k : Env → Code)
       → Judges true Nothing (λ e u. k e) q (conjuncts_code p.joins cs q.env k)
   conjuncts_judged [] h said q k room =
@@ -202,18 +201,18 @@ module _ (w : World) (p : Plan) (sound : IsSoundPlan p) (n : ℕ) (pending : ℕ
   RangesStand (a ∷ as') q (r ∷ rs) = Ranged a q r × RangesStand as' q rs
   RangesStand _ q _ = ⊥
 
-  abbrev JudgesValues : List Measure → Type 0
+  abbrev JudgesValues : List (Measure ColumnId) → Type 0
   JudgesValues ms =
       (q : Point) (k : Env → List ℕ → Code)
       → Judges (list_all (measure_fits w.bounds) ms) (RangesStand (ranges_of w ms)) k q
       (values_code p.joins ms q.env k)
 
   -- one value and those of the aggregates after it
-  value_judged : (a : Expression ColumnId) (ms : List Measure) → expression_is_sound p.joins a ≡ true
+  value_judged : (a : Expression ColumnId) (ms : List (Measure ColumnId)) → expression_is_sound p.joins a ≡ true
       → JudgesValues ms → (q : Point) (k : Env → List ℕ → Code)
       → Judges (nodes_fit w.bounds a && list_all (measure_fits w.bounds) ms)
       (RangesStand (range_of w.bounds a ∷ ranges_of w ms)) k q
-      (values_code p.joins (summed a ∷ ms) q.env k)
+      (before (expression_code p.joins a) (values_code p.joins ms) q.env k)
   value_judged a ms h later q k room =
       let r = range_of w.bounds a in
       let l : Rest = λ e x. values_code p.joins ms e (λ e xs. k e (x ∷ xs)) in
@@ -226,20 +225,12 @@ module _ (w : World) (p : Plan) (sound : IsSoundPlan p) (n : ℕ) (pending : ℕ
       ((omega arith, (x.says.1.0, x.says.1.1, y.kept x.out x.says.0 ∙ x.says.1.2)), y.says))
       (later x.after (λ e xs. k e (x.out ∷ xs)) x.room))
 
-  values_judged : (ms : List Measure) → list_all (measure_is_sound p.joins) ms ≡ true
+  values_judged : (ms : List (Measure ColumnId)) → list_all (measure_is_sound p.joins) ms ≡ true
       → JudgesValues ms
   values_judged [] h q k room =
       inl (points.here turn (RangesStand []) k q [] tt room, refl)
-  values_judged (counted ∷ ms) h q k room = values_judged ms h q k room
-  values_judged (summed a ∷ ms) h q k room =
-      let hs = and_parts (expression_is_sound p.joins a) (list_all (measure_is_sound p.joins) ms)
-      h in
-      value_judged a ms hs.0 (values_judged ms hs.1) q k room
-  values_judged (least a ∷ ms) h q k room =
-      let hs = and_parts (expression_is_sound p.joins a) (list_all (measure_is_sound p.joins) ms)
-      h in
-      value_judged a ms hs.0 (values_judged ms hs.1) q k room
-  values_judged (greatest a ∷ ms) h q k room =
+  values_judged (count ∷ ms) h q k room = values_judged ms h q k room
+  values_judged (fold f a ∷ ms) h q k room =
       let hs = and_parts (expression_is_sound p.joins a) (list_all (measure_is_sound p.joins) ms)
       h in
       value_judged a ms hs.0 (values_judged ms hs.1) q k room
@@ -282,12 +273,12 @@ module _ (w : World) (p : Plan) (sound : IsSoundPlan p) (n : ℕ) (pending : ℕ
   numbers_fit [] (r ∷ rs) q room h = absurd h
   numbers_fit (a ∷ as') [] q room h = absurd h
 
-  value_counts : (ms : List Measure) → length (ranges_of w ms) ≡ value_count (map aggregate_of ms)
+  value_counts : (ms : List (Measure ColumnId)) → length (ranges_of w ms) ≡ value_count (map aggregate_of ms)
   value_counts [] = refl
-  value_counts (counted ∷ ms) = value_counts ms
-  value_counts (summed a ∷ ms) = ap suc (value_counts ms)
-  value_counts (least a ∷ ms) = ap suc (value_counts ms)
-  value_counts (greatest a ∷ ms) = ap suc (value_counts ms)
+  value_counts (count ∷ ms) = value_counts ms
+  value_counts (fold Sum a ∷ ms) = ap suc (value_counts ms)
+  value_counts (fold Min a ∷ ms) = ap suc (value_counts ms)
+  value_counts (fold Max a ∷ ms) = ap suc (value_counts ms)
 
   -- ---- the put
 

@@ -9,8 +9,8 @@ use Rattle.star_schema.specs.Tables.{Value, Number, Text}
 use Rattle.star_query.specs.declared.token.Relation.{Relation}
 use Rattle.star_query.specs.declared.token.Relation.TheVariants as sign
 use Rattle.star_plan.specs.declared.tree.Join.{Join}
-use Rattle.star_query.specs.Tree.{Expression, column, constant, add, sub, mul}
-use Rattle.star_plan.specs.Meaning.{Condition, or, and, not, compare, between, Measure, counted, summed, least, greatest, Plan}
+use Rattle.star_query.specs.Tree.{Expression, column, constant, add, sub, mul, or, and, not, test, compare, between, Measure, count, fold}
+use Rattle.star_plan.specs.Meaning.{Plan, RowCondition}
 use Rattle.star_program.specs.declared.op.Edge.TheVariants.{High}
 use Rattle.star_program.specs.declared.op.Op.TheVariants.{Assign, Keep, Put}
 use Rattle.star_program.specs.declared.op.Operation.{Operation}
@@ -161,7 +161,7 @@ module _ (js : List Join) (Fact : Env → Code → Type 0) (Unseen : Env → Col
   of_column : (c : ColumnId) → Carries (column_code js c)
   of_column c env k h = of_column_from c env k (loaded_in env.loaded c) refl h
 
-  of_condition : (c : Condition) → Carries (condition_code js c)
+  of_condition : (c : RowCondition) → Carries (condition_code js c)
   of_condition (or a b) env k h =
       of_binary (condition_code js a) (condition_code js b) operator.Or (of_condition a)
       (of_condition b) env k h
@@ -170,9 +170,9 @@ module _ (js : List Join) (Fact : Env → Code → Type 0) (Unseen : Env → Col
       (of_condition b) env k h
   of_condition (not a) env k h =
       of_condition a env (λ e x. write (Not x) e k) (λ e x. of_write (Not x) refl e k h)
-  of_condition (compare c s v) env k h =
+  of_condition (test (compare c s v)) env k h =
       of_column c env (λ e x. test_code s c x v e k) (λ e x. of_test s c x v e k h)
-  of_condition (between c a b) env k h =
+  of_condition (test (between c a b)) env k h =
       of_column c env (λ e x. between_code c x a b e k) (λ e x. of_between c x a b e k h)
 
   of_expression : (a : Expression ColumnId) → Carries (expression_code js a)
@@ -188,7 +188,7 @@ module _ (js : List Join) (Fact : Env → Code → Type 0) (Unseen : Env → Col
       of_binary (expression_code js a) (expression_code js b) operator.Mul (of_expression a)
       (of_expression b) env k h
 
-  of_conjuncts : (cs : List Condition) (env : Env) (k : Env → Code)
+  of_conjuncts : (cs : List RowCondition) (env : Env) (k : Env → Code)
       → ((e : Env) → Fact e (k e)) → Fact env (conjuncts_code js cs env k)
   of_conjuncts [] env k h = h env
   of_conjuncts (c ∷ cs) env k h =
@@ -200,14 +200,10 @@ module _ (js : List Join) (Fact : Env → Code → Type 0) (Unseen : Env → Col
   of_keys (c ∷ cs) env k h =
       of_before (column_code js c) (keys_code js cs) (of_column c) (of_keys cs) env k h
 
-  of_values : (ms : List Measure) → Carries (values_code js ms)
+  of_values : (ms : List (Measure ColumnId)) → Carries (values_code js ms)
   of_values [] env k h = h env []
-  of_values (counted ∷ ms) env k h = of_values ms env k h
-  of_values (summed a ∷ ms) env k h =
-      of_before (expression_code js a) (values_code js ms) (of_expression a) (of_values ms) env k h
-  of_values (least a ∷ ms) env k h =
-      of_before (expression_code js a) (values_code js ms) (of_expression a) (of_values ms) env k h
-  of_values (greatest a ∷ ms) env k h =
+  of_values (count ∷ ms) env k h = of_values ms env k h
+  of_values (fold f a ∷ ms) env k h =
       of_before (expression_code js a) (values_code js ms) (of_expression a) (of_values ms) env k h
 
 pub turn_carries : (p : Plan) (Fact : Env → Code → Type 0) (Unseen : Env → ColumnId → Type 0)

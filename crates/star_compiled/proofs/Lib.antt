@@ -1,3 +1,4 @@
+pub mod PlanWords
 pub mod Entries
 pub mod Carried
 pub mod Flat

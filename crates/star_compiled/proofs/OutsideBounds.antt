@@ -10,7 +10,9 @@ use Rattle.star_schema.specs.Schema.{column_of}
 use Rattle.star_schema.specs.Tables.{Number}
 use Rattle.star_interval.specs.Range.{Range, is_i64}
 use Rattle.star_query.specs.declared.token.Relation.TheVariants.{Less}
-use Rattle.star_plan.specs.Meaning.{Plan, compare, counted}
+use Rattle.star_query.specs.Tree.{count}
+use Rattle.star_plan.specs.Meaning.{Plan}
+use Rattle.star_compiled.proofs.PlanWords.{compare}
 use Rattle.star_plan.specs.Fits.{Fits}
 use Rattle.star_program.specs.World.{World}
 use Rattle.star_program.proofs.Sample.{sample}
@@ -34,7 +36,7 @@ untaxed = record {
   conjuncts = compare LoTax Less (Number (pos 1)) ∷ [];
   shape = Plain;
   keys = [];
-  measures = counted ∷ [];
+  measures = count ∷ [];
   names = codes "lines" ∷ [];
   items = Aggregate 0 ∷ [];
   sorts = [];

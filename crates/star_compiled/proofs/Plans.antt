@@ -11,14 +11,15 @@ use Rattle.star_schema.specs.declared.group.SortKey.{SortKey}
 use Rattle.star_schema.specs.Tables.{Value, Number, Text}
 use Rattle.star_query.specs.declared.token.Relation.TheVariants.{Equal, Unequal, Less, AtMost, Greater, AtLeast}
 use Rattle.star_plan.specs.declared.tree.Join.{Join}
-use Rattle.star_query.specs.Tree.{column, constant, add, sub, mul}
-use Rattle.star_plan.specs.Meaning.{Condition, Plan, compare, between, or, and, not, summed, least, greatest, counted}
+use Rattle.star_query.specs.Tree.{column, constant, add, sub, mul, or, and, not, count}
+use Rattle.star_plan.specs.Meaning.{Plan, RowCondition}
+use Rattle.star_compiled.proofs.PlanWords.{compare, between, summed, least, greatest}
 
 abbrev number : ℕ → Value
 number n = Number (pos n)
 
 -- a column is a text
-abbrev equals : ColumnId → List ℕ → Condition
+abbrev equals : ColumnId → List ℕ → RowCondition
 equals c text = compare c Equal (Text text)
 
 abbrev by_date : Join
@@ -243,7 +244,7 @@ profits = record {
       ∷ between DYear (number 1992) (number 1997) ∷ [];
   shape = Cube;
   keys = DYear ∷ CNation ∷ [];
-  measures = summed (sub (column LoRevenue) (column LoSupplycost)) ∷ counted ∷ [];
+  measures = summed (sub (column LoRevenue) (column LoSupplycost)) ∷ count ∷ [];
   names = codes "profit" ∷ codes "lines" ∷ [];
   items = Key 0 ∷ Key 1 ∷ Aggregate 0 ∷ Aggregate 1 ∷ [];
   sorts = descending (Aggregate 0) ∷ ascending (Key 0) ∷ [];
@@ -272,7 +273,7 @@ others = record {
   measures =
       least (add (column LoTax) (mul (constant (negsuc 1)) (column LoDiscount)))
       ∷ greatest (column LoRevenue)
-      ∷ counted ∷ [];
+      ∷ count ∷ [];
   names = codes "lowest" ∷ codes "max2" ∷ codes "count3" ∷ [];
   items = Key 0 ∷ Aggregate 0 ∷ Aggregate 1 ∷ Aggregate 2 ∷ [];
   sorts = descending (Key 0) ∷ [];

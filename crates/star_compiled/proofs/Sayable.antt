@@ -15,8 +15,8 @@ use Rattle.star_query.specs.declared.token.Relation.{Relation}
 use Rattle.star_query.specs.declared.token.Relation.TheVariants as sign
 use Rattle.star_query.specs.Spelled.{is_number, is_text}
 use Rattle.star_plan.specs.declared.tree.Join.{Join}
-use Rattle.star_query.specs.Tree.{Expression, column, constant, add, sub, mul}
-use Rattle.star_plan.specs.Meaning.{Condition, or, and, not, compare, between, Measure, counted, summed, least, greatest, Plan}
+use Rattle.star_query.specs.Tree.{Expression, column, constant, add, sub, mul, or, and, not, test, compare, between, Measure, count, fold}
+use Rattle.star_plan.specs.Meaning.{Plan, RowCondition}
 use Rattle.star_plan.specs.Spelled.{value_is_spelled, condition_is_spelled, expression_is_spelled, measure_is_spelled}
 use Rattle.star_program.specs.declared.op.Operation.{Operation}
 use Rattle.star_program.specs.declared.op.Edge.TheVariants.{High}
@@ -238,7 +238,7 @@ module _ (js : List Join) where
 
   -- ---- conditions and expressions
 
-  of_condition : (c : Condition) → condition_is_spelled c ≡ true
+  of_condition : (c : RowCondition) → condition_is_spelled c ≡ true
       → Says IsShort (condition_code js c)
   of_condition (or a b) said env k g room h =
       let parts = and_parts (condition_is_spelled a) (condition_is_spelled b) said in
@@ -251,10 +251,10 @@ module _ (js : List Join) where
   of_condition (not a) said env k g room h =
       of_condition a said env (λ e x. write (Not x) e k) g room
       (λ e x g sx room. of_write (Not x) sx e k g room h)
-  of_condition (compare c s v) said env k g room h =
+  of_condition (test (compare c s v)) said env k g room h =
       of_column c env (λ e x. test_code s c x v e k) g room
       (λ e x g sx room. of_test s c x v said sx e k g room h)
-  of_condition (between c a b) said env k g room h =
+  of_condition (test (between c a b)) said env k g room h =
       let parts = and_parts (value_is_spelled a) (value_is_spelled b) said in
       of_column c env (λ e x. between_code c x a b e k) g room
       (λ e x g sx room. of_between c x a b parts.0 parts.1 sx e k g room h)
@@ -279,7 +279,7 @@ module _ (js : List Join) where
 
   -- ---- a turn
 
-  of_conjuncts : (cs : List Condition) → list_all condition_is_spelled cs ≡ true → (env : Env)
+  of_conjuncts : (cs : List RowCondition) → list_all condition_is_spelled cs ≡ true → (env : Env)
       (k : Env → Code) → Good env → Room env (conjuncts_code js cs env k)
       → ((e : Env) → Good e → Room e (k e) → Spelled (k e)) → Spelled (conjuncts_code js cs env k)
   of_conjuncts [] said env k g room h = h env g room
@@ -293,19 +293,11 @@ module _ (js : List Join) where
   of_keys (c ∷ cs) env k g room h =
       of_before (column_code js c) (keys_code js cs) (of_column c) (of_keys cs) env k g room h
 
-  of_values : (ms : List Measure) → list_all measure_is_spelled ms ≡ true
+  of_values : (ms : List (Measure ColumnId)) → list_all measure_is_spelled ms ≡ true
       → Says (All IsShort) (values_code js ms)
   of_values [] said env k g room h = h env [] g (All-nil IsShort) room
-  of_values (counted ∷ ms) said env k g room h = of_values ms said env k g room h
-  of_values (summed a ∷ ms) said env k g room h =
-      let parts = and_parts (expression_is_spelled a) (list_all measure_is_spelled ms) said in
-      of_before (expression_code js a) (values_code js ms) (of_expression a parts.0)
-      (of_values ms parts.1) env k g room h
-  of_values (least a ∷ ms) said env k g room h =
-      let parts = and_parts (expression_is_spelled a) (list_all measure_is_spelled ms) said in
-      of_before (expression_code js a) (values_code js ms) (of_expression a parts.0)
-      (of_values ms parts.1) env k g room h
-  of_values (greatest a ∷ ms) said env k g room h =
+  of_values (count ∷ ms) said env k g room h = of_values ms said env k g room h
+  of_values (fold f a ∷ ms) said env k g room h =
       let parts = and_parts (expression_is_spelled a) (list_all measure_is_spelled ms) said in
       of_before (expression_code js a) (values_code js ms) (of_expression a parts.0)
       (of_values ms parts.1) env k g room h

@@ -12,10 +12,9 @@ use Rattle.star_schema.specs.Tables.{Value, Number, Text}
 use Rattle.star_query.specs.declared.token.Relation.{Relation}
 use Rattle.star_query.specs.declared.token.Relation.TheVariants as sign
 use Rattle.star_plan.specs.declared.tree.Join.{Join}
-use Rattle.star_query.specs.Tree.{Expression, column, constant, add, sub, mul}
-use Rattle.star_plan.specs.Meaning.{Condition, or, and, not, compare, between, Measure, counted, summed, least, greatest, Plan}
-use Rattle.star_query.specs.Limits.{operands_of}
-use Rattle.star_plan.specs.Limits.{comparisons_of, measure_operands}
+use Rattle.star_query.specs.Tree.{Expression, column, constant, add, sub, mul, or, and, not, test, compare, between, Measure, count, fold}
+use Rattle.star_plan.specs.Meaning.{Plan, RowCondition}
+use Rattle.star_query.specs.Limits.{operands_of, comparisons_of, measure_operands}
 use Rattle.star_program.specs.declared.op.Op.TheVariants.{Keep}
 use Rattle.star_program.specs.declared.op.Edge.TheVariants.{High}
 use Rattle.star_program.specs.declared.op.Operation.{Operation}
@@ -196,7 +195,7 @@ module _ (js : List Join) where
 
   -- six for each comparison or negation: its column, at most four for the test, and what joins it
   -- to the others or keeps it
-  of_condition : (c : Condition) → AddsLess (6 * comparisons_of c) (condition_code js c)
+  of_condition : (c : RowCondition) → AddsLess (6 * comparisons_of c) (condition_code js c)
   of_condition (or a b) env k m h =
       of_binary (condition_code js a) (condition_code js b) operator.Or (6 * comparisons_of a)
       (6 * comparisons_of b) (6 * (comparisons_of a + comparisons_of b)) (omega arith) (of_condition a)
@@ -211,13 +210,13 @@ module _ (js : List Join) where
         of_condition a env (λ e x. write (Not x) e k) (1 + m)
             (λ e x. of_one (Not x) e k m h),
       )
-  of_condition (compare c s v) env k m h =
+  of_condition (test (compare c s v)) env k m h =
       omega (
         arith,
         of_column c env (λ e x. test_code s c x v e k) (4 + m)
             (λ e x. of_test s c x v e k m h),
       )
-  of_condition (between c a b) env k m h =
+  of_condition (test (between c a b)) env k m h =
       omega (
         arith,
         of_column c env (λ e x. between_code c x a b e k) (3 + m)
@@ -241,7 +240,7 @@ module _ (js : List Join) where
       (2 * operands_of b) (2 * (operands_of a + operands_of b)) (omega arith) (of_expression a)
       (of_expression b) env k m h
 
-  of_conjuncts : (cs : List Condition) (env : Env) (k : Env → Code) (m : ℕ)
+  of_conjuncts : (cs : List RowCondition) (env : Env) (k : Env → Code) (m : ℕ)
       → ((e : Env) → code_size (k e) ≤ m + 2 * unfound e.found)
       → code_size (conjuncts_code js cs env k)
       ≤ 6 * sum_by comparisons_of cs + m + 2 * unfound env.found
@@ -265,7 +264,7 @@ module _ (js : List Join) where
   of_value : (a : Expression ColumnId) → Adds (2 * operands_of a) (expression_code js a)
   of_value a env k m h = omega (arith, of_expression a env k m h)
 
-  of_measure : (x : Measure) (a : Expression ColumnId) (ms : List Measure)
+  of_measure : (x : Measure ColumnId) (a : Expression ColumnId) (ms : List (Measure ColumnId))
       → measure_operands x ≡ operands_of a
       → Adds (2 * sum_by measure_operands ms) (values_code js ms)
       → Adds (2 * sum_by measure_operands (x ∷ ms)) (before (expression_code js a) (values_code js ms))
@@ -278,14 +277,11 @@ module _ (js : List Join) where
             (2 * sum_by measure_operands ms) (of_value a) rest env k m h,
       )
 
-  of_values : (ms : List Measure) → Adds (2 * sum_by measure_operands ms) (values_code js ms)
+  of_values : (ms : List (Measure ColumnId)) → Adds (2 * sum_by measure_operands ms) (values_code js ms)
   of_values [] env k m h = omega (arith, h env [])
-  of_values (counted ∷ ms) env k m h =
-      omega (arith, sum_by-cons measure_operands counted ms, of_values ms env k m h)
-  of_values (summed a ∷ ms) env k m h = of_measure (summed a) a ms refl (of_values ms) env k m h
-  of_values (least a ∷ ms) env k m h = of_measure (least a) a ms refl (of_values ms) env k m h
-  of_values (greatest a ∷ ms) env k m h =
-      of_measure (greatest a) a ms refl (of_values ms) env k m h
+  of_values (count ∷ ms) env k m h =
+      omega (arith, sum_by-cons measure_operands count ms, of_values ms env k m h)
+  of_values (fold f a ∷ ms) env k m h = of_measure (fold f a) a ms refl (of_values ms) env k m h
 
 -- at most six instructions for each comparison, two for each operand and one for each key; ten for
 -- rows, one for the put and one for the scan

@@ -12,8 +12,8 @@ use Rattle.star_schema.specs.Tables as held
 use Rattle.star_schema.specs.Tables.{kind_of_value}
 use Rattle.star_schema.proofs.Same.{table_same, column_same}
 use Rattle.star_plan.specs.declared.tree.Join.{Join}
-use Rattle.star_query.specs.Tree.{Expression, column, constant, add, sub, mul}
-use Rattle.star_plan.specs.Meaning.{Joined, value_of, Condition, or, and, not, compare, between, holds, expression_number, number_of}
+use Rattle.star_query.specs.Tree.{Expression, column, constant, add, sub, mul, or, and, not, test, compare, between}
+use Rattle.star_plan.specs.Meaning.{Joined, value_of, holds, expression_number, number_of, RowCondition}
 use Rattle.star_plan.specs.Names.{same_kind}
 use Rattle.star_plan.specs.Sound.{joins_table, in_scope, condition_is_sound, expression_is_sound}
 use Rattle.star_program.specs.declared.op.Op.TheVariants.{Assign}
@@ -175,7 +175,7 @@ module _ (w : World) (f : Parts) (may : ℕ → Bool) (at : TableId → ℕ) whe
   -- ---- conditions and expressions
 
   module _ (js : List Join) (row : Joined) (turn : IsTurn w js at row) where
-    pub condition_runs : (c : Condition) → condition_is_sound js c ≡ true
+    pub condition_runs : (c : RowCondition) → condition_is_sound js c ≡ true
         → Runs w f may at (At w f may at (Flag (holds c row))) (condition_code js c)
     condition_runs (or a b) ok =
         let oks = and_parts (condition_is_sound js a) (condition_is_sound js b) ok in
@@ -188,14 +188,14 @@ module _ (w : World) (f : Parts) (may : ℕ → Bool) (at : TableId → ℕ) whe
     condition_runs (not a) ok = λ k env n regs s e knows h.
         with_not w f may at (holds a row) k env regs s e
         (condition_runs a ok (λ e x. write (Not x) e k) env n regs s e knows h)
-    condition_runs (compare c q v) ok = λ k env n regs s e knows h.
+    condition_runs (test (compare c q v)) ok = λ k env n regs s e knows h.
         let oks =
         and_parts (in_scope js (table_of c)) (same_kind (kind_of c) (kind_of_value v)) ok in
         let p =
         column_runs js row turn c oks.0 (λ e x. test_code q c x v e k) env n regs s e knows h in
         chained w f may at p (test_runs w f may at c p.out k p.env' p.n p.regs' p.s' e p.knows
         p.says.0 q (at (table_of c)) (value_of c row) v (turn.shows c oks.0) oks.1 p.says.1 p.goes)
-    condition_runs (between c a b) ok = λ k env n regs s e knows h.
+    condition_runs (test (between c a b)) ok = λ k env n regs s e knows h.
         let oks =
         and_parts (in_scope js (table_of c))
         (same_kind (kind_of c) (kind_of_value a) && same_kind (kind_of c) (kind_of_value b)) ok in

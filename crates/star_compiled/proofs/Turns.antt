@@ -9,8 +9,9 @@ use Rattle.star_schema.specs.declared.table.TableId.TheVariants.{Lineorder}
 use Rattle.star_schema.specs.declared.column.ColumnId.{ColumnId}
 use Rattle.star_schema.specs.Schema.{table_of}
 use Rattle.star_schema.specs.Tables as held
-use Rattle.star_query.specs.Tree.{Expression}
-use Rattle.star_plan.specs.Meaning.{Joined, value_of, Condition, holds, all_hold, expression_number, Measure, counted, summed, least, greatest, measured, aggregate_of, Plan}
+use Rattle.star_query.specs.declared.token.Fold.TheVariants.{Sum, Min, Max}
+use Rattle.star_query.specs.Tree.{Expression, Measure, count, fold}
+use Rattle.star_plan.specs.Meaning.{Joined, value_of, holds, all_hold, expression_number, measured, aggregate_of, Plan, RowCondition}
 use Rattle.star_plan.specs.Sound.{in_scope, condition_is_sound, expression_is_sound, measure_is_sound, IsSoundPlan}
 use Rattle.star_program.specs.declared.key.KeyValue.TheVariants as key
 use Rattle.star_program.specs.declared.op.Op.TheVariants.{Keep, Put}
@@ -61,7 +62,7 @@ module _ (w : World) (f : Parts) (may : ℕ → Bool) (at : TableId → ℕ) (p 
   kept_by false c k rest env n regs s e h g =
       let same : s ≡ e = cc in ap (λ x. x.updates_of) (sym same)
 
-  conjuncts_run : (cs : List Condition) → list_all (condition_is_sound p.joins) cs ≡ true
+  conjuncts_run : (cs : List RowCondition) → list_all (condition_is_sound p.joins) cs ≡ true
       → (k : Env → Code) (env : Env) (n : ℕ) (regs : Registers) (s e : Store)
       → Knows w f may at env regs → meaning w f may (conjuncts_code p.joins cs env k) n true regs s
       ≡ Ended e → Kept (all_hold cs row) k env regs s e
@@ -130,14 +131,12 @@ module _ (w : World) (f : Parts) (may : ℕ → Bool) (at : TableId → ℕ) (p 
       (keys_code p.joins cs)
       (column_runs w f may at p.joins row turn c oks.0) (keys_run cs oks.1)
 
-  abbrev values_of : List Measure → List Value
+  abbrev values_of : List (Measure ColumnId) → List Value
   values_of [] = []
-  values_of (counted ∷ ms) = values_of ms
-  values_of (summed a ∷ ms) = Number (expression_number a row) ∷ values_of ms
-  values_of (least a ∷ ms) = Number (expression_number a row) ∷ values_of ms
-  values_of (greatest a ∷ ms) = Number (expression_number a row) ∷ values_of ms
+  values_of (count ∷ ms) = values_of ms
+  values_of (fold f a ∷ ms) = Number (expression_number a row) ∷ values_of ms
 
-  value_runs : (a : Expression ColumnId) (ms : List Measure) → expression_is_sound p.joins a ≡ true
+  value_runs : (a : Expression ColumnId) (ms : List (Measure ColumnId)) → expression_is_sound p.joins a ≡ true
       → Runs w f may at (Stand (values_of ms)) (values_code p.joins ms)
       → Runs w f may at (Stand (Number (expression_number a row) ∷ values_of ms))
       (before (expression_code p.joins a) (values_code p.joins ms))
@@ -146,20 +145,12 @@ module _ (w : World) (f : Parts) (may : ℕ → Bool) (at : TableId → ℕ) (p 
       (values_code p.joins ms)
       (expression_runs w f may at p.joins row turn a ok) more
 
-  values_run : (ms : List Measure) → list_all (measure_is_sound p.joins) ms ≡ true
+  values_run : (ms : List (Measure ColumnId)) → list_all (measure_is_sound p.joins) ms ≡ true
       → Runs w f may at (Stand (values_of ms)) (values_code p.joins ms)
   values_run [] ok =
       λ k env n regs s e knows h. reached w f may at (Stand []) k env [] n regs s e knows tt h
-  values_run (counted ∷ ms) ok = values_run ms ok
-  values_run (summed a ∷ ms) ok =
-      let oks =
-      and_parts (expression_is_sound p.joins a) (list_all (measure_is_sound p.joins) ms) ok in
-      value_runs a ms oks.0 (values_run ms oks.1)
-  values_run (least a ∷ ms) ok =
-      let oks =
-      and_parts (expression_is_sound p.joins a) (list_all (measure_is_sound p.joins) ms) ok in
-      value_runs a ms oks.0 (values_run ms oks.1)
-  values_run (greatest a ∷ ms) ok =
+  values_run (count ∷ ms) ok = values_run ms ok
+  values_run (fold f a ∷ ms) ok =
       let oks =
       and_parts (expression_is_sound p.joins a) (list_all (measure_is_sound p.joins) ms) ok in
       value_runs a ms oks.0 (values_run ms oks.1)
@@ -186,22 +177,20 @@ module _ (w : World) (f : Parts) (may : ℕ → Bool) (at : TableId → ℕ) (p 
   keys_stand [] ok (r ∷ rs) next regs q = absurd q
   keys_stand (c ∷ cs) ok [] next regs q = absurd q
 
-  values_stand : (ms : List Measure) (vs : List ℕ) (next : ℕ) (regs : Registers)
+  values_stand : (ms : List (Measure ColumnId)) (vs : List ℕ) (next : ℕ) (regs : Registers)
       → Stand (values_of ms) next regs vs → aligned (pos 1) (map aggregate_of ms)
-      (map (λ r. number_in (regs r)) vs) ≡ map (λ m. measured m row) ms
+      (map (λ r. number_in (regs r)) vs) ≡ map (measured (λ c. value_of c row)) ms
   values_stand [] [] next regs q = refl
   values_stand [] (r ∷ rs) next regs q = absurd q
-  values_stand (counted ∷ ms) vs next regs q =
+  values_stand (count ∷ ms) vs next regs q =
       ap (λ xs. pos 1 ∷ xs) (values_stand ms vs next regs q)
-  values_stand (summed a ∷ ms) (r ∷ rs) next regs q =
+  values_stand (fold Sum a ∷ ms) (r ∷ rs) next regs q =
       λ i. number_in (q.1 i) ∷ values_stand ms rs next regs q.2 i
-  values_stand (least a ∷ ms) (r ∷ rs) next regs q =
+  values_stand (fold Min a ∷ ms) (r ∷ rs) next regs q =
       λ i. number_in (q.1 i) ∷ values_stand ms rs next regs q.2 i
-  values_stand (greatest a ∷ ms) (r ∷ rs) next regs q =
+  values_stand (fold Max a ∷ ms) (r ∷ rs) next regs q =
       λ i. number_in (q.1 i) ∷ values_stand ms rs next regs q.2 i
-  values_stand (summed a ∷ ms) [] next regs q = absurd q
-  values_stand (least a ∷ ms) [] next regs q = absurd q
-  values_stand (greatest a ∷ ms) [] next regs q = absurd q
+  values_stand (fold f a ∷ ms) [] next regs q = absurd q
 
   put_goes : (regs : Registers) (s e : Store) (u : Update) (b : Bool) (n : ℕ)
       → follow n (puts regs s 0 u b) (meaning w f may Stop (n + 1) true) ≡ Ended e

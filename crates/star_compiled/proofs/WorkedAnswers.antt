@@ -14,8 +14,9 @@ use Rattle.star_schema.specs.Tables.{Value, Number, Text}
 use Rattle.star_schema.specs.Texts.{texts_at}
 use Rattle.star_interval.specs.Range.{is_i64, is_i128}
 use Rattle.star_query.specs.declared.token.Relation.TheVariants.{AtMost, Less}
-use Rattle.star_query.specs.Tree.{column}
-use Rattle.star_plan.specs.Meaning.{Plan, compare, counted, plan_rows, summed}
+use Rattle.star_query.specs.Tree.{column, count}
+use Rattle.star_plan.specs.Meaning.{Plan, plan_rows}
+use Rattle.star_compiled.proofs.PlanWords.{compare, summed}
 use Rattle.star_program.specs.declared.key.KeyValue.TheVariants.{Code}
 use Rattle.star_program.specs.Puts.{Update}
 use Rattle.star_program.specs.Run.{End, Ended, run_of}
@@ -59,7 +60,7 @@ by_nation = record {
       compare LoQuantity Less (Number (pos 40)) ∷ compare CNation AtMost (Text (codes "PERU")) ∷ [];
   shape = Plain;
   keys = CNation ∷ [];
-  measures = counted ∷ summed (column LoRevenue) ∷ [];
+  measures = count ∷ summed (column LoRevenue) ∷ [];
   names = codes "count" ∷ codes "sum" ∷ [];
   items = Key 0 ∷ Aggregate 0 ∷ Aggregate 1 ∷ [];
   sorts = [];

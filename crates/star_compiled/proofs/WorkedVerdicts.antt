@@ -13,7 +13,8 @@ use Rattle.star_schema.specs.Tables.{Number}
 use Rattle.star_interval.specs.Range.{Range, only, is_i64}
 use Rattle.star_query.specs.declared.token.Relation.TheVariants.{Equal}
 use Rattle.star_query.specs.Tree.{column}
-use Rattle.star_plan.specs.Meaning.{Plan, compare, summed}
+use Rattle.star_plan.specs.Meaning.{Plan}
+use Rattle.star_compiled.proofs.PlanWords.{compare, summed}
 use Rattle.star_plan.specs.Fits.{Fits}
 use Rattle.star_program.specs.World.{World}
 use Rattle.star_program.proofs.Sample.{sample, great_prices}

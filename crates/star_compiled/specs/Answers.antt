@@ -28,7 +28,7 @@ coded w c (Text text) = key.Code (w.low c text)
 abbrev pub update_of_row : World → Plan → Joined → Update
 update_of_row w p row = record {
   keys = map (λ c. coded w c (value_of c row)) p.keys;
-  values = map (λ m. measured m row) p.measures;
+  values = map (measured (λ c. value_of c row)) p.measures;
 }
 
 -- a run that comes to its end has put the selected rows and no other, in their order; the updates

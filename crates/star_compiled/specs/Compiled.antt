@@ -10,8 +10,8 @@ use Rattle.star_schema.specs.Tables.{Value, Number, Text}
 use Rattle.star_query.specs.declared.token.Relation.{Relation}
 use Rattle.star_query.specs.declared.token.Relation.TheVariants as sign
 use Rattle.star_plan.specs.declared.tree.Join.{Join}
-use Rattle.star_query.specs.Tree.{Expression, column, constant, add, sub, mul}
-use Rattle.star_plan.specs.Meaning.{Condition, or, and, not, compare, between, Measure, counted, summed, least, greatest, aggregate_of, Plan}
+use Rattle.star_query.specs.Tree.{Expression, column, constant, add, sub, mul, or, and, not, test, compare, between, Measure, count, fold}
+use Rattle.star_plan.specs.Meaning.{aggregate_of, Plan, RowCondition}
 use Rattle.star_program.specs.declared.group.GroupDecl.{GroupDecl}
 use Rattle.star_program.specs.declared.group.GroupKey.{GroupKey}
 use Rattle.star_program.specs.declared.group.GroupKey.TheVariants as key
@@ -164,21 +164,21 @@ test_code sign.Greater c x (Text t) env k =
 test_code sign.AtLeast c x v env k =
     beside (start_of c v) (λ n. Binary operator.LessOrEqual n x) env k
 
-abbrev pub condition_code : List Join → Condition → Env → Rest → Code
+abbrev pub condition_code : List Join → RowCondition → Env → Rest → Code
 condition_code js (or a b) env k =
     binary_code (condition_code js a) (condition_code js b) operator.Or env k
 condition_code js (and a b) env k =
     binary_code (condition_code js a) (condition_code js b) operator.And env k
 condition_code js (not a) env k = condition_code js a env (λ e x. write (Not x) e k)
-condition_code js (compare c s v) env k = column_code js c env (λ e x. test_code s c x v e k)
-condition_code js (between c from upto) env k =
+condition_code js (test (compare c s v)) env k = column_code js c env (λ e x. test_code s c x v e k)
+condition_code js (test (between c from upto)) env k =
     column_code js c env (λ e x. between_code c x from upto e k)
 
 -- each conjunct is computed and kept before the next
-abbrev pub conjunct_code : List Join → Condition → Env → (Env → Code) → Code
+abbrev pub conjunct_code : List Join → RowCondition → Env → (Env → Code) → Code
 conjunct_code js c env k = condition_code js c env (λ e x. Then (Keep x) (k e))
 
-abbrev pub conjuncts_code : List Join → List Condition → Env → (Env → Code) → Code
+abbrev pub conjuncts_code : List Join → List RowCondition → Env → (Env → Code) → Code
 conjuncts_code js [] env k = k env
 conjuncts_code js (c ∷ cs) env k = conjunct_code js c env (λ e. conjuncts_code js cs e k)
 
@@ -200,12 +200,10 @@ keys_code js [] env k = k env []
 keys_code js (c ∷ cs) env k = before (column_code js c) (keys_code js cs) env k
 
 -- and a value for each aggregate that isn't a count, in the order of SELECT
-abbrev pub values_code : List Join → List Measure → Env → Rests → Code
+abbrev pub values_code : List Join → List (Measure ColumnId) → Env → Rests → Code
 values_code js [] env k = k env []
-values_code js (counted ∷ ms) env k = values_code js ms env k
-values_code js (summed a ∷ ms) env k = before (expression_code js a) (values_code js ms) env k
-values_code js (least a ∷ ms) env k = before (expression_code js a) (values_code js ms) env k
-values_code js (greatest a ∷ ms) env k = before (expression_code js a) (values_code js ms) env k
+values_code js (count ∷ ms) env k = values_code js ms env k
+values_code js (fold f a ∷ ms) env k = before (expression_code js a) (values_code js ms) env k
 
 abbrev pub put_code : List ℕ → Env → List ℕ → Code
 put_code keys env values = Then (Put 0 keys values) Stop

@@ -10,18 +10,14 @@ use Rattle.star_schema.specs.declared.column.ColumnId.{ColumnId}
 use Rattle.star_schema.specs.declared.group.GroupColumn.{GroupColumn}
 use Rattle.star_schema.specs.declared.group.GroupColumn.TheVariants as group
 use Rattle.star_schema.specs.declared.group.SortKey as sorted
-use Rattle.star_query.specs.declared.token.Fold.{Fold}
-use Rattle.star_query.specs.declared.token.Fold.TheVariants as fold
 use Rattle.star_query.specs.Tree as tree
-use Rattle.star_query.specs.Tree.{Item, Name, SortKey, Expression, column, constant, add, sub, mul}
+use Rattle.star_query.specs.Tree.{Item, Name, SortKey, Expression, column, constant, add, sub, mul, or, and, not, test, compare, between, Measure, count, fold}
 use Rattle.star_query.specs.Limits as asked
-use Rattle.star_plan.specs.Meaning.{Condition, or, and, not, compare, between, Measure, counted}
-use Rattle.star_plan.specs.Names.{column_at, literal_value}
+use Rattle.star_plan.specs.Meaning.{RowCondition}
+use Rattle.star_plan.specs.Names.{column_at}
 use Rattle.star_plan.specs.Naming.{names_from}
-use Rattle.star_plan.specs.Shown.{folded}
-use Rattle.star_plan.specs.Resolved.{aggregate_column, conjuncts_of, item_column, items_from, key_column, measures_of, option_all, resolved_condition, resolved_expression, resolved_key, resolved_measure, where_conjuncts}
-use Rattle.star_query.specs.Limits.{operands_of}
-use Rattle.star_plan.specs.Limits.{comparisons_of, measure_operands}
+use Rattle.star_plan.specs.Resolved.{aggregate_column, conjuncts_of, item_column, items_from, key_column, measures_of, option_all, resolved_condition, resolved_expression, resolved_key, resolved_measure, resolved_test, where_conjuncts}
+use Rattle.star_query.specs.Limits.{comparisons_of, measure_operands, operands_of}
 use Rattle.star_plan.specs.Sound.{is_group_column}
 use Rattle.star_plan.proofs.Options.{both_gave, first_or_second, mapped_gave}
 
@@ -43,18 +39,13 @@ expression_operands (tree.mul a b) x e =
     let g = both_gave mul (resolved_expression a) (resolved_expression b) x e in
     ap operands_of (sym g.made) ∙ omega (arith, expression_operands a g.left g.first, expression_operands b g.right g.second)
 
-folded_operands : (f : Fold) (x : Expression ColumnId) → measure_operands (folded f x) ≡ operands_of x
-folded_operands fold.Sum x = refl
-folded_operands fold.Min x = refl
-folded_operands fold.Max x = refl
-
-resolved_operands : (m : tree.Measure) (x : Measure) → resolved_measure m ≡ Some x → measure_operands x ≡ asked.measure_operands m
-resolved_operands tree.count x e = let same : counted ≡ x = cc in ap measure_operands (sym same)
+resolved_operands : (m : tree.Measure tree.Name) (x : Measure ColumnId) → resolved_measure m ≡ Some x → measure_operands x ≡ asked.measure_operands m
+resolved_operands tree.count x e = let same : count ≡ x = cc in ap measure_operands (sym same)
 resolved_operands (tree.fold f y) x e =
-    let g = mapped_gave (folded f) (resolved_expression y) x e in
-    ap measure_operands (sym g.2) ∙ folded_operands f g.0 ∙ expression_operands y g.0 g.1
+    let g = mapped_gave (fold f) (resolved_expression y) x e in
+    ap measure_operands (sym g.2) ∙ expression_operands y g.0 g.1
 
-condition_comparisons : (q : tree.Condition) (x : Condition) → resolved_condition q ≡ Some x → comparisons_of x ≡ asked.comparisons_of q
+condition_comparisons : (q : tree.Condition tree.Test) (x : RowCondition) → resolved_condition q ≡ Some x → comparisons_of x ≡ asked.comparisons_of q
 condition_comparisons (tree.or a b) x e =
     let g = both_gave or (resolved_condition a) (resolved_condition b) x e in
     ap comparisons_of (sym g.made) ∙ omega (arith, condition_comparisons a g.left g.first, condition_comparisons b g.right g.second)
@@ -64,38 +55,38 @@ condition_comparisons (tree.and a b) x e =
 condition_comparisons (tree.not a) x e =
     let g = mapped_gave not (resolved_condition a) x e in
     ap comparisons_of (sym g.2) ∙ omega (arith, condition_comparisons a g.0 g.1)
-condition_comparisons (tree.pair m n) x e = absurd (cc)
-condition_comparisons (tree.compare n s l) x e =
-    let g = mapped_gave (λ c. compare c s (literal_value l)) (column_at n) x e in ap comparisons_of (sym g.2)
-condition_comparisons (tree.between n from upto) x e =
-    let g = mapped_gave (λ c. between c (literal_value from) (literal_value upto)) (column_at n) x e in ap comparisons_of (sym g.2)
+condition_comparisons (tree.test (tree.pair m n)) x e = absurd (cc)
+condition_comparisons (tree.test (tree.comparison (tree.compare n s l))) x e =
+    let t = mapped_gave test (resolved_test (tree.comparison (tree.compare n s l))) x e in ap comparisons_of (sym t.2)
+condition_comparisons (tree.test (tree.comparison (tree.between n from upto))) x e =
+    let t = mapped_gave test (resolved_test (tree.comparison (tree.between n from upto))) x e in ap comparisons_of (sym t.2)
 
-lone_comparisons : (q : tree.Condition) (xs : List Condition) → option_map (λ x. x ∷ []) (resolved_condition q) ≡ Some xs
+lone_comparisons : (q : tree.Condition tree.Test) (xs : List RowCondition) → option_map (λ x. x ∷ []) (resolved_condition q) ≡ Some xs
     → sum_by comparisons_of xs ≤ asked.comparisons_of q
 lone_comparisons q xs e =
-    let g = mapped_gave (λ (x : Condition). x ∷ []) (resolved_condition q) xs e in
+    let g = mapped_gave (λ (x : RowCondition). x ∷ []) (resolved_condition q) xs e in
     subst (λ ys. sum_by comparisons_of ys ≤ asked.comparisons_of q) g.2 (omega (arith, condition_comparisons q g.0 g.1))
 
-conjuncts_comparisons : (q : tree.Condition) (xs : List Condition) → conjuncts_of q ≡ Some xs → sum_by comparisons_of xs ≤ asked.comparisons_of q
+conjuncts_comparisons : (q : tree.Condition tree.Test) (xs : List RowCondition) → conjuncts_of q ≡ Some xs → sum_by comparisons_of xs ≤ asked.comparisons_of q
 conjuncts_comparisons (tree.and a b) xs e =
     let g = both_gave (λ ys zs. ys ++ zs) (conjuncts_of a) (conjuncts_of b) xs e in
     subst (λ ys. sum_by comparisons_of ys ≤ asked.comparisons_of (tree.and a b)) g.made
     (omega (arith, sum_by-append comparisons_of g.left g.right, conjuncts_comparisons a g.left g.first, conjuncts_comparisons b g.right g.second))
-conjuncts_comparisons (tree.pair m n) xs e =
+conjuncts_comparisons (tree.test (tree.pair m n)) xs e =
     let none : [] ≡ xs = cc in subst (λ ys. sum_by comparisons_of ys ≤ 1) none (omega arith)
 conjuncts_comparisons (tree.or a b) xs e = lone_comparisons (tree.or a b) xs e
 conjuncts_comparisons (tree.not a) xs e = lone_comparisons (tree.not a) xs e
-conjuncts_comparisons (tree.compare n s l) xs e = lone_comparisons (tree.compare n s l) xs e
-conjuncts_comparisons (tree.between n from upto) xs e = lone_comparisons (tree.between n from upto) xs e
+conjuncts_comparisons (tree.test (tree.comparison (tree.compare n s l))) xs e = lone_comparisons (tree.test (tree.comparison (tree.compare n s l))) xs e
+conjuncts_comparisons (tree.test (tree.comparison (tree.between n from upto))) xs e = lone_comparisons (tree.test (tree.comparison (tree.between n from upto))) xs e
 
-pub where_comparisons : (o : Option tree.Condition) (xs : List Condition) → where_conjuncts o ≡ Some xs
+pub where_comparisons : (o : Option (tree.Condition tree.Test)) (xs : List RowCondition) → where_conjuncts o ≡ Some xs
     → sum_by comparisons_of xs ≤ asked.where_comparisons (o)
 where_comparisons None xs e = let none : [] ≡ xs = cc in subst (λ ys. sum_by comparisons_of ys ≤ 0) none (omega arith)
 where_comparisons (Some q) xs e = conjuncts_comparisons q xs e
 
 -- ---- aggregates
 
-pub measures_counted : (is' : List Item) (ms : List Measure) → measures_of is' ≡ Some ms → length ms ≡ sum_by asked.aggregates_in is'
+pub measures_counted : (is' : List Item) (ms : List (Measure ColumnId)) → measures_of is' ≡ Some ms → length ms ≡ sum_by asked.aggregates_in is'
 measures_counted [] ms e = let none : [] ≡ ms = cc in ap length (sym none)
 measures_counted (tree.plain n ∷ is') ms e =
     omega (arith, measures_counted is' ms e, sum_by-cons asked.aggregates_in (tree.plain n) is')
@@ -103,7 +94,7 @@ measures_counted (tree.aggregate a ∷ is') ms e =
     let g = both_gave (λ m ms'. m ∷ ms') (resolved_measure a.measure) (measures_of is') ms e in
     ap length (sym g.made) ∙ omega (arith, measures_counted is' g.right g.second, sum_by-cons asked.aggregates_in (tree.aggregate a) is')
 
-pub operands_counted : (is' : List Item) (ms : List Measure) → measures_of is' ≡ Some ms → sum_by measure_operands ms ≡ sum_by asked.item_operands is'
+pub operands_counted : (is' : List Item) (ms : List (Measure ColumnId)) → measures_of is' ≡ Some ms → sum_by measure_operands ms ≡ sum_by asked.item_operands is'
 operands_counted [] ms e = let none : [] ≡ ms = cc in ap (sum_by measure_operands) (sym none)
 operands_counted (tree.plain n ∷ is') ms e =
     omega (arith, operands_counted is' ms e, sum_by-cons asked.item_operands (tree.plain n) is')

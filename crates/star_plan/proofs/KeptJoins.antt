@@ -9,7 +9,7 @@ use Rattle.star_schema.specs.declared.table.TableId.TheVariants.{Date, Customer,
 use Rattle.star_schema.specs.declared.column.ColumnId.{ColumnId}
 use Rattle.star_schema.specs.Schema.{is_table, key_of, references, table_of}
 use Rattle.star_schema.proofs.Same.{table_same}
-use Rattle.star_query.specs.Tree.{Condition, between, and, compare, or, not, pair}
+use Rattle.star_query.specs.Tree.{Condition, Test, and, comparison, or, not, pair, test}
 use Rattle.star_plan.specs.declared.tree.Join.{Join}
 use Rattle.star_plan.specs.First.{first_after}
 use Rattle.star_plan.specs.Names.{column_at}
@@ -43,14 +43,13 @@ each_pair : (P : Pair → Type 0) (xs ys : List Pair) → AllByRecursion P xs �
 each_pair P [] ys l r = r
 each_pair P (x ∷ xs) ys l r = (l.0, each_pair P xs ys l.1 r)
 
-pairs_foreign : (b : Bool) (q : Condition) → AllByRecursion IsForeign (pairs_of b q)
+pairs_foreign : (b : Bool) (q : Condition Test) → AllByRecursion IsForeign (pairs_of b q)
 pairs_foreign b (and c d) = each_pair IsForeign (pairs_of b c) (pairs_of b d) (pairs_foreign b c) (pairs_foreign b d)
 pairs_foreign b (or c d) = each_pair IsForeign (pairs_of false c) (pairs_of false d) (pairs_foreign false c) (pairs_foreign false d)
 pairs_foreign b (not c) = pairs_foreign false c
-pairs_foreign true (pair m n) = (λ j e. join_of_foreign (column_at m) (column_at n) j e, tt)
-pairs_foreign false (pair m n) = (λ j e. absurd (cc), tt)
-pairs_foreign b (compare n s l) = tt
-pairs_foreign b (between n from upto) = tt
+pairs_foreign true (test (pair m n)) = (λ j e. join_of_foreign (column_at m) (column_at n) j e, tt)
+pairs_foreign false (test (pair m n)) = (λ j e. absurd (cc), tt)
+pairs_foreign b (test (comparison c)) = tt
 
 joins_foreign : (ps : List Pair) → AllByRecursion IsForeign ps → list_all (λ j. is_foreign j.foreign j.key) (joins_of ps) ≡ true
 joins_foreign [] all = refl
@@ -60,7 +59,7 @@ joins_foreign (p ∷ ps) all = go p.join refl (joins_foreign ps all.1)
     go None h rest = rw h rest
     go (Some j) h rest = rw h (and_from _ _ (all.0 j h) rest)
 
-pub where_foreign : (o : Option Condition) → list_all (λ j. is_foreign j.foreign j.key) (joins_of (where_pairs o)) ≡ true
+pub where_foreign : (o : Option (Condition Test)) → list_all (λ j. is_foreign j.foreign j.key) (joins_of (where_pairs o)) ≡ true
 where_foreign None = refl
 where_foreign (Some c) = joins_foreign (pairs_of true c) (pairs_foreign true c)
 

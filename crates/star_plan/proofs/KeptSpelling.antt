@@ -8,18 +8,17 @@ use Rattle.std.proofs.lemmas.Str.Parse.{tells_digits}
 use Rattle.std.proofs.lemmas.Bool.{and_from, and_parts, le-leb, or_right}
 use Rattle.std.proofs.lemmas.List.Folds.{list_all-append}
 use Rattle.star_schema.specs.declared.column.ColumnId.{ColumnId}
-use Rattle.star_query.specs.declared.token.Fold.{Fold}
 use Rattle.star_query.specs.declared.token.Fold.TheVariants as fold
 use Rattle.star_query.specs.Tree as tree
-use Rattle.star_query.specs.Tree.{Aggregate, Item, Literal, Name, Expression, column, constant, add, sub, mul}
+use Rattle.star_query.specs.Tree.{Aggregate, Item, Literal, Name, Expression, column, constant, add, sub, mul, or, and, not, test, compare, between, Measure}
+use Rattle.star_query.specs.Tree.{count as counted, fold as folds}
 use Rattle.star_query.specs.Cut.{begins_with_letter, is_letter, is_word_byte}
 use Rattle.star_query.specs.Spelled as asked
 use Rattle.star_query.specs.Spelled.{is_name}
-use Rattle.star_plan.specs.Meaning.{Condition, or, and, not, compare, between, Measure, counted}
+use Rattle.star_plan.specs.Meaning.{RowCondition}
 use Rattle.star_plan.specs.Names.{column_at, literal_value}
 use Rattle.star_plan.specs.Naming.{aggregate_name, default_name, function_word, names_from}
-use Rattle.star_plan.specs.Shown.{folded}
-use Rattle.star_plan.specs.Resolved.{conjuncts_of, measures_of, option_both, resolved_condition, resolved_expression, resolved_measure, where_conjuncts}
+use Rattle.star_plan.specs.Resolved.{conjuncts_of, measures_of, option_both, resolved_condition, resolved_expression, resolved_measure, resolved_test, where_conjuncts}
 use Rattle.star_plan.specs.Spelled.{condition_is_spelled, expression_is_spelled, measure_is_spelled, value_is_spelled}
 use Rattle.star_plan.proofs.Options.{both_gave, mapped_gave}
 
@@ -30,13 +29,13 @@ value_spelled (tree.number z) e = e
 value_spelled (tree.text bytes) e = e
 
 -- a whole of two parts
-both_spelled : {S T : Type 0} (asks : S → Bool) (test : T → Bool) (f : S → Option T) (make : T → T → T) → ((y z : T) → test (make y z) ≡ (test y && test z))
+both_spelled : {S T : Type 0} (asks : S → Bool) (passes : T → Bool) (f : S → Option T) (make : T → T → T) → ((y z : T) → passes (make y z) ≡ (passes y && passes z))
     → (a b : S) (x : T) → option_both make (f a) (f b) ≡ Some x → (asks a && asks b) ≡ true
-    → ((y : T) → f a ≡ Some y → asks a ≡ true → test y ≡ true) → ((z : T) → f b ≡ Some z → asks b ≡ true → test z ≡ true) → test x ≡ true
-both_spelled asks test f make splits a b x e good left right =
+    → ((y : T) → f a ≡ Some y → asks a ≡ true → passes y ≡ true) → ((z : T) → f b ≡ Some z → asks b ≡ true → passes z ≡ true) → passes x ≡ true
+both_spelled asks passes f make splits a b x e good left right =
     let g = both_gave make (f a) (f b) x e in
     let parts = and_parts (asks a) (asks b) good in
-    ap test (sym g.made) ∙ splits g.left g.right ∙ and_from _ _ (left g.left g.first parts.0) (right g.right g.second parts.1)
+    ap passes (sym g.made) ∙ splits g.left g.right ∙ and_from _ _ (left g.left g.first parts.0) (right g.right g.second parts.1)
 
 expression_spelled : (e : Expression Name) (x : Expression ColumnId) → resolved_expression e ≡ Some x → asked.expression_is_spelled e ≡ true → expression_is_spelled x ≡ true
 expression_spelled (tree.column n) x e good = let g = mapped_gave column (column_at n) x e in ap expression_is_spelled (sym g.2)
@@ -48,18 +47,13 @@ expression_spelled (tree.sub a b) x e good =
 expression_spelled (tree.mul a b) x e good =
     both_spelled asked.expression_is_spelled expression_is_spelled resolved_expression mul (λ y z. refl) a b x e good (expression_spelled a) (expression_spelled b)
 
-folded_spelled : (f : Fold) (x : Expression ColumnId) → measure_is_spelled (folded f x) ≡ expression_is_spelled x
-folded_spelled fold.Sum x = refl
-folded_spelled fold.Min x = refl
-folded_spelled fold.Max x = refl
-
-resolved_spelled : (m : tree.Measure) (x : Measure) → resolved_measure m ≡ Some x → asked.measure_is_spelled m ≡ true → measure_is_spelled x ≡ true
+resolved_spelled : (m : tree.Measure tree.Name) (x : Measure ColumnId) → resolved_measure m ≡ Some x → asked.measure_is_spelled m ≡ true → measure_is_spelled x ≡ true
 resolved_spelled tree.count x e good = let same : counted ≡ x = cc in ap measure_is_spelled (sym same)
 resolved_spelled (tree.fold f y) x e good =
-    let g = mapped_gave (folded f) (resolved_expression y) x e in
-    ap measure_is_spelled (sym g.2) ∙ folded_spelled f g.0 ∙ expression_spelled y g.0 g.1 good
+    let g = mapped_gave (folds f) (resolved_expression y) x e in
+    ap measure_is_spelled (sym g.2) ∙ expression_spelled y g.0 g.1 good
 
-pub measures_spelled : (is' : List Item) (ms : List Measure) → measures_of is' ≡ Some ms → list_all asked.item_is_spelled is' ≡ true → list_all measure_is_spelled ms ≡ true
+pub measures_spelled : (is' : List Item) (ms : List (Measure ColumnId)) → measures_of is' ≡ Some ms → list_all asked.item_is_spelled is' ≡ true → list_all measure_is_spelled ms ≡ true
 measures_spelled [] ms e good = let none : [] ≡ ms = cc in ap (list_all measure_is_spelled) (sym none)
 measures_spelled (tree.plain n ∷ is') ms e good =
     let parts = and_parts (is_name n.text) (list_all asked.item_is_spelled is') good in measures_spelled is' ms e parts.1
@@ -69,40 +63,42 @@ measures_spelled (tree.aggregate a ∷ is') ms e good =
     let here = and_parts (asked.measure_is_spelled a.measure) (asked.alias_is_spelled (a.name)) parts.0 in
     ap (list_all measure_is_spelled) (sym g.made) ∙ and_from _ _ (resolved_spelled a.measure g.left g.first here.0) (measures_spelled is' g.right g.second parts.1)
 
-condition_spelled : (q : tree.Condition) (x : Condition) → resolved_condition q ≡ Some x → asked.condition_is_spelled q ≡ true → condition_is_spelled x ≡ true
+condition_spelled : (q : tree.Condition tree.Test) (x : RowCondition) → resolved_condition q ≡ Some x → asked.condition_is_spelled q ≡ true → condition_is_spelled x ≡ true
 condition_spelled (tree.or a b) x e good =
     both_spelled asked.condition_is_spelled condition_is_spelled resolved_condition or (λ y z. refl) a b x e good (condition_spelled a) (condition_spelled b)
 condition_spelled (tree.and a b) x e good =
     both_spelled asked.condition_is_spelled condition_is_spelled resolved_condition and (λ y z. refl) a b x e good (condition_spelled a) (condition_spelled b)
 condition_spelled (tree.not a) x e good =
     let g = mapped_gave not (resolved_condition a) x e in ap condition_is_spelled (sym g.2) ∙ condition_spelled a g.0 g.1 good
-condition_spelled (tree.pair m n) x e good = absurd (cc)
-condition_spelled (tree.compare n s l) x e good =
-    let g = mapped_gave (λ c. compare c s (literal_value l)) (column_at n) x e in
+condition_spelled (tree.test (tree.pair m n)) x e good = absurd (cc)
+condition_spelled (tree.test (tree.comparison (tree.compare n s l))) x e good =
+    let t = mapped_gave test (resolved_test (tree.comparison (tree.compare n s l))) x e in
+    let g = mapped_gave (λ c. compare c s (literal_value l)) (column_at n) t.0 t.1 in
     let parts = and_parts (is_name n.text) (asked.literal_is_spelled l) good in
-    ap condition_is_spelled (sym g.2) ∙ value_spelled l parts.1
-condition_spelled (tree.between n from upto) x e good =
-    let g = mapped_gave (λ c. between c (literal_value from) (literal_value upto)) (column_at n) x e in
+    ap condition_is_spelled (sym t.2) ∙ ap (λ y. condition_is_spelled (test y)) (sym g.2) ∙ value_spelled l parts.1
+condition_spelled (tree.test (tree.comparison (tree.between n from upto))) x e good =
+    let t = mapped_gave test (resolved_test (tree.comparison (tree.between n from upto))) x e in
+    let g = mapped_gave (λ c. between c (literal_value from) (literal_value upto)) (column_at n) t.0 t.1 in
     let parts = and_parts (is_name n.text) (asked.literal_is_spelled from && asked.literal_is_spelled upto) good in
     let ends = and_parts (asked.literal_is_spelled from) (asked.literal_is_spelled upto) parts.1 in
-    ap condition_is_spelled (sym g.2) ∙ and_from _ _ (value_spelled from ends.0) (value_spelled upto ends.1)
+    ap condition_is_spelled (sym t.2) ∙ ap (λ y. condition_is_spelled (test y)) (sym g.2) ∙ and_from _ _ (value_spelled from ends.0) (value_spelled upto ends.1)
 
-lone_spelled : (q : tree.Condition) (xs : List Condition) → option_map (λ x. x ∷ []) (resolved_condition q) ≡ Some xs → asked.condition_is_spelled q ≡ true
+lone_spelled : (q : tree.Condition tree.Test) (xs : List RowCondition) → option_map (λ x. x ∷ []) (resolved_condition q) ≡ Some xs → asked.condition_is_spelled q ≡ true
     → list_all condition_is_spelled xs ≡ true
 lone_spelled q xs e good =
-    let g = mapped_gave (λ (x : Condition). x ∷ []) (resolved_condition q) xs e in
+    let g = mapped_gave (λ (x : RowCondition). x ∷ []) (resolved_condition q) xs e in
     ap (list_all condition_is_spelled) (sym g.2) ∙ and_from _ _ (condition_spelled q g.0 g.1 good) refl
 
-conjuncts_spelled : (q : tree.Condition) (xs : List Condition) → conjuncts_of q ≡ Some xs → asked.condition_is_spelled q ≡ true → list_all condition_is_spelled xs ≡ true
+conjuncts_spelled : (q : tree.Condition tree.Test) (xs : List RowCondition) → conjuncts_of q ≡ Some xs → asked.condition_is_spelled q ≡ true → list_all condition_is_spelled xs ≡ true
 conjuncts_spelled (tree.and a b) xs e good =
     both_spelled asked.condition_is_spelled (list_all condition_is_spelled) conjuncts_of (λ ys zs. ys ++ zs) (list_all-append condition_is_spelled) a b xs e good (conjuncts_spelled a) (conjuncts_spelled b)
-conjuncts_spelled (tree.pair m n) xs e good = let none : [] ≡ xs = cc in ap (list_all condition_is_spelled) (sym none)
+conjuncts_spelled (tree.test (tree.pair m n)) xs e good = let none : [] ≡ xs = cc in ap (list_all condition_is_spelled) (sym none)
 conjuncts_spelled (tree.or a b) xs e good = lone_spelled (tree.or a b) xs e good
 conjuncts_spelled (tree.not a) xs e good = lone_spelled (tree.not a) xs e good
-conjuncts_spelled (tree.compare n s l) xs e good = lone_spelled (tree.compare n s l) xs e good
-conjuncts_spelled (tree.between n from upto) xs e good = lone_spelled (tree.between n from upto) xs e good
+conjuncts_spelled (tree.test (tree.comparison (tree.compare n s l))) xs e good = lone_spelled (tree.test (tree.comparison (tree.compare n s l))) xs e good
+conjuncts_spelled (tree.test (tree.comparison (tree.between n from upto))) xs e good = lone_spelled (tree.test (tree.comparison (tree.between n from upto))) xs e good
 
-pub where_spelled : (o : Option tree.Condition) (xs : List Condition) → where_conjuncts o ≡ Some xs → asked.where_is_spelled (o) ≡ true
+pub where_spelled : (o : Option (tree.Condition tree.Test)) (xs : List RowCondition) → where_conjuncts o ≡ Some xs → asked.where_is_spelled (o) ≡ true
     → list_all condition_is_spelled xs ≡ true
 where_spelled None xs e good = let none : [] ≡ xs = cc in ap (list_all condition_is_spelled) (sym none)
 where_spelled (Some q) xs e good = conjuncts_spelled q xs e good
@@ -123,26 +119,26 @@ word_then_digits (c ∷ cs) ds begins word short digits few =
     let long : length ((c ∷ cs) ++ ds) ≤ 64 = omega (arith, length-append (c ∷ cs) ds) in
     and_from _ _ begins (and_from _ _ (list_all-append is_word_byte (c ∷ cs) ds ∙ and_from _ _ word digits) (le-leb _ 64 long))
 
-default_spelled : (m : tree.Measure) (n : ℕ) → n < 2 ^ 64 → is_name (default_name m n) ≡ true
+default_spelled : (m : tree.Measure tree.Name) (n : ℕ) → n < 2 ^ 64 → is_name (default_name m n) ≡ true
 unfolding function_word
 default_spelled m n below = by_word (function_word m) (begins m) (letters m) (short m)
   where
     digits : list_all is_word_byte (decimal n) ≡ true
     digits = let numeral = decimal_is_IsNumeral n below in digits_spelled (decimal n) numeral.0.1
 
-    begins : (x : tree.Measure) → begins_with_letter (function_word x) ≡ true
+    begins : (x : tree.Measure tree.Name) → begins_with_letter (function_word x) ≡ true
     begins tree.count = refl
     begins (tree.fold fold.Sum e) = refl
     begins (tree.fold fold.Min e) = refl
     begins (tree.fold fold.Max e) = refl
 
-    letters : (x : tree.Measure) → list_all is_word_byte (function_word x) ≡ true
+    letters : (x : tree.Measure tree.Name) → list_all is_word_byte (function_word x) ≡ true
     letters tree.count = refl
     letters (tree.fold fold.Sum e) = refl
     letters (tree.fold fold.Min e) = refl
     letters (tree.fold fold.Max e) = refl
 
-    short : (x : tree.Measure) → length (function_word x) ≤ 5
+    short : (x : tree.Measure tree.Name) → length (function_word x) ≤ 5
     short tree.count = omega arith
     short (tree.fold fold.Sum e) = omega arith
     short (tree.fold fold.Min e) = omega arith

@@ -17,20 +17,17 @@ use Rattle.star_schema.specs.declared.group.SortKey as sorted
 use Rattle.star_common.specs.First.{first_answer}
 use Rattle.star_schema.specs.Schema.{is_table, kind_of, table_name, table_of}
 use Rattle.star_schema.proofs.NamesApart.{table_by_name}
-use Rattle.star_query.specs.declared.token.Fold.{Fold}
-use Rattle.star_query.specs.declared.token.Fold.TheVariants as fold
 use Rattle.star_query.specs.Tree as tree
-use Rattle.star_query.specs.Tree.{Item, Literal, Name, SortKey, Expression, column, constant, add, sub, mul}
+use Rattle.star_query.specs.Tree.{Item, Literal, Name, SortKey, Expression, column, constant, add, sub, mul, or, and, not, test, compare, between, Measure, count, fold}
 use Rattle.star_plan.specs.declared.tree.Join.{Join}
 use Rattle.star_plan.specs.First.{first_after}
-use Rattle.star_plan.specs.Meaning.{Condition, or, and, not, Measure, counted, compare, between}
+use Rattle.star_plan.specs.Meaning.{RowCondition}
 use Rattle.star_plan.specs.Names.{column_at, has_name, is_of, literal_value, same_kind, table_called}
 use Rattle.star_plan.specs.Uses.{Use, condition_uses, expression_uses, groups_uses, items_uses, kind_of_literal, measure_uses, where_uses}
 use Rattle.star_plan.specs.Joins.{Pair, is_joined, joins_of, pairs_of, where_pairs}
 use Rattle.star_plan.specs.Naming.{has_text}
 use Rattle.star_plan.specs.Faults.{item_fault, key_fault, kind_fault, missing_fault, pair_fault, scope_fault, of_column, of_missing}
 use Rattle.star_plan.specs.Resolved.{aggregate_column, conjuncts_of, where_conjuncts, items_from, key_column, measures_of, option_all, option_both, resolved_condition, resolved_expression, resolved_key, resolved_measure}
-use Rattle.star_plan.specs.Shown.{folded}
 use Rattle.star_plan.specs.Sound.{condition_is_sound, expression_is_sound, in_scope, joins_table, measure_is_sound}
 
 -- the table by its own name
@@ -108,19 +105,14 @@ expression_known tables js reach (tree.mul a b) scoped fit =
     let r = expression_known tables js reach b (each_right _ (expression_uses a) (expression_uses b) scoped) (each_right _ (expression_uses a) (expression_uses b) fit) in
     (mul l.0 r.0, λ i. option_both mul (l.1 i) (r.1 i), and_from _ _ l.2 r.2)
 
-folded_sound : (js : List Join) (f : Fold) (x : Expression ColumnId) → expression_is_sound js x ≡ true → measure_is_sound js (folded f x) ≡ true
-folded_sound js fold.Sum x e = e
-folded_sound js fold.Min x e = e
-folded_sound js fold.Max x e = e
-
-measure_known : (tables : List Name) (js : List Join) → Reaches tables js → (m : tree.Measure) → AreScoped tables (measure_uses m) → AreFit (measure_uses m)
-    → (x : Measure) × (resolved_measure m ≡ Some x) × (measure_is_sound js x ≡ true)
-measure_known tables js reach tree.count scoped fit = (counted, refl, refl)
+measure_known : (tables : List Name) (js : List Join) → Reaches tables js → (m : tree.Measure tree.Name) → AreScoped tables (measure_uses m) → AreFit (measure_uses m)
+    → (x : Measure ColumnId) × (resolved_measure m ≡ Some x) × (measure_is_sound js x ≡ true)
+measure_known tables js reach tree.count scoped fit = (count, refl, refl)
 measure_known tables js reach (tree.fold f e) scoped fit =
-    let x = expression_known tables js reach e scoped fit in (folded f x.0, ap (option_map (folded f)) x.1, folded_sound js f x.0 x.2)
+    let x = expression_known tables js reach e scoped fit in (fold f x.0, ap (option_map (fold f)) x.1, x.2)
 
 pub measures_known : (tables : List Name) (js : List Join) → Reaches tables js → (is' : List Item) → AreScoped tables (items_uses is') → AreFit (items_uses is')
-    → (ms : List Measure) × (measures_of is' ≡ Some ms) × (list_all (measure_is_sound js) ms ≡ true)
+    → (ms : List (Measure ColumnId)) × (measures_of is' ≡ Some ms) × (list_all (measure_is_sound js) ms ≡ true)
 measures_known tables js reach [] scoped fit = ([], refl, refl)
 measures_known tables js reach (tree.plain n ∷ is') scoped fit = measures_known tables js reach is' scoped.1 fit.1
 measures_known tables js reach (tree.aggregate a ∷ is') scoped fit =
@@ -138,9 +130,9 @@ value_kind : (l : Literal) (c : ColumnId) → is_of (kind_of_literal l) (Some c)
 value_kind (tree.number z) c e = e
 value_kind (tree.text bs) c e = e
 
-condition_known : (tables : List Name) (js : List Join) → Reaches tables js → (q : tree.Condition)
+condition_known : (tables : List Name) (js : List Join) → Reaches tables js → (q : tree.Condition tree.Test)
     → AreJoins (pairs_of false q) → AreScoped tables (condition_uses q) → AreFit (condition_uses q)
-    → (x : Condition) × (resolved_condition q ≡ Some x) × (condition_is_sound js x ≡ true)
+    → (x : RowCondition) × (resolved_condition q ≡ Some x) × (condition_is_sound js x ≡ true)
 condition_known tables js reach (tree.or a b) pairs scoped fit =
     let l = condition_known tables js reach a (each_left _ (pairs_of false a) (pairs_of false b) pairs) (each_left _ (condition_uses a) (condition_uses b) scoped) (each_left _ (condition_uses a) (condition_uses b) fit) in
     let r = condition_known tables js reach b (each_right _ (pairs_of false a) (pairs_of false b) pairs) (each_right _ (condition_uses a) (condition_uses b) scoped) (each_right _ (condition_uses a) (condition_uses b) fit) in
@@ -152,47 +144,47 @@ condition_known tables js reach (tree.and a b) pairs scoped fit =
 condition_known tables js reach (tree.not a) pairs scoped fit =
     let x = condition_known tables js reach a pairs scoped fit in
     (not x.0, ap (option_map not) x.1, x.2)
-condition_known tables js reach (tree.pair m n) pairs scoped fit = absurd (let j = pairs.0.1 in cc)
-condition_known tables js reach (tree.compare n s l) pairs scoped fit =
+condition_known tables js reach (tree.test (tree.pair m n)) pairs scoped fit = absurd (let j = pairs.0.1 in cc)
+condition_known tables js reach (tree.test (tree.comparison (tree.compare n s l))) pairs scoped fit =
     let c = scope_known tables n.place (column_at n) scoped.0 in
     let k : is_of (kind_of_literal l) (column_at n) ≡ true = kind_known (record { column = column_at n; fits = is_of (kind_of_literal l) (column_at n); at = n.place }) fit.0 in
-    (compare c.0 s (literal_value l), ap (option_map (λ d. compare d s (literal_value l))) c.1, and_from _ _ (reach c.0 c.2) (value_kind l c.0 (rw c.1 at k)))
-condition_known tables js reach (tree.between n from upto) pairs scoped fit =
+    (test (compare c.0 s (literal_value l)), ap (λ o. option_map test (option_map (λ d. compare d s (literal_value l)) o)) c.1, and_from _ _ (reach c.0 c.2) (value_kind l c.0 (rw c.1 at k)))
+condition_known tables js reach (tree.test (tree.comparison (tree.between n from upto))) pairs scoped fit =
     let c = scope_known tables n.place (column_at n) scoped.0 in
     let k : (is_of (kind_of_literal from) (column_at n) && is_of (kind_of_literal upto) (column_at n)) ≡ true =
     kind_known (record { column = column_at n; fits = is_of (kind_of_literal from) (column_at n) && is_of (kind_of_literal upto) (column_at n); at = n.place }) fit.0 in
     let ks = and_parts _ _ (rw c.1 at k) in (
-      between c.0 (literal_value from) (literal_value upto),
-      ap (option_map (λ d. between d (literal_value from) (literal_value upto))) c.1,
+      test (between c.0 (literal_value from) (literal_value upto)),
+      ap (λ o. option_map test (option_map (λ d. between d (literal_value from) (literal_value upto)) o)) c.1,
       and_from _ _ (reach c.0 c.2) (and_from _ _ (value_kind from c.0 ks.0) (value_kind upto c.0 ks.1)),
     )
 
-abbrev KnownConjuncts : List Join → tree.Condition → Type 0
-KnownConjuncts js q = (xs : List Condition) × (conjuncts_of q ≡ Some xs) × (list_all (condition_is_sound js) xs ≡ true)
+abbrev KnownConjuncts : List Join → tree.Condition tree.Test → Type 0
+KnownConjuncts js q = (xs : List RowCondition) × (conjuncts_of q ≡ Some xs) × (list_all (condition_is_sound js) xs ≡ true)
 
-lone_known : (js : List Join) (o : Option Condition) (x : Condition) → o ≡ Some x → condition_is_sound js x ≡ true
-    → (xs : List Condition) × (option_map (λ y. y ∷ []) o ≡ Some xs) × (list_all (condition_is_sound js) xs ≡ true)
+lone_known : (js : List Join) (o : Option RowCondition) (x : RowCondition) → o ≡ Some x → condition_is_sound js x ≡ true
+    → (xs : List RowCondition) × (option_map (λ y. y ∷ []) o ≡ Some xs) × (list_all (condition_is_sound js) xs ≡ true)
 lone_known js o x e sound = (x ∷ [], ap (option_map (λ y. y ∷ [])) e, and_from _ _ sound refl)
 
-conjuncts_known : (tables : List Name) (js : List Join) → Reaches tables js → (q : tree.Condition)
+conjuncts_known : (tables : List Name) (js : List Join) → Reaches tables js → (q : tree.Condition tree.Test)
     → AreJoins (pairs_of true q) → AreScoped tables (condition_uses q) → AreFit (condition_uses q) → KnownConjuncts js q
 conjuncts_known tables js reach (tree.and a b) pairs scoped fit =
     let l = conjuncts_known tables js reach a (each_left _ (pairs_of true a) (pairs_of true b) pairs) (each_left _ (condition_uses a) (condition_uses b) scoped) (each_left _ (condition_uses a) (condition_uses b) fit) in
     let r = conjuncts_known tables js reach b (each_right _ (pairs_of true a) (pairs_of true b) pairs) (each_right _ (condition_uses a) (condition_uses b) scoped) (each_right _ (condition_uses a) (condition_uses b) fit) in
     (l.0 ++ r.0, λ i. option_both (λ xs ys. xs ++ ys) (l.1 i) (r.1 i), list_all-append (condition_is_sound js) l.0 r.0 ∙ and_from _ _ l.2 r.2)
-conjuncts_known tables js reach (tree.pair m n) pairs scoped fit = ([], refl, refl)
+conjuncts_known tables js reach (tree.test (tree.pair m n)) pairs scoped fit = ([], refl, refl)
 conjuncts_known tables js reach (tree.or a b) pairs scoped fit =
     let x = condition_known tables js reach (tree.or a b) pairs scoped fit in lone_known js _ x.0 x.1 x.2
 conjuncts_known tables js reach (tree.not a) pairs scoped fit =
     let x = condition_known tables js reach (tree.not a) pairs scoped fit in lone_known js _ x.0 x.1 x.2
-conjuncts_known tables js reach (tree.compare n s l) pairs scoped fit =
-    let x = condition_known tables js reach (tree.compare n s l) pairs scoped fit in lone_known js _ x.0 x.1 x.2
-conjuncts_known tables js reach (tree.between n from upto) pairs scoped fit =
-    let x = condition_known tables js reach (tree.between n from upto) pairs scoped fit in lone_known js _ x.0 x.1 x.2
+conjuncts_known tables js reach (tree.test (tree.comparison (tree.compare n s l))) pairs scoped fit =
+    let x = condition_known tables js reach (tree.test (tree.comparison (tree.compare n s l))) pairs scoped fit in lone_known js _ x.0 x.1 x.2
+conjuncts_known tables js reach (tree.test (tree.comparison (tree.between n from upto))) pairs scoped fit =
+    let x = condition_known tables js reach (tree.test (tree.comparison (tree.between n from upto))) pairs scoped fit in lone_known js _ x.0 x.1 x.2
 
-pub where_known : (tables : List Name) (js : List Join) → Reaches tables js → (o : Option tree.Condition)
+pub where_known : (tables : List Name) (js : List Join) → Reaches tables js → (o : Option (tree.Condition tree.Test))
     → AllByRecursion (λ p. (j : Join) × (p.join ≡ Some j)) (where_pairs o) → AllByRecursion (λ u. scope_fault tables u ≡ None) (where_uses o) → AllByRecursion (λ u. kind_fault u ≡ None) (where_uses o)
-    → (xs : List Condition) × (where_conjuncts o ≡ Some xs) × (list_all (condition_is_sound js) xs ≡ true)
+    → (xs : List RowCondition) × (where_conjuncts o ≡ Some xs) × (list_all (condition_is_sound js) xs ≡ true)
 where_known tables js reach None pairs scoped fit = ([], refl, refl)
 where_known tables js reach (Some q) pairs scoped fit = conjuncts_known tables js reach q pairs scoped fit
 

@@ -15,7 +15,8 @@ use Rattle.star_plan.specs.declared.fault.PlanFault.{PlanFault}
 use Rattle.star_plan.specs.declared.fault.PlanFault.TheVariants.{OutOfMemory}
 use Rattle.star_plan.specs.declared.tree.Join.{Join}
 use Rattle.star_plan.specs.First.{first_beside}
-use Rattle.star_plan.specs.Meaning.{Condition, Measure}
+use Rattle.star_query.specs.Tree.{Measure}
+use Rattle.star_plan.specs.Meaning.{RowCondition}
 use Rattle.star_plan.specs.Names.{column_at}
 use Rattle.star_plan.specs.Uses.{groups_uses, items_uses, uses_of, where_uses}
 use Rattle.star_plan.specs.Joins.{joins_of, where_pairs}
@@ -74,7 +75,7 @@ parts t none =
       order = each_none (key_fault groups (aggregate_names items)) keys select.1;
     }
 
-pub conjuncts_there : (t : Tree) → Parts t → (xs : List Condition) × (where_conjuncts t.condition ≡ Some xs) × (list_all (condition_is_sound (joins_of (where_pairs t.condition))) xs ≡ true)
+pub conjuncts_there : (t : Tree) → Parts t → (xs : List RowCondition) × (where_conjuncts t.condition ≡ Some xs) × (list_all (condition_is_sound (joins_of (where_pairs t.condition))) xs ≡ true)
 conjuncts_there t p =
     where_known t.tables (joins_of (where_pairs t.condition)) p.reach t.condition p.pairs
     (each_left _ (where_uses t.condition) (groups_uses t.grouping.columns) (each_right _ (items_uses t.items) (where_uses t.condition ++ groups_uses t.grouping.columns) p.scoped))
@@ -85,7 +86,7 @@ keys_there t p =
     groups_known t.tables (joins_of (where_pairs t.condition)) p.reach t.grouping.columns
     (each_right _ (where_uses t.condition) (groups_uses t.grouping.columns) (each_right _ (items_uses t.items) (where_uses t.condition ++ groups_uses t.grouping.columns) p.scoped))
 
-pub measures_there : (t : Tree) → Parts t → (ms : List Measure) × (measures_of t.items ≡ Some ms) × (list_all (measure_is_sound (joins_of (where_pairs t.condition))) ms ≡ true)
+pub measures_there : (t : Tree) → Parts t → (ms : List (Measure ColumnId)) × (measures_of t.items ≡ Some ms) × (list_all (measure_is_sound (joins_of (where_pairs t.condition))) ms ≡ true)
 measures_there t p =
     measures_known t.tables (joins_of (where_pairs t.condition)) p.reach t.items
     (each_left _ (items_uses t.items) (where_uses t.condition ++ groups_uses t.grouping.columns) p.scoped)

@@ -3,8 +3,8 @@ use Rattle.std.specs.Prelude.{ℕ, ◌≤◌, ◌+ℤ◌, ◌-ℤ◌, ◌*ℤ◌
 use Rattle.std.specs.List.{list_all}
 use Rattle.star_schema.specs.declared.column.ColumnId.{ColumnId}
 use Rattle.star_interval.specs.Range.{Range, only, corner_range, fits_i64}
-use Rattle.star_query.specs.Tree.{Expression, column, constant, add, sub, mul}
-use Rattle.star_plan.specs.Meaning.{Measure, counted, summed, least, greatest, Plan}
+use Rattle.star_query.specs.Tree.{Expression, column, constant, add, sub, mul, Measure, fold, count}
+use Rattle.star_plan.specs.Meaning.{Plan}
 
 -- the range of an expression whose columns have these: the least and greatest result over the corners of its parts' ranges
 abbrev pub range_of : {C : Type 0} → (C → Range) → Expression C → Range
@@ -22,11 +22,9 @@ nodes_fit bounds (add a b) = nodes_fit bounds a && (nodes_fit bounds b && fits_i
 nodes_fit bounds (sub a b) = nodes_fit bounds a && (nodes_fit bounds b && fits_i64 (range_of bounds (sub a b)))
 nodes_fit bounds (mul a b) = nodes_fit bounds a && (nodes_fit bounds b && fits_i64 (range_of bounds (mul a b)))
 
-abbrev pub measure_fits : (ColumnId → Range) → Measure → Bool
-measure_fits bounds counted = true
-measure_fits bounds (summed e) = nodes_fit bounds e
-measure_fits bounds (least e) = nodes_fit bounds e
-measure_fits bounds (greatest e) = nodes_fit bounds e
+abbrev pub measure_fits : {C : Type 0} → (C → Range) → Measure C → Bool
+measure_fits bounds count = true
+measure_fits bounds (fold f e) = nodes_fit bounds e
 
 -- a plan fits the fact's rows within a limit
 pub record Fits (rows most : ℕ) (bounds : ColumnId → Range) (p : Plan) : Type 0 where

@@ -7,7 +7,7 @@ use Rattle.star_schema.specs.declared.table.Key.{Key}
 use Rattle.star_schema.specs.declared.table.Key.TheVariants.{One, Two}
 use Rattle.star_schema.specs.declared.column.ColumnId.{ColumnId}
 use Rattle.star_schema.specs.Schema.{index_of, is_table, key_of, references, table_of}
-use Rattle.star_query.specs.Tree.{Condition, between, and, compare, or, not, pair}
+use Rattle.star_query.specs.Tree.{Condition, Test, pair, comparison, and, or, not, test}
 use Rattle.star_plan.specs.declared.tree.Join.{Join}
 use Rattle.star_plan.specs.Names.{column_at}
 
@@ -37,15 +37,14 @@ pub record Pair : Type 0 where
   pub at : ℕ
 
 -- the comparisons of two columns, from the left; they join where they are reached through AND alone
-abbrev pub pairs_of : (is_conjunct : Bool) → Condition → List Pair
+abbrev pub pairs_of : (is_conjunct : Bool) → Condition Test → List Pair
 pairs_of b (and c d) = pairs_of b c ++ pairs_of b d
 pairs_of b (or c d) = pairs_of false c ++ pairs_of false d
 pairs_of b (not c) = pairs_of false c
-pairs_of b (pair m n) = record { join = (if b then join_of (column_at m) (column_at n) else None); at = m.place } ∷ []
-pairs_of b (compare n s l) = []
-pairs_of b (between n from upto) = []
+pairs_of b (test (pair m n)) = record { join = (if b then join_of (column_at m) (column_at n) else None); at = m.place } ∷ []
+pairs_of b (test (comparison c)) = []
 
-abbrev pub where_pairs : Option Condition → List Pair
+abbrev pub where_pairs : Option (Condition Test) → List Pair
 where_pairs None = []
 where_pairs (Some c) = pairs_of true c
 

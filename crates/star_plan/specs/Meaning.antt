@@ -1,5 +1,5 @@
 -- What a resolved query means over the rows of the tables (Star Schema Benchmark, revision 3, section 3; Gray et al. 1997).
-use Rattle.std.specs.Prelude.{ℕ, ℤ, pos, ◌+ℤ◌, ◌-ℤ◌, ◌*ℤ◌, Bool, ◌&&◌, ◌||◌, not as negated, List, [], ◌∷◌, filter, map, slice_index_or, if◌then◌else◌}
+use Rattle.std.specs.Prelude.{ℕ, ℤ, pos, ◌+ℤ◌, ◌-ℤ◌, ◌*ℤ◌, Bool, ◌&&◌, List, [], ◌∷◌, filter, map, slice_index_or, if◌then◌else◌}
 use Rattle.std.specs.List.{flat_map, list_all}
 use Rattle.std.specs.declared.cmp.Ordering.{Ordering}
 use Rattle.std.specs.Ordering.{is_eq, is_ne, is_lt, is_le, is_gt, is_ge}
@@ -17,28 +17,24 @@ use Rattle.star_schema.specs.Schema.{is_table, place_of, table_of}
 use Rattle.star_schema.specs.Tables.{Value, Number, Text}
 use Rattle.star_query.specs.declared.token.Relation.{Relation}
 use Rattle.star_query.specs.declared.token.Relation.TheVariants as sign
-use Rattle.star_query.specs.Tree.{Expression, column, constant, add, sub, mul}
+use Rattle.star_query.specs.declared.token.Fold.TheVariants.{Sum, Min, Max}
+use Rattle.star_query.specs.Leaves.{is_so}
+use Rattle.star_query.specs.Tree.{Expression, column, constant, add, sub, mul, Comparison, compare, between, Condition, Measure, fold, count}
 use Rattle.star_plan.specs.declared.tree.Join.{Join}
 
 -- ---- a query whose names are resolved
 
-pub data Condition : Type 0 where
-  or and : (a b : Condition) → Condition
-  not : (a : Condition) → Condition
-  compare : ColumnId → Relation → Value → Condition
-  between : ColumnId → (from upto : Value) → Condition
-
-pub data Measure : Type 0 where
-  counted : Measure
-  summed least greatest : Expression ColumnId → Measure
+-- a condition on a joined row: no two columns are compared in it
+abbrev pub RowCondition : Type 0
+RowCondition = Condition (Comparison ColumnId Value)
 
 -- its joins, the other conjuncts of its condition, its groups, its aggregates with their names, what it selects and its order
 pub record Plan : Type 0 where
   pub joins : List Join
-  pub conjuncts : List Condition
+  pub conjuncts : List RowCondition
   pub shape : Shape
   pub keys : List ColumnId
-  pub measures : List Measure
+  pub measures : List (Measure ColumnId)
   pub names : List (List ℕ)
   pub items : List GroupColumn
   pub sorts : List SortKey
@@ -93,14 +89,16 @@ tests sign.Greater o = is_gt o
 tests sign.AtLeast o = is_ge o
 
 -- numbers compare by value, texts by their bytes
-abbrev pub holds : Condition → Joined → Bool
-holds (or a b) row = holds a row || holds b row
-holds (and a b) row = holds a row && holds b row
-holds (not a) row = negated (holds a row)
-holds (compare c s v) row = tests s (value_cmp (value_of c row) v)
-holds (between c from upto) row = is_le (value_cmp from (value_of c row)) && is_le (value_cmp (value_of c row) upto)
+-- where columns have these values, and others stand for these; BETWEEN has both its ends
+abbrev pub comparison_holds : {C V : Type 0} → (C → Value) → (V → Value) → Comparison C V → Bool
+comparison_holds values stands (compare c s v) = tests s (value_cmp (values c) (stands v))
+comparison_holds values stands (between c from upto) =
+    is_le (value_cmp (stands from) (values c)) && is_le (value_cmp (values c) (stands upto))
 
-abbrev pub all_hold : List Condition → Joined → Bool
+abbrev pub holds : RowCondition → Joined → Bool
+holds c row = is_so (comparison_holds (λ c. value_of c row) (λ v. v)) c
+
+abbrev pub all_hold : List RowCondition → Joined → Bool
 all_hold cs row = list_all (λ c. holds c row) cs
 
 -- the rows that a query selects: the joined rows for which every conjunct holds
@@ -125,18 +123,16 @@ abbrev pub expression_number : Expression ColumnId → Joined → ℤ
 expression_number e row = number_with (λ c. value_of c row) e
 
 -- 1 to a count
-abbrev pub measured : Measure → Joined → ℤ
-measured counted row = pos 1
-measured (summed e) row = expression_number e row
-measured (least e) row = expression_number e row
-measured (greatest e) row = expression_number e row
+abbrev pub measured : {C : Type 0} → (C → Value) → Measure C → ℤ
+measured values count = pos 1
+measured values (fold f e) = number_with values e
 
-abbrev pub aggregate_of : Measure → Aggregate
-aggregate_of counted = aggregate.Count
-aggregate_of (summed e) = aggregate.Sum
-aggregate_of (least e) = aggregate.Min
-aggregate_of (greatest e) = aggregate.Max
+abbrev pub aggregate_of : {C : Type 0} → Measure C → Aggregate
+aggregate_of count = aggregate.Count
+aggregate_of (fold Sum e) = aggregate.Sum
+aggregate_of (fold Min e) = aggregate.Min
+aggregate_of (fold Max e) = aggregate.Max
 
 -- the values of the group columns, and a number for each aggregate
 abbrev pub entry_of : Plan → Joined → Entry Value
-entry_of p row = record { keys = map (λ c. value_of c row) p.keys; values = map (λ m. measured m row) p.measures }
+entry_of p row = record { keys = map (λ c. value_of c row) p.keys; values = map (measured (λ c. value_of c row)) p.measures }

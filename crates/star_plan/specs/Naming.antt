@@ -5,16 +5,16 @@ use Rattle.std.specs.Cmp.Lexicographic.{pointwise}
 use Rattle.star_query.specs.declared.token.Fold.TheVariants.{Sum, Min, Max}
 use Rattle.star_query.specs.Tree.{Aggregate, Item, Measure, Name, aggregate, count, fold, plain}
 
-unfoldable pub function_word : Measure → List ℕ
+unfoldable pub function_word : Measure Name → List ℕ
 function_word count = codes "count"
 function_word (fold Sum e) = codes "sum"
 function_word (fold Min e) = codes "min"
 function_word (fold Max e) = codes "max"
 
-abbrev pub default_name : Measure → ℕ → List ℕ
+abbrev pub default_name : Measure Name → ℕ → List ℕ
 default_name m number = function_word m ++ decimal number
 
-abbrev named : Measure → ℕ → Option Name → List ℕ
+abbrev named : Measure Name → ℕ → Option Name → List ℕ
 named m number None = default_name m number
 named m number (Some n) = n.text
 

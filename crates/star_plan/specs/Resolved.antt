@@ -7,14 +7,13 @@ use Rattle.star_schema.specs.declared.column.ColumnId.{ColumnId}
 use Rattle.star_schema.specs.declared.group.GroupColumn.{GroupColumn}
 use Rattle.star_schema.specs.declared.group.GroupColumn.TheVariants as group
 use Rattle.star_schema.specs.declared.group.SortKey.{SortKey}
+use Rattle.star_schema.specs.Tables.{Value}
 use Rattle.star_query.specs.Tree as tree
-use Rattle.star_query.specs.Tree.{Item, Literal, Name, Tree, Expression, column, constant, add, sub, mul}
-use Rattle.star_query.specs.declared.token.Relation.{Relation}
-use Rattle.star_plan.specs.Meaning.{Condition, or, and, not, compare, between, Measure, counted, Plan}
+use Rattle.star_query.specs.Tree.{Item, Name, Tree, Expression, column, constant, add, sub, mul, Comparison, compare, between, Test, pair, comparison, Condition, or, and, not, test, Measure, fold, count}
+use Rattle.star_plan.specs.Meaning.{RowCondition, Plan}
 use Rattle.star_plan.specs.Names.{column_at, literal_value}
 use Rattle.star_plan.specs.Joins.{joins_of, where_pairs}
 use Rattle.star_plan.specs.Naming.{aggregate_names}
-use Rattle.star_plan.specs.Shown.{folded}
 
 -- both values by an operation, or none where one is missing
 abbrev pub option_both : {A B C : Type 0} → (A → B → C) → Option A → Option B → Option C
@@ -35,38 +34,35 @@ resolved_expression (tree.add a b) = option_both add (resolved_expression a) (re
 resolved_expression (tree.sub a b) = option_both sub (resolved_expression a) (resolved_expression b)
 resolved_expression (tree.mul a b) = option_both mul (resolved_expression a) (resolved_expression b)
 
-abbrev pub resolved_measure : tree.Measure → Option Measure
-resolved_measure tree.count = Some counted
-resolved_measure (tree.fold f e) = option_map (folded f) (resolved_expression e)
+abbrev pub resolved_measure : Measure Name → Option (Measure ColumnId)
+resolved_measure count = Some count
+resolved_measure (fold f e) = option_map (fold f) (resolved_expression e)
 
-abbrev pub resolved_compare : Name → Relation → Literal → Option Condition
-resolved_compare n s l = option_map (λ c. compare c s (literal_value l)) (column_at n)
+-- none where it compares two columns
+abbrev pub resolved_test : Test → Option (Comparison ColumnId Value)
+resolved_test (pair m n) = None
+resolved_test (comparison (compare n s l)) = option_map (λ c. compare c s (literal_value l)) (column_at n)
+resolved_test (comparison (between n from upto)) = option_map (λ c. between c (literal_value from) (literal_value upto)) (column_at n)
 
-abbrev pub resolved_between : Name → Literal → Literal → Option Condition
-resolved_between n from upto = option_map (λ c. between c (literal_value from) (literal_value upto)) (column_at n)
-
--- none where two columns are compared in it
-abbrev pub resolved_condition : tree.Condition → Option Condition
-resolved_condition (tree.or a b) = option_both or (resolved_condition a) (resolved_condition b)
-resolved_condition (tree.and a b) = option_both and (resolved_condition a) (resolved_condition b)
-resolved_condition (tree.not a) = option_map not (resolved_condition a)
-resolved_condition (tree.pair m n) = None
-resolved_condition (tree.compare n s l) = resolved_compare n s l
-resolved_condition (tree.between n from upto) = resolved_between n from upto
+abbrev pub resolved_condition : Condition Test → Option RowCondition
+resolved_condition (or a b) = option_both or (resolved_condition a) (resolved_condition b)
+resolved_condition (and a b) = option_both and (resolved_condition a) (resolved_condition b)
+resolved_condition (not a) = option_map not (resolved_condition a)
+resolved_condition (test t) = option_map test (resolved_test t)
 
 -- the conjuncts that don't compare two columns, from the left
-abbrev pub conjuncts_of : tree.Condition → Option (List Condition)
-conjuncts_of (tree.and a b) = option_both (λ xs ys. xs ++ ys) (conjuncts_of a) (conjuncts_of b)
-conjuncts_of (tree.pair m n) = Some []
+abbrev pub conjuncts_of : Condition Test → Option (List RowCondition)
+conjuncts_of (and a b) = option_both (λ xs ys. xs ++ ys) (conjuncts_of a) (conjuncts_of b)
+conjuncts_of (test (pair m n)) = Some []
 conjuncts_of c = option_map (λ x. x ∷ []) (resolved_condition c)
 
-abbrev pub where_conjuncts : Option tree.Condition → Option (List Condition)
+abbrev pub where_conjuncts : Option (Condition Test) → Option (List RowCondition)
 where_conjuncts None = Some []
 where_conjuncts (Some c) = conjuncts_of c
 
 -- ---- groups, aggregates, items and the order
 
-abbrev pub measures_of : List Item → Option (List Measure)
+abbrev pub measures_of : List Item → Option (List (Measure ColumnId))
 measures_of [] = Some []
 measures_of (tree.plain n ∷ is') = measures_of is'
 measures_of (tree.aggregate a ∷ is') = option_both (λ m ms. m ∷ ms) (resolved_measure a.measure) (measures_of is')

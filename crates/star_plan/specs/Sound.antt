@@ -4,15 +4,17 @@ use Rattle.std.specs.List.{list_all, list_any}
 use Rattle.star_schema.specs.declared.table.TableId.{TableId}
 use Rattle.star_schema.specs.declared.table.TableId.TheVariants.{Lineorder}
 use Rattle.star_schema.specs.declared.column.ColumnId.{ColumnId}
+use Rattle.star_schema.specs.declared.column.Kind.{Kind}
 use Rattle.star_schema.specs.declared.column.Kind.TheVariants as kind
 use Rattle.star_schema.specs.declared.group.GroupColumn.{GroupColumn}
 use Rattle.star_schema.specs.declared.group.GroupColumn.TheVariants as group
 use Rattle.star_schema.specs.Schema.{is_table, kind_of, table_of}
-use Rattle.star_schema.specs.Tables.{kind_of_value}
+use Rattle.star_schema.specs.Tables.{Value, kind_of_value}
 use Rattle.star_plan.specs.declared.tree.Join.{Join}
 use Rattle.star_plan.specs.Joins.{is_foreign}
-use Rattle.star_query.specs.Tree.{Expression, column, constant, add, sub, mul}
-use Rattle.star_plan.specs.Meaning.{Condition, or, and, not, compare, between, Measure, counted, summed, least, greatest, Plan}
+use Rattle.star_query.specs.Leaves.{of_operands, of_tests}
+use Rattle.star_query.specs.Tree.{Expression, Comparison, compare, between, Measure, fold, count}
+use Rattle.star_plan.specs.Meaning.{RowCondition, Plan}
 use Rattle.star_plan.specs.Names.{same_kind}
 
 abbrev pub joins_table : List Join → TableId → Bool
@@ -22,28 +24,26 @@ joins_table js t = list_any (λ j. is_table t (table_of j.key)) js
 abbrev pub in_scope : List Join → TableId → Bool
 in_scope js t = is_table t Lineorder || joins_table js t
 
--- the columns of a condition are in scope, and stand beside values of their kind
-abbrev pub condition_is_sound : List Join → Condition → Bool
-condition_is_sound js (or a b) = condition_is_sound js a && condition_is_sound js b
-condition_is_sound js (and a b) = condition_is_sound js a && condition_is_sound js b
-condition_is_sound js (not a) = condition_is_sound js a
-condition_is_sound js (compare c s v) = in_scope js (table_of c) && same_kind (kind_of c) (kind_of_value v)
-condition_is_sound js (between c from upto) =
+-- a column is in scope, and of a kind
+abbrev pub column_is_sound : List Join → Kind → ColumnId → Bool
+column_is_sound js k c = in_scope js (table_of c) && same_kind (kind_of c) k
+
+-- a column stands beside values of its kind
+abbrev pub comparison_is_sound : List Join → Comparison ColumnId Value → Bool
+comparison_is_sound js (compare c s v) = column_is_sound js (kind_of_value v) c
+comparison_is_sound js (between c from upto) =
     in_scope js (table_of c) && (same_kind (kind_of c) (kind_of_value from) && same_kind (kind_of c) (kind_of_value upto))
 
--- the columns of an expression are in scope, and numbers
-abbrev pub expression_is_sound : List Join → Expression ColumnId → Bool
-expression_is_sound js (column c) = in_scope js (table_of c) && same_kind (kind_of c) kind.Number
-expression_is_sound js (constant z) = true
-expression_is_sound js (add a b) = expression_is_sound js a && expression_is_sound js b
-expression_is_sound js (sub a b) = expression_is_sound js a && expression_is_sound js b
-expression_is_sound js (mul a b) = expression_is_sound js a && expression_is_sound js b
+abbrev pub condition_is_sound : List Join → RowCondition → Bool
+condition_is_sound js c = of_tests (comparison_is_sound js) (λ b. b) ◌&&◌ c
 
-abbrev pub measure_is_sound : List Join → Measure → Bool
-measure_is_sound js counted = true
-measure_is_sound js (summed e) = expression_is_sound js e
-measure_is_sound js (least e) = expression_is_sound js e
-measure_is_sound js (greatest e) = expression_is_sound js e
+-- inside an aggregate stand numbers
+abbrev pub expression_is_sound : List Join → Expression ColumnId → Bool
+expression_is_sound js e = of_operands (column_is_sound js kind.Number) (λ z. true) ◌&&◌ e
+
+abbrev pub measure_is_sound : List Join → Measure ColumnId → Bool
+measure_is_sound js count = true
+measure_is_sound js (fold f e) = expression_is_sound js e
 
 -- no table is joined twice
 abbrev pub are_distinct : List Join → Bool

@@ -4,7 +4,8 @@ use Rattle.std.specs.List.{flat_map}
 use Rattle.star_schema.specs.declared.column.ColumnId.{ColumnId}
 use Rattle.star_schema.specs.declared.column.Kind.{Kind}
 use Rattle.star_schema.specs.declared.column.Kind.TheVariants as kind
-use Rattle.star_query.specs.Tree.{Condition, Expression, Item, Literal, Measure, Name, Tree, add, aggregate, between, and, column, compare, constant, count, or, fold, mul, not, number, pair, plain, sub, text}
+use Rattle.star_query.specs.Leaves.{of_operands, of_tests}
+use Rattle.star_query.specs.Tree.{Condition, Expression, Item, Literal, Measure, Name, Test, Tree, aggregate, between, compare, comparison, count, fold, number, pair, plain, text}
 use Rattle.star_plan.specs.Names.{column_at, is_of}
 
 -- a column where a query names it: the column, if there is one of this name, and whether it is of the kind that is
@@ -30,13 +31,9 @@ use_between a b n = record { column = column_at n; fits = is_of (kind_of_literal
 
 -- inside an aggregate stand numbers alone
 abbrev pub expression_uses : Expression Name → List Use
-expression_uses (column n) = use_as kind.Number n ∷ []
-expression_uses (constant z) = []
-expression_uses (add a b) = expression_uses a ++ expression_uses b
-expression_uses (sub a b) = expression_uses a ++ expression_uses b
-expression_uses (mul a b) = expression_uses a ++ expression_uses b
+expression_uses e = of_operands (λ n. use_as kind.Number n ∷ []) (λ z. []) ◌++◌ e
 
-abbrev pub measure_uses : Measure → List Use
+abbrev pub measure_uses : Measure Name → List Use
 measure_uses count = []
 measure_uses (fold f e) = expression_uses e
 
@@ -45,15 +42,15 @@ item_uses (plain n) = any_use n ∷ []
 item_uses (aggregate a) = measure_uses a.measure
 
 -- a column stands beside literals of its kind
-abbrev pub condition_uses : Condition → List Use
-condition_uses (or a b) = condition_uses a ++ condition_uses b
-condition_uses (and a b) = condition_uses a ++ condition_uses b
-condition_uses (not a) = condition_uses a
-condition_uses (pair a b) = any_use a ∷ any_use b ∷ []
-condition_uses (compare n s l) = use_as (kind_of_literal l) n ∷ []
-condition_uses (between n from upto) = use_between from upto n ∷ []
+abbrev pub test_uses : Test → List Use
+test_uses (pair a b) = any_use a ∷ any_use b ∷ []
+test_uses (comparison (compare n s l)) = use_as (kind_of_literal l) n ∷ []
+test_uses (comparison (between n from upto)) = use_between from upto n ∷ []
 
-abbrev pub where_uses : Option Condition → List Use
+abbrev pub condition_uses : Condition Test → List Use
+condition_uses c = of_tests test_uses (λ us. us) ◌++◌ c
+
+abbrev pub where_uses : Option (Condition Test) → List Use
 where_uses None = []
 where_uses (Some c) = condition_uses c
 

@@ -7,6 +7,7 @@ ghost use Rattle.star_plan.specs.Naming as naming;
 ghost use Rattle.std.specs.Cmp.Lexicographic.{pointwise};
 ghost use Rattle.std.specs.List.{position};
 ghost use Rattle.star_query.specs.Maxima.{most_columns, most_items};
+ghost use Rattle.star_query.specs.Tree.{between, compare, comparison};
 ghost use Rattle.star_query.specs.Views.{aggregate_view, condition_view, expression_view, item_view, key_view, literal_view, measure_view, name_view, test_view};
 ghost use Rattle.star_plan.specs.Meaning as meaning;
 ghost use Rattle.star_plan.specs.Names.{column_at};
@@ -102,8 +103,8 @@ fn resolve_compare(
     relation: Relation,
     literal: &Literal,
 ) -> Result<Comparison<ColumnId>, PlanFault>
-    ensures { Resolves shown.comparison_shown (spec.resolved_compare (name_view name.now) relation
-        (literal_view literal.now)) result }
+    ensures { Resolves shown.comparison_shown (spec.resolved_test (comparison (compare
+        (name_view name.now) relation (literal_view literal.now)))) result }
 {
     let column = resolve_column(name)?;
     let literal = copy_literal(alloc, literal)?;
@@ -116,8 +117,8 @@ fn resolve_between(
     from: &Literal,
     upto: &Literal,
 ) -> Result<Comparison<ColumnId>, PlanFault>
-    ensures { Resolves shown.comparison_shown (spec.resolved_between (name_view name.now)
-        (literal_view from.now) (literal_view upto.now)) result }
+    ensures { Resolves shown.comparison_shown (spec.resolved_test (comparison (between
+        (name_view name.now) (literal_view from.now) (literal_view upto.now)))) result }
 {
     let column = resolve_column(name)?;
     let from = copy_literal(alloc, from)?;
@@ -127,8 +128,7 @@ fn resolve_between(
 
 // What a test of a row compares.
 fn resolve_test(alloc: Global, test: &Test) -> Result<Comparison<ColumnId>, PlanFault>
-    ensures { Resolves shown.comparison_shown (spec.resolved_condition (test_view test.now))
-        result }
+    ensures { Resolves shown.comparison_shown (spec.resolved_test (test_view test.now)) result }
 {
     match test {
         Test::Pair(name, _) => Err(PlanFault::NotAKeyPair { at: name.place }),

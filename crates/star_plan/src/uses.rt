@@ -136,7 +136,7 @@ fn add_item(uses: &mut Vec<Use>, item: &Item) -> Result<(), AllocError>
 
 fn add_test(uses: &mut Vec<Use>, test: &Test) -> Result<(), AllocError>
     ensures { OnOk result (uses_shown uses.new.items ≡ uses_shown uses.old.items
-        ++ spec.condition_uses (test_view test.now)) }
+        ++ spec.test_uses (test_view test.now)) }
 {
     match test {
         Test::Pair(left, right) => {

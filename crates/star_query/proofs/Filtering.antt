@@ -42,13 +42,16 @@ read_quoted old mid new v same t =
     (quoted v.items, refl, λ h deep. ap (λ s. verdict s (lit_wanted h)) (sym same) ∙ takes mid new _ [] (lit_depth h) (lit_wanted h) (give_lit (quoted v.items) h) t deep refl)
 
 -- comparisons
+abbrev compared_with : tree.Comparison tree.Name tree.Literal → tree.Condition tree.Test
+compared_with c = tree.test (tree.comparison c)
+
 pub read_between : (old a b new : Spot) (i : Name) (l m : Literal) → ReadsLit old a (Ok l) → Takes a b (keyword k.And) [] → ReadsLit b new (Ok m) → ReadsNamed (λ h. lit_wanted (low h (name_view i))) old new (Ok (conditions.Test (tests.Comparison (comparisons.Between i l m))))
 read_between old a b new i l m first conj second =
-    (between (name_view i) first.0 second.0, ap (λ x. tree.between (name_view i) x (lit_tree second.0)) first.1 ∙ ap (tree.between (name_view i) (literal_view l)) second.1, λ h deep. first.2 (low h (name_view i)) deep ∙ takes a b _ [] (unit_depth h) (low_had h (name_view i) first.0) (lit_wanted (high h (name_view i) first.0)) conj deep refl ∙ second.2 (high h (name_view i) first.0) deep)
+    (between (name_view i) first.0 second.0, ap (λ x. compared_with (tree.between (name_view i) x (lit_tree second.0))) first.1 ∙ ap (λ x. compared_with (tree.between (name_view i) (literal_view l) x)) second.1, λ h deep. first.2 (low h (name_view i)) deep ∙ takes a b _ [] (unit_depth h) (low_had h (name_view i) first.0) (lit_wanted (high h (name_view i) first.0)) conj deep refl ∙ second.2 (high h (name_view i) first.0) deep)
 
 pub read_compared : (old new : Spot) (i : Name) (q : Relation) (l : Literal) → ReadsLit old new (Ok l) → ReadsNamed (λ h. lit_wanted (compared h (name_view i) q)) old new (Ok (conditions.Test (tests.Comparison (comparisons.Compare i q l))))
 read_compared old new i q l lit =
-    (compare (name_view i) q lit.0, ap (tree.compare (name_view i) q) lit.1, λ h deep. lit.2 (compared h (name_view i) q) deep)
+    (compare (name_view i) q lit.0, ap (λ x. compared_with (tree.compare (name_view i) q x)) lit.1, λ h deep. lit.2 (compared h (name_view i) q) deep)
 
 pub read_pair : (old new : Spot) (i j : Name) → Takes old new (ident (name_view j)) [] → ReadsNamed (λ h. equal_had h (name_view i)) old new (Ok (conditions.Test (tests.Pair i j)))
 read_pair old new i j t =

@@ -100,7 +100,7 @@ bad_alias old mid new r e same t b =
 abbrev with_name : Option tree.Name → tree.Aggregate → tree.Aggregate
 with_name p x = record x { name = p }
 
-abbrev aggregate_with : tree.Measure → ℕ → Option tree.Name → tree.Aggregate
+abbrev aggregate_with : tree.Measure tree.Name → ℕ → Option tree.Name → tree.Aggregate
 aggregate_with m place p = record { measure = m; place = place; name = p }
 
 renamed : (a : Agg) (p : Option tree.Name) → agg_tree a p ≡ with_name p (agg_tree a None)
@@ -342,10 +342,10 @@ pub bad_from : (b new : Spot) (is : Several grammar.Item) (e : ParseError) → N
 bad_from b new is e none bad =
     not_next (keyword k.From) b new (items_had is) e refl (λ y head other. items_end is y (λ q. none (head ∙ ap Some q)) other) bad
 
-abbrev the_tree : List tree.Item → List tree.Name → Option tree.Condition → tree.Grouping → List tree.SortKey → tree.Tree
+abbrev the_tree : List tree.Item → List tree.Name → Option (tree.Condition tree.Test) → tree.Grouping → List tree.SortKey → tree.Tree
 the_tree i t c g m = record { items = i; tables = t; condition = c; grouping = g; keys = m }
 
-same_tree : (i j : List tree.Item) (t u : List tree.Name) (c d : Option tree.Condition) (g h : tree.Grouping) (m n : List tree.SortKey) → i ≡ j → t ≡ u → c ≡ d → g ≡ h → m ≡ n → the_tree i t c g m ≡ the_tree j u d h n
+same_tree : (i j : List tree.Item) (t u : List tree.Name) (c d : Option (tree.Condition tree.Test)) (g h : tree.Grouping) (m n : List tree.SortKey) → i ≡ j → t ≡ u → c ≡ d → g ≡ h → m ≡ n → the_tree i t c g m ≡ the_tree j u d h n
 same_tree i j t u c d g h m n p q r s v = cc
 
 pub read_query : (old a b c d e f g new : Spot) (t : Tree) (u : Unit {0}) → Takes old a (keyword k.Select) [] → ReadsItems a b (Ok t.items) → Takes b c (keyword k.From) [] → ReadsTables c d (Ok t.tables) → ReadsFilter d e (Ok t.condition) → ReadsGrouping e f (Ok t.grouping) → ReadsKeys f g (Ok t.keys) → ReadsEnd g new (Ok u) → ReadsQuery old new (Ok t)

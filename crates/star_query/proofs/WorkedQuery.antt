@@ -7,7 +7,7 @@ use Rattle.star_query.specs.declared.token.Relation.TheVariants.{Equal, Less}
 use Rattle.star_schema.specs.declared.group.Shape.TheVariants.{Plain}
 use Rattle.star_query.specs.Symbols.{Placed, spelling, reserved_words}
 use Rattle.star_query.specs.Cut.{cut_of, cut_from, reserved}
-use Rattle.star_query.specs.Tree.{Name, number, column, mul, Condition, and, pair, compare, between, fold, Aggregate, aggregate, Tree}
+use Rattle.star_query.specs.Tree.{Name, number, column, mul, Condition, and, test, Test, pair, comparison, compare, between, fold, Aggregate, aggregate, Tree}
 use Rattle.star_query.specs.Derives.{Means}
 use Rattle.star_query.proofs.Verdicts.{derives}
 
@@ -19,17 +19,17 @@ abbrev called : List ℕ → ℕ → Name
 called word at = record { text = word; place = at }
 
 -- its conjuncts
-abbrev of_the_day : Condition
-of_the_day = pair (called (codes "lo_orderdate") 79) (called (codes "d_datekey") 94)
+abbrev of_the_day : Condition Test
+of_the_day = test (pair (called (codes "lo_orderdate") 79) (called (codes "d_datekey") 94))
 
-abbrev of_1993 : Condition
-of_1993 = compare (called (codes "d_year") 108) Equal (number (pos 1993))
+abbrev of_1993 : Condition Test
+of_1993 = test (comparison (compare (called (codes "d_year") 108) Equal (number (pos 1993))))
 
-abbrev discounted : Condition
-discounted = between (called (codes "lo_discount") 126) (number (pos 1)) (number (pos 3))
+abbrev discounted : Condition Test
+discounted = test (comparison (between (called (codes "lo_discount") 126) (number (pos 1)) (number (pos 3))))
 
-abbrev of_few : Condition
-of_few = compare (called (codes "lo_quantity") 158) Less (number (pos 25))
+abbrev of_few : Condition Test
+of_few = test (comparison (compare (called (codes "lo_quantity") 158) Less (number (pos 25))))
 
 abbrev revenue : Aggregate
 revenue = record {

@@ -230,20 +230,20 @@ lit_tree (negated n) = tree.number (neg_ℤ (pos n))
 lit_tree (quoted t) = tree.text t
 
 abbrev mutual
-  pub cond_tree : Cond → tree.Condition
+  pub cond_tree : Cond → tree.Condition tree.Test
   cond_tree (lone_conj c) = conj_tree c
   cond_tree (or_conj a c) = tree.or (cond_tree a) (conj_tree c)
 
-  pub conj_tree : Conj → tree.Condition
+  pub conj_tree : Conj → tree.Condition tree.Test
   conj_tree (lone_unit u) = unit_tree u
   conj_tree (and_unit c u) = tree.and (conj_tree c) (unit_tree u)
 
-  pub unit_tree : Unary → tree.Condition
+  pub unit_tree : Unary → tree.Condition tree.Test
   unit_tree (not_unit u) = tree.not (unit_tree u)
   unit_tree (group a) = cond_tree a
-  unit_tree (pair a b) = tree.pair a b
-  unit_tree (compare a q l) = tree.compare a q (lit_tree l)
-  unit_tree (between a l h) = tree.between a (lit_tree l) (lit_tree h)
+  unit_tree (pair a b) = tree.test (tree.pair a b)
+  unit_tree (compare a q l) = tree.test (tree.comparison (tree.compare a q (lit_tree l)))
+  unit_tree (between a l h) = tree.test (tree.comparison (tree.between a (lit_tree l) (lit_tree h)))
 
 abbrev pub agg_tree : Agg → Option Name → tree.Aggregate
 agg_tree (folded f place e) i = record { measure = tree.fold f (expr_tree e); place = place; name = i }

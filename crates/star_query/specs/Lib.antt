@@ -3,6 +3,7 @@ pub mod Maxima
 pub mod Cut
 pub mod Tokens
 pub mod Tree
+pub mod Leaves
 pub mod Grammar
 pub mod Derives
 pub mod Views

@@ -2,17 +2,14 @@
 use Rattle.std.specs.Prelude.{ℕ, ◌+◌, ◌≤◌, length, Option, Some, None}
 use Rattle.std.specs.List.{sum_by}
 use Rattle.star_query.specs.Maxima.{most_aggregates, most_columns, most_comparisons, most_items, most_keys, most_operands}
-use Rattle.star_query.specs.Tree.{Expression, column, constant, add, sub, mul, Condition, or, and, not, pair, compare, between, Measure, fold, count, Item, plain, aggregate, Tree}
+use Rattle.star_query.specs.Leaves.{of_operands, of_tests}
+use Rattle.star_query.specs.Tree.{Expression, Condition, Test, Measure, fold, count, Item, plain, aggregate, Tree}
 
 -- the columns and numbers of an expression
 abbrev pub operands_of : {C : Type 0} → Expression C → ℕ
-operands_of (column c) = 1
-operands_of (constant z) = 1
-operands_of (add a b) = operands_of a + operands_of b
-operands_of (sub a b) = operands_of a + operands_of b
-operands_of (mul a b) = operands_of a + operands_of b
+operands_of e = of_operands (λ c. 1) (λ z. 1) ◌+◌ e
 
-abbrev pub measure_operands : Measure → ℕ
+abbrev pub measure_operands : {C : Type 0} → Measure C → ℕ
 measure_operands (fold f e) = operands_of e
 measure_operands count = 0
 
@@ -25,15 +22,10 @@ aggregates_in (plain n) = 0
 aggregates_in (aggregate a) = 1
 
 -- the comparisons and negations of a condition
-abbrev pub comparisons_of : Condition → ℕ
-comparisons_of (or a b) = comparisons_of a + comparisons_of b
-comparisons_of (and a b) = comparisons_of a + comparisons_of b
-comparisons_of (not a) = comparisons_of a + 1
-comparisons_of (pair n m) = 1
-comparisons_of (compare n q l) = 1
-comparisons_of (between n l h) = 1
+abbrev pub comparisons_of : {T : Type 0} → Condition T → ℕ
+comparisons_of c = of_tests (λ t. 1) (λ n. n + 1) ◌+◌ c
 
-abbrev pub where_comparisons : Option Condition → ℕ
+abbrev pub where_comparisons : Option (Condition Test) → ℕ
 where_comparisons None = 0
 where_comparisons (Some c) = comparisons_of c
 

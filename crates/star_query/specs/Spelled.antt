@@ -4,7 +4,8 @@ use Rattle.std.specs.List.{list_all}
 use Rattle.star_schema.specs.Tables.{is_printable}
 use Rattle.star_query.specs.Cut.{begins_with_letter, is_word_byte}
 use Rattle.star_query.specs.Maxima.{most_digits, most_name_bytes}
-use Rattle.star_query.specs.Tree.{Name, Literal, number, text, Expression, column, constant, add, sub, mul, Condition, or, and, not, pair, compare, between, Measure, fold, count, Item, plain, aggregate, Tree}
+use Rattle.star_query.specs.Leaves.{of_operands, of_tests}
+use Rattle.star_query.specs.Tree.{Name, Literal, number, text, Expression, Comparison, compare, between, Test, pair, comparison, Condition, Measure, fold, count, Item, plain, aggregate, Tree}
 
 -- 1 to 64 letters, digits and _, of which the first is no digit
 unfoldable pub is_name : List ℕ → Bool
@@ -23,25 +24,25 @@ literal_is_spelled (number z) = is_number z
 literal_is_spelled (text bytes) = is_text bytes
 
 abbrev pub expression_is_spelled : Expression Name → Bool
-expression_is_spelled (column n) = is_name n.text
-expression_is_spelled (constant z) = is_number z
-expression_is_spelled (add a b) = expression_is_spelled a && expression_is_spelled b
-expression_is_spelled (sub a b) = expression_is_spelled a && expression_is_spelled b
-expression_is_spelled (mul a b) = expression_is_spelled a && expression_is_spelled b
+expression_is_spelled e = of_operands (λ n. is_name n.text) is_number ◌&&◌ e
 
-abbrev pub condition_is_spelled : Condition → Bool
-condition_is_spelled (or a b) = condition_is_spelled a && condition_is_spelled b
-condition_is_spelled (and a b) = condition_is_spelled a && condition_is_spelled b
-condition_is_spelled (not a) = condition_is_spelled a
-condition_is_spelled (pair m n) = is_name m.text && is_name n.text
-condition_is_spelled (compare n q l) = is_name n.text && literal_is_spelled l
-condition_is_spelled (between n l h) = is_name n.text && (literal_is_spelled l && literal_is_spelled h)
+-- a comparison of columns and values that are spelled so
+abbrev pub comparison_is_spelled : {C V : Type 0} → (C → Bool) → (V → Bool) → Comparison C V → Bool
+comparison_is_spelled of_column of_value (compare c q v) = of_column c && of_value v
+comparison_is_spelled of_column of_value (between c v w) = of_column c && (of_value v && of_value w)
 
-abbrev pub where_is_spelled : Option Condition → Bool
+abbrev pub test_is_spelled : Test → Bool
+test_is_spelled (pair m n) = is_name m.text && is_name n.text
+test_is_spelled (comparison c) = comparison_is_spelled (λ n. is_name n.text) literal_is_spelled c
+
+abbrev pub condition_is_spelled : Condition Test → Bool
+condition_is_spelled c = of_tests test_is_spelled (λ b. b) ◌&&◌ c
+
+abbrev pub where_is_spelled : Option (Condition Test) → Bool
 where_is_spelled None = true
 where_is_spelled (Some c) = condition_is_spelled c
 
-abbrev pub measure_is_spelled : Measure → Bool
+abbrev pub measure_is_spelled : Measure Name → Bool
 measure_is_spelled (fold f e) = expression_is_spelled e
 measure_is_spelled count = true
 

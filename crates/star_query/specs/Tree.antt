@@ -19,19 +19,27 @@ pub data Expression (C : Type 0) : Type 0 where
   constant : ℤ → Expression C
   add sub mul : Expression C → Expression C → Expression C
 
-pub data Condition : Type 0 where
-  or and : Condition → Condition → Condition
-  not : Condition → Condition
-  pair : Name → Name → Condition
-  compare : Name → Relation → Literal → Condition
-  between : Name → Literal → Literal → Condition
+-- a column, or one by its name, beside values or the literals that stand for them
+pub data Comparison (C V : Type 0) : Type 0 where
+  compare : C → Relation → V → Comparison C V
+  between : C → V → V → Comparison C V
 
-pub data Measure : Type 0 where
-  fold : Fold → Expression Name → Measure
-  count : Measure
+-- what a query's condition tests: that two columns are equal, or a column
+pub data Test : Type 0 where
+  pair : Name → Name → Test
+  comparison : Comparison Name Literal → Test
+
+pub data Condition (T : Type 0) : Type 0 where
+  or and : Condition T → Condition T → Condition T
+  not : Condition T → Condition T
+  test : T → Condition T
+
+pub data Measure (C : Type 0) : Type 0 where
+  fold : Fold → Expression C → Measure C
+  count : Measure C
 
 pub record Aggregate : Type 0 where
-  pub measure : Measure
+  pub measure : Measure Name
   pub place : ℕ
   pub name : Option Name
 
@@ -50,6 +58,6 @@ pub record SortKey : Type 0 where
 pub record Tree : Type 0 where
   pub items : List Item
   pub tables : List Name
-  pub condition : Option Condition
+  pub condition : Option (Condition Test)
   pub grouping : Grouping
   pub keys : List SortKey

@@ -39,23 +39,32 @@ expression_by seen (Mul' p a q b) = tree.mul (expression_by seen a) (expression_
 abbrev pub expression_view : Expression Name → tree.Expression tree.Name
 expression_view e = expression_by name_view e
 
-abbrev pub comparison_view : Comparison Name → tree.Condition
-comparison_view (Compare n q l) = tree.compare (name_view n) q (literal_view l)
-comparison_view (Between n l m) = tree.between (name_view n) (literal_view l) (literal_view m)
+-- a comparison whose column and literals are seen so
+abbrev pub comparison_by : {C D V : Type 0} → (C → D) → (Literal → V) → Comparison C → tree.Comparison D V
+comparison_by seen valued (Compare c q l) = tree.compare (seen c) q (valued l)
+comparison_by seen valued (Between c l m) = tree.between (seen c) (valued l) (valued m)
 
-abbrev pub test_view : of_test.Test → tree.Condition
+abbrev pub test_view : of_test.Test → tree.Test
 test_view (tests.Pair n m) = tree.pair (name_view n) (name_view m)
-test_view (tests.Comparison c) = comparison_view c
+test_view (tests.Comparison c) = tree.comparison (comparison_by name_view literal_view c)
 
-abbrev pub condition_view : Condition of_test.Test → tree.Condition
-condition_view (Or' p a q b) = tree.or (condition_view a) (condition_view b)
-condition_view (And' p a q b) = tree.and (condition_view a) (condition_view b)
-condition_view (Not' p a) = tree.not (condition_view a)
-condition_view (Test t) = test_view t
+-- a condition whose tests are seen so
+abbrev pub condition_by : {T U : Type 0} → (T → U) → Condition T → tree.Condition U
+condition_by seen (Or' p a q b) = tree.or (condition_by seen a) (condition_by seen b)
+condition_by seen (And' p a q b) = tree.and (condition_by seen a) (condition_by seen b)
+condition_by seen (Not' p a) = tree.not (condition_by seen a)
+condition_by seen (Test t) = tree.test (seen t)
 
-abbrev pub measure_view : Measure Name → tree.Measure
-measure_view (Fold f e) = tree.fold f (expression_view e)
-measure_view Count = tree.count
+abbrev pub condition_view : Condition of_test.Test → tree.Condition tree.Test
+condition_view c = condition_by test_view c
+
+-- a measure whose columns are seen so
+abbrev pub measure_by : {C D : Type 0} → (C → D) → Measure C → tree.Measure D
+measure_by seen (Fold f e) = tree.fold f (expression_by seen e)
+measure_by seen Count = tree.count
+
+abbrev pub measure_view : Measure Name → tree.Measure tree.Name
+measure_view m = measure_by name_view m
 
 abbrev pub aggregate_view : Aggregate → tree.Aggregate
 aggregate_view a = record { measure = measure_view a.measure; place = a.place; name = option_map name_view a.name }

@@ -14,7 +14,7 @@ use Rattle.star_schema.specs.declared.group.Direction.TheVariants.{Ascending, De
 use Rattle.star_query.specs.Symbols.{Placed, spelling, reserved_words}
 use Rattle.star_query.specs.Cut.{cut_of, cut_from, reserved}
 use Rattle.star_query.specs.Tree as tree
-use Rattle.star_query.specs.Tree.{Name, column, mul, Condition, and, or, pair, compare, between, fold, count, aggregate, plain, Tree}
+use Rattle.star_query.specs.Tree.{Name, column, mul, Condition, and, or, fold, count, aggregate, plain, Tree, Test}
 use Rattle.star_query.specs.Derives.{Means}
 use Rattle.star_query.proofs.Verdicts.{derives}
 use Rattle.star_plan.specs.Meaning.{Tables}
@@ -26,6 +26,7 @@ use Rattle.star_report.specs.Report.{cell_text, line_text, report_text}
 use Rattle.star_answers.specs.Answers.{IsAnswer}
 use Rattle.star_worked.proofs.Checks.{are_groups, checked_groups, checked_order, each_mask, in_order, is_group, is_masked, is_right, is_there, is_there_where, same_each, same_value}
 use Rattle.star_worked.proofs.Sample.{number, text, sample}
+use Rattle.star_worked.proofs.QueryTests.{pair, compare, between}
 
 -- a name, and where it stands
 abbrev pub called : List ℕ → ℕ → Name
@@ -46,7 +47,7 @@ integer n = cell.Number (pos n)
 abbrev first_text : List ℕ
 first_text = codes "select sum(lo_extendedprice*lo_discount) as revenue from lineorder, date where lo_orderdate = d_datekey and d_year = 1993 and lo_discount between 1 and 3 and lo_quantity < 25;"
 
-abbrev first_where : Condition
+abbrev first_where : Condition Test
 first_where =
     and
     (and
@@ -93,7 +94,7 @@ first_report = refl
 abbrev second_text : List ℕ
 second_text = codes "select sum(lo_revenue), d_year, p_brand1 from lineorder, date, part, supplier where lo_orderdate = d_datekey and lo_partkey = p_partkey and lo_suppkey = s_suppkey and p_category = 'MFGR#12' and s_region = 'AMERICA' group by d_year, p_brand1 order by d_year, p_brand1;"
 
-abbrev second_where : Condition
+abbrev second_where : Condition Test
 second_where =
     and
     (and
@@ -295,10 +296,10 @@ groups_of_nothing = record { headed = refl; groups = []; each_group = checked_gr
 abbrev cities_text : List ℕ
 cities_text = codes "select c_city, s_city, d_year, sum(lo_revenue) as revenue from customer, lineorder, supplier, date where lo_custkey = c_custkey and lo_suppkey = s_suppkey and lo_orderdate = d_datekey and (c_city = 'UNITED KI1' or c_city = 'UNITED KI5') and (s_city = 'UNITED KI1' or s_city = 'UNITED KI5') and d_year >= 1992 and d_year <= 1997 group by c_city, s_city, d_year order by d_year asc, revenue desc;"
 
-abbrev either_of : Name → Name → Condition
+abbrev either_of : Name → Name → Condition Test
 either_of a b = or (compare a Equal (tree.text (codes "UNITED KI1"))) (compare b Equal (tree.text (codes "UNITED KI5")))
 
-abbrev cities_where : Condition
+abbrev cities_where : Condition Test
 cities_where =
     and
     (and

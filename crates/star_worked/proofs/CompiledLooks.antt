@@ -8,7 +8,8 @@ use Rattle.star_schema.specs.declared.table.TableId.TheVariants.{Customer, Suppl
 use Rattle.star_schema.specs.Schema.{column_of}
 use Rattle.star_query.specs.declared.token.Relation.TheVariants.{Equal, Greater}
 use Rattle.star_query.specs.Tree.{column}
-use Rattle.star_plan.specs.Meaning.{Plan, Tables, compare, greatest, plan_rows}
+use Rattle.star_plan.specs.Meaning.{Plan, Tables, plan_rows}
+use Rattle.star_compiled.proofs.PlanWords.{compare, greatest}
 use Rattle.star_program.specs.Effects.{Store}
 use Rattle.star_program.specs.Run.{Ended, run_while}
 use Rattle.star_program.specs.World.{World}

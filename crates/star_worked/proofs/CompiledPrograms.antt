@@ -10,8 +10,9 @@ use Rattle.star_schema.specs.declared.group.GroupColumn.TheVariants.{Key, Aggreg
 use Rattle.star_schema.specs.declared.group.Shape.TheVariants.{Plain}
 use Rattle.star_schema.specs.Schema.{column_of, table_name}
 use Rattle.star_query.specs.declared.token.Relation.TheVariants.{AtLeast, Equal, Greater, Unequal}
-use Rattle.star_query.specs.Tree.{add, column, mul, sub}
-use Rattle.star_plan.specs.Meaning.{Plan, between, and, compare, counted, or, greatest, not, summed}
+use Rattle.star_query.specs.Tree.{add, column, mul, sub, and, or, not, count}
+use Rattle.star_plan.specs.Meaning.{Plan}
+use Rattle.star_compiled.proofs.PlanWords.{between, compare, greatest, summed}
 use Rattle.star_program.specs.Text.Keywords.{shape_name, aggregate_name, mnemonic_name, direction_name}
 use Rattle.star_program.specs.Text.Statements.{lines_of_code}
 use Rattle.star_program.specs.Text.Written.{text_of, line_text, op_text, assigned_text, register_text, target_text, group_text, key_text, column_text, show_text, sort_text}
@@ -32,7 +33,7 @@ asked = record {
       ∷ between LoDiscount (number 1) (number 3) ∷ [];
   shape = Plain;
   keys = DYear ∷ CNation ∷ [];
-  measures = summed (sub (column LoRevenue) (column LoTax)) ∷ greatest (add (mul (column LoRevenue) (column LoTax)) (column LoDiscount)) ∷ counted ∷ [];
+  measures = summed (sub (column LoRevenue) (column LoTax)) ∷ greatest (add (mul (column LoRevenue) (column LoTax)) (column LoDiscount)) ∷ count ∷ [];
   names = codes "sum1" ∷ codes "max2" ∷ codes "count3" ∷ [];
   items = Key 0 ∷ Key 1 ∷ Aggregate 0 ∷ Aggregate 1 ∷ Aggregate 2 ∷ [];
   sorts = record { column = Key 0; direction = Descending } ∷ [];

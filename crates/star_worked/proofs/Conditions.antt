@@ -7,7 +7,9 @@ use Rattle.star_schema.specs.Schema.{column_of, place_of}
 use Rattle.star_schema.specs.Tables.{Value}
 use Rattle.star_query.specs.declared.token.Relation.{Relation}
 use Rattle.star_query.specs.declared.token.Relation.TheVariants.{Equal, Unequal, Less, AtMost, Greater, AtLeast}
-use Rattle.star_plan.specs.Meaning.{Joined, Condition, or, and, not, compare, between, only_row, holds, all_hold}
+use Rattle.star_query.specs.Tree.{or, and, not}
+use Rattle.star_plan.specs.Meaning.{Joined, only_row, holds, all_hold, RowCondition}
+use Rattle.star_compiled.proofs.PlanWords.{compare, between}
 use Rattle.star_worked.proofs.Sample.{number, below_zero, text}
 
 -- a line of lineorder with this quantity and this mode
@@ -18,10 +20,10 @@ line quantity mode =
     ∷ number 2 ∷ number 980 ∷ number 600 ∷ number 2 ∷ number 19940105 ∷ mode ∷ [])
 
 -- of which of these quantities, or modes, a condition holds
-abbrev of_quantities : List Value → Condition → List Bool
+abbrev of_quantities : List Value → RowCondition → List Bool
 of_quantities values c = map (λ v. holds c (line v (text (codes "MAIL")))) values
 
-abbrev of_modes : List (List ℕ) → Condition → List Bool
+abbrev of_modes : List (List ℕ) → RowCondition → List Bool
 of_modes modes c = map (λ m. holds c (line (number 10) (text m))) modes
 
 -- ---- relations, at less, equal and greater
@@ -87,10 +89,10 @@ between_turned = refl
 
 -- ---- or, and, not, and all of some conjuncts, at each truth
 
-abbrev yes : Condition
+abbrev yes : RowCondition
 yes = compare LoQuantity Equal (number 10)
 
-abbrev never : Condition
+abbrev never : RowCondition
 never = compare LoQuantity Equal (number 11)
 
 abbrev ten : Joined

@@ -6,8 +6,9 @@ use Rattle.star_schema.specs.declared.column.ColumnId.TheVariants.{LoQuantity, L
 use Rattle.star_schema.specs.declared.group.Shape.TheVariants.{Plain}
 use Rattle.star_schema.specs.declared.group.GroupColumn.TheVariants.{Aggregate}
 use Rattle.star_interval.specs.Range.{Range, is_i64, only}
-use Rattle.star_query.specs.Tree.{Expression, column, constant, add, sub, mul}
-use Rattle.star_plan.specs.Meaning.{Plan, Measure, summed, counted, least, greatest}
+use Rattle.star_query.specs.Tree.{Expression, column, constant, add, sub, mul, count, Measure}
+use Rattle.star_plan.specs.Meaning.{Plan}
+use Rattle.star_compiled.proofs.PlanWords.{summed, least, greatest}
 use Rattle.star_plan.specs.Fits.{Fits, range_of, nodes_fit, measure_fits}
 use Rattle.star_worked.proofs.Sample.{revenue, cost, tax, discount}
 
@@ -89,21 +90,21 @@ unfolding is_i64
 an_inner_product_unfit = refl
 
 -- each aggregate but the count has its expression checked
-aggregates_fit : map (measure_fits bounds) (counted ∷ summed product ∷ least product ∷ greatest product ∷ summed revenue ∷ least revenue ∷ greatest revenue ∷ [])
+aggregates_fit : map (measure_fits bounds) (count ∷ summed product ∷ least product ∷ greatest product ∷ summed revenue ∷ least revenue ∷ greatest revenue ∷ [])
     ≡ true ∷ false ∷ false ∷ false ∷ true ∷ true ∷ true ∷ []
 unfolding is_i64
 aggregates_fit = refl
 
 -- ---- whole queries
 
-abbrev asking : List Measure → Plan
+abbrev asking : List (Measure ColumnId) → Plan
 asking measures = record { joins = []; conjuncts = []; shape = Plain; keys = []; measures = measures; names = codes "n" ∷ codes "m" ∷ []; items = Aggregate 0 ∷ []; sorts = [] }
 
-five_fit : Fits 5 5 bounds (asking (summed (sub revenue cost) ∷ counted ∷ []))
+five_fit : Fits 5 5 bounds (asking (summed (sub revenue cost) ∷ count ∷ []))
 unfolding is_i64
 five_fit = record { visits = omega arith; nodes = refl }
 
-not_more_than_the_limit : Fits 6 5 bounds (asking (counted ∷ [])) → ⊥
+not_more_than_the_limit : Fits 6 5 bounds (asking (count ∷ [])) → ⊥
 not_more_than_the_limit fits = let few : 6 ≤ 5 = fits.visits in omega (arith, few)
 
 -- a total may leave 64 bits, of the greatest number that fits and of the least
@@ -116,6 +117,6 @@ unfolding is_i64
 a_total_below_zero_fits = record { visits = omega arith; nodes = refl }
 
 -- each aggregate is checked, the last one too
-a_greatest_product_unfit : Fits 1 1 bounds (asking (counted ∷ greatest product ∷ [])) → ⊥
+a_greatest_product_unfit : Fits 1 1 bounds (asking (count ∷ greatest product ∷ [])) → ⊥
 unfolding is_i64
 a_greatest_product_unfit fits = let nodes : false ≡ true = fits.nodes in cc

@@ -10,12 +10,13 @@ use Rattle.star_schema.specs.Schema.{column_of, columns_of, place_of}
 use Rattle.star_interval.specs.Range.{is_i64}
 use Rattle.star_plan.specs.Fits.{range_of}
 use Rattle.star_schema.specs.declared.column.ColumnId.{ColumnId}
-use Rattle.star_query.specs.Tree.{Expression, column, constant, mul, sub}
-use Rattle.star_plan.specs.Meaning.{Measure, greatest as greatest_of, summed, Plan}
+use Rattle.star_query.specs.Tree.{Expression, column, constant, mul, sub, Measure}
+use Rattle.star_plan.specs.Meaning.{Plan}
+use Rattle.star_compiled.proofs.PlanWords.{greatest as greatest_of, summed}
 use Rattle.star_answers.specs.Fitting.{PlanFitsTables, bounds_in}
 use Rattle.star_worked.proofs.Sample.{sample}
 
-abbrev asking : List Measure → Plan
+abbrev asking : List (Measure ColumnId) → Plan
 asking measures = record { joins = []; conjuncts = []; shape = Plain; keys = []; measures = measures; names = codes "n" ∷ codes "m" ∷ []; items = Aggregate 0 ∷ []; sorts = [] }
 
 abbrev profit : Expression ColumnId

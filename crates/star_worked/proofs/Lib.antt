@@ -1,3 +1,4 @@
+mod QueryTests
 mod Sample
 mod Checks
 mod Answering

@@ -7,11 +7,12 @@ use Rattle.star_query.specs.declared.token.Fold.TheVariants.{Sum, Min, Max}
 use Rattle.star_query.specs.declared.token.Relation.TheVariants.{Equal, Unequal, Less, AtMost, Greater, AtLeast}
 use Rattle.star_query.specs.Symbols.{spelling, reserved_words}
 use Rattle.star_query.specs.Cut.{cut_from, reserved}
-use Rattle.star_query.specs.Tree.{Name, number, text, column, constant, add, sub, mul, or, and, not, pair, compare, between, fold, count, plain, aggregate, Grouping, Tree}
+use Rattle.star_query.specs.Tree.{Name, number, text, column, constant, add, sub, mul, or, and, not, fold, count, plain, aggregate, Grouping, Tree}
 use Rattle.star_query.specs.Derives.{Means}
 use Rattle.star_query.specs.Meant.{IsMeant}
 use Rattle.star_query.proofs.Verdicts.{derives}
 use Rattle.star_worked.proofs.Texts.{tokens_of}
+use Rattle.star_worked.proofs.QueryTests.{pair, compare, between}
 
 -- a name, and where it stands
 abbrev called : List ℕ → ℕ → Name

@@ -10,8 +10,9 @@ use Rattle.star_schema.specs.Order.{value_cmp}
 use Rattle.star_schema.specs.Records.{pieces}
 use Rattle.star_schema.specs.Schema.{column_of, place_of, columns_of}
 use Rattle.star_schema.specs.Tables.{Value, row_of}
-use Rattle.star_query.specs.Tree.{constant, add, sub, mul}
-use Rattle.star_plan.specs.Meaning.{Joined, counted, summed, least, greatest, Plan, only_row, expression_number, measured, aggregate_of, entry_of, plan_rows}
+use Rattle.star_query.specs.Tree.{constant, add, sub, mul, count}
+use Rattle.star_plan.specs.Meaning.{Joined, Plan, only_row, value_of, expression_number, measured, aggregate_of, entry_of, plan_rows}
+use Rattle.star_compiled.proofs.PlanWords.{summed, least, greatest}
 use Rattle.star_worked.proofs.Sample.{number, sample, by_order, revenue, cost, discount}
 
 -- ---- expressions
@@ -36,7 +37,7 @@ nested = refl
 
 -- ---- aggregates
 
-measures_of_a_line : map (λ m. measured m line) (counted ∷ summed revenue ∷ least cost ∷ greatest (sub revenue cost) ∷ []) ≡ pos 1 ∷ pos 980 ∷ pos 600 ∷ pos 380 ∷ []
+measures_of_a_line : map (measured (λ c. value_of c line)) (count ∷ summed revenue ∷ least cost ∷ greatest (sub revenue cost) ∷ []) ≡ pos 1 ∷ pos 980 ∷ pos 600 ∷ pos 380 ∷ []
 unfolding column_of columns_of place_of pieces
 measures_of_a_line = refl
 
@@ -48,7 +49,7 @@ by_year = record {
   conjuncts = [];
   shape = Plain;
   keys = DYear ∷ [];
-  measures = summed revenue ∷ least revenue ∷ greatest revenue ∷ counted ∷ [];
+  measures = summed revenue ∷ least revenue ∷ greatest revenue ∷ count ∷ [];
   names = codes "sum1" ∷ codes "min2" ∷ codes "max3" ∷ codes "count4" ∷ [];
   items = Key 0 ∷ Aggregate 0 ∷ Aggregate 1 ∷ Aggregate 2 ∷ Aggregate 3 ∷ [];
   sorts = [];

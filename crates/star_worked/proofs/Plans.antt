@@ -11,10 +11,11 @@ use Rattle.star_schema.specs.declared.column.ColumnId.{ColumnId}
 use Rattle.star_query.specs.declared.token.Relation.TheVariants.{Equal}
 use Rattle.star_plan.specs.declared.tree.Join.{Join}
 use Rattle.star_plan.specs.Joins.{is_foreign}
-use Rattle.star_query.specs.Limits.{operands_of}
-use Rattle.star_plan.specs.Limits.{IsPlanWithinLimits, comparisons_of, measure_operands}
-use Rattle.star_query.specs.Tree.{Expression, column, constant, add, sub, mul}
-use Rattle.star_plan.specs.Meaning.{Condition, or, and, not, compare, between, counted, summed, least, greatest, Plan}
+use Rattle.star_query.specs.Limits.{operands_of, comparisons_of, measure_operands}
+use Rattle.star_plan.specs.Limits.{IsPlanWithinLimits}
+use Rattle.star_query.specs.Tree.{Expression, column, constant, add, sub, mul, or, and, not, count}
+use Rattle.star_plan.specs.Meaning.{Plan, RowCondition}
+use Rattle.star_compiled.proofs.PlanWords.{compare, between, summed, least, greatest}
 use Rattle.star_plan.specs.Sound.{IsSoundPlan, in_scope, condition_is_sound, expression_is_sound, measure_is_sound, are_distinct, is_group_column}
 use Rattle.star_worked.proofs.Sample.{number, text, by_order, by_commit, of_part, tax}
 
@@ -27,10 +28,10 @@ scopes : map (in_scope dated) (Lineorder ∷ Date ∷ Part ∷ []) ≡ true ∷ 
 unfolding column_of
 scopes = refl
 
-abbrev good : Condition
+abbrev good : RowCondition
 good = compare DYear Equal (number 1993)
 
-abbrev unjoined : Condition
+abbrev unjoined : RowCondition
 unjoined = compare PBrand1 Equal (text (codes "MFGR#12"))
 
 comparisons_sound : map (condition_is_sound dated)
@@ -61,7 +62,7 @@ expressions_sound : map (expression_is_sound dated)
 unfolding column_of
 expressions_sound = refl
 
-measures_sound : map (measure_is_sound dated) (counted ∷ summed tax ∷ summed mode ∷ least mode ∷ greatest mode ∷ []) ≡ true ∷ true ∷ false ∷ false ∷ false ∷ []
+measures_sound : map (measure_is_sound dated) (count ∷ summed tax ∷ summed mode ∷ least mode ∷ greatest mode ∷ []) ≡ true ∷ true ∷ false ∷ false ∷ false ∷ []
 unfolding column_of
 measures_sound = refl
 
@@ -135,7 +136,7 @@ comparisons_counted = refl
 operands_counted : map operands_of (tax ∷ constant (pos 1) ∷ add tax tax ∷ sub tax (add tax tax) ∷ mul (sub tax tax) (mul tax tax) ∷ []) ≡ 1 ∷ 1 ∷ 2 ∷ 3 ∷ 4 ∷ []
 operands_counted = refl
 
-measures_counted : map measure_operands (counted ∷ summed (add tax tax) ∷ least tax ∷ greatest tax ∷ []) ≡ 0 ∷ 2 ∷ 1 ∷ 1 ∷ []
+measures_counted : map measure_operands (count ∷ summed (add tax tax) ∷ least tax ∷ greatest tax ∷ []) ≡ 0 ∷ 2 ∷ 1 ∷ 1 ∷ []
 measures_counted = refl
 
 abbrev largest : Plan
@@ -162,7 +163,7 @@ comparison_too_many within = let many : 257 ≤ 256 = within.comparisons in omeg
 seven_keys : IsPlanWithinLimits (record largest { keys = replicate 7 DYear }) → ⊥
 seven_keys within = let many : 7 ≤ 6 = within.keys in omega (arith, many)
 
-nine_measures : IsPlanWithinLimits (record largest { measures = replicate 9 counted }) → ⊥
+nine_measures : IsPlanWithinLimits (record largest { measures = replicate 9 count }) → ⊥
 nine_measures within = let many : 9 ≤ 8 = within.measures in omega (arith, many)
 
 -- a sum of one operand more than so many

@@ -10,11 +10,12 @@ use Rattle.star_schema.specs.Tables.{Value}
 use Rattle.star_query.specs.declared.token.Relation.TheVariants.{Greater}
 use Rattle.star_schema.specs.declared.group.Shape.TheVariants.{Plain}
 use Rattle.star_query.specs.Tree as tree
-use Rattle.star_query.specs.Tree.{Name, Condition, and, or, not, pair, compare, Tree}
+use Rattle.star_query.specs.Tree.{Name, Condition, and, or, not, Tree, Test}
 use Rattle.star_plan.specs.Meaning.{Joined, value_of}
 use Rattle.star_plan.specs.Names.{column_called, table_called}
 use Rattle.star_answers.specs.Rows.{product, selected, tables_of}
 use Rattle.star_worked.proofs.Sample.{number, sample}
+use Rattle.star_worked.proofs.QueryTests.{pair, compare}
 
 abbrev called : List ℕ → Name
 called word = record { text = word; place = 0 }
@@ -45,20 +46,20 @@ tables_of_names = refl
 
 -- ---- the product, filtered
 
-abbrev asking : List Name → Condition → Tree
+abbrev asking : List Name → Condition Test → Tree
 asking tables condition = record { items = []; tables = tables; condition = Some condition; grouping = record { shape = Plain; columns = [] }; keys = [] }
 
 abbrev lines_and_suppliers : List Name
 lines_and_suppliers = called (codes "lineorder") ∷ called (codes "supplier") ∷ []
 
-abbrev supplied : Condition
+abbrev supplied : Condition Test
 supplied = pair (called (codes "lo_suppkey")) (called (codes "s_suppkey"))
 
 -- more than 20 pieces: three of the five lines
-abbrev many : Condition
+abbrev many : Condition Test
 many = compare (called (codes "lo_quantity")) Greater (tree.number (pos 20))
 
-abbrev quantities : Condition → List (List Value)
+abbrev quantities : Condition Test → List (List Value)
 quantities condition = seen (LoQuantity ∷ SSuppkey ∷ []) (selected sample (asking lines_and_suppliers condition))
 
 -- with no comparison of two columns, each line stands beside each supplier

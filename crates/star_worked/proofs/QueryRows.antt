@@ -6,10 +6,11 @@ use Rattle.star_schema.specs.Records.{pieces}
 use Rattle.star_schema.specs.Schema.{column_of, columns_of, place_of}
 use Rattle.star_schema.specs.Tables as of_table
 use Rattle.star_schema.specs.Tables.{row_of}
-use Rattle.star_query.specs.Tree.{Condition, Name, between, count, number, text}
-use Rattle.star_plan.specs.Meaning.{Joined, only_row}
+use Rattle.star_query.specs.Tree.{Condition, Name, count, number, text, Test}
+use Rattle.star_plan.specs.Meaning.{Joined, measured, only_row}
 use Rattle.star_plan.specs.Names.{column_called}
-use Rattle.star_answers.specs.Rows.{is_true, measured, value_named}
+use Rattle.star_answers.specs.Rows.{is_true, value_named}
+use Rattle.star_worked.proofs.QueryTests.{between}
 
 -- a line with the discount 2 and the mode MAIL
 abbrev line : Joined
@@ -18,10 +19,10 @@ line = only_row Lineorder (row_of Lineorder (codes "1|1|1|1|2|19930210|2-HIGH|0|
 abbrev called : List ℕ → Name
 called word = record { text = word; place = 0 }
 
-abbrev discount : (from upto : ℕ) → Condition
+abbrev discount : (from upto : ℕ) → Condition Test
 discount from upto = between (called (codes "lo_discount")) (number (pos from)) (number (pos upto))
 
-abbrev mode : (from upto : List ℕ) → Condition
+abbrev mode : (from upto : List ℕ) → Condition Test
 mode from upto = between (called (codes "lo_shipmode")) (text from) (text upto)
 
 -- both ends, below and above them, and an end that is above the other
@@ -39,5 +40,5 @@ no_column : value_named (called (codes "discount")) line ≡ of_table.Number (po
 unfolding column_of columns_of place_of pieces column_called
 no_column = refl
 
-counted : measured count line ≡ pos 1
+counted : measured (λ n. value_named n line) count ≡ pos 1
 counted = refl

@@ -12,9 +12,10 @@ use Rattle.star_query.specs.declared.token.Relation.TheVariants.{Equal, Unequal,
 use Rattle.star_query.specs.Symbols.{spelling, reserved_words}
 use Rattle.star_query.specs.Cut.{cut_from, reserved}
 use Rattle.star_query.specs.Derives.{Means}
-use Rattle.star_query.specs.Tree.{Tree, constant, add, sub, mul}
+use Rattle.star_query.specs.Tree.{Tree, constant, add, sub, mul, or, and, not, count}
 use Rattle.star_query.proofs.Verdicts.{derives}
-use Rattle.star_plan.specs.Meaning.{or, and, not, compare, between, counted, summed, least, greatest, Plan}
+use Rattle.star_plan.specs.Meaning.{Plan}
+use Rattle.star_compiled.proofs.PlanWords.{compare, between, summed, least, greatest}
 use Rattle.star_plan.specs.Names.{column_called, has_name, table_called}
 use Rattle.star_plan.specs.Naming.{function_word, has_text}
 use Rattle.star_plan.specs.Planned.{IsPlanned}
@@ -42,7 +43,7 @@ profits = record {
       ∷ or (compare LoTax Less (number 3)) (and (compare LoTax Greater (number 4)) (compare LoTax Unequal (number 5))) ∷ [];
   shape = Plain;
   keys = DYear ∷ PBrand1 ∷ [];
-  measures = summed (sub revenue cost) ∷ least (add (mul tax (constant (pos 2))) tax) ∷ greatest tax ∷ counted ∷ [];
+  measures = summed (sub revenue cost) ∷ least (add (mul tax (constant (pos 2))) tax) ∷ greatest tax ∷ count ∷ [];
   names = codes "profit" ∷ codes "min2" ∷ codes "max3" ∷ codes "count4" ∷ [];
   items = Key 0 ∷ Aggregate 0 ∷ Aggregate 1 ∷ Aggregate 2 ∷ Aggregate 3 ∷ [];
   sorts =
@@ -68,7 +69,7 @@ taxes = record {
   conjuncts = [];
   shape = Cube;
   keys = LoTax ∷ [];
-  measures = counted ∷ [];
+  measures = count ∷ [];
   names = codes "count1" ∷ [];
   items = Aggregate 0 ∷ [];
   sorts = record { column = Key 0; direction = Descending } ∷ [];

@@ -11,8 +11,9 @@ use Rattle.star_schema.specs.Schema.{column_of, place_of, columns_of}
 use Rattle.star_schema.specs.Tables.{Value, row_of}
 use Rattle.star_query.specs.declared.token.Relation.TheVariants.{Equal, Less}
 use Rattle.star_plan.specs.declared.tree.Join.{Join}
-use Rattle.star_query.specs.Tree.{column, sub, mul}
-use Rattle.star_plan.specs.Meaning.{Tables, Condition, compare, between, Measure, counted, summed, Plan, value_of, joined_rows, plan_rows, entry_of}
+use Rattle.star_query.specs.Tree.{column, sub, mul, count, Measure}
+use Rattle.star_plan.specs.Meaning.{Tables, Plan, value_of, joined_rows, plan_rows, entry_of, RowCondition}
+use Rattle.star_compiled.proofs.PlanWords.{compare, between, summed}
 use Rattle.star_worked.proofs.Sample.{number, text, lines, sample, by_order, by_commit, of_customer, of_part, of_supplier, revenue, cost}
 
 -- the values of some columns of each joined row
@@ -77,7 +78,7 @@ no_partner = refl
 
 -- ---- selected rows, and what they add to their groups
 
-abbrev asking : List Join → List Condition → List ColumnId → List Measure → Plan
+abbrev asking : List Join → List RowCondition → List ColumnId → List (Measure ColumnId) → Plan
 asking js cs keys measures = record { joins = js; conjuncts = cs; shape = Plain; keys = keys; measures = measures; names = codes "revenue" ∷ []; items = Aggregate 0 ∷ []; sorts = [] }
 
 -- select sum(lo_extendedprice*lo_discount) as revenue from lineorder, date
@@ -104,7 +105,7 @@ first_entries = refl
 abbrev profits : Plan
 profits =
     asking (by_order ∷ of_part ∷ of_supplier ∷ []) (compare PCategory Equal (text (codes "MFGR#12")) ∷ compare SRegion Equal (text (codes "AMERICA")) ∷ [])
-    (DYear ∷ PBrand1 ∷ []) (summed (sub revenue cost) ∷ counted ∷ [])
+    (DYear ∷ PBrand1 ∷ []) (summed (sub revenue cost) ∷ count ∷ [])
 
 profit_entries : map (entry_of profits) (plan_rows sample profits)
     ≡ record { keys = number 1993 ∷ text (codes "MFGR#121") ∷ []; values = pos 380 ∷ pos 1 ∷ [] }

@@ -5,9 +5,10 @@ use Rattle.star_query.specs.declared.token.Fold.TheVariants.{Sum}
 use Rattle.star_query.specs.declared.token.Relation.TheVariants.{Equal}
 use Rattle.star_schema.specs.declared.group.Shape.TheVariants.{Plain}
 use Rattle.star_schema.specs.declared.group.Direction.TheVariants.{Ascending}
-use Rattle.star_query.specs.Tree.{Name, number, text, Expression, column, constant, add, sub, mul, Condition, or, and, not, pair, compare, between, Measure, fold, count, Item, plain, aggregate, Tree}
+use Rattle.star_query.specs.Tree.{Name, number, text, Expression, column, constant, add, sub, mul, Condition, or, and, not, Measure, fold, count, Item, plain, aggregate, Tree, Test}
 use Rattle.star_query.specs.Limits.{IsQueryWithinLimits, operands_of, comparisons_of, where_comparisons}
 use Rattle.star_query.specs.Spelled.{IsSpelledQuery, is_name, is_number, is_text, expression_is_spelled, condition_is_spelled, item_is_spelled}
+use Rattle.star_worked.proofs.QueryTests.{pair, compare, between}
 
 abbrev called : List ℕ → Name
 called word = record { text = word; place = 0 }
@@ -18,10 +19,10 @@ a = called (codes "a")
 abbrev hyphened : Name
 hyphened = called (codes "a-b")
 
-abbrev item : Measure → Item
+abbrev item : Measure Name → Item
 item m = aggregate (record { measure = m; place = 0; name = None })
 
-abbrev good : Condition
+abbrev good : Condition Test
 good = compare a Equal (number (pos 1))
 
 -- ---- within limits, at each limit and one past it
@@ -42,7 +43,7 @@ abbrev chain : ℕ → Expression Name
 chain zero = column a
 chain (suc n) = add (chain n) (column a)
 
-abbrev conjunction : ℕ → Condition
+abbrev conjunction : ℕ → Condition Test
 conjunction zero = good
 conjunction (suc n) = and (conjunction n) good
 
@@ -86,7 +87,7 @@ expressions_spelled : map expression_is_spelled (column a ∷ column hyphened �
 unfolding is_name is_number
 expressions_spelled = refl
 
-abbrev bad : Condition
+abbrev bad : Condition Test
 bad = compare a Equal (text (10 ∷ []))
 
 comparisons_spelled : map condition_is_spelled

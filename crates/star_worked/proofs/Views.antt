@@ -20,10 +20,10 @@ use Rattle.star_query.specs.declared.tree.Condition.TheVariants.{Or', And', Not'
 use Rattle.star_query.specs.declared.tree.Measure.TheVariants as measure
 use Rattle.star_query.specs.declared.tree.Item.TheVariants as item
 use Rattle.star_query.specs.Tree as tree
-use Rattle.star_query.specs.Tree.{Tree, column, constant, add, sub, mul}
+use Rattle.star_query.specs.Tree.{Tree, column, constant, add, sub, mul, or, and, not, count}
 use Rattle.star_query.specs.Shown.{IsRead, query_shown}
 use Rattle.star_query.specs.Views.{literal_view, expression_view, test_view, condition_view, measure_view, item_view, name_view}
-use Rattle.star_plan.specs.Meaning.{or, and, not, compare, between, counted, summed, least, greatest}
+use Rattle.star_compiled.proofs.PlanWords.{compare, between, summed, least, greatest}
 use Rattle.star_plan.specs.Shown.{condition_shown, expression_shown, measure_shown}
 
 abbrev value : ℕ → Value
@@ -49,11 +49,11 @@ operators_viewed : (p q : _) → map expression_view (Add' p (Number (pos 1)) q 
 operators_viewed p q = refl
 
 comparisons_viewed : (m n : Name) → map test_view (test.Pair m n ∷ test.Comparison (Compare m Less (literal.Number (pos 1))) ∷ test.Comparison (Between m (literal.Number (pos 1)) (literal.Number (pos 2))) ∷ [])
-    ≡ tree.pair (name_view m) (name_view n) ∷ tree.compare (name_view m) Less (tree.number (pos 1)) ∷ tree.between (name_view m) (tree.number (pos 1)) (tree.number (pos 2)) ∷ []
+    ≡ tree.pair (name_view m) (name_view n) ∷ tree.comparison (tree.compare (name_view m) Less (tree.number (pos 1))) ∷ tree.comparison (tree.between (name_view m) (tree.number (pos 1)) (tree.number (pos 2))) ∷ []
 comparisons_viewed m n = refl
 
 conditions_viewed : (m n : Name) (p q : _) → map condition_view (Or' p (Test (test.Pair m n)) q (Test (test.Pair n m)) ∷ And' p (Test (test.Pair m n)) q (Test (test.Pair n m)) ∷ Not' p (Test (test.Pair m n)) ∷ Test (test.Pair m n) ∷ [])
-    ≡ tree.or (tree.pair (name_view m) (name_view n)) (tree.pair (name_view n) (name_view m)) ∷ tree.and (tree.pair (name_view m) (name_view n)) (tree.pair (name_view n) (name_view m)) ∷ tree.not (tree.pair (name_view m) (name_view n)) ∷ tree.pair (name_view m) (name_view n) ∷ []
+    ≡ tree.or (tree.test (tree.pair (name_view m) (name_view n))) (tree.test (tree.pair (name_view n) (name_view m))) ∷ tree.and (tree.test (tree.pair (name_view m) (name_view n))) (tree.test (tree.pair (name_view n) (name_view m))) ∷ tree.not (tree.test (tree.pair (name_view m) (name_view n))) ∷ tree.test (tree.pair (name_view m) (name_view n)) ∷ []
 conditions_viewed m n p q = refl
 
 measures_viewed : map measure_view (measure.Fold Sum (Number (pos 1)) ∷ measure.Count ∷ []) ≡ tree.fold Sum (tree.constant (pos 1)) ∷ tree.count ∷ []
@@ -89,5 +89,5 @@ plan_expressions_shown : (p q : _) → map expression_shown (Column LoTax ∷ Nu
 plan_expressions_shown p q = refl
 
 plan_measures_shown : map measure_shown (measure.Count ∷ measure.Fold Sum (Number (pos 1)) ∷ measure.Fold Min (Number (pos 2)) ∷ measure.Fold Max (Number (pos 3)) ∷ [])
-    ≡ counted ∷ summed (constant (pos 1)) ∷ least (constant (pos 2)) ∷ greatest (constant (pos 3)) ∷ []
+    ≡ count ∷ summed (constant (pos 1)) ∷ least (constant (pos 2)) ∷ greatest (constant (pos 3)) ∷ []
 plan_measures_shown = refl

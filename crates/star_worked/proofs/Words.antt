@@ -6,8 +6,9 @@ use Rattle.star_schema.specs.declared.group.Shape.TheVariants.{Plain}
 use Rattle.star_schema.specs.declared.column.ColumnId.{ColumnId}
 use Rattle.star_query.specs.declared.token.Relation.TheVariants.{Equal}
 use Rattle.star_query.specs.Spelled.{is_name, is_number, is_text}
-use Rattle.star_query.specs.Tree.{Expression, column, constant, add, sub, mul}
-use Rattle.star_plan.specs.Meaning.{Condition, or, and, not, compare, between, counted, summed, least, greatest, Plan}
+use Rattle.star_query.specs.Tree.{Expression, column, constant, add, sub, mul, or, and, not, count}
+use Rattle.star_plan.specs.Meaning.{Plan, RowCondition}
+use Rattle.star_compiled.proofs.PlanWords.{compare, between, summed, least, greatest}
 use Rattle.star_plan.specs.Spelled.{IsSpelledPlan, condition_is_spelled, expression_is_spelled, measure_is_spelled}
 use Rattle.star_worked.proofs.Sample.{number, text}
 
@@ -31,10 +32,10 @@ texts_spelled = refl
 
 -- ---- plans
 
-abbrev good : Condition
+abbrev good : RowCondition
 good = compare LoTax Equal (number 1)
 
-abbrev bad : Condition
+abbrev bad : RowCondition
 bad = compare LoShipmode Equal (text (10 ∷ []))
 
 conditions_spelled : map condition_is_spelled
@@ -61,7 +62,7 @@ expressions_spelled : map expression_is_spelled
 unfolding is_number
 expressions_spelled = refl
 
-measures_spelled : map measure_is_spelled (counted ∷ summed one ∷ summed long ∷ least long ∷ greatest long ∷ []) ≡ true ∷ true ∷ false ∷ false ∷ false ∷ []
+measures_spelled : map measure_is_spelled (count ∷ summed one ∷ summed long ∷ least long ∷ greatest long ∷ []) ≡ true ∷ true ∷ false ∷ false ∷ false ∷ []
 unfolding is_number
 measures_spelled = refl
 

@@ -2,7 +2,7 @@
 use Rattle.std.specs.Prelude.{◌≡◌, ℕ, ◌+◌, ◌≤◌, List, [], ◌∷◌, ◌++◌}
 use Rattle.star_schema.specs.declared.column.ColumnId.{ColumnId}
 use Rattle.star_plan.specs.declared.tree.Join.{Join}
-use Rattle.star_plan.specs.Meaning.{Measure, counted, summed, least, greatest}
+use Rattle.star_query.specs.Tree.{Measure, count, fold}
 use Rattle.star_program.specs.Code.{Code}
 use Rattle.star_program.specs.CodeOfSteps as step
 use Rattle.star_program.specs.declared.body.Step.{Step}
@@ -53,17 +53,13 @@ keys_after js (c ∷ cs) so_far env k =
     column_code js c env (λ e x. keys_after js cs (so_far ++ x ∷ []) e k)
 
 -- the value of an aggregate behind some registers
-abbrev pub value_after : List Join → Measure → List ℕ → Env → Rests → Code
-value_after js counted so_far env k = k env so_far
-value_after js (summed a) so_far env k =
-    expression_code js a env (λ e x. k e (so_far ++ x ∷ []))
-value_after js (least a) so_far env k =
-    expression_code js a env (λ e x. k e (so_far ++ x ∷ []))
-value_after js (greatest a) so_far env k =
+abbrev pub value_after : List Join → Measure ColumnId → List ℕ → Env → Rests → Code
+value_after js count so_far env k = k env so_far
+value_after js (fold f a) so_far env k =
     expression_code js a env (λ e x. k e (so_far ++ x ∷ []))
 
 -- the values of aggregates behind some registers
-abbrev pub values_after : List Join → List Measure → List ℕ → Env → Rests → Code
+abbrev pub values_after : List Join → List (Measure ColumnId) → List ℕ → Env → Rests → Code
 values_after js [] so_far env k = k env so_far
 values_after js (m ∷ ms) so_far env k =
     value_after js m so_far env (λ e rs. values_after js ms rs e k)

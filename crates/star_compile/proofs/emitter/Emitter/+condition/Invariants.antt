@@ -1,6 +1,6 @@
 -- The comparisons still to come, and the operator between two parts.
 use Rattle.std.proofs.Common.{◌+◌, ◌*◌}
-use Rattle.star_plan.specs.Limits.{comparisons_of}
+use Rattle.star_query.specs.Limits.{comparisons_of}
 use Rattle.star_plan.specs.Shown.{condition_shown}
 use Rattle.star_compile.proofs.emitter.Emitter.+condition.Given as goal
 

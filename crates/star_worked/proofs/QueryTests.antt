@@ -1,0 +1,13 @@
+-- The comparisons of worked queries, as a reader says them.
+use Rattle.star_query.specs.declared.token.Relation.{Relation}
+use Rattle.star_query.specs.Tree as tree
+use Rattle.star_query.specs.Tree.{Condition, Literal, Name, Test, comparison, test}
+
+abbrev pub pair : Name → Name → Condition Test
+pair m n = test (tree.pair m n)
+
+abbrev pub compare : Name → Relation → Literal → Condition Test
+compare n sign literal = test (comparison (tree.compare n sign literal))
+
+abbrev pub between : Name → (from upto : Literal) → Condition Test
+between n from upto = test (comparison (tree.between n from upto))
