@@ -29,6 +29,7 @@ mod Bounded
 mod TurnsMet
 pub mod Nested
 mod Quoted
+mod QuoteSums
 mod Sizes
 mod NarrowRanges
 mod NarrowCode

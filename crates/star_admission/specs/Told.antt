@@ -65,6 +65,14 @@ abbrev pub rows_together : World → List Enclosing → ℕ
 rows_together w [] = 1
 rows_together w (s ∷ ss) = rows_together w ss * w.size s.table
 
+abbrev item_turns : World → List Enclosing → Item → ℕ
+item_turns w round (Scan table r) = rows_together w round * w.size table
+item_turns w round _ = 0
+
+-- how many turns a scan may begin: one for each row of its table, each time that it is met
+abbrev pub turns_of : World → Standing → ℕ
+turns_of w i = item_turns w i.round i.item
+
 abbrev pub item_scope : ℕ → List Enclosing → Item → List Enclosing
 item_scope at round (Scan table r) = record { number = at; table = table } ∷ round
 item_scope at round _ = round

@@ -1,6 +1,6 @@
 //! Laws of admission: functions with no body, whose clauses are the laws.
 
-ghost use Rattle.std.specs.List.{last_or};
+ghost use Rattle.std.specs.List.{last_or, sum_by};
 ghost use Rattle.std.specs.Option.{option_map};
 ghost use Rattle.std.specs.Prelude.{◌≡◌, ◌↔◌, ◌≤◌, ◌<◌, ◌^◌, ◌∷◌, ℕ, ℤ, All, List, None, Some, length};
 ghost use Rattle.star_common.specs.First.{first_answer};
@@ -31,7 +31,7 @@ ghost use Rattle.star_admission.specs.declared.reason.Reached.{Reached};
 ghost use Rattle.star_admission.specs.declared.reason.Reason.TheVariants.{Overflow};
 ghost use Rattle.star_admission.specs.Standing.{instructions_of, reason_of};
 ghost use Rattle.star_admission.specs.Tallies.{Shares};
-ghost use Rattle.star_admission.specs.Told.{AreTold};
+ghost use Rattle.star_admission.specs.Told.{AreTold, turns_of};
 
 /// An admissible program runs to its end with no trap, over any loaded catalogue.
 ///
@@ -69,6 +69,13 @@ pub fn each_put_has_room()
 pub fn a_bound_of_the_quote_never_stops_a_run()
     ensures { (w : World) (parts : Parts) (most : ℕ) → quote w.size parts ≤ most
         → bounded_run_of w most parts ≡ run_of w parts }
+{}
+
+/// A quote is the sum, over the scans of a program, of the rows of each times those of the scans
+/// round it.
+pub fn a_quote_is_the_sum_over_the_scans()
+    ensures { (w : World) (parts : Parts)
+        → quote w.size parts ≡ sum_by (turns_of w) (instructions_of w parts) }
 {}
 
 /// An instruction in a scan is met no more often than turns are quoted, and another once.
