@@ -4,7 +4,6 @@ ghost use Rattle.std.specs.Prelude.{◌≡◌, ◌+◌, ◌≤◌, true, IfOk};
 ghost use Rattle.std.specs.List.{list_all};
 ghost use Rattle.star_schema.specs.declared.table.TableId.TheVariants.{Lineorder};
 ghost use Rattle.star_plan.specs.Limits.{IsPlanWithinLimits};
-ghost use Rattle.star_plan.specs.PlanTrees.{plan_tree};
 ghost use Rattle.star_plan.specs.Shown.{shown};
 ghost use Rattle.star_plan.specs.Sound.{IsSoundPlan};
 ghost use Rattle.star_plan.specs.Spelled.{IsSpelledPlan, condition_is_spelled};
@@ -14,6 +13,7 @@ ghost use Rattle.star_compiled.specs.Compiled.{compiled, register_count, turn_co
 
 use crate::declarations::{group, shows};
 use crate::emitter::Emitter;
+use star_plan::law::planned_queries_are_sound;
 use star_plan::{Plan, PlanTree};
 use star_program::{Body, Items, Parts, Program, Step};
 use star_schema::TableId;
@@ -73,8 +73,9 @@ fn parts(alloc: Global, tree: &PlanTree) -> Result<Parts, AllocError>
 /// items and sort keys as they come. A column is loaded, and a dimension's row is found, once,
 /// where it is used first. No catalogue is looked at. It fails for want of memory alone.
 pub fn compile(alloc: Global, plan: &Plan) -> Result<Program, AllocError>
-    ensures { IfOk result (λ program. program ≡ compiled (shown (plan_tree plan.now))) }
+    ensures { IfOk result (λ program. program ≡ compiled (shown plan.now)) }
 {
+    planned_queries_are_sound();
     let program = Program::new(parts(alloc, plan.tree())?);
     Ok(program.unwrap())
 }

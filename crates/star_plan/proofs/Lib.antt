@@ -12,3 +12,4 @@ pub mod KeptSpelling
 pub mod Kept
 pub mod Conditions
 pub mod OnePlan
+pub mod PlannedQueries

@@ -14,5 +14,4 @@ pub mod Limits
 pub mod Spelled
 pub mod Resolved
 pub mod Planned
-pub mod PlanTrees
 pub mod Private

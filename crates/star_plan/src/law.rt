@@ -5,7 +5,11 @@ ghost use Rattle.star_query.specs.Derives.{Means};
 ghost use Rattle.star_query.specs.Tree.{Tree};
 ghost use Rattle.star_plan.specs.Faults.{plan_fault};
 ghost use Rattle.star_plan.specs.Meaning.{Plan};
+ghost use Rattle.star_plan.specs.Limits.{IsPlanWithinLimits};
+ghost use Rattle.star_plan.specs.Planned.{IsPlanned};
 ghost use Rattle.star_plan.specs.Resolved.{IsResolved};
+ghost use Rattle.star_plan.specs.Sound.{IsSoundPlan};
+ghost use Rattle.star_plan.specs.Spelled.{IsSpelledPlan};
 ghost use Rattle.star_plan.specs.WellNamed.{IsWellNamed};
 
 /// A query is well named exactly where none of its names is at fault.
@@ -25,4 +29,15 @@ pub fn one_text_has_one_plan()
     ensures { (text : List ℕ) (tree another : Tree) (p other : Plan)
         → Means text tree → Means text another
         → IsResolved tree p → IsResolved another other → p ≡ other }
+{}
+
+/// Of a plan each dimension is joined once by a foreign key, columns are of joined tables and of the
+/// kind that is asked of them, and items and sort keys are columns of the groups. It has at most 4
+/// joins, 256 comparisons, 6 keys, 8 aggregates with 512 operands, 16 items and 16 sort keys. Its
+/// names have 1 to 64 letters, digits and `_`, its numbers at most 18 digits, and its texts bytes
+/// from 0x20 to 0x7E.
+pub fn planned_queries_are_sound()
+    ensures sound { (p : Plan) → ∥ IsPlanned p ∥₁ → IsSoundPlan p }
+    ensures limits { (p : Plan) → ∥ IsPlanned p ∥₁ → IsPlanWithinLimits p }
+    ensures spelled { (p : Plan) → ∥ IsPlanned p ∥₁ → IsSpelledPlan p }
 {}

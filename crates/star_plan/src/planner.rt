@@ -3,7 +3,6 @@
 ghost use Rattle.std.specs.Prelude.{◌≡◌, ◌≤◌, None, Some, IfErr, IfOk, length, map};
 ghost use Rattle.star_common.specs.Memory.{UnlessMemory};
 ghost use Rattle.star_query.specs.Maxima.{most_columns, most_items};
-ghost use Rattle.star_query.specs.Shown.{query_shown};
 ghost use Rattle.star_query.specs.Views.{item_view, key_view, name_view, tree_view};
 ghost use Rattle.star_plan.specs.declared.fault.PlanFault.TheVariants.{OutOfMemory};
 ghost use Rattle.star_plan.specs.Private.Answers.{Tells};
@@ -11,7 +10,6 @@ ghost use Rattle.star_plan.specs.Private.Found.{pairs_shown, uses_shown};
 ghost use Rattle.star_plan.specs.Faults.{grouping_fault, naming_fault, plan_fault};
 ghost use Rattle.star_plan.specs.WellNamed.{IsWellNamed};
 ghost use Rattle.star_plan.specs.Resolved.{IsResolved};
-ghost use Rattle.star_plan.specs.PlanTrees.{plan_tree};
 ghost use Rattle.star_plan.specs.Shown.{shown};
 
 use crate::fault::PlanFault;
@@ -23,6 +21,7 @@ use crate::resolve::{
 use crate::select::{check_from, check_groups, check_order, check_select};
 use crate::tree::PlanTree;
 use crate::uses::{Use, check_kinds, check_scope, uses_of};
+use star_query::law::meant_trees_are_within_limits;
 use star_query::{Item, Name, Query, SortKey, Tree};
 use std::alloc::Global;
 
@@ -92,14 +91,15 @@ fn resolve(alloc: Global, tree: &Tree) -> Result<PlanTree, PlanFault>
 /// may come before it.
 pub fn plan(alloc: Global, query: &Query) -> Result<Plan, PlanFault>
     // Only a well named query has one.
-    ensures named { IfOk result (λ _. IsWellNamed (query_shown query.now)) }
+    ensures named { IfOk result (λ _. IsWellNamed (tree_view query.now)) }
     // Its tree is the query's, with the names resolved.
-    ensures resolved { IfOk result (λ plan. IsResolved (query_shown query.now)
-        (shown (plan_tree plan))) }
+    ensures resolved { IfOk result (λ plan. IsResolved (tree_view query.now)
+        (shown plan)) }
     // A refusal is the first fault.
     ensures refused { IfErr result (λ fault. UnlessMemory OutOfMemory fault
-        (plan_fault (query_shown query.now) ≡ Some fault)) }
+        (plan_fault (tree_view query.now) ≡ Some fault)) }
 {
+    meant_trees_are_within_limits();
     let query = query.tree();
     check(alloc, query)?;
     let tree = resolve(alloc, query)?;

@@ -18,5 +18,6 @@ pub mod Within
 pub mod Spelling
 pub mod Spelled
 pub mod Cuts
+pub mod MeantTrees
 pub mod Reserved
 pub mod FirstFaults

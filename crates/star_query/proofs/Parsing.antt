@@ -20,7 +20,6 @@ use Rattle.star_query.specs.Views.{tree_view}
 use Rattle.star_query.specs.Private.Reads.{Spot, EndsBad}
 use Rattle.star_query.specs.Private.Clauses.{ReadsQuery}
 use Rattle.star_query.specs.Private.TokenFaults.{TokensStopAt, IsTokenFault, refusal_of, query_fault, IsTreeRead}
-use Rattle.star_query.specs.Shown.{IsRead}
 use Rattle.star_query.proofs.Verdicts.{verdict_of, derives, one_tree, first_fault, refuses}
 
 pub spot_symbols : (ts : List Token) → map (λ t. symbol_of t.kind t.place) ts ≡ symbols (map placed ts)
@@ -123,8 +122,8 @@ fault_of_text bytes (faults.BadNumber n) short e lexical = (short, e)
 fault_of_text bytes (faults.OpenText n) short e lexical = (short, e)
 fault_of_text bytes _ short e lexical = absurd lexical
 
--- a tree that wasn't read of tokens isn't read of the text
-pub not_read : (t : tree.Tree) (fault : QueryFault) → IsTreeRead t (Err fault) → IsRead t (Err fault)
-not_read t faults.OutOfMemory e = tt
-not_read t faults.TooLong e = e
-not_read t _ e = e
+-- what a tree isn't read for is want of memory
+pub not_read : (t : tree.Tree) (fault : QueryFault) → IsTreeRead t (Err fault) → fault ≡ faults.OutOfMemory
+not_read t faults.OutOfMemory e = refl
+not_read t faults.TooLong e = absurd e
+not_read t _ e = absurd e

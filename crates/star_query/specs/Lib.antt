@@ -7,7 +7,6 @@ pub mod Leaves
 pub mod Grammar
 pub mod Derives
 pub mod Views
-pub mod Shown
 pub mod Meant
 pub mod Limits
 pub mod Spelled

@@ -9,6 +9,9 @@ ghost use Rattle.star_query.specs.Cut.{cut_of, reserved};
 ghost use Rattle.star_query.specs.Tokens.{AreTokens, IsStopped};
 ghost use Rattle.star_query.specs.Tree.{Tree};
 ghost use Rattle.star_query.specs.Grammar.{Mark};
+ghost use Rattle.star_query.specs.Limits.{IsQueryWithinLimits};
+ghost use Rattle.star_query.specs.Meant.{IsMeant};
+ghost use Rattle.star_query.specs.Spelled.{IsSpelledQuery};
 ghost use Rattle.star_query.specs.Derives.{Means, Begins, IsFirstFault, symbols_at};
 
 /// Each reserved word is what it spells, in any case, and nothing else.
@@ -33,6 +36,14 @@ pub fn one_first_fault()
     ensures { (bytes : List ℕ) (fault other : QueryFault)
         → fault ≢ OutOfMemory → other ≢ OutOfMemory
         → IsFirstFault bytes fault → IsFirstFault bytes other → fault ≡ other }
+{}
+
+/// What a text means has at most 16 items, 8 aggregates, 512 operands in them, 256 comparisons, 6
+/// group columns and 16 sort keys. Its names have 1 to 64 letters, digits and `_`, its numbers at
+/// most 18 digits, and its texts bytes from 0x20 to 0x7E.
+pub fn meant_trees_are_within_limits()
+    ensures limits { (tree : Tree) → ∥ IsMeant tree ∥₁ → IsQueryWithinLimits tree }
+    ensures spelled { (tree : Tree) → ∥ IsMeant tree ∥₁ → IsSpelledQuery tree }
 {}
 
 /// A text that means a tree has none.

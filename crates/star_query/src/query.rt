@@ -1,41 +1,52 @@
 // A query from its text.
 
-ghost use Rattle.star_query.specs.Views.{tree_view};
-ghost use Rattle.star_query.specs.Meant.{IsMeant};
-ghost use Rattle.star_query.specs.Limits.{IsQueryWithinLimits};
-ghost use Rattle.star_query.specs.Spelled.{IsSpelledQuery};
-
 use crate::counts::MAX_TEXT;
 use crate::fault::QueryFault;
 use crate::lexer::tokens_of;
 use crate::parser::parse_tokens;
 use crate::tree::Tree;
 use std::alloc::Global;
+use std::marker::Model;
 
-/// A query: its tree is what some text means, so it is within all limits. It is made by parsing a
-/// text alone.
+/// A query: its tree is what some text means. It is made by parsing a text alone, and contracts see
+/// it as its tree.
 #[derive(Drop)]
 pub struct Query {
     tree: Tree,
-    ghost meant: { ∥ IsMeant (tree_view tree) ∥₁ },
-    ghost within: { IsQueryWithinLimits (tree_view tree) },
-    ghost spelled: { IsSpelledQuery (tree_view tree) },
+}
+
+impl Model for Query {
+    ghost use Rattle.star_query.specs.declared.tree.Tree.{Tree};
+    ghost use Rattle.star_query.specs.contracts.tree.Tree.{the_row};
+    ghost use Rattle.star_query.specs.Views.{tree_view};
+    ghost use Rattle.star_query.specs.Meant.{IsMeant};
+
+    ghost Value = { Tree };
+
+    ghost coded = { the_row.coded };
+
+    ghost view = { λ query. query.tree };
+
+    ghost invariant = { λ query. ∥ IsMeant (tree_view query.tree) ∥₁ };
 }
 
 impl Query {
-    ghost use Rattle.std.specs.Prelude.{◌≡◌, IfOk, IfErr};
+    ghost use Rattle.std.specs.Prelude.{◌≡◌, IfOk, IfErr, MatchResult};
+    ghost use Rattle.star_query.specs.declared.fault.QueryFault.TheVariants.{OutOfMemory};
     ghost use Rattle.star_query.specs.Tree as spec;
     ghost use Rattle.star_query.specs.Derives.{Means, IsFirstFault};
-    ghost use Rattle.star_query.specs.Shown.{query_shown, tree_of, IsRead};
+    ghost use Rattle.star_query.specs.Meant.{IsMeant};
+    ghost use Rattle.star_query.specs.Views.{tree_view};
 
     /// The query that a text is, or the first fault: of its length, then of its tokens from the
     /// left, then of the grammar and its limits at the first token that breaks one. Want of memory
     /// may come before any other fault.
     pub fn parse(alloc: Global, text: &[u8]) -> Result<Query, QueryFault>
         // What is read is what the text means.
-        ensures found { IfOk result (λ query. Means text.now (query_shown query)) }
+        ensures found { IfOk result (λ query. Means text.now (tree_view query)) }
         // A text that means a tree is read as it, unless memory runs out.
-        ensures only { (tree : spec.Tree) → Means text.now tree → IsRead tree result }
+        ensures only { (tree : spec.Tree) → Means text.now tree
+            → MatchResult result (λ query. tree_view query ≡ tree) (λ fault. fault ≡ OutOfMemory) }
         // A refusal is the first fault.
         ensures fault { IfErr result (λ fault. IsFirstFault text.now fault) }
     {
@@ -47,17 +58,12 @@ impl Query {
         Ok(Query { tree })
     }
 
-    /// What was read.
+    /// What was read. `law::meant_trees_are_within_limits` tells what holds of every tree that a
+    /// text means.
     pub fn tree(&self) -> &Tree
-        ensures lent { result.now ≡ tree_of self.now }
+        ensures lent { result.now ≡ self.now }
         // Some text means it.
         ensures meant { ∥ IsMeant (tree_view result.now) ∥₁ }
-        // It has at most 16 items, 8 aggregates, 512 operands in them, 256 comparisons, 6 group
-        // columns and 16 sort keys.
-        ensures limits { IsQueryWithinLimits (tree_view result.now) }
-        // Names have 1 to 64 letters, digits and `_`, numbers at most 18 digits, and texts bytes
-        // from 0x20 to 0x7E.
-        ensures spelled { IsSpelledQuery (tree_view result.now) }
     {
         &self.tree
     }

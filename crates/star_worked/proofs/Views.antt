@@ -21,7 +21,6 @@ use Rattle.star_query.specs.declared.tree.Measure.TheVariants as measure
 use Rattle.star_query.specs.declared.tree.Item.TheVariants as item
 use Rattle.star_query.specs.Tree as tree
 use Rattle.star_query.specs.Tree.{Tree, column, constant, add, sub, mul, or, and, not, count}
-use Rattle.star_query.specs.Shown.{IsRead, query_shown}
 use Rattle.star_query.specs.Views.{literal_view, expression_view, test_view, condition_view, measure_view, item_view, name_view}
 use Rattle.star_compiled.proofs.PlanWords.{compare, between, summed, least, greatest}
 use Rattle.star_plan.specs.Shown.{condition_shown, expression_shown, measure_shown}
@@ -62,20 +61,6 @@ measures_viewed = refl
 items_viewed : (n : Name) → map item_view (item.Column n ∷ item.Aggregate (record { measure = measure.Count; place = 7; name = None }) ∷ item.Aggregate (record { measure = measure.Count; place = 8; name = Some n }) ∷ [])
     ≡ tree.plain (name_view n) ∷ tree.aggregate (record { measure = tree.count; place = 7; name = None }) ∷ tree.aggregate (record { measure = tree.count; place = 8; name = Some (name_view n) }) ∷ []
 items_viewed n = refl
-
--- ---- what an answer says
-
-a_tree_is_read : (q : Query) (t : Tree) → query_shown q ≡ t → IsRead t (Ok q)
-a_tree_is_read q t e = e
-
-another_tree_is_not : (q : Query) (t : Tree) → (query_shown q ≡ t → ⊥) → IsRead t (Ok q) → ⊥
-another_tree_is_not q t other read = other read
-
-want_of_memory : (t : Tree) → IsRead t (Err faults.OutOfMemory)
-want_of_memory t = tt
-
-no_other_fault : (t : Tree) → IsRead t (Err faults.TooDeep) → ⊥
-no_other_fault t read = read
 
 -- ---- the trees of plans
 

@@ -8,4 +8,17 @@ pub unwrap-requires : goal.unwrap-requires
 unwrap-requires c =
     c.new-program.ensures.exactly.1
     (subst IsWithinLimits (sym c.in_ok-parts.ensures)
-    (is_within_limits (shown c.tree.result.now) c.tree.ensures.limits))
+    (is_within_limits (shown c.tree.result.now)
+    (c.planned_queries_are_sound.ensures.limits (shown c.tree.result.now) c.tree.ensures.planned)))
+
+pub parts-requires-clause-sound : goal.parts-requires-clause-sound
+parts-requires-clause-sound c =
+    c.planned_queries_are_sound.ensures.sound (shown c.tree.result.now) c.tree.ensures.planned
+
+pub parts-requires-clause-limits : goal.parts-requires-clause-limits
+parts-requires-clause-limits c =
+    c.planned_queries_are_sound.ensures.limits (shown c.tree.result.now) c.tree.ensures.planned
+
+pub parts-requires-clause-spelled : goal.parts-requires-clause-spelled
+parts-requires-clause-spelled c =
+    c.planned_queries_are_sound.ensures.spelled (shown c.tree.result.now) c.tree.ensures.planned
