@@ -4,6 +4,7 @@ mod Reported
 pub mod ListingLemmas
 pub mod Trials
 pub mod OneReport
+pub mod OneQuery
 pub mod Noting
 pub mod Executing
 pub mod NotedAs

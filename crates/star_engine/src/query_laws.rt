@@ -1,7 +1,7 @@
 //! Laws of what queries are answered: functions with no body, whose clauses are the laws.
 
 ghost use Rattle.std.specs.Prelude.{◌≡◌, ◌≢◌, ◌≤◌, ◌<◌, ◌^◌, ◌↔◌, ℕ, List, Some, None};
-ghost use Rattle.star_schema.specs.Database.{Database};
+ghost use Rattle.star_schema.specs.Database.{Database, TableTexts};
 ghost use Rattle.star_query.specs.Derives.{Means};
 ghost use Rattle.star_query.specs.Tree.{Tree};
 ghost use Rattle.star_plan.specs.Meaning.{Plan};
@@ -17,7 +17,8 @@ ghost use Rattle.star_engine.specs.Executions.{IsAcceptedWithin, quote_over};
 ghost use Rattle.star_engine.specs.declared.fault.EngineFault.{EngineFault};
 ghost use Rattle.star_engine.specs.declared.thirteen.BenchmarkQuery.{BenchmarkQuery};
 ghost use Rattle.star_engine.specs.Loads.{AreLoadedRows};
-ghost use Rattle.star_engine.specs.Queries.{FitsRows, IsNoQuery, IsPlanOf, fact_rows};
+ghost use Rattle.star_engine.specs.Queries.{FitsRows, IsNoQuery, IsPlanOf, IsQueryTold, IsQueryToldOver, IsUnanswered, IsUnansweredOver, fact_rows};
+ghost use Rattle.star_engine.specs.Noted.{Telling};
 ghost use Rattle.star_engine.specs.QueryRuns.{HasReported, PrintsTheReport};
 ghost use Rattle.star_engine.specs.Thirteen.{query_text};
 
@@ -86,4 +87,29 @@ pub fn the_thirteen_are_queries()
     ensures named { (q : BenchmarkQuery) (tree : Tree)
         → Means (query_text q) tree → IsWellNamed tree }
     ensures read { (q : BenchmarkQuery) (fault : EngineFault) → ¬ IsNoQuery (query_text q) fault }
+{}
+
+/// Of the query of one text over the same rows, or the same texts, under the same limits, one report
+/// with one pair of notes is told; where these are told no fault is due; and no two faults are. So
+/// what a call answers on Ok, and which fault it answers else, hangs on these alone.
+pub fn one_telling_of_a_query()
+    ensures one { (visits : ℕ) (database : Database) (query : List ℕ) (telling other : Telling)
+        → IsQueryToldOver visits database query telling
+        → IsQueryToldOver visits database query other → telling ≡ other }
+    ensures not_refused { (visits : ℕ) (database : Database) (query : List ℕ)
+        (telling : Telling) (fault : EngineFault)
+        → IsQueryToldOver visits database query telling
+        → ¬ IsUnansweredOver visits database query fault }
+    ensures one_fault { (visits : ℕ) (database : Database) (query : List ℕ)
+        (fault other : EngineFault) → IsUnansweredOver visits database query fault
+        → IsUnansweredOver visits database query other → fault ≡ other }
+    ensures one_of_texts { (rows visits : ℕ) (texts : TableTexts) (query : List ℕ)
+        (telling other : Telling) → IsQueryTold rows visits texts query telling
+        → IsQueryTold rows visits texts query other → telling ≡ other }
+    ensures not_refused_of_texts { (rows visits : ℕ) (texts : TableTexts) (query : List ℕ)
+        (telling : Telling) (fault : EngineFault) → IsQueryTold rows visits texts query telling
+        → ¬ IsUnanswered rows visits texts query fault }
+    ensures one_fault_of_texts { (rows visits : ℕ) (texts : TableTexts) (query : List ℕ)
+        (fault other : EngineFault) → IsUnanswered rows visits texts query fault
+        → IsUnanswered rows visits texts query other → fault ≡ other }
 {}
