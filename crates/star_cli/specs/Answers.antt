@@ -1,5 +1,5 @@
 -- What a task asks of the bytes that were read for it.
-use Rattle.std.specs.Prelude.{◌≡◌, ◌⊎◌, ℕ, Bool, true, false, List, Result, Ok, Err, IfOk}
+use Rattle.std.specs.Prelude.{◌≡◌, ◌⊎◌, ◌↔◌, ℕ, Bool, true, false, IsTrue, List, Result, Ok, Err, IfOk}
 use Rattle.star_schema.specs.declared.limits.Limits.{Limits}
 use Rattle.star_schema.specs.Most.{most_rows, most_visits}
 use Rattle.star_schema.specs.Database.{TableTexts}
@@ -7,7 +7,7 @@ use Rattle.star_schema.specs.Loadable.{database_of}
 use Rattle.star_catalogue.specs.Load.{text_of}
 use Rattle.star_engine.specs.declared.fault.EngineFault.{EngineFault}
 use Rattle.star_engine.specs.Answered.{Change, IsAnswered, IsUntouched}
-use Rattle.star_engine.specs.Bench.{AllFit, IsBench, SomeIsUnfit}
+use Rattle.star_engine.specs.Bench.{AllFit, IsBench}
 use Rattle.star_engine.specs.Executions.{IsQuoteOf, IsToldOf, IsUntold}
 use Rattle.star_engine.specs.Listing.{IsListing}
 use Rattle.star_engine.specs.Loads.{IsUnloaded}
@@ -41,9 +41,7 @@ pub record IsBenched {S : Type 0} (out : Change S) (texts : TableTexts)
     (result : Result Bool EngineFault) : Type 0 where
   pub answered : IsAnswered out (IsBench most_rows most_visits texts) (IsUnloaded most_rows texts)
       result
-  pub all_fit : IfOk result (λ fits. fits ≡ true → AllFit most_visits (database_of texts))
-  pub some_unfit : IfOk result
-      (λ fits. fits ≡ false → SomeIsUnfit most_visits (database_of texts))
+  pub fits : IfOk result (λ fits. IsTrue fits ↔ AllFit most_visits (database_of texts))
 
 -- the one and then the other, where the one isn't stopped
 abbrev pub IsListedAndBenched : {S : Type 0} → Change S → TableTexts

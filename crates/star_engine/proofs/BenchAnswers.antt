@@ -1,12 +1,11 @@
 -- What is printed of the programs of the thirteen queries is what is printed of the queries.
-use Rattle.std.proofs.Common.{◌≡◌, ◌<◌, ◌++◌, ◌∙◌, ℕ, suc, Bool, true, false, List, [], ◌∷◌, ap, arith, drop, inl, inr, length, refl, subst, sym}
-use Rattle.std.specs.Prelude.{Contains, ◌&&◌, codes}
+use Rattle.std.proofs.Common.{◌≡◌, ◌<◌, ◌++◌, ◌∙◌, ℕ, Bool, true, false, List, [], ◌∷◌, ap, arith, drop, inl, inr, length, refl, subst, sym}
+use Rattle.std.specs.Prelude.{◌&&◌, ◌↔◌, IsTrue, codes}
 use Rattle.std.specs.Prelude.{Result, Err}
 use Rattle.std.specs.List.{AllByRecursion}
 use Rattle.std.proofs.lemmas.List.{length-append}
 use Rattle.star_schema.specs.Database.{Database}
 use Rattle.star_plan.specs.Meaning.{Plan}
-use Rattle.star_verify.specs.declared.refusal.Refusal.{Refusal}
 use Rattle.star_compiled.specs.Compiled.{compiled}
 use Rattle.star_engine.specs.declared.benchmark.Prepared.{Prepared}
 use Rattle.star_engine.specs.declared.fault.EngineFault.{EngineFault}
@@ -18,43 +17,24 @@ use Rattle.star_engine.specs.Answered.{Change, IsAnswered}
 use Rattle.star_engine.specs.Bench.{AreSections, IsBenchOver, IsFinding, IsSection, named_quote}
 use Rattle.star_engine.specs.Executions.{quote_over}
 use Rattle.star_engine.specs.Notes.{quote_line}
-use Rattle.star_engine.specs.Queries.{FitsRows, IsPlanOf, IsUnfit, fact_rows}
+use Rattle.star_engine.specs.Queries.{FitsRows, IsPlanOf, fact_rows}
 use Rattle.star_engine.specs.Thirteen.{query_name, query_text}
-use Rattle.star_engine.specs.Private.BenchSteps.{AreSectionsOver, ArePrepared, IsFound, IsSectionOver, IsVerdict}
+use Rattle.star_engine.specs.Private.BenchSteps.{AreSectionsOver, ArePrepared, IsFound, IsSectionOver}
 use Rattle.star_engine.specs.Private.QuerySteps.{IsProgramOfQuery}
 use Rattle.star_engine.specs.Private.Steps.{IsWritten}
 use Rattle.star_engine.proofs.QueryAnswers.{IsJudged, refusal_told}
 
--- ---- members
+-- ---- verdicts
 
-here : {X : Type 0} (x : X) (xs : List X) → Contains (x ∷ xs) x
-here x xs = (0, omega arith, refl)
-
-there : {X : Type 0} (x y : X) (xs : List X) → Contains xs x → Contains (y ∷ xs) x
-there x y xs (k, within, is) = (suc k, omega arith, is)
-
--- some of these queries doesn't fit
-abbrev pub SomeUnfit : ℕ → Database → List BenchmarkQuery → Type 0
-SomeUnfit most database qs =
-    (q : BenchmarkQuery) × Contains qs q × (refusal : Refusal)
-    × IsUnfit most database (query_text q) refusal
-
+-- whether some queries of the benchmark fit
 abbrev pub IsVerdictOn : ℕ → Database → List BenchmarkQuery → (fit : Bool) → Type 0
-IsVerdictOn most database qs true = AllByRecursion (λ q. FitsRows most database (query_text q)) qs
-IsVerdictOn most database qs false = SomeUnfit most database qs
+IsVerdictOn most database qs fit =
+    IsTrue fit ↔ AllByRecursion (λ q. FitsRows most database (query_text q)) qs
 
-abbrev IsVerdictOnOne : ℕ → Database → BenchmarkQuery → (fits : Bool) → Type 0
-IsVerdictOnOne most database q true = FitsRows most database (query_text q)
-IsVerdictOnOne most database q false =
-    (refusal : Refusal) × IsUnfit most database (query_text q) refusal
-
-both_verdicts : (most : ℕ) (database : Database) (q : BenchmarkQuery) (qs : List BenchmarkQuery)
-    (one others : Bool) → IsVerdictOnOne most database q one → IsVerdictOn most database qs others
-    → IsVerdictOn most database (q ∷ qs) (one && others)
-both_verdicts most database q qs true true fits all = (fits, all)
-both_verdicts most database q qs true false fits some =
-    (some.0, there some.0 q qs some.1, some.2, some.3)
-both_verdicts most database q qs false others unfit _ = (q, here q qs, unfit.0, unfit.1)
+both_verdicts : {A B : Type 0} (one others : Bool) → (IsTrue one ↔ A) → (IsTrue others ↔ B)
+    → IsTrue (one && others) ↔ (A × B)
+both_verdicts true others a b = ((λ is. (a.0 refl, b.0 is)), (λ both. b.1 both.1))
+both_verdicts false others a b = ((λ is. absurd (cc)), (λ both. a.1 both.0))
 
 -- ---- sections
 
@@ -76,16 +56,13 @@ module _ (most : ℕ) (database : Database)
         printed,
       )
 
-  judgement : (q : BenchmarkQuery) (p : Plan) → IsPlanOf (query_text q) p → (fits : Bool)
-      (text : List ℕ) → IsFound database most (compiled p) fits text
-      → IsVerdictOnOne most database q fits
-  judgement q p meant true text (outcome, run, printed) =
-      (judged (query_text q) p meant).accepted.1 run.accepted
-  judgement q p meant false text (refusal, refused, printed) = (
-    refusal,
-    refusal_told most database (query_text q) p meant (judged (query_text q) p meant) refusal
-        refused,
-  )
+  judgement : (query : List ℕ) (p : Plan) → IsPlanOf query p → (fits : Bool) (text : List ℕ)
+      → IsFound database most (compiled p) fits text → IsTrue fits ↔ FitsRows most database query
+  judgement query p meant true text (outcome, run, printed) =
+      ((λ is. (judged query p meant).accepted.1 run.accepted), (λ fits. refl))
+  judgement query p meant false text (refusal, refused, printed) =
+      let told = refusal_told most database query p meant (judged query p meant) refusal refused in
+      ((λ is. absurd (cc)), (λ fits. absurd (told.unfit fits)))
 
   module _ (q : BenchmarkQuery) (x : Prepared) (named : x.query ≡ q)
       (is : IsProgramOfQuery (query_text q) x.program) (fits : Bool) (section : List ℕ)
@@ -103,31 +80,25 @@ module _ (most : ℕ) (database : Database)
       printed = over.printed ∙ (λ i. named_quote (named i) (quoted i) ++ over.found);
     }
 
-    one_verdict : IsVerdictOnOne most database q fits
-    one_verdict = judgement q is.p is.meant fits over.found finding
+    one_verdict : IsTrue fits ↔ FitsRows most database (query_text q)
+    one_verdict = judgement (query_text q) is.p is.meant fits over.found finding
 
   pub sections_told : (qs : List BenchmarkQuery) (xs : List Prepared) (fit : Bool) (text : List ℕ)
       → ArePrepared qs xs → AreSectionsOver database most xs fit text
       → AreSections most database qs text × IsVerdictOn most database qs fit
   sections_told [] [] fit text prepared (all, none) =
-      (none, subst (IsVerdictOn most database []) (sym all) tt)
+      (none, subst (IsVerdictOn most database []) (sym all) ((λ is. tt), (λ none. refl)))
   sections_told (q ∷ qs) (x ∷ xs) fit text (named, is, others)
       (one, more, section, rest, over, left, both, whole) =
       let told = sections_told qs xs more rest others left in (
         (section, rest, section_told q x named is one section over, told.0, whole),
         subst (IsVerdictOn most database (q ∷ qs)) (sym both)
-            (both_verdicts most database q qs one more (one_verdict q x named is one section over) told.1),
+            (both_verdicts one more (one_verdict q x named is one section over) told.1),
       )
   sections_told [] (x ∷ xs) fit text prepared over = absurd prepared
   sections_told (q ∷ qs) [] fit text prepared over = absurd prepared
 
 -- ---- the thirteen
-
-pub verdict_told : (most : ℕ) (database : Database) (fit : Bool)
-    → IsVerdictOn most database THIRTEEN fit → IsVerdict most database fit
-verdict_told most database true all = all
-verdict_told most database false (q, among, refusal, unfit) =
-    record { q = q; among = among; refusal = refusal; unfit = unfit }
 
 -- their text has a byte
 sections_some : (most : ℕ) (database : Database) (q : BenchmarkQuery) (qs : List BenchmarkQuery)

@@ -1,6 +1,6 @@
 -- What `bench` prints: of each query of the benchmark its quote, and then its report or why it is
 -- refused.
-use Rattle.std.specs.Prelude.{◌≡◌, ◌++◌, ◌⊎◌, ℕ, List, [], ◌∷◌, Contains, codes}
+use Rattle.std.specs.Prelude.{◌≡◌, ◌++◌, ◌⊎◌, ℕ, List, [], ◌∷◌, codes}
 use Rattle.std.specs.List.{AllByRecursion}
 use Rattle.star_schema.specs.Database.{Database, TableTexts}
 use Rattle.star_verify.specs.declared.refusal.Refusal.{Refusal}
@@ -51,10 +51,3 @@ IsBench rows most texts text = HoldsOfRows rows texts (λ database. IsBenchOver 
 -- each of the thirteen queries fits
 abbrev pub AllFit : ℕ → Database → Type 0
 AllFit most database = AllByRecursion (λ q. FitsRows most database (query_text q)) THIRTEEN
-
--- one of them doesn't
-pub record SomeIsUnfit (most : ℕ) (database : Database) : Type 0 where
-  pub q : BenchmarkQuery
-  pub among : Contains THIRTEEN q
-  pub refusal : Refusal
-  pub unfit : IsUnfit most database (query_text q) refusal

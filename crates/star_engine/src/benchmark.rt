@@ -1,11 +1,11 @@
 // The thirteen queries of the benchmark, one after the other over one load.
 
-ghost use Rattle.std.specs.Prelude.{◌≡◌, true, false, IfOk, MatchResult};
+ghost use Rattle.std.specs.Prelude.{◌≡◌, ◌↔◌, IfOk, IsTrue, MatchResult};
 ghost use Rattle.star_schema.specs.Loadable.{database_of};
 ghost use Rattle.star_catalogue.specs.Load.{text_of};
 ghost use Rattle.star_engine.specs.Answered.{IsAnswered, change};
 ghost use Rattle.star_engine.specs.Bench as spec;
-ghost use Rattle.star_engine.specs.Bench.{AllFit, IsBench, IsBenchOver, SomeIsUnfit};
+ghost use Rattle.star_engine.specs.Bench.{AllFit, IsBench, IsBenchOver};
 ghost use Rattle.star_engine.specs.Executions.{quote_over};
 ghost use Rattle.star_engine.specs.Private.BenchSteps.{AreSectionsOver, ArePrepared, IsFound, IsSectionOver, IsVerdict};
 ghost use Rattle.star_engine.specs.Loads.{IsUnloaded};
@@ -169,9 +169,7 @@ pub(crate) fn bench_over<S: Sink>(
 ) -> Result<bool, EngineFault>
     ensures answered { IsAnswered (change S.contents S.is_failed out.old out.new)
         (IsBenchOver limits.visits catalogue.now) (λ fault. ⊥) result }
-    ensures all_fit { IfOk result (λ fits. fits ≡ true → AllFit limits.visits catalogue.now) }
-    ensures some_unfit { IfOk result
-        (λ fits. fits ≡ false → SomeIsUnfit limits.visits catalogue.now) }
+    ensures fits { IfOk result (λ fits. IsTrue fits ↔ AllFit limits.visits catalogue.now) }
 {
     let found = bench_of(alloc, catalogue, limits)?;
     write_text(out, found.text.as_slice())?;
@@ -188,10 +186,8 @@ pub(crate) fn bench<S: Sink>(
     ensures answered { IsAnswered (change S.contents S.is_failed out.old out.new)
         (IsBench limits.rows limits.visits (text_of texts.now))
         (IsUnloaded limits.rows (text_of texts.now)) result }
-    ensures all_fit { IfOk result
-        (λ fits. fits ≡ true → AllFit limits.visits (database_of (text_of texts.now))) }
-    ensures some_unfit { IfOk result
-        (λ fits. fits ≡ false → SomeIsUnfit limits.visits (database_of (text_of texts.now))) }
+    ensures fits { IfOk result
+        (λ fits. IsTrue fits ↔ AllFit limits.visits (database_of (text_of texts.now))) }
 {
     let catalogue = load(alloc, texts, limits)?;
     bench_over(alloc, &catalogue, limits, out)

@@ -1,10 +1,10 @@
 // The engine's calls over the tables of five texts.
 
-ghost use Rattle.std.specs.Prelude.{◌≡◌, ◌≤◌, ◌^◌, true, false, Err, IfErr, IfOk, OnOk};
+ghost use Rattle.std.specs.Prelude.{◌≡◌, ◌≤◌, ◌^◌, ◌↔◌, Err, IfErr, IfOk, IsTrue, OnOk};
 ghost use Rattle.star_schema.specs.Loadable.{database_of};
 ghost use Rattle.star_catalogue.specs.Load.{text_of};
 ghost use Rattle.star_engine.specs.Answered.{HasWritten, IsBrokenOff, IsRefused, IsUntouched, change};
-ghost use Rattle.star_engine.specs.Bench.{AllFit, IsBench, SomeIsUnfit};
+ghost use Rattle.star_engine.specs.Bench.{AllFit, IsBench};
 ghost use Rattle.star_engine.specs.Executions.{IsFileReport, IsQuoteOf, IsToldOf, IsUntold};
 ghost use Rattle.star_engine.specs.Listing.{IsListing};
 ghost use Rattle.star_engine.specs.Loads.{IsUnloaded};
@@ -186,10 +186,8 @@ pub fn bench<S: Sink>(
         (IsUnloaded limits.rows (text_of texts.now))) }
     ensures memory { result ≡ Err EngineFault.OutOfMemory
         → IsUntouched (change S.contents S.is_failed out.old out.new) }
-    ensures all_fit { IfOk result
-        (λ fits. fits ≡ true → AllFit limits.visits (database_of (text_of texts.now))) }
-    ensures some_unfit { IfOk result
-        (λ fits. fits ≡ false → SomeIsUnfit limits.visits (database_of (text_of texts.now))) }
+    ensures fits { IfOk result
+        (λ fits. IsTrue fits ↔ AllFit limits.visits (database_of (text_of texts.now))) }
 {
     benchmark::bench(alloc, texts, limits, out)
 }

@@ -1,11 +1,11 @@
 // Five tables that are loaded once and asked often.
 
-ghost use Rattle.std.specs.Prelude.{◌≡◌, ◌≤◌, ◌^◌, true, false, Err, IfErr, IfOk, MatchResult, OnOk, string_bytes};
+ghost use Rattle.std.specs.Prelude.{◌≡◌, ◌≤◌, ◌^◌, ◌↔◌, Err, IfErr, IfOk, IsTrue, MatchResult, OnOk, string_bytes};
 ghost use Rattle.star_schema.specs.Loadable.{IsLoadable};
 ghost use Rattle.star_catalogue.specs.Load.{text_of};
 ghost use Rattle.star_answers.specs.Reports.{IsReport};
 ghost use Rattle.star_engine.specs.Answered.{HasWritten, IsBrokenOff, IsRefused, IsUntouched, OrMemory, change};
-ghost use Rattle.star_engine.specs.Bench.{AllFit, IsBenchOver, SomeIsUnfit};
+ghost use Rattle.star_engine.specs.Bench.{AllFit, IsBenchOver};
 ghost use Rattle.star_engine.specs.Executions.{IsFileReportOver, IsQuoteOver, IsToldOver, IsUntoldOver};
 ghost use Rattle.star_engine.specs.Listing.{IsListingOver};
 ghost use Rattle.star_engine.specs.Loads.{AreLoadedRows, AreOfLoadableTexts, IsUnloaded, loaded_of};
@@ -232,10 +232,8 @@ impl Engine {
             (λ fault. ⊥)) }
         ensures memory { result ≡ Err EngineFault.OutOfMemory
             → IsUntouched (change S.contents S.is_failed out.old out.new) }
-        ensures all_fit { IfOk result
-            (λ fits. fits ≡ true → AllFit self.now.visits self.now.database) }
-        ensures some_unfit { IfOk result
-            (λ fits. fits ≡ false → SomeIsUnfit self.now.visits self.now.database) }
+        ensures fits { IfOk result
+            (λ fits. IsTrue fits ↔ AllFit self.now.visits self.now.database) }
     {
         bench_over(alloc, &self.catalogue, self.limits, out)
     }

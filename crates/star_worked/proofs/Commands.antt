@@ -1,5 +1,5 @@
 -- What each command asks of the engine, and how the program ends behind the answer.
-use Rattle.std.proofs.Common.{◌≡◌, ℕ, Bool, true, false, List, [], ◌∷◌, Result, Ok, Err, ap, inl, inr, refl, true≢false}
+use Rattle.std.proofs.Common.{◌≡◌, ℕ, Bool, true, false, List, [], ◌∷◌, Result, Ok, Err, ap, inl, inr, refl, sym, true≢false}
 use Rattle.std.specs.Prelude.{is_ok, map}
 use Rattle.star_schema.specs.declared.limits.Limits.{Limits}
 use Rattle.star_schema.specs.Most.{most_rows, most_visits}
@@ -9,7 +9,7 @@ use Rattle.star_catalogue.specs.Load.{text_of}
 use Rattle.star_engine.specs.declared.fault.EngineFault.{EngineFault}
 use Rattle.star_engine.specs.declared.fault.EngineFault.TheVariants as engine
 use Rattle.star_engine.specs.Answered.{Change, IsAnswered}
-use Rattle.star_engine.specs.Bench.{AllFit, SomeIsUnfit}
+use Rattle.star_engine.specs.Bench.{AllFit}
 use Rattle.star_engine.specs.Executions.{IsQuoteOf, IsToldOf, IsUntold}
 use Rattle.star_engine.specs.Noted.{IsNoted}
 use Rattle.star_engine.specs.Queries.{IsQueryQuote, IsQueryTold, IsUnanswered}
@@ -46,10 +46,10 @@ no_whole_answer_is_false IsAnswer (Err fault, is, same) = let first : true ≡ f
 
 module _ {S : Type 0} (out : Change S) (texts : TableTexts) where
   each_query_fits : IsBenched out texts (Ok true) → AllFit most_visits (database_of texts)
-  each_query_fits benched = benched.all_fit refl
+  each_query_fits benched = benched.fits.0 refl
 
-  some_query_does_not : IsBenched out texts (Ok false) → SomeIsUnfit most_visits (database_of texts)
-  some_query_does_not benched = benched.some_unfit refl
+  some_query_does_not : IsBenched out texts (Ok false) → AllFit most_visits (database_of texts) → ⊥
+  some_query_does_not benched all = true≢false (sym (benched.fits.1 all))
 
   a_listing_that_stops : (fault : EngineFault) → IsListed out texts (Err fault) → IsListedAndBenched out texts (Err fault)
   a_listing_that_stops fault listed = inl (fault, listed, refl)

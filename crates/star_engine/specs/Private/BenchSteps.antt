@@ -1,5 +1,5 @@
 -- What the steps of `bench` make.
-use Rattle.std.specs.Prelude.{◌≡◌, ◌++◌, ◌&&◌, ℕ, Bool, true, false, List, [], ◌∷◌}
+use Rattle.std.specs.Prelude.{◌≡◌, ◌++◌, ◌&&◌, ◌↔◌, ℕ, Bool, true, false, IsTrue, List, [], ◌∷◌}
 use Rattle.star_schema.specs.Database.{Database}
 use Rattle.star_program.specs.declared.outcome.Outcome.{Outcome}
 use Rattle.star_program.specs.declared.program.Parts.{Parts}
@@ -7,7 +7,7 @@ use Rattle.star_report.specs.Report.{report_text}
 use Rattle.star_verify.specs.declared.refusal.Refusal.{Refusal}
 use Rattle.star_engine.specs.declared.benchmark.Prepared.{Prepared}
 use Rattle.star_engine.specs.declared.thirteen.BenchmarkQuery.{BenchmarkQuery}
-use Rattle.star_engine.specs.Bench.{AllFit, SomeIsUnfit, named_quote, refusal_line}
+use Rattle.star_engine.specs.Bench.{AllFit, named_quote, refusal_line}
 use Rattle.star_engine.specs.Executions.{IsRefusal, quote_over}
 use Rattle.star_engine.specs.Thirteen.{query_text}
 use Rattle.star_engine.specs.Private.QuerySteps.{IsProgramOfQuery}
@@ -43,7 +43,6 @@ AreSectionsOver database most (x ∷ xs) fit text =
     × IsSectionOver database most x one section × AreSectionsOver database most xs others rest
     × (fit ≡ one && others) × (text ≡ section ++ rest)
 
--- what it means that all queries of the benchmark fit, or not
+-- whether all queries of the benchmark fit
 abbrev pub IsVerdict : ℕ → Database → (fit : Bool) → Type 0
-IsVerdict most database true = AllFit most database
-IsVerdict most database false = SomeIsUnfit most database
+IsVerdict most database fit = IsTrue fit ↔ AllFit most database

@@ -1,8 +1,8 @@
-use Rattle.std.proofs.Common.{◌≡◌, false, subst, true}
-use Rattle.std.specs.Prelude.{IfOk}
+use Rattle.std.proofs.Common.{subst}
+use Rattle.std.specs.Prelude.{◌↔◌, IfOk, IsTrue}
 use Rattle.star_catalogue.specs.Load.{text_of}
 use Rattle.star_engine.specs.Answered.{change}
-use Rattle.star_engine.specs.Bench.{AllFit, IsBenchOver, SomeIsUnfit}
+use Rattle.star_engine.specs.Bench.{AllFit, IsBenchOver}
 use Rattle.star_engine.specs.Loads.{IsUnloaded}
 use Rattle.star_engine.proofs.Loaded.{answered_over}
 use Rattle.star_engine.proofs.benchmark.bench.Goals as goal
@@ -16,12 +16,7 @@ returns-clause-answered g c =
     (IsUnloaded c.args.limits.rows (text_of c.args.texts.now)) c.bench_over.result
     (λ fault loadable never. absurd never) c.bench_over.ensures.answered
 
-pub returns-clause-all_fit : goal.returns-clause-all_fit
-returns-clause-all_fit g c =
-    subst (λ d. IfOk c.bench_over.result (λ fits. fits ≡ true → AllFit c.args.limits.visits d))
-    c.in_ok-catalogue.ensures.1 c.bench_over.ensures.all_fit
-
-pub returns-clause-some_unfit : goal.returns-clause-some_unfit
-returns-clause-some_unfit g c =
-    subst (λ d. IfOk c.bench_over.result (λ fits. fits ≡ false → SomeIsUnfit c.args.limits.visits d))
-    c.in_ok-catalogue.ensures.1 c.bench_over.ensures.some_unfit
+pub returns-clause-fits : goal.returns-clause-fits
+returns-clause-fits g c =
+    subst (λ d. IfOk c.bench_over.result (λ fits. IsTrue fits ↔ AllFit c.args.limits.visits d))
+    c.in_ok-catalogue.ensures.1 c.bench_over.ensures.fits

@@ -1,6 +1,6 @@
 use Rattle.star_engine.specs.declared.thirteen.TheConstants.{THIRTEEN}
 use Rattle.star_engine.specs.Loads.{AreLoadedRows}
-use Rattle.star_engine.proofs.BenchAnswers.{sections_told, verdict_told}
+use Rattle.star_engine.proofs.BenchAnswers.{sections_told}
 use Rattle.star_engine.proofs.benchmark.bench_of.Goals as goal
 
 pub returns : goal.returns
@@ -15,7 +15,6 @@ returns c =
     let fit = c.queries_that_fit_are_answered.ensures in
     let report = c.programs_of_queries_report_them.ensures in
     let found = c.in_ok-sections_of.field-0 in
-    let told =
     sections_told most database
     (λ query p meant. record {
       accepted = fit.accepted most database query p loaded meant;
@@ -26,5 +25,3 @@ returns c =
     })
     THIRTEEN c.in_ok-all.all found.fits found.text.items c.in_ok-all.ensures
     c.in_ok-sections_of.ensures
-    in
-    (told.0, verdict_told most database found.fits told.1)

@@ -33,8 +33,5 @@ returns-clause-memory g c =
     (IsUnloaded c.args.limits.rows (text_of c.args.texts.now))
     c.bench.result c.bench.ensures.answered)
 
-pub returns-clause-all_fit : goal.returns-clause-all_fit
-returns-clause-all_fit g c = c.bench.ensures.all_fit
-
-pub returns-clause-some_unfit : goal.returns-clause-some_unfit
-returns-clause-some_unfit g c = c.bench.ensures.some_unfit
+pub returns-clause-fits : goal.returns-clause-fits
+returns-clause-fits g c = c.bench.ensures.fits

@@ -31,8 +31,5 @@ returns-clause-memory g c =
     (λ fault. ⊥)
     c.bench_over.result c.bench_over.ensures.answered)
 
-pub returns-clause-all_fit : goal.returns-clause-all_fit
-returns-clause-all_fit g c = rw (← c.self.view_is) c.bench_over.ensures.all_fit
-
-pub returns-clause-some_unfit : goal.returns-clause-some_unfit
-returns-clause-some_unfit g c = rw (← c.self.view_is) c.bench_over.ensures.some_unfit
+pub returns-clause-fits : goal.returns-clause-fits
+returns-clause-fits g c = rw (← c.self.view_is) c.bench_over.ensures.fits
