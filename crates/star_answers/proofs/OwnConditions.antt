@@ -1,7 +1,8 @@
 -- WHERE, on a query's own tree, says of a row what the joins and the other conjuncts of the plan say.
 use Rattle.std.proofs.Common.{◌≡◌, ◌∙◌, Bool, true, false, ◌&&◌, ◌||◌, not as negated, inl, inr, List, [], ◌∷◌, ◌++◌, Option, Some, None, option_map, refl, sym, ap}
 use Rattle.std.specs.List.{AllByRecursion}
-use Rattle.std.specs.Option.{option_to_list}
+use Rattle.std.specs.Prelude.{pos}
+use Rattle.std.specs.Option.{option_map_or, option_to_list}
 use Rattle.std.specs.Ordering.{is_eq, is_le, ordering_reverse}
 use Rattle.std.specs.declared.cmp.Ordering.{Ordering}
 use Rattle.std.specs.declared.cmp.Ordering.TheVariants.{Less, Equal, Greater}
@@ -9,7 +10,7 @@ use Rattle.std.proofs.lemmas.Grind.{flat_map-append}
 use Rattle.std.proofs.lemmas.List.Folds.{list_all-append}
 use Rattle.star_schema.specs.declared.column.ColumnId.{ColumnId}
 use Rattle.star_schema.specs.Order.{value_cmp}
-use Rattle.star_schema.specs.Tables.{Value}
+use Rattle.star_schema.specs.Tables.{Value, Number}
 use Rattle.star_query.specs.Tree as tree
 use Rattle.star_query.specs.Tree.{Condition, Name, Test, or, and, not, test, compare, between}
 use Rattle.star_report.proofs.OneOrder.{value_turned}
@@ -21,10 +22,13 @@ use Rattle.star_plan.specs.Names.{column_at, literal_value}
 use Rattle.star_plan.specs.Resolved.{conjuncts_of, resolved_condition, resolved_test, where_conjuncts}
 use Rattle.star_plan.proofs.Known.{each_left, each_right}
 use Rattle.star_plan.proofs.Options.{both_gave, first_or_second, mapped_gave}
-use Rattle.star_answers.specs.Rows.{is_true, value_if, value_named, where_is_true}
+use Rattle.star_answers.specs.Rows.{is_true, value_named, where_is_true}
 use Rattle.star_answers.proofs.Choices.{all_joined, is_joined_by}
 
 -- ---- names
+
+abbrev value_if : Option ColumnId → Joined → Value
+value_if o row = option_map_or (λ c. value_of c row) o (Number (pos 0))
 
 pub named : (n : Name) (c : ColumnId) (row : Joined) → column_at n ≡ Some c → value_named n row ≡ value_of c row
 named n c row e = ap (λ o. value_if o row) e

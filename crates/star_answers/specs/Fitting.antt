@@ -1,7 +1,8 @@
 -- Which queries fit over five tables: by the bounds of their columns and the number of lineorder's
 -- rows alone.
-use Rattle.std.specs.Prelude.{◌≡◌, ◌≤◌, ℕ, Bool, true, Option, Some, None, length, pos}
+use Rattle.std.specs.Prelude.{◌≡◌, ◌≤◌, ℕ, true, length, pos}
 use Rattle.std.specs.List.{list_all}
+use Rattle.std.specs.Option.{option_map_or}
 use Rattle.star_schema.specs.declared.column.ColumnId.{ColumnId}
 use Rattle.star_schema.specs.declared.table.TableId.TheVariants.{Lineorder}
 use Rattle.star_schema.specs.Bounds.{greatest, least, numbers_of}
@@ -23,11 +24,7 @@ bounds_in ts c =
 
 -- those of the column with this name; no other name stands in a well named query
 abbrev pub range_named : Tables → Name → Range
-range_named ts n = range_if (column_at n)
-  where
-    range_if : Option ColumnId → Range
-    range_if None = only (pos 0)
-    range_if (Some c) = bounds_in ts c
+range_named ts n = option_map_or (bounds_in ts) (column_at n) (only (pos 0))
 
 -- a query fits tables: lineorder has no more rows than may be visited, and of each aggregate each
 -- node has its range in 64 bits

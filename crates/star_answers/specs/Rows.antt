@@ -1,8 +1,8 @@
 -- Which rows a query selects, by its own words: those of the product of FROM's tables for which
 -- WHERE is true (Star Schema Benchmark, revision 3, section 3).
-use Rattle.std.specs.Prelude.{pos, Bool, true, List, [], ◌∷◌, filter, map, Option, Some, None}
+use Rattle.std.specs.Prelude.{pos, Bool, true, List, [], ◌∷◌, filter, map, Option}
 use Rattle.std.specs.List.{flat_map}
-use Rattle.std.specs.Option.{option_to_list}
+use Rattle.std.specs.Option.{option_map_or, option_to_list}
 use Rattle.std.specs.Ordering.{is_eq}
 use Rattle.star_schema.specs.declared.table.TableId.{TableId}
 use Rattle.star_schema.specs.declared.column.ColumnId.{ColumnId}
@@ -32,14 +32,9 @@ tables_of names = flat_map (λ n. option_to_list (table_at n)) names
 
 -- ---- what WHERE says of a row
 
--- a name that is no column's has no value, and stands in no well named query
-abbrev pub value_if : Option ColumnId → Joined → Value
-value_if None row = Number (pos 0)
-value_if (Some c) row = value_of c row
-
--- the value of the column with this name
+-- the value of the column with this name; no other name stands in a well named query
 abbrev pub value_named : Name → Joined → Value
-value_named n row = value_if (column_at n) row
+value_named n row = option_map_or (λ c. value_of c row) (column_at n) (Number (pos 0))
 
 -- numbers compare by value, texts by their bytes
 abbrev pub test_is_true : Joined → Test → Bool
@@ -51,8 +46,7 @@ is_true c row = is_so (test_is_true row) c
 
 -- with no WHERE each row is selected
 abbrev pub where_is_true : Option (Condition Test) → Joined → Bool
-where_is_true None row = true
-where_is_true (Some c) row = is_true c row
+where_is_true o row = option_map_or (λ c. is_true c row) o true
 
 -- the rows that a query selects
 abbrev pub selected : Tables → Tree → List Joined

@@ -21,7 +21,7 @@ use Rattle.star_query.specs.declared.fault.QueryFault.TheVariants.{BadCharacter,
 use Rattle.star_query.specs.Maxima.{most_digits}
 use Rattle.star_query.specs.Symbols.{Symbol, Placed, relation, sign, additive, number, text, word_symbol}
 use Rattle.star_query.specs.Cut.{Piece, blank, token, bad, with_first, said, signs, is_blank, is_letter, is_word_byte, begins_with_letter, reserved, word_of, word_piece, number_piece, text_piece, sign_piece, piece_at, cut_from, cut_of}
-use Rattle.star_query.specs.Tokens.{IsToken, a_word, a_number, a_text, a_sign, goes_on, is_over, AreTokens, no_more, white_space, a_token, IsBadNumber, IsStray, Stops, IsStopped}
+use Rattle.star_query.specs.Tokens.{IsToken, a_word, a_number, a_text, a_sign, continues, is_whole, AreTokens, no_more, white_space, a_token, IsBadNumber, IsStray, Stops, IsStopped}
 use Rattle.star_query.specs.Private.Lexed.{front_piece, with_tokens}
 use Rattle.star_query.proofs.Counting.{by_bool}
 use Rattle.star_query.proofs.Lexing.{cut_bad, cut_blank, cut_token, number_followed, number_long, number_some, prefix_passes, prefix_within, word_some}
@@ -59,25 +59,25 @@ run_within p (b ∷ run) rest all =
     let both = and_parts (p b) (list_all p run) all in
     rw both.0 (omega (arith, run_within p run rest both.1))
 
-over_from : (x : Symbol) (p : ℕ → Bool) (rest : List ℕ) → ((b : ℕ) → goes_on x b ≡ p b) → ends p rest ≡ true → is_over x rest ≡ true
+over_from : (x : Symbol) (p : ℕ → Bool) (rest : List ℕ) → ((b : ℕ) → continues x b ≡ p b) → ends p rest ≡ true → is_whole x rest ≡ true
 unfolding ends
 over_from x p [] same over = refl
 over_from x p (b ∷ bs) same over = rw (same b) over
 
-over_to : (x : Symbol) (p : ℕ → Bool) (rest : List ℕ) → ((b : ℕ) → goes_on x b ≡ p b) → is_over x rest ≡ true → ends p rest ≡ true
+over_to : (x : Symbol) (p : ℕ → Bool) (rest : List ℕ) → ((b : ℕ) → continues x b ≡ p b) → is_whole x rest ≡ true → ends p rest ≡ true
 unfolding ends
 over_to x p [] same over = refl
 over_to x p (b ∷ bs) same over = rw (← same b) over
 
-pub word_goes_on : (place : ℕ) (word : List ℕ) (b : ℕ) → goes_on (word_of place word) b ≡ is_word_byte b
+pub word_goes_on : (place : ℕ) (word : List ℕ) (b : ℕ) → continues (word_of place word) b ≡ is_word_byte b
 word_goes_on place word b = go (reserved word) refl
   where
-    of_word : (w : Word) → goes_on (word_symbol w place) b ≡ is_word_byte b
+    of_word : (w : Word) → continues (word_symbol w place) b ≡ is_word_byte b
     of_word (words.Keyword k) = refl
     of_word (words.Fold f) = refl
     of_word words.Count = refl
 
-    go : (o : Option Word) → reserved word ≡ o → goes_on (word_of place word) b ≡ is_word_byte b
+    go : (o : Option Word) → reserved word ≡ o → continues (word_of place word) b ≡ is_word_byte b
     go None h = rw h refl
     go (Some w) h = rw h (of_word w)
 
@@ -94,7 +94,7 @@ if_else false x y e = refl
 abbrev Found : (place : ℕ) → List ℕ → Piece → Type 0
 Found place bytes blank = (b : ℕ) × (bs : List ℕ) × (bytes ≡ b ∷ bs) × (is_blank b ≡ true)
 Found place bytes (token x width) =
-    (1 ≤ width) × (width ≤ length bytes) × IsToken place (take width bytes) x × (is_over x (drop width bytes) ≡ true)
+    (1 ≤ width) × (width ≤ length bytes) × IsToken place (take width bytes) x × (is_whole x (drop width bytes) ≡ true)
 Found place bytes (bad e) = Stops place bytes e
 
 either_way : (place : ℕ) (bytes : List ℕ) (c : Bool) (x y : Piece) → (c ≡ true → Found place bytes x) → (c ≡ false → Found place bytes y) → Found place bytes (if c then x else y)
@@ -116,7 +116,7 @@ word_found place b bs letter =
     )
 
 -- neither a letter nor a digit follows
-no_more_of_it : (n : ℕ) (rest : List ℕ) → ends is_ascii_digit rest ≡ true → begins_with_letter rest ≡ false → is_over (number n) rest ≡ true
+no_more_of_it : (n : ℕ) (rest : List ℕ) → ends is_ascii_digit rest ≡ true → begins_with_letter rest ≡ false → is_whole (number n) rest ≡ true
 unfolding ends
 no_more_of_it n [] digits letter = refl
 no_more_of_it n (b ∷ bs) digits letter =
@@ -156,7 +156,7 @@ number_found place b bs digit =
       no_more_of_it (digits_value 10 (take width bytes)) (drop width bytes) (run_ends is_ascii_digit bytes) both.1,
     ))
 
-over_text : (s t rest : List ℕ) → is_over (text s) rest ≡ is_over (text t) rest
+over_text : (s t rest : List ℕ) → is_whole (text s) rest ≡ is_whole (text t) rest
 over_text s t [] = refl
 over_text s t (b ∷ bs) = refl
 
@@ -172,7 +172,7 @@ text_found place bs = go (said place (place + 1) false bs) refl (reads place (pl
           (let e : 1 ≤ length (quoted t) = omega (arith, length-append (flat_map doubled t) (39 ∷ [])) in e),
           (let e : length (quoted t) ≤ length (39 ∷ bs) = omega (arith, length-append (quoted t) rest, ap length whole) in e),
           a_text t printed (ap (take (length (quoted t))) whole ∙ take-append_seam (quoted t) rest) refl,
-          ap (is_over (text t)) (ap (drop (length (quoted t))) whole ∙ drop-append_seam (quoted t) rest) ∙ over_text t [] rest ∙ over,
+          ap (is_whole (text t)) (ap (drop (length (quoted t))) whole ∙ drop-append_seam (quoted t) rest) ∙ over_text t [] rest ∙ over,
         )
     go (Err (OpenText o)) h (same, is) = rw h (same, refl, is)
     go (Err (BadCharacter p)) h (n, place', is) = rw h (inr (n, omega (arith, place'), refl, is))
@@ -193,11 +193,11 @@ each_sign P word x all (k, below, is) = subst P is (at_place P signs k (word, x)
 sign_first : (place b n : ℕ) (bs : List ℕ) → (b == n) ≡ true → Found place (n ∷ bs) (sign_piece place (n ∷ bs)) → Found place (b ∷ bs) (sign_piece place (b ∷ bs))
 sign_first place b n bs is found = subst (λ c. Found place (c ∷ bs) (sign_piece place (c ∷ bs))) (sym (eqb-true b n is)) found
 
-nothing_over : (x : Symbol) (rest : List ℕ) → ((b : ℕ) → goes_on x b ≡ false) → is_over x rest ≡ true
+nothing_over : (x : Symbol) (rest : List ℕ) → ((b : ℕ) → continues x b ≡ false) → is_whole x rest ≡ true
 nothing_over x [] none = refl
 nothing_over x (b ∷ bs) none = rw (none b) refl
 
-lone : (place n k : ℕ) (bs : List ℕ) (x : Symbol) → Contains signs (n ∷ [], x) → ((b : ℕ) → goes_on x b ≡ false) → Found place (n ∷ bs) (token x 1)
+lone : (place n k : ℕ) (bs : List ℕ) (x : Symbol) → Contains signs (n ∷ [], x) → ((b : ℕ) → continues x b ≡ false) → Found place (n ∷ bs) (token x 1)
 lone place n k bs x there none = (omega arith, omega arith, a_sign there, nothing_over x bs none)
 
 less_found : (place : ℕ) (bs : List ℕ) → Found place (60 ∷ bs) (sign_piece place (60 ∷ bs))
@@ -279,7 +279,7 @@ digit_no_letter b digit =
     rw (low, high, line) refl
 
 -- words
-word_front : (place : ℕ) (word rest : List ℕ) → begins_with_letter word ≡ true → list_all is_word_byte word ≡ true → is_over (word_of place word) rest ≡ true
+word_front : (place : ℕ) (word rest : List ℕ) → begins_with_letter word ≡ true → list_all is_word_byte word ≡ true → is_whole (word_of place word) rest ≡ true
     → front_piece place (word ++ rest) ≡ token (word_of place word) (length word)
 word_front place [] rest begins all over = cc
 word_front place (b ∷ bs) rest begins all over =
@@ -304,7 +304,7 @@ numeral_parts places digits n e =
     (λ no'. absurd (let h = rw no' at e in cc))
 
 -- digits end where a number is over, and no letter follows
-number_over : (n : ℕ) (rest : List ℕ) → is_over (number n) rest ≡ true → (ends is_ascii_digit rest ≡ true) × (begins_with_letter rest ≡ false)
+number_over : (n : ℕ) (rest : List ℕ) → is_whole (number n) rest ≡ true → (ends is_ascii_digit rest ≡ true) × (begins_with_letter rest ≡ false)
 unfolding ends
 number_over n [] over = (refl, refl)
 number_over n (b ∷ bs) over =
@@ -323,7 +323,7 @@ number_is place digits rest n run few none value =
     ∙ if_else (nat_lt most_digits (length digits) || begins_with_letter (drop (length digits) (digits ++ rest))) _ _ (or_from _ _ short (ap begins_with_letter (drop-append_seam digits rest) ∙ none))
     ∙ ap (λ m. token (number m) (length digits)) (ap (digits_value 10) (take-append_seam digits rest) ∙ value)
 
-number_front : (place : ℕ) (digits rest : List ℕ) (n : ℕ) → numeral_of most_digits digits ≡ Some n → is_over (number n) rest ≡ true
+number_front : (place : ℕ) (digits rest : List ℕ) (n : ℕ) → numeral_of most_digits digits ≡ Some n → is_whole (number n) rest ≡ true
     → front_piece place (digits ++ rest) ≡ token (number n) (length digits)
 number_front place digits rest n e over = go digits (numeral_parts most_digits digits n e)
   where
@@ -340,7 +340,7 @@ number_front place digits rest n e over = go digits (numeral_parts most_digits d
 text_is : (place : ℕ) (bytes : List ℕ) (o : Result (List ℕ) QueryFault) → said place (place + 1) false bytes ≡ o → text_piece place bytes ≡ text_read place o
 text_is place bytes o e = rw e refl
 
-text_front : (place : ℕ) (t rest : List ℕ) → list_all is_printable t ≡ true → is_over (text t) rest ≡ true
+text_front : (place : ℕ) (t rest : List ℕ) → list_all is_printable t ≡ true → is_whole (text t) rest ≡ true
     → front_piece place (quoted t ++ rest) ≡ token (text t) (length (quoted t))
 unfolding quoted
 text_front place t rest printed over =
@@ -350,32 +350,32 @@ text_front place t rest printed over =
     ap (text_piece place) behind ∙ text_is place (flat_map doubled t ++ 39 ∷ rest) (Ok t) found ∙ ap (token (text t)) width
 
 -- signs
-less_front : (place : ℕ) (rest : List ℕ) → is_over (relation r.Less) rest ≡ true → front_piece place (60 ∷ rest) ≡ token (relation r.Less) 1
+less_front : (place : ℕ) (rest : List ℕ) → is_whole (relation r.Less) rest ≡ true → front_piece place (60 ∷ rest) ≡ token (relation r.Less) 1
 less_front place [] over = refl
 less_front place (c ∷ cs) over =
     by_bool ((c == 61) || (c == 62)) (λ wrong. absurd (let h = rw wrong at over in cc))
     (λ none. let both = or_parts (c == 61) (c == 62) none in same_sign_piece place 60 (c ∷ cs) ∙ rw (both.0, both.1) refl)
 
-greater_front : (place : ℕ) (rest : List ℕ) → is_over (relation r.Greater) rest ≡ true → front_piece place (62 ∷ rest) ≡ token (relation r.Greater) 1
+greater_front : (place : ℕ) (rest : List ℕ) → is_whole (relation r.Greater) rest ≡ true → front_piece place (62 ∷ rest) ≡ token (relation r.Greater) 1
 greater_front place [] over = refl
 greater_front place (c ∷ cs) over =
     by_bool (c == 61) (λ wrong. absurd (let h = rw wrong at over in cc))
     (λ none. same_sign_piece place 62 (c ∷ cs) ∙ rw none refl)
 
-sign_front : (place : ℕ) (word : List ℕ) (x : Symbol) (rest : List ℕ) → Contains signs (word, x) → is_over x rest ≡ true
+sign_front : (place : ℕ) (word : List ℕ) (x : Symbol) (rest : List ℕ) → Contains signs (word, x) → is_whole x rest ≡ true
     → front_piece place (word ++ rest) ≡ token x (length word)
 sign_front place word x rest there over =
-    each_sign (λ (w, y). is_over y rest ≡ true → front_piece place (w ++ rest) ≡ token y (length w)) word x
+    each_sign (λ (w, y). is_whole y rest ≡ true → front_piece place (w ++ rest) ≡ token y (length w)) word x
     ((λ o. refl), ((λ o. refl), ((λ o. refl), (less_front place rest, (greater_front place rest, ((λ o. refl), ((λ o. refl), ((λ o. refl), ((λ o. refl), ((λ o. refl), ((λ o. refl), ((λ o. refl), ((λ o. refl), tt))))))))))))) there over
 
-pub token_front : (place : ℕ) (word rest : List ℕ) (x : Symbol) → IsToken place word x → is_over x rest ≡ true
+pub token_front : (place : ℕ) (word rest : List ℕ) (x : Symbol) → IsToken place word x → is_whole x rest ≡ true
     → front_piece place (word ++ rest) ≡ token x (length word)
 token_front place word rest x (a_word begins all same) over =
-    let o : is_over (word_of place word) rest ≡ true = rw (← same) over in word_front place word rest begins all o ∙ ap (λ y. token y (length word)) (sym same)
+    let o : is_whole (word_of place word) rest ≡ true = rw (← same) over in word_front place word rest begins all o ∙ ap (λ y. token y (length word)) (sym same)
 token_front place word rest x (a_number n e same) over =
-    let o : is_over (number n) rest ≡ true = rw (← same) over in number_front place word rest n e o ∙ ap (λ y. token y (length word)) (sym same)
+    let o : is_whole (number n) rest ≡ true = rw (← same) over in number_front place word rest n e o ∙ ap (λ y. token y (length word)) (sym same)
 token_front place word rest x (a_text t printed cut same) over =
-    let o : is_over (text t) rest ≡ true = rw (← same) over in
+    let o : is_whole (text t) rest ≡ true = rw (← same) over in
     let e = text_front place t rest printed o in
     ap (λ w. front_piece place (w ++ rest)) cut ∙ e ∙ ap (λ w. token (text t) (length w)) (sym cut) ∙ ap (λ y. token y (length word)) (sym same)
 token_front place word rest x (a_sign there) over = sign_front place word x rest there over
@@ -459,7 +459,7 @@ behind_blank place b bs (Ok tokens) e rest =
     white_space place b bs tokens e (subst (λ end. AreTokens end [] (place + 1) bs tokens) same rest)
 behind_blank place b bs (Err fault) e (tokens, end, left, are, stops) = (tokens, end, left, white_space place b bs tokens e are, stops)
 
-behind_token : (place : ℕ) (word bytes : List ℕ) (x : Symbol) (o : Result (List Placed) QueryFault) → IsToken place word x → is_over x bytes ≡ true
+behind_token : (place : ℕ) (word bytes : List ℕ) (x : Symbol) (o : Result (List Placed) QueryFault) → IsToken place word x → is_whole x bytes ≡ true
     → Cut (place + length word) bytes o → Cut place (word ++ bytes) (with_first (record { symbol = x; place = place }) o)
 behind_token place word bytes x (Ok tokens) is over rest =
     let same : place + length word + length bytes ≡ place + length (word ++ bytes) = omega (arith, length-append word bytes) in

@@ -10,7 +10,7 @@ use Rattle.star_query.specs.declared.fault.QueryFault.TheVariants.{BadCharacter,
 use Rattle.star_query.specs.Cut.{with_first, said}
 use Rattle.star_query.specs.Cut as cut
 use Rattle.star_query.specs.Symbols.{text}
-use Rattle.star_query.specs.Tokens.{HasBadByte, IsOpen, is_over}
+use Rattle.star_query.specs.Tokens.{HasBadByte, IsOpen, is_whole}
 use Rattle.star_query.specs.Private.Quoted.{Ending, closed, stopped, open_ended, farther, ending_after, unquoted_after, text_piece}
 use Rattle.star_query.proofs.Counting.{by_bool}
 
@@ -108,7 +108,7 @@ waits false = 0
 
 abbrev pub Reads : (opened at : ℕ) → Bool → List ℕ → Result (List ℕ) QueryFault → Type 0
 Reads opened at q bytes (Ok t) =
-    (rest : List ℕ) × (waiting q bytes ≡ flat_map doubled t ++ 39 ∷ rest) × (list_all is_printable t ≡ true) × (is_over (text []) rest ≡ true)
+    (rest : List ℕ) × (waiting q bytes ≡ flat_map doubled t ++ 39 ∷ rest) × (list_all is_printable t ≡ true) × (is_whole (text []) rest ≡ true)
 Reads opened at q bytes (Err (OpenText o)) = (o ≡ opened) × IsOpen (waiting q bytes)
 Reads opened at q bytes (Err (BadCharacter p)) = (n : ℕ) × (p + waits q ≡ at + n) × HasBadByte (waiting q bytes) n
 Reads opened at q bytes (Err _) = ⊥
@@ -165,7 +165,7 @@ reads opened at false (b ∷ bs) =
     (λ bad. rw (other, bad) (0, refl, record { said = []; b = b; rest = bs; cut = refl; printed = refl; bad = bad; where_it_is = refl })))
 
 -- and what is written so is read
-pub read_closed : (opened at : ℕ) (t rest : List ℕ) → list_all is_printable t ≡ true → is_over (text []) rest ≡ true
+pub read_closed : (opened at : ℕ) (t rest : List ℕ) → list_all is_printable t ≡ true → is_whole (text []) rest ≡ true
     → said opened at false (flat_map doubled t ++ 39 ∷ rest) ≡ Ok t
 read_closed opened at [] [] printed over = refl
 read_closed opened at [] (c ∷ cs) printed over =

@@ -1,8 +1,9 @@
 -- Which texts are a query within the limits, and what else is the first fault (this project's profile of SQL).
-use Rattle.std.specs.Prelude.{◌≡◌, ℕ, ◌+◌, ◌<◌, ◌≤◌, ◌⊎◌, Bool, true, false, List, [], ◌∷◌, ◌++◌, map, length, Ok, Err, if◌then◌else◌}
+use Rattle.std.specs.Prelude.{◌≡◌, ℕ, ◌+◌, ◌<◌, ◌≤◌, ◌⊎◌, Bool, ◌==◌, List, [], ◌∷◌, ◌++◌, map, length, Ok, Err, if◌then◌else◌}
 use Rattle.std.specs.List.{AllByRecursion}
+use denote.Enum.Declared.{tag_of}
 use Rattle.star_query.specs.declared.counts.Part.{Part}
-use Rattle.star_query.specs.declared.counts.Part.TheVariants.{Item, Aggregate, GroupColumn, SortKey, Comparison, Operand}
+use Rattle.star_query.specs.contracts.counts.Part.{the_type}
 use Rattle.star_query.specs.declared.fault.Fault.{Fault}
 use Rattle.star_query.specs.declared.fault.Fault.TheVariants.{Unexpected, TooDeep, TooMany}
 use Rattle.star_query.specs.declared.fault.QueryFault.{QueryFault}
@@ -14,13 +15,7 @@ use Rattle.star_query.specs.Grammar.{Query, Mark, query_marks, query_tree}
 use Rattle.star_query.specs.Tree.{Tree}
 
 abbrev pub same_part : Part → Part → Bool
-same_part Item Item = true
-same_part Aggregate Aggregate = true
-same_part GroupColumn GroupColumn = true
-same_part SortKey SortKey = true
-same_part Comparison Comparison = true
-same_part Operand Operand = true
-same_part p q = false
+same_part p q = tag_of the_type p == tag_of the_type q
 
 -- how often a part is among these
 abbrev pub among : Part → List Part → ℕ

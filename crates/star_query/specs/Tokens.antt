@@ -23,25 +23,25 @@ pub data IsToken (place : ℕ) (bytes : List ℕ) (x : Symbol) : Type 0 where
   a_sign : Contains signs (bytes, x) → IsToken place bytes x
 
 -- whether a byte behind a token would be one of it: so each token is the longest that begins at its place
-abbrev pub goes_on : Symbol → ℕ → Bool
-goes_on (text said) b = b == 39
-goes_on (relation r.Less) b = (b == 61) || (b == 62)
-goes_on (relation r.Greater) b = b == 61
-goes_on (relation _) b = false
-goes_on (sign _) b = false
-goes_on (additive _) b = false
-goes_on _ b = is_word_byte b
+abbrev pub continues : Symbol → ℕ → Bool
+continues (text said) b = b == 39
+continues (relation r.Less) b = (b == 61) || (b == 62)
+continues (relation r.Greater) b = b == 61
+continues (relation _) b = false
+continues (sign _) b = false
+continues (additive _) b = false
+continues _ b = is_word_byte b
 
-abbrev pub is_over : Symbol → List ℕ → Bool
-is_over x [] = true
-is_over x (b ∷ bs) = not (goes_on x b)
+abbrev pub is_whole : Symbol → List ℕ → Bool
+is_whole x [] = true
+is_whole x (b ∷ bs) = not (continues x b)
 
 -- the bytes from a place on are white space and these tokens, up to what is left from the end of these on
 pub data AreTokens (end : ℕ) (left : List ℕ) : (place : ℕ) → (bytes : List ℕ) → List Placed → Type 0 where
   no_more : AreTokens end left end left []
   white_space : (place b : ℕ) (bytes : List ℕ) (tokens : List Placed) → is_blank b ≡ true
       → AreTokens end left (place + 1) bytes tokens → AreTokens end left place (b ∷ bytes) tokens
-  a_token : (place : ℕ) (word bytes : List ℕ) (x : Symbol) (tokens : List Placed) → IsToken place word x → is_over x bytes ≡ true
+  a_token : (place : ℕ) (word bytes : List ℕ) (x : Symbol) (tokens : List Placed) → IsToken place word x → is_whole x bytes ≡ true
       → AreTokens end left (place + length word) bytes tokens
       → AreTokens end left place (word ++ bytes) (record { symbol = x; place = place } ∷ tokens)
 
