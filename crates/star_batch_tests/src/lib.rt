@@ -11,6 +11,8 @@ mod draws;
 #[cfg(test)]
 mod joins;
 #[cfg(test)]
+mod lanes;
+#[cfg(test)]
 mod random;
 #[cfg(test)]
 mod scans;

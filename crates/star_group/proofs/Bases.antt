@@ -109,7 +109,7 @@ no_content : (d : Group) (content : List Put) → IsContent d [] content → con
 no_content d [] is = refl
 no_content d (e ∷ es) is = absurd (true≢false (sym (or_left (same_keys e.keys e.keys) (list_any (same_keys e.keys) (key_lists es)) (keys_equiv.refl e.keys)) ∙ is.keys e.keys))
 
-no_room : (d : Group) → HasRoom d []
+pub no_room : (d : Group) → HasRoom d []
 unfolding above_zero below_zero
 no_room d = record {
   sums = λ content is place h same. subst (λ es. AddUp (numbers_for place es)) (sym (no_content d content is)) (record { above = omega arith; below = omega arith });

@@ -28,3 +28,8 @@ pub mod PutsBeside
 pub mod Worked
 pub mod WorkedCells
 pub mod WorkedHeld
+pub mod SpanPlaces
+pub mod PlacedCells
+pub mod PlacedRows
+pub mod PlacedPuts
+pub mod PlacedLanes

@@ -273,7 +273,7 @@ IsMergedSoFar shape count gs place es j rows = (puts : List Put) → place + 1 �
     → IsRolledUp (group_with shape count gs) (place + 1) es puts
     → AreOver (group_with shape count gs) puts (so_far (is_among shape (place + 1) count) (IsMade shape count) (hide place) es j) rows
 
-stay_prop : (gs : List Aggregate) (found : Option (List (Option ℤ))) (more : List (Option ℤ)) → IsProp (RowsStay gs found more)
+pub stay_prop : (gs : List Aggregate) (found : Option (List (Option ℤ))) (more : List (Option ℤ)) → IsProp (RowsStay gs found more)
 stay_prop gs None more = hlevel
 stay_prop gs (Some held) more = hlevel Bool-set
 

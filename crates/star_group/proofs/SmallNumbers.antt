@@ -5,13 +5,17 @@ use Rattle.std.proofs.lemmas.Bool.{ltb-true}
 use Rattle.std.proofs.lemmas.Int.{ints}
 use Rattle.std.proofs.lemmas.List.Elements.{All-head, All-tail}
 use Rattle.std.proofs.lemmas.Map.Keys.{IsDistinct-head, IsDistinct-tail}
-use Rattle.std.specs.List.{list_any, AllByRecursion, IsDistinct}
+use Rattle.std.specs.List.{filter, list_any, AllByRecursion, IsDistinct}
+use Rattle.std.proofs.lemmas.List.Sums.{count_by-le-length, length-filter}
 use Rattle.star_schema.specs.declared.group.Aggregate.TheVariants.{Sum}
-use Rattle.star_schema.specs.Groups.{numbers_for}
+use Rattle.star_schema.specs.Groups.{joined, numbers_for}
 use Rattle.star_interval.specs.Range.{is_i64}
+use Rattle.star_program.specs.declared.key.KeyValue.{KeyValue}
 use Rattle.star_program.specs.Keys.{same_keys}
-use Rattle.star_group.specs.Stores.{Put, Group, aggregate_at, IsContent, key_lists, number_at, above_zero, below_zero, AddUp, HasRoom}
-use Rattle.star_group.proofs.ContentByKeys.{told}
+use Rattle.star_group.specs.Stores.{Put, Group, aggregate_at, IsContent, key_lists, number_at, puts_of, above_zero, below_zero, AddUp, HasRoom}
+use Rattle.star_group.proofs.ContentByKeys.{all_more, sums, told}
+use Rattle.star_group.proofs.ContentMade.{made, made_content}
+use Rattle.star_group.proofs.KeyLists.{keys_decide}
 use Rattle.star_group.proofs.JoinedParts.{flipped, more, no_two, over, over_more}
 
 -- ---- a measure of numbers of which a sum has no more than its parts
@@ -118,6 +122,54 @@ small_room d us small few = record { sums = sums; counts = λ place h same. few 
           above = omega (arith, (sides place es).0, (sides place us).0, up.above, entries_less above (λ x y. above_sum x y (x +ℤ y) refl) (number_at place) us es is.once each);
           below = omega (arith, (sides place es).1, (sides place us).1, up.below, entries_less below (λ x y. below_sum x y (x +ℤ y) refl) (number_at place) us es is.once each);
         }
+
+-- ---- the puts whose key lists pass a test
+
+kept_of : (p : List KeyValue → Bool) (keys : List KeyValue) (us : List Put) (b : Bool) → p keys ≡ b → puts_of keys (filter (λ u. p u.keys) us) ≡ cond b (puts_of keys us) []
+kept_of p keys [] true is = refl
+kept_of p keys [] false is = refl
+kept_of p keys (u ∷ us) b is = by (same_keys keys u.keys) (p u.keys) refl refl (kept_of p keys us b is)
+  where
+    by : (c e : Bool) → same_keys keys u.keys ≡ c → p u.keys ≡ e → puts_of keys (filter (λ w. p w.keys) us) ≡ cond b (puts_of keys us) []
+        → puts_of keys (cond e (u ∷ filter (λ w. p w.keys) us) (filter (λ w. p w.keys) us)) ≡ cond b (cond c (u ∷ puts_of keys us) (puts_of keys us)) []
+    by true true own passes rest = ap (λ c. cond c (u ∷ puts_of keys (filter (λ w. p w.keys) us)) (puts_of keys (filter (λ w. p w.keys) us))) own
+        ∙ ap (λ ws. u ∷ ws) (rest ∙ ap (λ c. cond c (puts_of keys us) []) here)
+        ∙ sym (ap (λ c. cond c (u ∷ puts_of keys us) []) here)
+      where
+        here : b ≡ true
+        here = sym is ∙ ap p ((keys_decide keys u.keys).0 own) ∙ passes
+    by true false own passes rest = rest ∙ ap (λ c. cond c (puts_of keys us) []) here ∙ sym (ap (λ c. cond c (u ∷ puts_of keys us) []) here)
+      where
+        here : b ≡ false
+        here = sym is ∙ ap p ((keys_decide keys u.keys).0 own) ∙ passes
+    by false true own passes rest = ap (λ c. cond c (u ∷ puts_of keys (filter (λ w. p w.keys) us)) (puts_of keys (filter (λ w. p w.keys) us))) own ∙ rest
+    by false false own passes rest = rest
+
+-- where there is room for some puts, there is room for those whose key lists pass
+pub room_kept : (d : Group) (us : List Put) (p : List KeyValue → Bool) → HasRoom d us → HasRoom d (filter (λ u. p u.keys) us)
+room_kept d us p room = record {
+  sums = sums_kept;
+  counts = λ place h same. omega (arith, room.counts place h same, length-filter (λ (u : Put). p u.keys) us, count_by-le-length (λ (u : Put). p u.keys) us);
+}
+  where
+    sums_kept : (es : List Put) → IsContent d (filter (λ u. p u.keys) us) es → (place : ℕ) → place < length d.aggregates → aggregate_at d place ≡ Sum → AddUp (numbers_for place es)
+    sums_kept es is place h same =
+        let up = room.sums (made d us) (made_content d us) place h same in
+        record {
+          above = omega (arith, (sides place es).0, (sides place (made d us)).0, up.above, entries_less above (λ x y. above_sum x y (x +ℤ y) refl) (number_at place) (made d us) es is.once each);
+          below = omega (arith, (sides place es).1, (sides place (made d us)).1, up.below, entries_less below (λ x y. below_sum x y (x +ℤ y) refl) (number_at place) (made d us) es is.once each);
+        }
+      where
+        found : (e : Put) → joined (λ x y. x +ℤ y) (numbers_for place (puts_of e.keys (filter (λ u. p u.keys) us))) ≡ Some (number_at place e)
+            → over (λ x y. x +ℤ y) (number_at place) (λ u. same_keys e.keys u.keys) (made d us) ≡ Some (number_at place e)
+        found e told = sums d us (made d us) (made_content d us) place h (same_keys e.keys) same ∙ by (p e.keys) refl
+          where
+            by : (b : Bool) → p e.keys ≡ b → joined (λ x y. x +ℤ y) (numbers_for place (puts_of e.keys us)) ≡ Some (number_at place e)
+            by true passes = ap (λ ws. joined (λ x y. x +ℤ y) (numbers_for place ws)) (sym (kept_of p e.keys us true passes)) ∙ told
+            by false fails = absurd (let none : Some (number_at place e) ≡ None = sym told ∙ ap (λ ws. joined (λ x y. x +ℤ y) (numbers_for place ws)) (kept_of p e.keys us false fails) in let no : ⊥ = cc none in no)
+
+        each : AllByRecursion (λ e. over (λ x y. x +ℤ y) (number_at place) (λ u. same_keys e.keys u.keys) (made d us) ≡ Some (number_at place e)) es
+        each = all_more _ _ found es (told d (filter (λ u. p u.keys) us) es is place h Sum same)
 
 -- ---- few numbers of 64 bits
 

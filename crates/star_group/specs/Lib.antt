@@ -1,6 +1,7 @@
 -- What the contracts of star_group cite.
 pub mod Stores
 pub mod Cells
+pub mod Batches
 pub mod OneMore
 pub mod OwnKeys
 pub mod Held
@@ -9,5 +10,8 @@ pub mod Base
 pub mod Keyed
 pub mod Entries
 pub mod Deferred
+pub mod Places
+pub mod ByPlace
+pub mod Placed
 pub mod Shown
 pub mod Private

@@ -8,3 +8,5 @@ pub mod Numbers
 pub mod BasePut
 pub mod Coarser
 pub mod Listed
+pub mod Taken
+pub mod PlacedPut

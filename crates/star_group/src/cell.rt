@@ -69,6 +69,16 @@ impl Total {
         }
     }
 
+    // The same row once more.
+    pub(crate) fn copied(&self) -> Total
+        ensures { result ≡ self.now }
+    {
+        Total {
+            row: self.row,
+            begun: self.begun,
+        }
+    }
+
     // The row, where there was a put.
     fn as_row(&self) -> Option<&[Held]>
         ensures row { unwrap_or (option_copied result) [] ≡ self.now }

@@ -5,7 +5,7 @@ ghost use Rattle.star_group.specs.Base.{HasBaseWithRoom};
 ghost use Rattle.star_group.specs.Entries.{entries_of};
 
 mod base;
-mod coarser;
+pub(crate) mod coarser;
 mod store;
 
 use crate::cell::Total;
@@ -20,13 +20,13 @@ use std::alloc::Global;
 /// lately are mostly found with one look.
 #[derive(Drop)]
 pub struct DeferredStore {
-    alloc: Global,
-    shape: Shape,
-    count: usize,
-    aggregates: Vec<Aggregate>,
-    rows: KeyedRows,
+    pub(crate) alloc: Global,
+    pub(crate) shape: Shape,
+    pub(crate) count: usize,
+    pub(crate) aggregates: Vec<Aggregate>,
+    pub(crate) rows: KeyedRows,
     newest: Newest,
-    total: Total,
+    pub(crate) total: Total,
     ghost wide: { count ≤ rows.trie.width },
     ghost many: { rows.many ≡ vec_len aggregates },
     ghost room: { HasBaseWithRoom

@@ -6,6 +6,7 @@
 //! over all of them.
 #![tactic(auto)]
 
+mod batch;
 mod cell;
 mod deferred;
 mod eager;
@@ -15,13 +16,18 @@ mod group_rows;
 mod keyed;
 pub mod law;
 mod newest;
+mod numbers;
+mod placed;
 mod rows;
 mod store;
 
+pub use batch::PutBatch;
 pub use deferred::DeferredStore;
 pub use eager::EagerStore;
 pub use group_row::{GroupRow, Prefix, RowAggregates, RowKeys};
 pub use group_rows::GroupRows;
+pub use numbers::numbers_put;
+pub use placed::PlacedStore;
 pub use rows::PutFault;
 pub use star_program::KeyValue;
 pub use store::{GroupStore, TryPut};

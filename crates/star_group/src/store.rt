@@ -2,11 +2,14 @@
 
 ghost use Rattle.std.specs.Prelude.{◌≡◌, ◌≤◌, ◌<◌, ℕ, List, ◌∷◌, [], length, true, false, OnOk, OnErr, IfErr, IfOk};
 ghost use Rattle.star_common.specs.Memory.{UnlessMemory};
+ghost use Rattle.star_group.specs.Batches.{HasRoomForRows, IsPutBatch, after, put_in};
 ghost use Rattle.star_group.specs.Stores.{Put, Group, HasRoom, group_declared, overflows, total_of};
 ghost use Rattle.star_group.specs.Shown.{AreRows};
 
+use crate::batch::PutBatch;
 use crate::rows::PutFault;
 use crate::{GroupRows, KeyValue};
+use star_interval::Interval;
 use star_program::GroupDecl;
 use star_schema::Aggregate;
 use std::alloc::{AllocError, Global};
@@ -26,6 +29,21 @@ pub trait GroupStore: Drop {
         ensures group { IfOk result (λ store. group store ≡ group_declared declared.now) }
         ensures empty { IfOk result (λ store. has store []) };
 
+    /// The same, where the keys are expected in these ranges, of numbers or of codes of texts. A store
+    /// may be faster for keys that lie in them; all keys serve, whether or not they do.
+    fn with_ranges(
+        alloc: Global,
+        declared: &GroupDecl,
+        _ranges: &[Interval],
+    ) -> Result<Self, AllocError>
+        requires few_keys { length declared.now.keys ≤ 6 }
+        requires few { length declared.now.aggregates ≤ 8 }
+        ensures group { IfOk result (λ store. group store ≡ group_declared declared.now) }
+        ensures empty { IfOk result (λ store. has store []) }
+    {
+        Self::new(alloc, declared)
+    }
+
     /// One more put: a value for each key, and a number for each aggregate, of which that for a
     /// `Count` does not matter. Its condition: with it the positive sums by key list add up within
     /// 128 bits, and so do the negative ones, and there are fewer puts than 2^63 where they are
@@ -39,6 +57,30 @@ pub trait GroupStore: Drop {
             → has self.new (record { keys = keys.now; values = values.now } ∷ puts)) }
         ensures refused { OnErr result ((puts : List Put) → has self.old puts → has self.new puts) }
         ensures group { group self.new ≡ group self.old };
+
+    /// The puts of some rows, one after another in order. Its condition is that of each of these
+    /// puts. Where memory is refused the content is that with the puts of the first rows.
+    fn put_batch(&mut self, batch: &PutBatch<'_>) -> Result<(), AllocError>
+        requires declared { group_declared batch.now.declared.now ≡ group self.old }
+        requires batch { IsPutBatch batch.now }
+        requires room { (puts : List Put) × has self.old puts
+            × HasRoomForRows (group self.old) (put_in batch.now) puts batch.now.rows }
+        ensures ok { OnOk result ((puts : List Put) → has self.old puts
+            → has self.new (after (put_in batch.now) puts batch.now.rows)) }
+        ensures refused { OnErr result ((puts : List Put) → has self.old puts
+            → (rows : ℕ) × has self.new (after (put_in batch.now) puts rows)) }
+        ensures group { group self.new ≡ group self.old }
+    {
+        for row in 0..batch.rows {
+            let keys = batch.keys_in(row);
+            let numbers = batch.numbers_in(row);
+            self.put(
+                &keys[..batch.keys.len()],
+                &numbers[..batch.declared.aggregates.as_slice().len()],
+            )?;
+        }
+        Ok(())
+    }
 
     /// An aggregate, by its number from 0, over all puts; `None` is NULL. Takes no memory.
     fn total(&self, aggregate: usize) -> Option<i128>

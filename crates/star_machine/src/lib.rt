@@ -17,7 +17,7 @@ mod walk;
 mod work;
 
 pub use fault::TrialFault;
-pub use puts::numbers_put;
+pub use star_group::numbers_put;
 pub use star_program::{Cell, CellView, Fault, Outcome, TrapKind};
 pub use trials::trial;
 pub use work::Work;

@@ -36,7 +36,7 @@ fn run_through(
     let wide = parts.registers as usize;
     let mut registers = empty_registers(alloc, wide)?;
     let mut frames = empty_registers(alloc, MOST_SCANS as usize * wide)?;
-    let mut run = Work::new(alloc, parts)?;
+    let mut run = Work::new(alloc, parts, &[])?;
     let machine = Machine {
         catalogue,
         parts,

@@ -15,8 +15,10 @@ use crate::check::check;
 use crate::facts::Facts;
 use crate::refusal::Refusal;
 use crate::rows::most_rows;
+use crate::tally::Tally;
 use star_admission::law::admissible_programs_within_the_limit_are_not_refused;
 use star_catalogue::Catalogue;
+use star_interval::Interval;
 use star_program::Program;
 use star_schema::Limits;
 use std::alloc::Global;
@@ -30,6 +32,7 @@ pub struct Verified<'c> {
     program: Program,
     quote: u128,
     most_rows: u128,
+    keys: Vec<Tally>,
 }
 
 impl<'c> Model for Verified<'c> {
@@ -101,6 +104,17 @@ impl<'c> Verified<'c> {
         self.most_rows
     }
 
+    /// The least range that holds what puts give the key of this place to the group of this number,
+    /// by what is known before a run; `None` where no number is known. No clause tells it: it may
+    /// make a run faster and changes no answer.
+    pub fn expected(&self, group: usize, place: usize) -> Option<Interval> {
+        if place < 8 && group < 8 {
+            self.keys.get(8 * group + place)?.each
+        } else {
+            None
+        }
+    }
+
     /// The program, which may be checked again.
     pub fn into_program(self) -> Program
         ensures { result ≡ self.entry.program }
@@ -140,6 +154,7 @@ pub fn verify<'c>(
                 program,
                 quote: accepted.visits,
                 most_rows,
+                keys: accepted.keys,
             })
         }
         Err(refusal) => Err(Refused { program, refusal }),

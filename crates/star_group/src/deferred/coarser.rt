@@ -1,15 +1,20 @@
 // The rows in which keys are ALL, made from those in which fewer are.
 
-ghost use Rattle.std.specs.Prelude.{◌≡◌, ◌≤◌, ◌<◌, ◌+◌, true, length, take, OnOk};
+ghost use Rattle.std.specs.Prelude.{◌≡◌, ◌≤◌, ◌<◌, ◌+◌, true, List, length, take, IfOk, OnOk};
 ghost use Rattle.star_schema.specs.Groups as groups;
-ghost use Rattle.star_group.specs.Base.{key_of, row_at};
+ghost use Rattle.star_group.specs.Base.{HasBaseWithRoom, IsBase, key_of, row_at};
 ghost use Rattle.star_group.specs.Entries.{entries_of};
 ghost use Rattle.star_group.specs.Private.Coarser as spec;
 ghost use Rattle.star_group.specs.Private.Coarser.{IsMergedWhere, IsRolledUpWithRoom, NoneCoarser, RollsUp};
+ghost use Rattle.star_group.specs.Private.BasePut.{group_with};
 ghost use Rattle.star_group.specs.Private.Merged.{RowsStay};
 ghost use Rattle.star_group.specs.Private.Numbers.{AreAsWide, FitsIn, IsGrown, IsNarrow};
+ghost use Rattle.star_group.specs.Shown.{AreRows};
+ghost use Rattle.star_group.specs.Stores.{Put};
 
-use crate::cell::Held;
+use crate::GroupRows;
+use crate::cell::{Held, Total};
+use crate::given::rows_given;
 use crate::keyed::KeyedRows;
 use crate::keyed::key::{OrderedKey, hidden, is_grouping};
 use star_schema::{Aggregate, Shape};
@@ -119,4 +124,27 @@ pub(super) fn add_coarser(
         from = first_finer(shape, many);
     }
     Ok(())
+}
+
+// The rows that a store gives in the end, from those of all keys and the total.
+pub(crate) fn rows_of_base(
+    alloc: Global,
+    base: KeyedRows,
+    total: &Total,
+    shape: Shape,
+    count: usize,
+    aggregates: &[Aggregate],
+) -> Result<GroupRows, AllocError>
+    requires count { count ≤ base.trie.width }
+    requires many { length aggregates.now ≡ base.many }
+    requires room { HasBaseWithRoom (group_with shape count aggregates.now) (entries_of base)
+        total.now }
+    ensures { IfOk result (λ rows. (puts : List Put)
+        → IsBase (group_with shape count aggregates.now) (entries_of base) total.now puts
+        → AreRows (group_with shape count aggregates.now) puts rows) }
+{
+    let mut rows = base;
+    add_coarser(alloc, &mut rows, shape, count, aggregates)?;
+    let rows = rows.into_listed();
+    rows_given(alloc, &rows, total, shape, count, aggregates)
 }

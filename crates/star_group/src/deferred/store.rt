@@ -5,9 +5,8 @@ ghost use Rattle.star_group.specs.Deferred.{group_of, Has};
 
 use super::DeferredStore;
 use super::base::add_put;
-use super::coarser::add_coarser;
+use super::coarser::rows_of_base;
 use crate::cell::{Total, shown};
-use crate::given::rows_given;
 use crate::keyed::KeyedRows;
 use crate::newest::Newest;
 use crate::store::{GroupStore, aggregates_of};
@@ -51,11 +50,9 @@ impl GroupStore for DeferredStore {
     }
 
     fn into_rows(self) -> Result<GroupRows, AllocError> {
-        let mut rows = self.rows;
+        let rows = self.rows;
         let aggregates = self.aggregates.as_slice();
         let (alloc, shape, count) = (self.alloc, self.shape, self.count);
-        add_coarser(alloc, &mut rows, shape, count, aggregates)?;
-        let rows = rows.into_listed();
-        rows_given(alloc, &rows, &self.total, shape, count, aggregates)
+        rows_of_base(alloc, rows, &self.total, shape, count, aggregates)
     }
 }

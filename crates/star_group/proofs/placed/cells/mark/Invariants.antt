@@ -1,0 +1,6 @@
+use Rattle.std.proofs.Common.{◌≡◌, false, true}
+use Rattle.star_group.specs.Private.Taken.{after_rows}
+use Rattle.star_group.proofs.placed.cells.mark.Given as goal
+
+abbrev pub invariant-loop-row : goal.invariant-loop-row
+invariant-loop-row l = l.seen ≡ after_rows false (λ row was. true) l.at l.fn.seen l.row

@@ -1,0 +1,27 @@
+use Rattle.std.proofs.Common.{◌≡◌, ◌++◌, ◌∷◌, [], ◌∙◌, ap, arith, below_more, get_or, length, replicate, sym}
+use Rattle.std.proofs.lemmas.List.{get_or_append_left, get_or_default, length-replicate}
+use Rattle.std.proofs.Math.Seq.{get_or-append_seam}
+use Rattle.star_schema.specs.declared.group.Aggregate.TheVariants.{Count, Sum}
+use Rattle.star_program.specs.Rows.{cut}
+use Rattle.star_program.proofs.Rows.{length-cut}
+use Rattle.star_group.specs.ByPlace.{neutral}
+use Rattle.star_group.proofs.CutRows.{cut_one, more_long}
+use Rattle.star_group.proofs.placed.making.blank_cells.Goals as goal
+
+pub loop-aggregate-preserved : goal.loop-aggregate-preserved
+loop-aggregate-preserved c =
+    let places = c.args.places in
+    let n = c.loop-aggregate.aggregate-index in
+    let old = c.loop-aggregate.cells.items in
+    let new = c.extend_from_slice.new.self.items in
+    let row = c.as_slice.result.now in
+    let blank = c.as_slice.ensures.value ∙ c.in_ok-column.ensures in
+    let wide : length row ≡ places = ap length blank ∙ length-replicate places _ in
+    let is : new ≡ old ++ row = c.in_ok-extend_from_slice.ensures.items in
+    let rows = cut_one places n old new row c.loop-aggregate.invariant.len wide is in
+    record {
+      cells = below_more _ _
+          (λ a h. ap (λ rs. get_or rs a []) rows ∙ get_or_append_left (cut places n old) (row ∷ []) [] a (omega (arith, h, length-cut places n old)) ∙ c.loop-aggregate.invariant.cells a h)
+          (ap (λ rs. get_or rs n []) rows ∙ ap (λ m. get_or (cut places n old ++ row ∷ []) m []) (sym (length-cut places n old)) ∙ get_or-append_seam (cut places n old) row [] [] ∙ blank ∙ ap (λ g. replicate places (neutral g)) (get_or_default c.args.aggregates.now n Sum Count c.loop-aggregate-test.true));
+      len = more_long places n old new row c.loop-aggregate.invariant.len wide is;
+    }

@@ -1,0 +1,49 @@
+-- The content of a placed store: the cells of each place, and a deferred store of the other puts.
+use Rattle.std.specs.Prelude.{◌≡◌, ℕ, ◌<◌, ◌^◌, ◌-◌, Bool, false, ℤ, pos, negsuc, List, [], Option, filter, length, slice_index_or}
+use Rattle.std.specs.List.{AllByRecursion}
+use Rattle.std.specs.Option.{unwrap_or}
+use Rattle.star_schema.specs.declared.group.Aggregate.{Aggregate}
+use Rattle.star_schema.specs.declared.group.Aggregate.TheVariants.{Sum, Count, Min, Max}
+use Rattle.star_schema.specs.Groups.{numbers_for}
+use Rattle.star_program.specs.Rows.{cut}
+use Rattle.star_group.specs.declared.keyed.key.KeyPart.{KeyPart}
+use Rattle.star_group.specs.declared.placed.span.Span.{Span}
+use Rattle.star_group.specs.Base.{IsBase}
+use Rattle.star_group.specs.Cells.{held}
+use Rattle.star_group.specs.Held.{has_puts}
+use Rattle.star_group.specs.Places.{is_at, is_outside}
+use Rattle.star_group.specs.Stores.{Group, HasRoom, Put, aggregate_at}
+
+-- what a cell has of an aggregate over no numbers: no number of 64 bits changes by it
+abbrev pub neutral : Aggregate → ℤ
+neutral Sum = pos 0
+neutral Count = pos 0
+neutral Min = pos (2 ^ 63 - 1)
+neutral Max = negsuc (2 ^ 63 - 1)
+
+-- what it has over some puts
+abbrev pub cell_over : Group → ℕ → List Put → ℤ
+cell_over d a puts = unwrap_or (held (aggregate_at d a) (numbers_for a puts)) (neutral (aggregate_at d a))
+
+-- what stands at each place is told by the puts there
+abbrev pub AreAt : {A : Type 0} → A → (List Put → A) → List Span → List A → List Put → Type 0
+AreAt none value spans items puts = (place : ℕ) → place < length items
+    → slice_index_or items place none ≡ value (filter (λ put. is_at spans place put.keys) puts)
+
+-- the cells of one aggregate
+abbrev pub column : Group → List Bool → List ℤ → ℕ → List ℤ
+column d seen cells a = slice_index_or (cut (length seen) (length d.aggregates) cells) a []
+
+-- which places have puts, and their cells; and the base rows of the puts whose keys have no place
+pub record IsPlaced (d : Group) (spans : List Span) (seen : List Bool) (cells : List ℤ)
+    (entries : List (List KeyPart × List (Option ℤ))) (all : List (Option ℤ)) (puts : List Put)
+    : Type 0 where
+  pub fit : AllByRecursion (λ put. length put.keys ≡ d.count) puts
+  pub seen_at : AreAt false has_puts spans seen puts
+  pub cells_at : (a : ℕ) → a < length d.aggregates
+      → AreAt (pos 0) (cell_over d a) spans (column d seen cells a) puts
+  pub rest : IsBase d entries all (filter (λ put. is_outside spans put.keys) puts)
+
+-- they are those of some puts that have room
+abbrev pub IsPlacedWithRoom : Group → List Span → List Bool → List ℤ → List (List KeyPart × List (Option ℤ)) → List (Option ℤ) → Type 0
+IsPlacedWithRoom d spans seen cells entries all = ∥ ((puts : List Put) × IsPlaced d spans seen cells entries all puts × HasRoom d puts) ∥₁

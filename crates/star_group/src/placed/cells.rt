@@ -1,0 +1,295 @@
+// Cells of aggregates at places, with the numbers of more puts.
+
+ghost use Rattle.std.specs.Prelude.{◌≡◌, ◌≤◌, ◌<◌, ◌+◌, ◌*◌, ◌∷◌, ℕ, All, List, None, [], false, length, map, pos, slice_index_or, slice_set, true, Some};
+ghost use Rattle.star_interval.specs.Range.{is_i64};
+ghost use Rattle.star_program.specs.Faults.{value_count};
+ghost use Rattle.star_program.specs.Puts.{aligned, leaves};
+ghost use Rattle.star_program.specs.Rows.{cut};
+ghost use Rattle.star_group.specs.Batches.{IsPutBatch, put_in, word_in};
+ghost use Rattle.star_group.specs.Cells.{step};
+ghost use Rattle.star_group.specs.Private.PlacedPut.{CanTakeBatch, CanTakePut, TakesBatch, TakesPut};
+ghost use Rattle.star_group.specs.Stores.{number_at};
+ghost use Rattle.star_group.specs.Private.Taken.{AreTaken, AreWithin, CanTake, CanTakeAll, after_rows, batch_lanes, column_after, lanes_of};
+
+use crate::batch::PutBatch;
+use crate::cell::{Held, Row};
+use star_schema::Aggregate;
+
+// That a word has 64 bits.
+fn narrow_at(words: &[i64], at: usize)
+    requires { at < length words.now }
+    ensures { is_i64 (slice_index_or words.now at (pos 0)) ≡ true }
+{
+    let _word = words[at];
+}
+
+// That each of some words has 64 bits.
+pub(crate) fn are_narrow(words: &[i64])
+    ensures { (at : ℕ) → is_i64 (slice_index_or words.now at (pos 0)) ≡ true }
+{
+    for at in 0..words.len() {
+        narrow_at(words, at);
+    }
+}
+
+// A cell with one more number.
+#[tactic(auto, unfolding(star_interval::specs::Range::is_i64, star_interval::specs::Range::is_i128))]
+fn taken(aggregate: Aggregate, cell: i128, value: i64) -> i128
+    requires { leaves aggregate (Some (step aggregate value (Some cell))) ≡ false }
+    ensures { result ≡ step aggregate value (Some cell) }
+{
+    match aggregate {
+        Aggregate::Sum => i128::from(value) + cell,
+        Aggregate::Count => cell + 1,
+        Aggregate::Min => i128::from(value).min(cell),
+        Aggregate::Max => i128::from(value).max(cell),
+    }
+}
+
+// One cell with the number of a row.
+fn taken_at(aggregate: Aggregate, cells: &[i128], place: u32, lane: &[i64], row: usize) -> i128
+    requires within { place < length cells.now }
+    requires row { row < length lane.now }
+    requires stays { leaves aggregate (Some (step aggregate (slice_index_or lane.now row (pos 0))
+        (Some (slice_index_or cells.now place (pos 0))))) ≡ false }
+    ensures { result ≡ step aggregate (slice_index_or lane.now row (pos 0))
+        (Some (slice_index_or cells.now place (pos 0))) }
+{
+    taken(aggregate, cells[place as usize], lane[row])
+}
+
+// The cells of one aggregate with a number more at the place of each row.
+#[inline(always)]
+fn take_lane(aggregate: Aggregate, cells: &mut [i128], at: &[u32], lane: &[i64])
+    requires same { length lane.now ≡ length at.now }
+    requires within { AreWithin at.now (length cells.old) }
+    requires stays { CanTake aggregate lane.now at.now cells.old }
+    ensures cells { cells.new ≡ column_after aggregate lane.now at.now cells.old (length at.now) }
+    ensures len { length cells.new ≡ length cells.old }
+{
+    for row in 0..at.len() {
+        let place = at[row];
+        cells[place as usize] = taken_at(aggregate, cells, place, lane, row);
+    }
+}
+
+// The places of some rows have puts.
+pub(crate) fn mark(seen: &mut [bool], at: &[u32])
+    requires within { AreWithin at.now (length seen.old) }
+    ensures seen { seen.new ≡ after_rows false (λ row was. true) at.now seen.old (length at.now) }
+    ensures len { length seen.new ≡ length seen.old }
+{
+    for row in 0..at.len() {
+        seen[at[row] as usize] = true;
+    }
+}
+
+// The cells of the aggregate of a number with a number more at the place of each row, among those of
+// so many aggregates, one after another.
+pub(crate) fn take_column(
+    cells: &mut [i128],
+    many: usize,
+    places: usize,
+    number: usize,
+    aggregate: Aggregate,
+    at: &[u32],
+    lane: &[i64],
+)
+    requires number { number < many }
+    requires long { length cells.old ≡ many * places }
+    requires same { length lane.now ≡ length at.now }
+    requires within { AreWithin at.now places }
+    requires stays { CanTake aggregate lane.now at.now
+        (slice_index_or (cut places many cells.old) number []) }
+    ensures cells { cut places many cells.new
+        ≡ slice_set (cut places many cells.old) number
+        (column_after aggregate lane.now at.now
+        (slice_index_or (cut places many cells.old) number []) (length at.now)) }
+    ensures len { length cells.new ≡ length cells.old }
+{
+    let start = number * places;
+    let end = start + places;
+    take_lane(aggregate, &mut cells[start..end], at, lane);
+}
+
+// The cells of each aggregate with the number of one put at its place.
+pub(crate) fn take_put(
+    cells: &mut [i128],
+    places: usize,
+    aggregates: &[Aggregate],
+    at: &[u32],
+    values: &[i64],
+)
+    requires one { length at.now ≡ 1 }
+    requires values { length values.now ≡ length aggregates.now }
+    requires long { length cells.old ≡ length aggregates.now * places }
+    requires within { AreWithin at.now places }
+    requires stays { CanTakeAll aggregates.now places (lanes_of values.now) at.now cells.old }
+    ensures { AreTaken aggregates.now places (lanes_of values.now) at.now cells.old cells.new }
+{
+    let many = aggregates.len();
+    for number in 0..many {
+        let lane = &values[number..number + 1];
+        take_column(cells, many, places, number, aggregates[number], at, lane);
+    }
+}
+
+// One cell.
+fn cell_at(cells: &[i128], at: usize) -> Held
+    requires { at < length cells.now }
+    ensures { result ≡ Some (slice_index_or cells.now at (pos 0)) }
+{
+    Held::new(cells[at])
+}
+
+// The row of one place.
+pub(crate) fn row_at(cells: &[i128], places: usize, many: usize, place: usize) -> Row
+    requires place { place < places }
+    requires few { many ≤ 8 }
+    requires long { length cells.now ≡ many * places }
+    ensures { (a : ℕ) → a < many → slice_index_or result a None
+        ≡ Some (slice_index_or (slice_index_or (cut places many cells.now) a []) place (pos 0)) }
+{
+    let mut row = [Held::new(0); 8];
+    for number in 0..many {
+        row[number] = cell_at(cells, number * places + place);
+    }
+    row
+}
+
+// One more put at a place.
+pub(crate) fn take_one(
+    cells: &mut [i128],
+    seen: &mut [bool],
+    aggregates: &[Aggregate],
+    place: usize,
+    values: &[i64],
+)
+    requires values { length values.now ≡ length aggregates.now }
+    requires long { length cells.old ≡ length aggregates.now * length seen.old }
+    requires place { place < length seen.old }
+    requires few { length seen.old ≤ 65536 }
+    requires can { CanTakePut aggregates.now values.now place seen.old cells.old }
+    ensures takes { TakesPut aggregates.now values.now place seen.old cells.old seen.new cells.new }
+    ensures seen { length seen.new ≡ length seen.old }
+    ensures len { length cells.new ≡ length cells.old }
+{
+    are_narrow(values);
+    let at = [place as u32];
+    take_put(cells, seen.len(), aggregates, &at, values);
+    mark(seen, &at);
+}
+
+// The number of a count in each row.
+const ONES: [i64; 1024] = [1; 1024];
+
+// A number of 1 for each of some rows.
+fn ones(rows: usize) -> &'static [i64]
+    requires { rows ≤ 1024 }
+    ensures words { (row : ℕ) → row < rows → slice_index_or result.now row (pos 0) ≡ pos 1 }
+    ensures len { length result.now ≡ rows }
+{
+    &ONES[..rows]
+}
+
+// The words of the first of some registers in the rows of a batch, and the others.
+fn first_lane<'a>(batch: &PutBatch<'a>, left: &'a [u16]) -> (&'a [i64], &'a [u16])
+    requires few { batch.now.rows ≤ 1024 }
+    requires some { 0 < length left.now }
+    requires lanes { All (λ r. r * 1024 + 1024 ≤ length batch.now.lanes.now) left.now }
+    ensures next { (row : ℕ) → row < batch.now.rows
+        → map (word_in batch.now.lanes.now row) left.now ≡ slice_index_or result.0.now row (pos 0)
+        ∷ map (word_in batch.now.lanes.now row) result.1.now }
+    ensures lanes { All (λ r. r * 1024 + 1024 ≤ length batch.now.lanes.now) result.1.now }
+    ensures left { 1 + length result.1.now ≡ length left.now }
+    ensures len { length result.0.now ≡ batch.now.rows }
+{
+    (batch.lane(left[0]), &left[1..])
+}
+
+// The numbers of some rows for an aggregate, and the registers that are left for the others.
+fn next_lane<'a>(
+    aggregate: Aggregate,
+    batch: &PutBatch<'a>,
+    left: &'a [u16],
+) -> (&'a [i64], &'a [u16])
+    requires few { batch.now.rows ≤ 1024 }
+    requires enough { value_count (aggregate ∷ []) ≤ length left.now }
+    requires lanes { All (λ r. r * 1024 + 1024 ≤ length batch.now.lanes.now) left.now }
+    ensures next { (row : ℕ) → row < batch.now.rows → (gs : List Aggregate)
+        → aligned (pos 1) (aggregate ∷ gs) (map (word_in batch.now.lanes.now row) left.now)
+        ≡ slice_index_or result.0.now row (pos 0)
+        ∷ aligned (pos 1) gs (map (word_in batch.now.lanes.now row) result.1.now) }
+    ensures left { value_count (aggregate ∷ []) + length result.1.now ≡ length left.now }
+    ensures lanes { All (λ r. r * 1024 + 1024 ≤ length batch.now.lanes.now) result.1.now }
+    ensures len { length result.0.now ≡ batch.now.rows }
+{
+    match aggregate {
+        Aggregate::Count => (ones(batch.rows), left),
+        _ => first_lane(batch, left),
+    }
+}
+
+// The cells of each aggregate with the numbers of the rows of a batch at their places.
+fn take_lanes(
+    cells: &mut [i128],
+    places: usize,
+    aggregates: &[Aggregate],
+    at: &[u32],
+    batch: &PutBatch<'_>,
+)
+    requires batch { IsPutBatch batch.now }
+    requires declared { aggregates.now ≡ batch.now.declared.now.aggregates }
+    requires rows { length at.now ≡ batch.now.rows }
+    requires long { length cells.old ≡ length aggregates.now * places }
+    requires within { AreWithin at.now places }
+    requires stays { CanTakeAll aggregates.now places (batch_lanes batch.now) at.now cells.old }
+    ensures { AreTaken aggregates.now places (batch_lanes batch.now) at.now cells.old cells.new }
+{
+    let many = aggregates.len();
+    let mut left = batch.values;
+    for number in 0..many {
+        let (lane, others) = next_lane(aggregates[number], batch, left);
+        take_column(cells, many, places, number, aggregates[number], at, lane);
+        left = others;
+    }
+}
+
+// That the numbers of the rows of a batch have 64 bits.
+fn lanes_are_narrow(aggregates: &[Aggregate], batch: &PutBatch<'_>)
+    requires batch { IsPutBatch batch.now }
+    requires declared { aggregates.now ≡ batch.now.declared.now.aggregates }
+    ensures { (a : ℕ) → a < length aggregates.now → (row : ℕ) → row < batch.now.rows
+        → is_i64 (number_at a (put_in batch.now row)) ≡ true }
+{
+    let mut left = batch.values;
+    for number in 0..aggregates.len() {
+        let (lane, others) = next_lane(aggregates[number], batch, left);
+        are_narrow(lane);
+        left = others;
+    }
+}
+
+// One more put at its place for each row of a batch.
+pub(crate) fn take_batch(
+    cells: &mut [i128],
+    seen: &mut [bool],
+    aggregates: &[Aggregate],
+    at: &[u32],
+    batch: &PutBatch<'_>,
+)
+    requires batch { IsPutBatch batch.now }
+    requires declared { aggregates.now ≡ batch.now.declared.now.aggregates }
+    requires rows { length at.now ≡ batch.now.rows }
+    requires long { length cells.old ≡ length aggregates.now * length seen.old }
+    requires within { AreWithin at.now (length seen.old) }
+    requires can { CanTakeBatch aggregates.now batch.now at.now seen.old cells.old }
+    ensures takes { TakesBatch aggregates.now batch.now at.now seen.old cells.old seen.new
+        cells.new }
+    ensures seen { length seen.new ≡ length seen.old }
+    ensures len { length cells.new ≡ length cells.old }
+{
+    lanes_are_narrow(aggregates, batch);
+    take_lanes(cells, seen.len(), aggregates, at, batch);
+    mark(seen, at);
+}

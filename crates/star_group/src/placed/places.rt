@@ -1,0 +1,181 @@
+// The places of key lists in ranges of keys.
+
+ghost use Rattle.std.specs.Prelude.{◌≡◌, ◌≤◌, ◌<◌, ◌+◌, ◌*◌, ◌^◌, ◌-ℤ◌, ℕ, IfSome, List, Some, length, pos, slice_index_or, take, true, MatchOption};
+ghost use Rattle.star_program.specs.declared.key.KeyValue.{KeyValue as Value};
+ghost use Rattle.star_group.specs.Batches.{IsPutBatch, put_in};
+ghost use Rattle.star_group.specs.Places as spec;
+ghost use Rattle.star_group.specs.Places.{above, places, up_to};
+
+use super::span::Span;
+use crate::KeyValue;
+use crate::batch::PutBatch;
+use star_program::GroupKey;
+
+impl Span {
+    // Where a word lies in the range.
+    pub(crate) fn offset(self, word: i64) -> Option<u32>
+        ensures { result ≡ up_to self.last (word -ℤ self.low) }
+    {
+        let offset = u32::try_from(word.checked_sub(self.low)?).ok()?;
+        if offset <= self.last {
+            Some(offset)
+        } else {
+            None
+        }
+    }
+
+    // Where a key lies in it.
+    fn offset_of(self, key: KeyValue) -> Option<u32>
+        ensures { result ≡ spec.offset_of self key }
+    {
+        match key {
+            KeyValue::Number(number) => {
+                if self.is_code {
+                    None
+                } else {
+                    self.offset(number)
+                }
+            }
+            KeyValue::Code(code) => {
+                if self.is_code {
+                    self.offset(i64::from(code))
+                } else {
+                    None
+                }
+            }
+        }
+    }
+
+    // The key that lies there.
+    fn key_at(self, offset: u32) -> KeyValue
+        requires { offset ≤ self.last }
+        ensures { (key : Value) → spec.offset_of self key ≡ Some offset → result ≡ key }
+    {
+        let word = self.low + i64::from(offset);
+        if self.is_code {
+            KeyValue::Code(word as u32)
+        } else {
+            KeyValue::Number(word)
+        }
+    }
+
+    // The place of this key in front of others with a place.
+    fn above(self, key: KeyValue, rest: Option<usize>) -> Option<usize>
+        requires { MatchOption rest (Unit {0}) (λ place. place < 65536) }
+        ensures { result ≡ above (spec.offset_of self key) (self.last + 1) rest }
+    {
+        let offset = self.offset_of(key)?;
+        Some(offset as usize + (self.last as usize + 1) * rest?)
+    }
+}
+
+// The place of a key list.
+pub(crate) fn place_of(spans: &[Span], keys: &[KeyValue]) -> Option<usize>
+    requires same { length keys.now ≡ length spans.now }
+    requires few { places spans.now ≤ 65536 }
+    ensures place { result ≡ spec.place_of spans.now keys.now }
+    ensures within { IfSome result (λ place. place < places spans.now) }
+{
+    let mut place = Some(0);
+    let mut index = spans.len();
+    while index > 0 {
+        index -= 1;
+        place = spans[index].above(keys[index], place);
+    }
+    place
+}
+
+// The keys whose place this is, where some list has it.
+pub(crate) fn keys_at(spans: &[Span], place: usize) -> [KeyValue; 6]
+    requires few { length spans.now ≤ 6 }
+    ensures { (keys : List Value) → spec.place_of spans.now keys ≡ Some place
+        → take (length spans.now) result ≡ keys }
+{
+    let mut keys = [KeyValue::Code(0); 6];
+    let mut left = place;
+    for index in 0..spans.len() {
+        let span = spans[index];
+        let size = span.last as usize + 1;
+        keys[index] = span.key_at((left % size) as u32);
+        left /= size;
+    }
+    keys
+}
+
+// The place of a key in front of others.
+fn next_place(offset: u32, size: u32, rest: u32) -> u32
+    requires { offset + size * rest < 2 ^ 32 }
+    ensures { result ≡ offset + size * rest }
+{
+    offset + size * rest
+}
+
+// Adds a key in front of others to the places of some rows, which have its word in a lane: whether
+// it lies in its range in all of them.
+fn add_lane(span: Span, lane: &[i64], at: &mut [u32]) -> bool
+    requires same { length at.old ≡ length lane.now }
+    requires few { span.last < 65536 }
+    requires small { (row : ℕ) → row < length lane.now
+        → span.last + (span.last + 1) * slice_index_or at.old row 0 < 2 ^ 32 }
+    ensures places { result ≡ true → (row : ℕ) → row < length lane.now
+        → above (up_to span.last (slice_index_or lane.now row (pos 0) -ℤ span.low))
+        (span.last + 1) (Some (slice_index_or at.old row 0))
+        ≡ Some (slice_index_or at.new row 0) }
+    ensures len { length at.new ≡ length at.old }
+{
+    let size = span.last + 1;
+    for row in 0..lane.len() {
+        match span.offset(lane[row]) {
+            Some(offset) => at[row] = next_place(offset, size, at[row]),
+            None => return false,
+        }
+    }
+    true
+}
+
+// Whether the range is one of such keys.
+fn is_of(span: Span, declared: GroupKey) -> bool
+    ensures { result ≡ true → spec.IsOf span declared }
+{
+    match declared {
+        GroupKey::Number => !span.is_code,
+        GroupKey::Text(_) => span.is_code,
+    }
+}
+
+// The places of rows with no keys.
+fn clear(at: &mut [u32])
+    ensures blank { (row : ℕ) → row < length at.old → slice_index_or at.new row 0 ≡ 0 }
+    ensures len { length at.new ≡ length at.old }
+{
+    for place in at.iter_mut() {
+        *place = 0;
+    }
+}
+
+// The places of the rows of a batch, where the keys of all of them lie in their ranges.
+pub(crate) fn find_places(spans: &[Span], batch: &PutBatch<'_>, at: &mut [u32]) -> bool
+    requires batch { IsPutBatch batch.now }
+    requires keys { length spans.now ≡ length batch.now.keys.now }
+    requires few { places spans.now ≤ 65536 }
+    requires rows { length at.old ≡ batch.now.rows }
+    ensures places { result ≡ true → (row : ℕ) → row < batch.now.rows
+        → spec.place_of spans.now (put_in batch.now row).keys ≡ Some (slice_index_or at.new row 0) }
+    ensures len { length at.new ≡ length at.old }
+{
+    clear(at);
+    let declared = batch.declared.keys.as_slice();
+    let mut index = spans.len();
+    while index > 0 {
+        index -= 1;
+        let span = spans[index];
+        if !is_of(span, declared[index]) {
+            return false;
+        }
+        let lane = batch.lane(batch.keys[index]);
+        if !add_lane(span, lane, at) {
+            return false;
+        }
+    }
+    true
+}
