@@ -11,6 +11,7 @@ pub mod law;
 mod listing;
 mod loading;
 mod notes;
+mod parts;
 mod queries;
 pub mod query_laws;
 mod quotes;
@@ -20,18 +21,23 @@ mod tellings;
 mod thirteen;
 mod writing;
 
-pub use answers::{answer_program, check, quote_text, trial_program};
-pub use benchmark::bench;
+pub use answers::{
+    answer_program, answer_program_read, check, check_read, quote_text, quote_text_read,
+    trial_program, trial_program_read,
+};
+pub use benchmark::{bench, bench_read};
 pub use engine::Engine;
 pub use fault::{EngineFault, FaultLine};
 pub use input::Input;
-pub use queries::{answer_query, explain_query};
+pub use parts::read_part;
+pub use queries::{answer_query, answer_query_read, explain_query};
 pub use reading::{FileFault, read_expected, read_whole};
-pub use star_catalogue::{LoadFault, Texts, sample};
+pub use star_catalogue::{LoadFault, ReadTables, Texts, sample};
 pub use star_machine::{Fault, TrapKind, TrialFault};
 pub use star_plan::PlanFault;
 pub use star_program::TextFault;
 pub use star_query::QueryFault;
+pub use star_reader::TableReader;
 pub use star_verify::{Reached, ReachedColumns, Reason, Refusal};
 pub use tellings::{Told, check_text};
 pub use thirteen::{BenchmarkQuery, THIRTEEN};

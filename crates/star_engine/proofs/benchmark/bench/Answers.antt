@@ -1,27 +1,17 @@
-use Rattle.std.proofs.Common.{◌≡◌, false, subst, true}
-use Rattle.std.specs.Prelude.{IfOk}
 use Rattle.star_catalogue.specs.Load.{text_of}
-use Rattle.star_engine.specs.Answered.{change}
-use Rattle.star_engine.specs.Bench.{AllFit, IsBenchOver, SomeIsUnfit}
-use Rattle.star_engine.specs.Loads.{IsUnloaded}
-use Rattle.star_engine.proofs.Loaded.{answered_over}
 use Rattle.star_engine.proofs.benchmark.bench.Goals as goal
+
+pub bench_read-requires : goal.bench_read-requires
+bench_read-requires g c = (text_of c.args.texts.now, c.in_ok-read.ensures)
 
 pub returns-clause-answered : goal.returns-clause-answered
 returns-clause-answered g c =
-    answered_over c.args.limits.rows (text_of c.args.texts.now)
-    c.in_ok-catalogue.catalogue c.in_ok-catalogue.ensures.0 c.in_ok-catalogue.ensures.1
-    (change g.S.Sink.contents g.S.Sink.is_failed c.args.out.now c.bench_over.new.out)
-    (IsBenchOver c.args.limits.visits) (λ database fault. ⊥)
-    (IsUnloaded c.args.limits.rows (text_of c.args.texts.now)) c.bench_over.result
-    (λ fault loadable never. absurd never) c.bench_over.ensures.answered
+    c.bench_read.ensures.answered (text_of c.args.texts.now) c.in_ok-read.ensures
 
 pub returns-clause-all_fit : goal.returns-clause-all_fit
 returns-clause-all_fit g c =
-    subst (λ d. IfOk c.bench_over.result (λ fits. fits ≡ true → AllFit c.args.limits.visits d))
-    c.in_ok-catalogue.ensures.1 c.bench_over.ensures.all_fit
+    c.bench_read.ensures.all_fit (text_of c.args.texts.now) c.in_ok-read.ensures
 
 pub returns-clause-some_unfit : goal.returns-clause-some_unfit
 returns-clause-some_unfit g c =
-    subst (λ d. IfOk c.bench_over.result (λ fits. fits ≡ false → SomeIsUnfit c.args.limits.visits d))
-    c.in_ok-catalogue.ensures.1 c.bench_over.ensures.some_unfit
+    c.bench_read.ensures.some_unfit (text_of c.args.texts.now) c.in_ok-read.ensures
