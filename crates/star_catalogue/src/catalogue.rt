@@ -3,7 +3,7 @@
 ghost use Rattle.std.specs.Prelude.{◌≡◌, ◌↔◌, ◌≤◌, ◌<◌, ◌∷◌, [], ℕ, ℤ, All, Some, IfErr, IfOk, IsSome, length, slice_get};
 ghost use Rattle.star_common.specs.Memory.{UnlessMemory};
 ghost use Rattle.star_schema.specs.Bounds.{greatest, least, numbers_of};
-ghost use Rattle.star_schema.specs.Database.{rows_in};
+ghost use Rattle.star_schema.specs.Database.{TableTexts, rows_in};
 ghost use Rattle.star_schema.specs.Loadable.{IsLoadable, IsSound, database_of, keys_of};
 ghost use Rattle.star_schema.specs.Schema.{kind_of, references, table_of};
 ghost use Rattle.star_schema.specs.Sizes.{size_of};
@@ -16,8 +16,10 @@ ghost use Rattle.star_column.specs.Width.{bits_of};
 ghost use Rattle.star_catalogue.specs.ColumnBounds.{HasI64Bounds};
 ghost use Rattle.star_catalogue.specs.ReferredRows.{AreReferredRows};
 ghost use Rattle.star_catalogue.specs.Load.{load_fault, text_of};
+ghost use Rattle.star_catalogue.specs.Pieces.{AreRead, AreReadSome};
 
 use crate::fault::LoadFault;
+use crate::read_tables::ReadTables;
 use crate::references::absent_key;
 use crate::referred::Referred;
 use crate::tables::Tables;
@@ -65,7 +67,23 @@ impl Catalogue {
             ((load_fault limits.rows (text_of texts.now) ≡ Some fault)
             × ¬ IsLoadable limits.rows (text_of texts.now))) }
     {
-        let loaded = Tables::load(alloc, texts, limits)?;
+        let read = ReadTables::of_texts(alloc, texts, limits)?;
+        Catalogue::finish(alloc, read)
+    }
+
+    /// The tables that five readers were given, which read them of texts that came in pieces, or the
+    /// first fault of the texts, as `load` has it.
+    pub fn finish(alloc: Global, read: ReadTables) -> Result<Catalogue, LoadFault>
+        requires { AreReadSome read }
+        ensures loadable { (most : ℕ) (texts : TableTexts) → AreRead read most texts
+            → IfOk result (λ catalogue. IsLoadable most texts) }
+        ensures rows { (most : ℕ) (texts : TableTexts) → AreRead read most texts
+            → IfOk result (λ catalogue. catalogue ≡ database_of texts) }
+        ensures refused { (most : ℕ) (texts : TableTexts) → AreRead read most texts
+            → IfErr result (λ fault. UnlessMemory LoadFault.OutOfMemory fault
+            ((load_fault most texts ≡ Some fault) × ¬ IsLoadable most texts)) }
+    {
+        let loaded = Tables::finish(alloc, read)?;
         let tables = Box::new(alloc, loaded)?;
         match Referred::build(alloc, &tables)? {
             Some(referred) => Ok(Catalogue {

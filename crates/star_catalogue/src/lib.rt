@@ -7,6 +7,7 @@ mod columns;
 mod dimension;
 mod fault;
 mod keys;
+mod read_tables;
 mod references;
 mod referred;
 mod sample_texts;
@@ -17,5 +18,6 @@ mod texts;
 
 pub use catalogue::Catalogue;
 pub use fault::LoadFault;
+pub use read_tables::ReadTables;
 pub use sample_texts::sample;
 pub use texts::Texts;

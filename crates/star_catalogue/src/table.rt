@@ -1,6 +1,6 @@
 // A table in memory.
 
-ghost use Rattle.std.specs.Prelude.{◌≡◌, ◌↔◌, ◌<◌, ◌∷◌, [], ℕ, All, Some, MatchResult, length, map, slice_get};
+ghost use Rattle.std.specs.Prelude.{◌≡◌, ◌↔◌, ◌<◌, ◌∷◌, [], ℕ, List, All, Some, MatchResult, length, slice_get};
 ghost use Rattle.std.specs.Option.{option_map};
 ghost use Rattle.star_common.specs.Memory.{UnlessMemory};
 ghost use Rattle.star_schema.specs.Bounds.{numbers_of};
@@ -9,14 +9,15 @@ ghost use Rattle.star_schema.specs.Schema.{kind_of, table_of};
 ghost use Rattle.star_schema.specs.Tables.{IsTable, rows_of};
 ghost use Rattle.star_schema.specs.Texts.{texts_of};
 ghost use Rattle.star_reader.specs.Faults.{text_fault};
+ghost use Rattle.star_reader.specs.Partway.{HasReadText};
 ghost use Rattle.star_catalogue.specs.Load.{fault_of_read, keys_fault, table_fault};
 
 use crate::columns::{Column, build_columns};
 use crate::fault::LoadFault;
 use crate::keys::KeyIndex;
 use star_column::{PackedColumn, TextColumn};
-use star_reader::{RawTable, read_parts};
-use star_schema::{ColumnId, Kind, Limits, TableId, place_of};
+use star_reader::{RawTable, TableReader};
+use star_schema::{ColumnId, Kind, TableId, place_of};
 use std::alloc::Global;
 use std::marker::Model;
 
@@ -42,21 +43,15 @@ impl Model for LoadedTable {
     ghost invariant = { IsKept };
 }
 
-/// The table that some parts are, or its first fault.
-fn read(
-    alloc: Global,
-    parts: &[&[u8]],
-    table: TableId,
-    limits: Limits,
-) -> Result<RawTable, LoadFault>
-    ensures { MatchResult result
-        (λ raw. IsTable table limits.rows (map (λ part. part.now) parts.now)
-        × (raw.table ≡ table) × (raw.rows ≡ rows_of table (map (λ part. part.now) parts.now)))
+/// The table that a reader was given, or its first fault.
+fn answer_of(alloc: Global, reader: Box<TableReader>, table: TableId) -> Result<RawTable, LoadFault>
+    ensures { (most : ℕ) (text : List (List ℕ)) → HasReadText reader.value table most text
+        → MatchResult result
+        (λ raw. IsTable table most text × (raw.table ≡ table) × (raw.rows ≡ rows_of table text))
         (λ fault. UnlessMemory LoadFault.OutOfMemory fault
-        (option_map (fault_of_read table)
-        (text_fault table limits.rows (map (λ part. part.now) parts.now)) ≡ Some fault)) }
+        (option_map (fault_of_read table) (text_fault table most text) ≡ Some fault)) }
 {
-    match read_parts(alloc, parts, table, limits) {
+    match Box::into_inner(reader).finish(alloc) {
         Ok(raw) => Ok(raw),
         Err(fault) => Err(LoadFault::of_read(table, fault)),
     }
@@ -83,23 +78,22 @@ fn keep(alloc: Global, raw: RawTable) -> Result<LoadedTable, LoadFault>
 }
 
 impl LoadedTable {
-    /// The table that some parts are, or its first fault: as a table, and then in its keys. It is
-    /// boxed, so that letting go of it is one call.
-    pub(crate) fn load(
+    /// The table that a reader was given, or its first fault: as a table, and then in its keys. It
+    /// is boxed, so that letting go of it is one call.
+    pub(crate) fn finish(
         alloc: Global,
-        parts: &[&[u8]],
+        reader: Box<TableReader>,
         table: TableId,
-        limits: Limits,
     ) -> Result<Box<LoadedTable>, LoadFault>
-        ensures { MatchResult result
-            (λ loaded. IsTable table limits.rows (map (λ part. part.now) parts.now)
-            × (loaded.value.table ≡ table)
-            × (loaded.value.rows ≡ rows_of table (map (λ part. part.now) parts.now))
-            × HasDistinctKeys table (rows_of table (map (λ part. part.now) parts.now)))
+        ensures { (most : ℕ) (text : List (List ℕ)) → HasReadText reader.value table most text
+            → MatchResult result
+            (λ loaded. IsTable table most text × (loaded.value.table ≡ table)
+            × (loaded.value.rows ≡ rows_of table text)
+            × HasDistinctKeys table (rows_of table text))
             (λ fault. UnlessMemory LoadFault.OutOfMemory fault
-            (table_fault table limits.rows (map (λ part. part.now) parts.now) ≡ Some fault)) }
+            (table_fault table most text ≡ Some fault)) }
     {
-        let raw = read(alloc, parts, table, limits)?;
+        let raw = answer_of(alloc, reader, table)?;
         let loaded = keep(alloc, raw)?;
         Ok(Box::new(alloc, loaded)?)
     }

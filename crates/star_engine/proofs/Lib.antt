@@ -22,3 +22,5 @@ pub mod ThirteenMeant
 pub mod BenchSections
 pub mod BenchAnswers
 mod WorkedFaults
+pub mod PieceFeeds
+pub mod Unloaded

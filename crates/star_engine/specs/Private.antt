@@ -2,3 +2,4 @@
 pub mod Steps
 pub mod QuerySteps
 pub mod BenchSteps
+pub mod PieceSteps

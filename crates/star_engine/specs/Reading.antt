@@ -1,5 +1,7 @@
 -- What the reads of a reader came to.
-use Rattle.std.specs.Prelude.{◌≡◌, Bool, false, ℕ}
+use Rattle.std.specs.Prelude.{◌≡◌, ◌++◌, ◌∷◌, Bool, false, ℕ, List, []}
+use Rattle.star_schema.specs.declared.table.TableId.{TableId}
+use Rattle.star_reader.specs.Partway.{HasRead, Reading}
 use Rattle.star_engine.specs.declared.input.Input.{Input}
 
 abbrev pub reader_of : {R : Type 0} → Input R → R
@@ -22,3 +24,13 @@ pub record IsFresh {R : Type 0} (input : Input R) : Type 0 where
   pub reads : reads_of input ≡ 0
   pub came : came_of input ≡ 0
   pub failed : has_failed input ≡ false
+
+-- a reader of a table has gone on by these bytes of the part that is open
+abbrev pub GoesOn : Reading → Reading → List ℕ → Type 0
+GoesOn old new more = (table : TableId) (most : ℕ) (parts : List (List ℕ)) (text : List ℕ)
+    → HasRead old table most parts text → HasRead new table most parts (text ++ more)
+
+-- a reader of a table, between two parts, has gone on by one more part of these bytes
+abbrev pub GoesOnByPart : Reading → Reading → List ℕ → Type 0
+GoesOnByPart old new part = (table : TableId) (most : ℕ) (parts : List (List ℕ))
+    → HasRead old table most parts [] → HasRead new table most (parts ++ part ∷ []) []

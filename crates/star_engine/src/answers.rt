@@ -2,6 +2,8 @@
 
 ghost use Rattle.std.specs.Prelude.{◌≤◌, ◌^◌, ℕ, List};
 ghost use Rattle.star_catalogue.specs.Load.{text_of};
+ghost use Rattle.star_catalogue.specs.Pieces.{AreRead};
+ghost use Rattle.star_schema.specs.Database.{TableTexts};
 ghost use Rattle.star_engine.specs.Answered.{IsAnswered, change};
 ghost use Rattle.star_engine.specs.Executions.{IsQuoteOf, IsQuoteOver, IsToldOf, IsToldOver, IsUntold, IsUntoldOver};
 ghost use Rattle.star_engine.specs.Listing.{IsListing, IsListingOver};
@@ -14,13 +16,13 @@ ghost use Rattle.star_engine.specs.Trials.{IsBoundedReport, IsNoTrial, IsNoTrial
 use crate::executions::execute;
 use crate::fault::EngineFault;
 use crate::listing::list_tables;
-use crate::loading::load;
+use crate::loading::load_read;
 use crate::notes::quote_note;
 use crate::query_laws::programs_of_queries_report_them;
 use crate::quotes::program_of;
 use crate::reports::{read_program, report_of};
 use crate::writing::write_text;
-use star_catalogue::{Catalogue, Texts};
+use star_catalogue::{Catalogue, ReadTables, Texts};
 use star_program::Program;
 use star_schema::{Limits, Sink};
 use std::alloc::Global;
@@ -121,6 +123,23 @@ pub(crate) fn quote_text_over<S: Sink>(
     quote_read(alloc, catalogue, &program, out)
 }
 
+/// As `check`, over the tables that five readers were given.
+pub fn check_read<S: Sink>(
+    alloc: Global,
+    read: ReadTables,
+    limits: Limits,
+    out: &mut S,
+) -> Result<(), EngineFault>
+    requires { (texts : TableTexts) × AreRead read limits.rows texts }
+    ensures { (texts : TableTexts) → AreRead read limits.rows texts
+        → IsAnswered (change S.contents S.is_failed out.old out.new)
+        (IsListing limits.rows texts) (IsUnloaded limits.rows texts)
+        result }
+{
+    let catalogue = load_read(alloc, read)?;
+    list(alloc, &catalogue, out)
+}
+
 // Writes the listing of the tables of five texts.
 pub(crate) fn check<S: Sink>(
     alloc: Global,
@@ -132,8 +151,29 @@ pub(crate) fn check<S: Sink>(
         (IsListing limits.rows (text_of texts.now)) (IsUnloaded limits.rows (text_of texts.now))
         result }
 {
-    let catalogue = load(alloc, texts, limits)?;
-    list(alloc, &catalogue, out)
+    let read = ReadTables::of_texts(alloc, texts, limits)?;
+    check_read(alloc, read, limits, out)
+}
+
+/// As `trial_program`, over the tables that five readers were given.
+pub fn trial_program_read<S: Sink>(
+    alloc: Global,
+    read: ReadTables,
+    file: &[u8],
+    visits: u64,
+    limits: Limits,
+    out: &mut S,
+) -> Result<(), EngineFault>
+    requires visits { visits ≤ 10 ^ 15 }
+    requires read { (texts : TableTexts) × AreRead read limits.rows texts }
+    ensures { (texts : TableTexts) → AreRead read limits.rows texts
+        → IsAnswered (change S.contents S.is_failed out.old out.new)
+        (IsTrialReport limits.rows texts file.now visits)
+        (IsNoTrial limits.rows texts file.now visits) result }
+{
+    let program = read_program(alloc, file)?;
+    let catalogue = load_read(alloc, read)?;
+    try_read(alloc, &catalogue, &program, visits, out)
 }
 
 // Runs the program whose text a file holds over the tables of five texts, under a bound.
@@ -150,9 +190,30 @@ pub(crate) fn trial_program<S: Sink>(
         (IsTrialReport limits.rows (text_of texts.now) file.now visits)
         (IsNoTrial limits.rows (text_of texts.now) file.now visits) result }
 {
+    let read = ReadTables::of_texts(alloc, texts, limits)?;
+    trial_program_read(alloc, read, file, visits, limits, out)
+}
+
+/// As `answer_program`, over the tables that five readers were given.
+pub fn answer_program_read<S: Sink, N: Sink>(
+    alloc: Global,
+    read: ReadTables,
+    file: &[u8],
+    limits: Limits,
+    out: &mut S,
+    notes: &mut N,
+) -> Result<(), EngineFault>
+    requires { (texts : TableTexts) × AreRead read limits.rows texts }
+    ensures { (texts : TableTexts) → AreRead read limits.rows texts
+        → IsNoted (change S.contents S.is_failed out.old out.new)
+        (change N.contents N.is_failed notes.old notes.new)
+        (IsQuoteOf limits.rows texts file.now)
+        (IsToldOf limits.rows limits.visits texts file.now)
+        (IsUntold limits.rows limits.visits texts file.now) result }
+{
     let program = read_program(alloc, file)?;
-    let catalogue = load(alloc, texts, limits)?;
-    try_read(alloc, &catalogue, &program, visits, out)
+    let catalogue = load_read(alloc, read)?;
+    execute(alloc, &catalogue, program, limits, out, notes)
 }
 
 // Checks the program whose text a file holds over the tables of five texts, and runs it.
@@ -170,9 +231,27 @@ pub(crate) fn answer_program<S: Sink, N: Sink>(
         (IsToldOf limits.rows limits.visits (text_of texts.now) file.now)
         (IsUntold limits.rows limits.visits (text_of texts.now) file.now) result }
 {
-    let program = read_program(alloc, file)?;
-    let catalogue = load(alloc, texts, limits)?;
-    execute(alloc, &catalogue, program, limits, out, notes)
+    let read = ReadTables::of_texts(alloc, texts, limits)?;
+    answer_program_read(alloc, read, file, limits, out, notes)
+}
+
+/// As `quote_text`, over the tables that five readers were given.
+pub fn quote_text_read<S: Sink>(
+    alloc: Global,
+    read: ReadTables,
+    file: &[u8],
+    limits: Limits,
+    out: &mut S,
+) -> Result<(), EngineFault>
+    requires { (texts : TableTexts) × AreRead read limits.rows texts }
+    ensures { (texts : TableTexts) → AreRead read limits.rows texts
+        → IsAnswered (change S.contents S.is_failed out.old out.new)
+        (IsQuoteText limits.rows texts file.now)
+        (IsUnquoted limits.rows texts file.now) result }
+{
+    let program = program_of(alloc, file)?;
+    let catalogue = load_read(alloc, read)?;
+    quote_read(alloc, &catalogue, &program, out)
 }
 
 // Writes how many visits are quoted of what a file holds, over the tables of five texts.
@@ -187,7 +266,6 @@ pub(crate) fn quote_text<S: Sink>(
         (IsQuoteText limits.rows (text_of texts.now) file.now)
         (IsUnquoted limits.rows (text_of texts.now) file.now) result }
 {
-    let program = program_of(alloc, file)?;
-    let catalogue = load(alloc, texts, limits)?;
-    quote_read(alloc, &catalogue, &program, out)
+    let read = ReadTables::of_texts(alloc, texts, limits)?;
+    quote_text_read(alloc, read, file, limits, out)
 }

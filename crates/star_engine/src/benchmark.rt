@@ -3,6 +3,8 @@
 ghost use Rattle.std.specs.Prelude.{◌≡◌, ◌↔◌, IfOk, IsTrue, MatchResult};
 ghost use Rattle.star_schema.specs.Loadable.{database_of};
 ghost use Rattle.star_catalogue.specs.Load.{text_of};
+ghost use Rattle.star_catalogue.specs.Pieces.{AreRead};
+ghost use Rattle.star_schema.specs.Database.{TableTexts};
 ghost use Rattle.star_engine.specs.Answered.{IsAnswered, change};
 ghost use Rattle.star_engine.specs.Bench as spec;
 ghost use Rattle.star_engine.specs.Bench.{AllFit, IsBench, IsBenchOver};
@@ -16,7 +18,7 @@ ghost use Rattle.star_engine.specs.declared.thirteen.TheConstants.{THIRTEEN};
 
 use crate::executions::outcome_of;
 use crate::fault::EngineFault;
-use crate::loading::load;
+use crate::loading::load_read;
 use crate::notes::quote_note;
 use crate::queries::compile_query;
 use crate::query_laws::{
@@ -24,7 +26,7 @@ use crate::query_laws::{
 };
 use crate::thirteen::{BenchmarkQuery, THIRTEEN};
 use crate::writing::write_text;
-use star_catalogue::{Catalogue, Texts};
+use star_catalogue::{Catalogue, ReadTables, Texts};
 use star_common::Items;
 use star_program::Program;
 use star_report::report_text;
@@ -176,6 +178,25 @@ pub(crate) fn bench_over<S: Sink>(
     Ok(found.fits)
 }
 
+/// As `bench`, over the tables that five readers were given.
+pub fn bench_read<S: Sink>(
+    alloc: Global,
+    read: ReadTables,
+    limits: Limits,
+    out: &mut S,
+) -> Result<bool, EngineFault>
+    requires { (texts : TableTexts) × AreRead read limits.rows texts }
+    ensures answered { (texts : TableTexts) → AreRead read limits.rows texts
+        → IsAnswered (change S.contents S.is_failed out.old out.new)
+        (IsBench limits.rows limits.visits texts)
+        (IsUnloaded limits.rows texts) result }
+    ensures fits { (texts : TableTexts) → AreRead read limits.rows texts
+        → IfOk result (λ fits. IsTrue fits ↔ AllFit limits.visits (database_of texts)) }
+{
+    let catalogue = load_read(alloc, read)?;
+    bench_over(alloc, &catalogue, limits, out)
+}
+
 // Answers the thirteen queries over the tables of five texts.
 pub(crate) fn bench<S: Sink>(
     alloc: Global,
@@ -189,6 +210,6 @@ pub(crate) fn bench<S: Sink>(
     ensures fits { IfOk result
         (λ fits. IsTrue fits ↔ AllFit limits.visits (database_of (text_of texts.now))) }
 {
-    let catalogue = load(alloc, texts, limits)?;
-    bench_over(alloc, &catalogue, limits, out)
+    let read = ReadTables::of_texts(alloc, texts, limits)?;
+    bench_read(alloc, read, limits, out)
 }

@@ -1,8 +1,10 @@
 // Five tables that are loaded once and asked often.
 
 ghost use Rattle.std.specs.Prelude.{◌≡◌, ◌≤◌, ◌^◌, ◌↔◌, Err, IfErr, IfOk, IsTrue, MatchResult, OnOk, string_bytes};
+ghost use Rattle.star_schema.specs.Database.{TableTexts};
 ghost use Rattle.star_schema.specs.Loadable.{IsLoadable};
 ghost use Rattle.star_catalogue.specs.Load.{text_of};
+ghost use Rattle.star_catalogue.specs.Pieces.{AreRead};
 ghost use Rattle.star_answers.specs.Reports.{IsReport};
 ghost use Rattle.star_engine.specs.Answered.{HasWritten, IsBrokenOff, IsRefused, IsUntouched, OrMemory, change};
 ghost use Rattle.star_engine.specs.Bench.{AllFit, IsBenchOver};
@@ -18,10 +20,10 @@ ghost use Rattle.star_engine.specs.Trials.{IsBoundedReport, IsNoTrialOver};
 use crate::answers::{answer_program_over, list, quote_text_over, trial_over};
 use crate::benchmark::bench_over;
 use crate::fault::EngineFault;
-use crate::loading::load;
+use crate::loading::load_read;
 use crate::queries::answer_query_over;
 use crate::tellings::{Told, judge_over, tell_over};
-use star_catalogue::{Catalogue, Texts};
+use star_catalogue::{Catalogue, ReadTables, Texts};
 use star_schema::{Limits, Sink};
 use std::alloc::Global;
 use std::marker::Model;
@@ -58,8 +60,27 @@ impl Engine {
             (λ engine. engine ≡ loaded_of limits.rows limits.visits (text_of texts.now)) }
         ensures refused { IfErr result (OrMemory (IsUnloaded limits.rows (text_of texts.now))) }
     {
-        let catalogue = load(alloc, texts, limits)?;
-        Ok(Engine { catalogue, limits })
+        let read = ReadTables::of_texts(alloc, texts, limits)?;
+        Engine::of_read(alloc, read, limits)
+    }
+
+    /// Loads the tables that five readers were given, which read them of files that came in pieces,
+    /// under `limits`, whose limit on rows the readers have; or answers the first fault of what they
+    /// were given, as `load` does.
+    pub fn of_read(alloc: Global, read: ReadTables, limits: Limits) -> Result<Engine, EngineFault>
+        requires { (texts : TableTexts) × AreRead read limits.rows texts }
+        ensures loadable { (texts : TableTexts) → AreRead read limits.rows texts
+            → IfOk result (λ engine. IsLoadable limits.rows texts) }
+        ensures loaded { (texts : TableTexts) → AreRead read limits.rows texts
+            → IfOk result (λ engine. engine ≡ loaded_of limits.rows limits.visits texts) }
+        ensures refused { (texts : TableTexts) → AreRead read limits.rows texts
+            → IfErr result (OrMemory (IsUnloaded limits.rows texts)) }
+    {
+        let loaded = load_read(alloc, read)?;
+        Ok(Engine {
+            catalogue: loaded,
+            limits,
+        })
     }
 
     /// What holds of every engine: its rows are those of texts that can be loaded, so each row has a

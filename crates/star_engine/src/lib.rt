@@ -12,6 +12,7 @@ pub mod law;
 mod listing;
 mod loading;
 mod notes;
+mod parts;
 mod queries;
 pub mod query_laws;
 mod quotes;
@@ -21,18 +22,23 @@ mod tellings;
 mod thirteen;
 mod writing;
 
+pub use answers::{answer_program_read, check_read, quote_text_read, trial_program_read};
+pub use benchmark::bench_read;
 pub use calls::{
     answer_program, answer_query, bench, check, explain_query, quote_text, trial_program,
 };
 pub use engine::Engine;
 pub use fault::{EngineFault, FaultLine};
 pub use input::Input;
+pub use parts::read_part;
+pub use queries::answer_query_read;
 pub use reading::{FileFault, read_expected, read_whole};
-pub use star_catalogue::{LoadFault, Texts, sample};
+pub use star_catalogue::{LoadFault, ReadTables, Texts, sample};
 pub use star_machine::{Fault, TrapKind, TrialFault};
 pub use star_plan::PlanFault;
 pub use star_program::TextFault;
 pub use star_query::QueryFault;
+pub use star_reader::TableReader;
 pub use star_verify::{Reached, ReachedColumns, Reason, Refusal};
 pub use tellings::{Told, check_text};
 pub use thirteen::{BenchmarkQuery, THIRTEEN};

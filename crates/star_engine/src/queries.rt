@@ -2,6 +2,8 @@
 
 ghost use Rattle.std.specs.Prelude.{ℕ, List, MatchResult};
 ghost use Rattle.star_catalogue.specs.Load.{text_of};
+ghost use Rattle.star_catalogue.specs.Pieces.{AreRead};
+ghost use Rattle.star_schema.specs.Database.{TableTexts};
 ghost use Rattle.star_engine.specs.Answered.{IsAnswered, OrMemory, change};
 ghost use Rattle.star_engine.specs.Noted.{IsNoted};
 ghost use Rattle.star_engine.specs.Queries.{IsExplained, IsNoQuery, IsQueryQuote, IsQueryQuoteOver, IsQueryTold, IsQueryToldOver, IsUnanswered, IsUnansweredOver};
@@ -9,10 +11,10 @@ ghost use Rattle.star_engine.specs.Private.QuerySteps.{IsProgramOfQuery};
 
 use crate::executions::execute;
 use crate::fault::EngineFault;
-use crate::loading::load;
+use crate::loading::load_read;
 use crate::query_laws::{programs_of_queries_report_them, queries_that_fit_are_answered};
 use crate::writing::write_text;
-use star_catalogue::{Catalogue, Texts};
+use star_catalogue::{Catalogue, ReadTables, Texts};
 use star_compile::compile;
 use star_plan::plan;
 use star_program::Program;
@@ -93,6 +95,28 @@ pub(crate) fn answer_query_over<S: Sink, N: Sink>(
     answer_compiled(alloc, catalogue, program, limits, out, notes)
 }
 
+/// As `answer_query`, over the tables that five readers were given.
+pub fn answer_query_read<S: Sink, N: Sink>(
+    alloc: Global,
+    read: ReadTables,
+    query: &[u8],
+    limits: Limits,
+    out: &mut S,
+    notes: &mut N,
+) -> Result<(), EngineFault>
+    requires { (texts : TableTexts) × AreRead read limits.rows texts }
+    ensures { (texts : TableTexts) → AreRead read limits.rows texts
+        → IsNoted (change S.contents S.is_failed out.old out.new)
+        (change N.contents N.is_failed notes.old notes.new)
+        (IsQueryQuote limits.rows texts query.now)
+        (IsQueryTold limits.rows limits.visits texts query.now)
+        (IsUnanswered limits.rows limits.visits texts query.now) result }
+{
+    let program = compile_query(alloc, query)?;
+    let catalogue = load_read(alloc, read)?;
+    answer_compiled(alloc, &catalogue, program, limits, out, notes)
+}
+
 // Answers the query that a text means over the tables of five texts.
 pub(crate) fn answer_query<S: Sink, N: Sink>(
     alloc: Global,
@@ -108,7 +132,6 @@ pub(crate) fn answer_query<S: Sink, N: Sink>(
         (IsQueryTold limits.rows limits.visits (text_of texts.now) query.now)
         (IsUnanswered limits.rows limits.visits (text_of texts.now) query.now) result }
 {
-    let program = compile_query(alloc, query)?;
-    let catalogue = load(alloc, texts, limits)?;
-    answer_compiled(alloc, &catalogue, program, limits, out, notes)
+    let read = ReadTables::of_texts(alloc, texts, limits)?;
+    answer_query_read(alloc, read, query, limits, out, notes)
 }

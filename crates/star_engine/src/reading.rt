@@ -64,8 +64,8 @@ fn read_more<R: Read>(
     Ok(count)
 }
 
-// Room for so many bytes.
-fn room_of(alloc: Global, count: usize) -> Result<Vec<u8>, AllocError>
+/// Room for so many bytes.
+pub(crate) fn room_of(alloc: Global, count: usize) -> Result<Vec<u8>, AllocError>
     ensures { IfOk result (λ room. vec_len room ≡ count) }
 {
     vec![in alloc; 0u8; count]

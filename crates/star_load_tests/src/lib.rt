@@ -21,4 +21,6 @@ mod keys;
 #[cfg(test)]
 mod masks;
 #[cfg(test)]
+mod pieces;
+#[cfg(test)]
 mod tables;

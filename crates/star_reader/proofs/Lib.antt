@@ -8,8 +8,16 @@ pub mod RowLemmas
 pub mod ColumnLemmas
 pub mod PassedOn
 pub mod Law
+pub mod Cuts
+pub mod CutPlaces
+pub mod AlikeLines
+pub mod OpenLines
+pub mod OpenRows
+pub mod PieceSteps
+pub mod ReaderSteps
+pub mod ListSteps
+pub mod PieceLaws
 pub mod TableSteps
-pub mod PartSteps
 pub mod Fronts
 pub mod FrontNumbers
 pub mod FrontTexts

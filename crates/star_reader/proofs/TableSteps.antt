@@ -1,10 +1,9 @@
 -- One more record of a table.
-use Rattle.std.proofs.Common.{◌≡◌, ◌+◌, ◌<◌, ◌≤◌, ℕ, List, [], ◌∷◌, ◌++◌, All, true, false, Bor, Some, None, drop, length, map, take, refl, sym, ◌∙◌, inl, inr, arith, append_assoc}
+use Rattle.std.proofs.Common.{◌≡◌, ◌+◌, ◌<◌, ◌≤◌, ℕ, List, [], ◌∷◌, All, true, false, Bor, Some, None, length, map, refl, sym, ◌∙◌, inl, inr, arith, append_assoc}
 use Rattle.std.specs.Prelude.{nat_eq}
 use Rattle.std.specs.List.{starts_with}
 use Rattle.std.proofs.lemmas.Bool.{and_parts, cases_Bool, eqb-true, le-ltb, lt-ltb, true≢false}
 use Rattle.std.proofs.Math.ListN.{get_or-map}
-use Rattle.std.proofs.Math.Seq.{take-append_seam}
 use Rattle.std.proofs.lemmas.List.{length-map}
 use Rattle.std.proofs.lemmas.List.Elements.{All-map}
 use Rattle.csv.specs.Reading.{is_bom, strip_bom}
@@ -71,6 +70,40 @@ faulty {table} {most} {from} {before} {all} {count} {columns} {old} {new} {piece
     rw h.rows.of_table.kinds at e in
     h.no_fault ∙ rw (next.was, room, here) refl
 
+-- the row of one more record
+pub row_on : {table : TableId} {from : ℕ} {before : List (List Value)}
+    {all others : List (List ℕ)} {line : List ℕ} {count : ℕ} {columns later : List RawColumn}
+    → HasRows table from before all (line ∷ others) count columns
+    → AddsRecord (count + 1) (fields_of line) columns later
+    → HasRows table from before all others (count + 1) later
+row_on {table} {from} {before} {all} {others} {line} {count} {columns} {later} was adds =
+    let row : values_of (map kind_of columns)
+    (cells_of (length (map kind_of columns)) (fields_of line))
+    ≡ row_of table line = rw (was.of_table.kinds, width_kinds table) refl in
+    let holds : map values later ≡ extended (map values columns) (row_of table line) =
+    rw row at adds.columns in
+    let width : length (row_of table line) ≡ length (map values columns) =
+    rw row at adds.width ∙ sym (length-map columns values) in
+    let full : All (λ (c : List Value). length c ≡ count) (map values columns) =
+    All-map (λ (c : List Value). length c ≡ count) values columns was.of_table.full in
+    let longer : All (λ (c : List Value). length c ≡ count + 1) (map values later) =
+    rw holds (extended_full (map values columns) (row_of table line) count full width) in
+    record {
+      counted = omega (arith, was.counted);
+      of_table = record {
+        kinds = adds.kinds ∙ was.of_table.kinds;
+        full = λ k d within. let here : k < length (map values later) =
+            omega (arith, within, length-map later values) in
+            rw (← get_or-map values later k d) (longer k (values d) here);
+      };
+      so_far = rw (
+        holds,
+        first_rows-extended (map values columns) (row_of table line) count full width,
+      )
+          (append_assoc (first_rows count (map values columns)) (row_of table line ∷ []) _
+          ∙ was.so_far);
+    }
+
 -- the next record has no fault
 pub more : {table : TableId} {most from : ℕ} {before : List (List Value)} {all : List (List ℕ)}
     {count : ℕ} {columns later : List RawColumn} {old new : Reader (Bor (List ℕ))}
@@ -82,41 +115,13 @@ pub more : {table : TableId} {most from : ℕ} {before : List (List Value)} {all
 unfolding first_answer
 more {table} {most} {from} {before} {all} {count} {columns} {later} {old} {new} {pieces} h next within adds =
     let room = le-ltb most (count + 1) (omega arith) in
-    let was = h.rows in
     let here : record_fault (kinds_of table) (count + 1) (fields_of next.line) ≡ None =
-    rw was.of_table.kinds at adds.no_fault in
-    let row : values_of (map kind_of columns)
-    (cells_of (length (map kind_of columns)) (fields_of next.line))
-    ≡ row_of table next.line = rw (was.of_table.kinds, width_kinds table) refl in
-    let holds : map values later ≡ extended (map values columns) (row_of table next.line) =
-    rw row at adds.columns in
-    let width : length (row_of table next.line) ≡ length (map values columns) =
-    rw row at adds.width ∙ sym (length-map columns values) in
-    let full : All (λ (c : List Value). length c ≡ count) (map values columns) =
-    All-map (λ (c : List Value). length c ≡ count) values columns was.of_table.full in
-    let longer : All (λ (c : List Value). length c ≡ count + 1) (map values later) =
-    rw holds (extended_full (map values columns) (row_of table next.line) count full width) in
-    let counted : count + length (next.line ∷ next.others) ≡ from + length all =
-    rw next.was at was.counted in
+    rw h.rows.of_table.kinds at adds.no_fault in
     record {
       lines = next.others;
       left = next.rest;
       no_fault = h.no_fault ∙ rw (next.was, room, here) refl;
-      rows = record {
-        counted = omega (arith, counted);
-        of_table = record {
-          kinds = adds.kinds ∙ was.of_table.kinds;
-          full = λ k d within. let here : k < length (map values later) =
-              omega (arith, within, length-map later values) in
-              rw (← get_or-map values later k d) (longer k (values d) here);
-        };
-        so_far = rw (
-          holds,
-          first_rows-extended (map values columns) (row_of table next.line) count full width,
-        )
-            (append_assoc (first_rows count (map values columns)) (row_of table next.line ∷ []) _
-            ∙ rw next.was at was.so_far);
-      };
+      rows = row_on (rw next.was at h.rows) adds;
     }
 
 -- there is no other record
@@ -139,8 +144,3 @@ unfolding first_answer
 too_many {table} {most} {from} {before} {all} {count} {columns} {old} {new} {pieces} h next full =
     let over = lt-ltb most (count + 1) (omega arith) in
     h.no_fault ∙ rw (next.was, over) refl
-
--- a whole list that was written through a slice
-pub whole_slice : {X : Type 0} (n : ℕ) (new old : List X) → n ≡ length new
-    → take n (new ++ drop (length new) old) ≡ new
-whole_slice n new old all = rw all (take-append_seam new (drop (length new) old))

@@ -1,3 +1,5 @@
 pub mod Columns
 pub mod Faults
+pub mod Pieces
 pub mod Private
+pub mod Partway

@@ -3,3 +3,7 @@ pub mod Zeros
 pub mod Extended
 pub mod Lines
 pub mod Steps
+pub mod Cut
+pub mod Open
+pub mod Ended
+pub mod Sound

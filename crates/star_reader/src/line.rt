@@ -84,9 +84,9 @@ fn line_fault(alloc: Global, columns: &mut [RawColumn], at_row: u32, line: &[u8]
     }
 }
 
-// Adds the values of a line to the columns of its table. After a fault the columns may differ in
-// length.
-fn add_line(
+/// Adds the values of a line to the columns of its table. After a fault the columns may differ in
+/// length.
+pub(crate) fn add_line(
     alloc: Global,
     columns: &mut [RawColumn],
     at_row: u32,

@@ -4,24 +4,19 @@ ghost use Rattle.std.specs.Prelude.{◌≡◌, ◌<◌, ◌≤◌, ◌+◌, ◌�
 ghost use Rattle.std.specs.Option.{option_map};
 ghost use Rattle.star_common.specs.Memory.{UnlessMemory};
 ghost use Rattle.star_schema.specs.Bounds.{numbers_at};
-ghost use Rattle.star_schema.specs.Records.{records_in, records_of};
 ghost use Rattle.star_schema.specs.Schema.{kinds_of};
 ghost use Rattle.star_schema.specs.declared.table.TableId.{TableId};
 ghost use Rattle.star_schema.specs.Tables.{IsTable, Number, Text, rows_of, value_at};
 ghost use Rattle.star_schema.specs.Texts.{texts_at};
 ghost use Rattle.star_reader.specs.Columns.{AreColumnsOf, first_rows, values};
-ghost use Rattle.star_reader.specs.Faults.{part_fault, records_fault, text_fault};
-ghost use Rattle.star_reader.specs.Private.Lines.{HasLeft};
-ghost use Rattle.star_reader.specs.Private.Steps.{HasRows};
+ghost use Rattle.star_reader.specs.Faults.{text_fault};
 
 use crate::column::RawColumn;
 use crate::fault::ReadFault;
-use crate::line::add_record;
-use crate::lines::{read_next, records_reader};
-use csv::{ByteRecord, Reader};
+use crate::table_reader::TableReader;
 use star_flat::{FlatNumbers, RepeatedTexts};
-use star_schema::{Kind, Limits, TableId, column_at, kind_of, width};
-use std::alloc::{AllocError, Global};
+use star_schema::{Kind, Limits, TableId};
+use std::alloc::Global;
 use std::marker::Model;
 
 /// The rows of a table, kept by columns. A contract sees which table it is, and the list of its
@@ -48,6 +43,19 @@ impl Model for RawTable {
 }
 
 impl RawTable {
+    /// The table with these columns, which have so many rows.
+    pub(crate) fn of(table: TableId, rows: u32, columns: Vec<RawColumn>) -> RawTable
+        requires { AreColumnsOf table rows columns.items }
+        ensures table { result.table ≡ table }
+        ensures rows { result.rows ≡ first_rows rows (map values columns.items) }
+    {
+        RawTable {
+            table,
+            rows,
+            columns,
+        }
+    }
+
     /// Which table it is.
     pub fn table(&self) -> TableId
         ensures { result ≡ self.now.table }
@@ -114,108 +122,6 @@ impl RawTable {
     }
 }
 
-const BYTE_ORDER_MARK: [u8; 3] = [0xEF, 0xBB, 0xBF];
-
-// The columns of a table without rows.
-fn empty_columns(alloc: Global, table: TableId) -> Result<Vec<RawColumn>, AllocError>
-    ensures { IfOk result (λ columns. AreColumnsOf table 0 columns.items) }
-{
-    let mut empty = Vec::with_capacity(alloc, width(table))?;
-    for place in 0..width(table) {
-        let column = column_at(table, place);
-        empty.push(RawColumn::new(alloc, kind_of(column)))?;
-    }
-    Ok(empty)
-}
-
-// Adds the values of all records that are left to the columns of a table with so many rows, and says
-// how many rows there are then. After a fault the columns may differ in length.
-fn read_records(
-    alloc: Global,
-    reader: &mut Reader<&[u8]>,
-    line: &mut ByteRecord,
-    columns: &mut [RawColumn],
-    start: u32,
-    most: u32,
-) -> Result<u32, ReadFault>
-    requires few { length columns.old ≤ 17 }
-    requires within { start ≤ most }
-    ensures { (table : TableId) (lines : List (List ℕ)) → HasLeft reader.old lines
-        → AreColumnsOf table start columns.old → MatchResult result
-        (λ rows. (records_fault table most (start + 1) lines ≡ None)
-        × HasRows table start (first_rows start (map values columns.old)) lines [] rows columns.new)
-        (λ fault. UnlessMemory ReadFault.OutOfMemory fault
-        (records_fault table most (start + 1) lines ≡ Some fault)) }
-{
-    for rows in start..most {
-        if !read_next(reader, line)? {
-            return Ok(rows);
-        }
-        add_record(alloc, columns, rows + 1, line)?;
-    }
-    if read_next(reader, line)? {
-        return Err(ReadFault::TooManyRows);
-    }
-    Ok(most)
-}
-
-// Adds the rows of a part to the columns of a table with so many rows, and says how many there are
-// then. The reader is let go here, at one place.
-fn read_part(
-    alloc: Global,
-    part: &[u8],
-    table: TableId,
-    columns: &mut [RawColumn],
-    start: u32,
-    most: u32,
-) -> Result<u32, ReadFault>
-    requires within { start ≤ most }
-    requires full { AreColumnsOf table start columns.old }
-    ensures { MatchResult result
-        (λ rows. (part_fault table most (start + 1) part.now ≡ None)
-        × HasRows table start (first_rows start (map values columns.old)) (records_of part.now) []
-        rows columns.new)
-        (λ fault. UnlessMemory ReadFault.OutOfMemory fault
-        (part_fault table most (start + 1) part.now ≡ Some fault)) }
-{
-    if part.starts_with(&BYTE_ORDER_MARK) {
-        return Err(ReadFault::ByteOrderMark);
-    }
-    let mut reader = records_reader(alloc, part);
-    let mut line = ByteRecord::new(alloc);
-    read_records(alloc, &mut reader, &mut line, columns, start, most)
-}
-
-// The part at a place.
-fn part_at<'a>(parts: &[&'a [u8]], place: usize) -> &'a [u8]
-    requires { place < length parts.now }
-    ensures { slice_get (map (λ part. part.now) parts.now) place ≡ Some result.now }
-{
-    parts[place]
-}
-
-// Adds the rows of some parts to the columns of a table without rows, and says how many there are.
-fn read_columns(
-    alloc: Global,
-    parts: &[&[u8]],
-    table: TableId,
-    columns: &mut [RawColumn],
-    most: u32,
-) -> Result<u32, ReadFault>
-    requires empty { AreColumnsOf table 0 columns.old }
-    ensures { MatchResult result
-        (λ rows. (text_fault table most (map (λ part. part.now) parts.now) ≡ None)
-        × HasRows table 0 [] (records_in (map (λ part. part.now) parts.now)) [] rows columns.new)
-        (λ fault. UnlessMemory ReadFault.OutOfMemory fault
-        (text_fault table most (map (λ part. part.now) parts.now) ≡ Some fault)) }
-{
-    let mut rows = 0;
-    for place in 0..parts.len() {
-        rows = read_part(alloc, part_at(parts, place), table, columns, rows, most)?;
-    }
-    Ok(rows)
-}
-
 /// Reads the table that `parts` are, one after another, with a row for each record, at most
 /// `limits.rows`; else answers the first fault: part by part, in a part 2 before all, then by
 /// record, and in a record 3, 4, and then cell by cell from the left 5, 6, 7. A record ends with its
@@ -234,13 +140,7 @@ pub fn read_parts(
         ((text_fault table limits.rows (map (λ part. part.now) parts.now) ≡ Some fault)
         × ¬ IsTable table limits.rows (map (λ part. part.now) parts.now))) }
 {
-    let mut columns = empty_columns(alloc, table)?;
-    let rows = read_columns(alloc, parts, table, columns.as_mut_slice(), limits.rows)?;
-    Ok(RawTable {
-        table,
-        rows,
-        columns,
-    })
+    TableReader::of_parts(alloc, parts, table, limits)?.finish(alloc)
 }
 
 /// Reads the table that `text` is, at most `limits.rows` rows, or answers its first fault, as

@@ -1,0 +1,82 @@
+-- One more piece of a file of a table.
+use Rattle.std.proofs.Common.{◌≡◌, ◌+◌, ◌<◌, ◌≤◌, ◌∙◌, ℕ, List, [], ◌++◌, Option, Some, None, length, refl, sym, ap, arith, append_assoc}
+use Rattle.std.specs.Prelude.{◌-◌, ◌^◌, min}
+use Rattle.std.specs.Io.KnownBytes.{Consumes}
+use Rattle.std.proofs.lemmas.List.{append-nil, length-append}
+use Rattle.star_schema.specs.declared.table.TableId.{TableId}
+use Rattle.star_reader.specs.Partway.{HasRead, Reading}
+use Rattle.star_engine.specs.declared.input.Input.{Input}
+use Rattle.star_engine.specs.Reading.{GoesOn, came_of, has_failed, reader_of, reads_of}
+use Rattle.star_engine.specs.Private.PieceSteps.{HasFed}
+
+-- known bytes that are consumed one after another
+consumed_on : (a b c : Option (List ℕ)) (x y : List ℕ) → Consumes a b x → Consumes b c y
+    → Consumes a c (x ++ y)
+consumed_on None b c x y first next = tt
+consumed_on (Some a) None c x y first next = absurd first
+consumed_on (Some a) (Some b) None x y first next = absurd next
+consumed_on (Some a) (Some b) (Some c) x y first next =
+    first ∙ ap (λ (bytes : List ℕ). x ++ bytes) next ∙ sym (append_assoc x y c)
+
+none_consumed : (a : Option (List ℕ)) → Consumes a a []
+none_consumed None = tt
+none_consumed (Some a) = refl
+
+-- nothing comes behind a text
+gone_none : (reader : Reading) → GoesOn reader reader []
+gone_none reader = λ table most parts text h. rw (append-nil text) h
+
+gone_on : (a b c : Reading) (x y : List ℕ) → GoesOn a b x → GoesOn b c y → GoesOn a c (x ++ y)
+gone_on a b c x y first next = λ table most parts text h.
+    rw (← (append_assoc text x y)) (next table most parts (text ++ x) (first table most parts text h))
+
+pub start : {R : Type 0} (remaining : R → Option (List ℕ)) (input : Input R) (reader : Reading)
+    → HasFed remaining input input reader reader 0 0
+start remaining input reader = record {
+  bytes = [];
+  size = refl;
+  consumed = none_consumed (remaining (reader_of input));
+  on = gone_none reader;
+  counted = omega arith;
+  came = omega arith;
+  asked = omega arith;
+  unfailed = refl;
+}
+
+-- one more piece
+pub more : {R : Type 0} (remaining : R → Option (List ℕ)) (first old new : Input R)
+    (before mid after : Reading) (reads taken count limit : ℕ) (piece : List ℕ)
+    → HasFed remaining first old before mid reads taken → length piece ≡ count
+    → Consumes (remaining (reader_of old)) (remaining (reader_of new)) piece
+    → GoesOn mid after piece → 1 ≤ count → taken + count ≤ limit → limit < 2 ^ 64 - 1
+    → came_of new ≡ min (came_of old + count) (2 ^ 64 - 1)
+    → reads_of new ≤ reads_of old + 1 → has_failed new ≡ has_failed old
+    → HasFed remaining first new before after (reads + 1) (taken + count)
+more remaining first old new before mid after reads taken count limit piece h size gone on some within small came asked unfailed = record {
+  bytes = h.bytes ++ piece;
+  size = omega (arith, size, h.size, length-append h.bytes piece);
+  consumed = consumed_on (remaining (reader_of first)) (remaining (reader_of old))
+      (remaining (reader_of new)) h.bytes piece h.consumed gone;
+  on = gone_on before mid after h.bytes piece h.on on;
+  counted = omega (arith, h.counted, some);
+  came = omega (arith, came, h.came, within, small);
+  asked = omega (arith, asked, h.asked);
+  unfailed = unfailed ∙ h.unfailed;
+}
+
+-- all pieces
+pub whole : {R : Type 0} (remaining : R → Option (List ℕ)) (first old new : Input R)
+    (before mid after : Reading) (reads taken limit : ℕ) (piece : List ℕ)
+    → HasFed remaining first old before mid reads taken → length piece ≡ 0
+    → Consumes (remaining (reader_of old)) (remaining (reader_of new)) piece
+    → GoesOn mid after piece → taken ≤ limit
+    → (came : List ℕ) × (length came ≤ limit)
+    × Consumes (remaining (reader_of first)) (remaining (reader_of new)) came
+    × GoesOn before after came
+whole remaining first old new before mid after reads taken limit piece h size gone on within = (
+  h.bytes ++ piece,
+  omega (arith, size, h.size, within, length-append h.bytes piece),
+  consumed_on (remaining (reader_of first)) (remaining (reader_of old)) (remaining (reader_of new))
+      h.bytes piece h.consumed gone,
+  gone_on before mid after h.bytes piece h.on on,
+)

@@ -1,0 +1,200 @@
+-- The row of an open line that ends.
+use Rattle.std.proofs.Common.{◌≡◌, ◌+◌, ◌<◌, ◌≤◌, ◌∙◌, ◌&&◌, ℕ, List, [], ◌∷◌, ◌++◌, Bool, true, false, Some, None, length, map, refl, sym, ap, inl, inr, arith}
+use Rattle.std.specs.Prelude.{◌==◌, filter, nat_eq, nat_lt}
+use Rattle.std.specs.List.{list_all, starts_with}
+use Rattle.std.proofs.lemmas.Bool.{cases_Bool, eqb-true, le-ltb, lt-ltb, true≢false}
+use Rattle.std.proofs.lemmas.List.{append-nil}
+use Rattle.star_common.specs.First.{first_answer}
+use Rattle.star_common.proofs.Firsts.{or_none}
+use Rattle.star_schema.specs.declared.column.Kind.{Kind}
+use Rattle.star_schema.specs.declared.table.TableId.{TableId}
+use Rattle.star_schema.specs.Records.{fields_of, is_filled, records_of}
+use Rattle.star_schema.specs.Schema.{kinds_of}
+use Rattle.star_schema.specs.Tables.{Value, row_of}
+use Rattle.star_reader.specs.declared.column.RawColumn.{RawColumn}
+use Rattle.star_reader.specs.declared.fault.ReadFault.{ReadFault}
+use Rattle.star_reader.specs.declared.fault.ReadFault.TheVariants as fault
+use Rattle.star_reader.specs.declared.open_line.OpenLine.{OpenLine}
+use Rattle.star_reader.specs.declared.progress.Progress.{Progress}
+use Rattle.star_reader.specs.Columns.{AreColumnsOf, first_rows, kind_of, values}
+use Rattle.star_reader.specs.Faults.{byte_order_mark, record_fault, records_fault}
+use Rattle.star_reader.specs.Partway.{left_fault}
+use Rattle.star_reader.specs.Private.Cut.{is_inner}
+use Rattle.star_reader.specs.Private.Ended.{HasEnded}
+use Rattle.star_reader.specs.Private.Open.{AreOneRecord, StandsFor}
+use Rattle.star_reader.specs.Private.Steps.{AddsRecord, HasRows}
+use Rattle.star_reader.proofs.Cuts.{inner_records}
+use Rattle.star_reader.proofs.Law.{marked_fault, plain_fault, records_sound, width_kinds}
+use Rattle.star_reader.proofs.TableSteps.{row_on}
+
+-- a line with a byte is a record
+filled_line : (line : List ℕ) → (length line == 0) ≡ false → filter is_filled (line ∷ []) ≡ line ∷ []
+filled_line [] h = absurd (true≢false h)
+filled_line (b ∷ line) h = refl
+
+no_byte : (line : List ℕ) → (length line == 0) ≡ true → line ≡ []
+no_byte [] h = refl
+no_byte (b ∷ line) h = let bad = eqb-true (length (b ∷ line)) 0 h in absurd (omega (arith, bad))
+
+-- no record
+pub none_open : (table : TableId) (most start : ℕ) (line : List ℕ) (columns : List RawColumn)
+    → (length line == 0) ≡ true → AreColumnsOf table start columns
+    → (records_fault table most (start + 1) (filter is_filled (line ∷ [])) ≡ None)
+    × HasRows table start (first_rows start (map values columns)) (filter is_filled (line ∷ [])) []
+    start columns
+unfolding first_answer
+none_open table most start line columns none full =
+    rw (no_byte line none) (refl, record { counted = refl; of_table = full; so_far = refl })
+
+-- a record too many
+pub open_too_many : (table : TableId) (most start : ℕ) (line : List ℕ)
+    → (length line == 0) ≡ false → most ≤ start
+    → records_fault table most (start + 1) (filter is_filled (line ∷ [])) ≡ Some fault.TooManyRows
+unfolding first_answer
+open_too_many table most start line some full =
+    let over = lt-ltb most (start + 1) (omega (arith, full)) in
+    rw (filled_line line some, over) refl
+
+-- a record with a fault
+pub open_faulty : (table : TableId) (most start : ℕ) (line : List ℕ) (columns : List RawColumn)
+    (f : ReadFault) → (length line == 0) ≡ false → start < most → AreColumnsOf table start columns
+    → record_fault (map kind_of columns) (start + 1) (fields_of line) ≡ Some f
+    → records_fault table most (start + 1) (filter is_filled (line ∷ [])) ≡ Some f
+unfolding first_answer
+open_faulty table most start line columns f some room full e =
+    let within = le-ltb most (start + 1) (omega (arith, room)) in
+    let here : record_fault (kinds_of table) (start + 1) (fields_of line) ≡ Some f =
+    rw full.kinds at e in
+    rw (filled_line line some, within, here) refl
+
+-- one more record
+pub one_open : (table : TableId) (most start : ℕ) (line : List ℕ) (columns new : List RawColumn)
+    → (length line == 0) ≡ false → start < most → AreColumnsOf table start columns
+    → AddsRecord (start + 1) (fields_of line) columns new
+    → (records_fault table most (start + 1) (filter is_filled (line ∷ [])) ≡ None)
+    × HasRows table start (first_rows start (map values columns)) (filter is_filled (line ∷ [])) []
+    (start + 1) new
+unfolding first_answer
+one_open table most start line columns new some room full adds =
+    let within = le-ltb most (start + 1) (omega (arith, room)) in
+    let here : record_fault (kinds_of table) (start + 1) (fields_of line) ≡ None =
+    rw full.kinds at adds.no_fault in
+    let before : HasRows table start (first_rows start (map values columns)) (line ∷ []) (line ∷ [])
+    start columns = record { counted = refl; of_table = full; so_far = refl } in
+    rw (filled_line line some) (rw (within, here) refl, row_on before adds)
+
+-- lines that are one record have the same fault
+same_fault : (table : TableId) (most from : ℕ) (a b : List ℕ) → AreOneRecord (kinds_of table) a b
+    → is_filled a ≡ is_filled b
+    → records_fault table most from (filter is_filled (a ∷ []))
+    ≡ records_fault table most from (filter is_filled (b ∷ []))
+unfolding first_answer
+same_fault table most from a b same filled = elim (cases_Bool (is_filled b)) [
+  | inl some ↦ rw (filled, some, same.fault from) refl
+  | inr none ↦ rw (filled, none) refl
+]
+
+-- and, where that is none, the same row
+same_rows : (table : TableId) (most from : ℕ) (a b : List ℕ) → AreOneRecord (kinds_of table) a b
+    → is_filled a ≡ is_filled b → records_fault table most from (filter is_filled (a ∷ [])) ≡ None
+    → map (row_of table) (filter is_filled (a ∷ [])) ≡ map (row_of table) (filter is_filled (b ∷ []))
+unfolding first_answer
+same_rows table most from a b same filled none = elim (cases_Bool (is_filled b)) [
+  | inr empty ↦ rw (filled, empty) refl
+  | inl some ↦ elim (cases_Bool (nat_lt most from)) [
+    | inl over ↦ let bad : Some fault.TooManyRows ≡ None = rw (filled, some, over) at none in
+        absurd (cc bad)
+    | inr within ↦
+        let here = or_none (record_fault (kinds_of table) from (fields_of a)) None
+        (rw (filled, some, within) at none) in
+        rw (filled, some)
+        (ap (λ (row : List Value). row ∷ []) (rw (width_kinds table) at (same.values from here.0)))
+  ]
+]
+
+same_count : (a b : List ℕ) → is_filled a ≡ is_filled b
+    → length (filter is_filled (a ∷ [])) ≡ length (filter is_filled (b ∷ []))
+same_count a b filled = elim (cases_Bool (is_filled b))
+    [ inl some ↦ rw (filled, some) refl | inr none ↦ rw (filled, none) refl ]
+
+-- what is left from a place that is not marked
+left_plain : (is_start : Bool) (table : TableId) (most from : ℕ) (bytes : List ℕ)
+    → (is_start && starts_with nat_eq bytes byte_order_mark) ≡ false
+    → left_fault is_start table most from bytes ≡ records_fault table most from (records_of bytes)
+left_plain false table most from bytes h = refl
+left_plain true table most from bytes h = plain_fault table most from bytes h
+
+left_marked : (is_start : Bool) (table : TableId) (most from : ℕ) (bytes : List ℕ)
+    → (is_start && starts_with nat_eq bytes byte_order_mark) ≡ true
+    → left_fault is_start table most from bytes ≡ Some fault.ByteOrderMark
+left_marked false table most from bytes h = absurd (true≢false (sym h))
+left_marked true table most from bytes h = marked_fault table most from bytes h
+
+at_hand : {ks : List Kind} {line : OpenLine} {bytes : List ℕ} → StandsFor ks line bytes
+    → AreOneRecord ks line.kept.items bytes
+at_hand {ks} {line} {bytes} h = rw (append-nil line.kept.items, append-nil bytes) at (h.same [])
+
+mark_at_hand : {ks : List Kind} {line : OpenLine} {bytes : List ℕ} → StandsFor ks line bytes
+    → starts_with nat_eq line.kept.items byte_order_mark ≡ starts_with nat_eq bytes byte_order_mark
+mark_at_hand {ks} {line} {bytes} h =
+    rw (append-nil line.kept.items, append-nil bytes) at (h.mark [])
+
+-- the part is marked
+pub end_marked : (table : TableId) (most : ℕ) (old : Progress) (bytes : List ℕ)
+    → StandsFor (kinds_of table) old.line bytes
+    → (old.is_start && starts_with nat_eq old.line.kept.items byte_order_mark) ≡ true
+    → left_fault old.is_start table most (old.rows + 1) bytes ≡ Some fault.ByteOrderMark
+end_marked table most old bytes stands marked =
+    left_marked old.is_start table most (old.rows + 1) bytes (rw (mark_at_hand stands) at marked)
+
+-- the first fault of the line is that of what was kept of it
+kept_fault : (table : TableId) (most : ℕ) (old : Progress) (bytes : List ℕ)
+    → StandsFor (kinds_of table) old.line bytes → list_all is_inner bytes ≡ true
+    → (old.is_start && starts_with nat_eq old.line.kept.items byte_order_mark) ≡ false
+    → left_fault old.is_start table most (old.rows + 1) bytes
+    ≡ records_fault table most (old.rows + 1) (filter is_filled (old.line.kept.items ∷ []))
+kept_fault table most old bytes stands inner plain =
+    left_plain old.is_start table most (old.rows + 1) bytes (rw (mark_at_hand stands) at plain)
+    ∙ ap (records_fault table most (old.rows + 1)) (inner_records bytes inner)
+    ∙ sym (same_fault table most (old.rows + 1) old.line.kept.items bytes (at_hand stands)
+    stands.filled)
+
+pub end_faulty : (table : TableId) (most : ℕ) (old : Progress) (bytes : List ℕ) (f : ReadFault)
+    → StandsFor (kinds_of table) old.line bytes → list_all is_inner bytes ≡ true
+    → (old.is_start && starts_with nat_eq old.line.kept.items byte_order_mark) ≡ false
+    → records_fault table most (old.rows + 1) (filter is_filled (old.line.kept.items ∷ []))
+    ≡ Some f
+    → left_fault old.is_start table most (old.rows + 1) bytes ≡ Some f
+end_faulty table most old bytes f stands inner plain e =
+    kept_fault table most old bytes stands inner plain ∙ e
+
+-- the line has ended
+pub ended : (table : TableId) (most : ℕ) (old new : Progress) (bytes : List ℕ)
+    (columns after : List RawColumn) → StandsFor (kinds_of table) old.line bytes
+    → list_all is_inner bytes ≡ true
+    → (old.is_start && starts_with nat_eq old.line.kept.items byte_order_mark) ≡ false
+    → old.rows ≤ most
+    → (records_fault table most (old.rows + 1) (filter is_filled (old.line.kept.items ∷ [])) ≡ None)
+    × HasRows table old.rows (first_rows old.rows (map values columns))
+    (filter is_filled (old.line.kept.items ∷ [])) [] new.rows after
+    → StandsFor (kinds_of table) new.line [] → new.is_start ≡ false
+    → HasEnded table most old bytes columns new after
+ended table most old new bytes columns after stands inner plain within added fresh behind =
+    let kept : List (List ℕ) = filter is_filled (old.line.kept.items ∷ []) in
+    let is = inner_records bytes inner in
+    let count = same_count old.line.kept.items bytes stands.filled in
+    let rows = same_rows table most (old.rows + 1) old.line.kept.items bytes (at_hand stands)
+    stands.filled added.0 in
+    let sound = records_sound table most (old.rows + 1) kept (omega (arith, within)) added.0 in
+    record {
+      no_fault = kept_fault table most old bytes stands inner plain ∙ added.0;
+      rows = rw is (record {
+        counted = omega (arith, added.1.counted, count);
+        of_table = added.1.of_table;
+        so_far = added.1.so_far
+            ∙ ap (λ (more : List (List Value)). first_rows old.rows (map values columns) ++ more) rows;
+      });
+      few = omega (arith, sound.0, added.1.counted);
+      fresh = fresh;
+      behind = behind;
+    }

@@ -1,0 +1,8 @@
+-- The parts so far.
+use Rattle.std.proofs.Common.{[], map, take}
+use Rattle.star_reader.specs.Partway.{HasRead}
+use Rattle.star_reader.proofs.table_reader.TableReader.of_parts.Given as goal
+
+abbrev pub invariant-loop-place : goal.invariant-loop-place
+invariant-loop-place l =
+    HasRead l.reader l.fn.table l.fn.limits.rows (take l.place (map (λ part. part.now) l.parts)) []

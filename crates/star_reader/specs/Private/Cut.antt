@@ -1,0 +1,31 @@
+-- Where a piece of a text is cut: at its first line end and behind its last.
+use Rattle.std.specs.Prelude.{◌≡◌, ◌++◌, ◌∷◌, ◌<◌, ◌≤◌, ◌-◌, Bool, true, not, ℕ, List, [], drop, length, take}
+use Rattle.std.specs.List.{list_all}
+use Rattle.star_schema.specs.Records.{ends_line}
+
+-- a byte that stands in a line
+abbrev pub is_inner : ℕ → Bool
+is_inner b = not (ends_line b)
+
+-- a text begins with a line end
+pub record IsBegun (text : List ℕ) : Type 0 where
+  pub byte : ℕ
+  pub rest : List ℕ
+  pub ends : ends_line byte ≡ true
+  pub is : text ≡ byte ∷ rest
+
+-- a text ends with a line end
+pub record IsEnded (text : List ℕ) : Type 0 where
+  pub front : List ℕ
+  pub byte : ℕ
+  pub ends : ends_line byte ≡ true
+  pub is : text ≡ front ++ byte ∷ []
+
+-- the lines of a piece: from its first line end to behind its last
+pub record IsCut (piece : List ℕ) (first behind : ℕ) : Type 0 where
+  pub order : first < behind
+  pub within : behind ≤ length piece
+  pub head : list_all is_inner (take first piece) ≡ true
+  pub begun : IsBegun (take (behind - first) (drop first piece))
+  pub ended : IsEnded (take (behind - first) (drop first piece))
+  pub tail : list_all is_inner (drop behind piece) ≡ true

@@ -1,0 +1,21 @@
+-- What the end of an open line leaves.
+use Rattle.std.specs.Prelude.{◌≡◌, ◌≤◌, ◌+◌, ℕ, List, [], None, false, map}
+use Rattle.star_schema.specs.declared.table.TableId.{TableId}
+use Rattle.star_schema.specs.Records.{records_of}
+use Rattle.star_schema.specs.Schema.{kinds_of}
+use Rattle.star_reader.specs.declared.column.RawColumn.{RawColumn}
+use Rattle.star_reader.specs.declared.progress.Progress.{Progress}
+use Rattle.star_reader.specs.Columns.{first_rows, values}
+use Rattle.star_reader.specs.Partway.{left_fault}
+use Rattle.star_reader.specs.Private.Open.{StandsFor}
+use Rattle.star_reader.specs.Private.Steps.{HasRows}
+
+-- an open line of these bytes has ended, with no fault: its row, if it has one, stands in the columns
+pub record HasEnded (table : TableId) (most : ℕ) (old : Progress) (bytes : List ℕ)
+    (before : List RawColumn) (new : Progress) (after : List RawColumn) : Type 0 where
+  pub no_fault : left_fault old.is_start table most (old.rows + 1) bytes ≡ None
+  pub rows : HasRows table old.rows (first_rows old.rows (map values before)) (records_of bytes) []
+      new.rows after
+  pub few : new.rows ≤ most
+  pub fresh : StandsFor (kinds_of table) new.line []
+  pub behind : new.is_start ≡ false

@@ -1,0 +1,86 @@
+// Where a piece of a text has its lines.
+
+ghost use Rattle.std.specs.Prelude.{◌≡◌, ◌<◌, ◌≤◌, ◌-◌, ◌↔◌, IsTrue, MatchOption, true, drop, get_or, length, take};
+ghost use Rattle.std.specs.List.{list_all};
+ghost use Rattle.star_schema.specs.Records.{ends_line};
+ghost use Rattle.star_reader.specs.Private.Cut.{IsCut, is_inner};
+
+/// The lines of a piece: they lie from its first line end to behind its last.
+#[derive(Clone, Copy)]
+pub(crate) struct Cut {
+    first: usize,
+    behind: usize,
+}
+
+impl Cut {
+    /// What stands before the lines: the end of the line that is open.
+    pub(crate) fn head(self, piece: &[u8]) -> &[u8]
+        requires { IsCut piece.now self.first self.behind }
+        ensures { result.now ≡ take self.first piece.now }
+    {
+        &piece[..self.first]
+    }
+
+    /// The lines, from a line end up to one, and with it.
+    pub(crate) fn lines(self, piece: &[u8]) -> &[u8]
+        requires { IsCut piece.now self.first self.behind }
+        ensures { result.now ≡ take (self.behind - self.first) (drop self.first piece.now) }
+    {
+        &piece[self.first..self.behind]
+    }
+
+    /// What stands behind the lines, and is open.
+    pub(crate) fn tail(self, piece: &[u8]) -> &[u8]
+        requires { IsCut piece.now self.first self.behind }
+        ensures { result.now ≡ drop self.behind piece.now }
+    {
+        &piece[self.behind..]
+    }
+}
+
+fn is_end(byte: u8) -> bool
+    ensures { result ≡ ends_line byte }
+{
+    byte == b'\r' || byte == b'\n'
+}
+
+// The place of the first line end, if there is one.
+fn first_end(piece: &[u8]) -> Option<usize>
+    ensures { MatchOption result (list_all is_inner piece.now ≡ true)
+        (λ first. (first < length piece.now)
+        × (list_all is_inner (take first piece.now) ≡ true)
+        × (ends_line (get_or piece.now first 0) ≡ true)) }
+{
+    for place in 0..piece.len() {
+        if is_end(piece[place]) {
+            return Some(place);
+        }
+    }
+    None
+}
+
+// The place behind the last line end, and 0 where there is none.
+fn behind_last_end(piece: &[u8]) -> usize
+    ensures within { result ≤ length piece.now }
+    ensures tail { list_all is_inner (drop result piece.now) ≡ true }
+    ensures end { 0 < result → ends_line (get_or piece.now (result - 1) 0) ≡ true }
+{
+    let mut behind = piece.len();
+    while behind > 0 {
+        if is_end(piece[behind - 1]) {
+            return behind;
+        }
+        behind -= 1;
+    }
+    0
+}
+
+/// The lines of a piece, if a line ends in it.
+pub(crate) fn lines_of(piece: &[u8]) -> Option<Cut>
+    ensures { MatchOption result (list_all is_inner piece.now ≡ true)
+        (λ cut. IsCut piece.now cut.first cut.behind) }
+{
+    let first = first_end(piece)?;
+    let behind = behind_last_end(piece);
+    Some(Cut { first, behind })
+}
