@@ -1,9 +1,9 @@
 -- A query fits tables by its own words where its plan does.
-use Rattle.std.proofs.Common.{◌≡◌, ◌∙◌, ◌↔◌, ℕ, Bool, true, List, [], ◌∷◌, Some, refl, sym, ap, subst}
+use Rattle.std.proofs.Common.{◌≡◌, ◌∙◌, ◌↔◌, ℕ, List, [], ◌∷◌, Some, refl, sym, ap}
 use Rattle.std.specs.Prelude.{◌+ℤ◌, ◌-ℤ◌, ◌*ℤ◌, ◌&&◌}
 use Rattle.std.specs.List.{list_all}
 use Rattle.star_schema.specs.declared.column.ColumnId.{ColumnId}
-use Rattle.star_interval.specs.Range.{Range, corner_range, fits_i64, only}
+use Rattle.star_interval.specs.Range.{corner_range, fits_i64}
 use Rattle.star_query.specs.Tree as tree
 use Rattle.star_query.specs.Tree.{Expression, Item, Measure, Name, Tree, add, column, constant, mul, sub}
 use Rattle.star_plan.specs.Fits.{measure_fits, nodes_fit, range_of}

@@ -1,5 +1,5 @@
 -- How much a plan holds at most: what the size of a compiled program follows from.
-use Rattle.std.specs.Prelude.{ℕ, ◌≤◌, length}
+use Rattle.std.specs.Prelude.{◌≤◌, length}
 use Rattle.std.specs.List.{sum_by}
 use Rattle.star_query.specs.Limits.{comparisons_of, measure_operands}
 use Rattle.star_query.specs.Maxima.{most_aggregates, most_columns, most_comparisons, most_items, most_keys, most_operands}

@@ -536,3 +536,98 @@ stop_cuts bytes fault = (
   λ e. let (tokens, end, left, are, stops) = subst (Cut 0 bytes) e (cut_all bytes) in record { tokens = tokens; end = end; left = left; before = are; stops = stops },
   λ is. tokens_cut is.end is.left 0 bytes is.tokens is.before ∙ ap (with_tokens is.tokens) (cut_bad is.end is.left fault (stop_front is.end is.left fault is.stops)),
 )
+
+-- ---- each token is the longest
+
+token_wide : (place b : ℕ) (bs : List ℕ) (x : Symbol) (w : ℕ) → front_piece place (b ∷ bs) ≡ token x w → 1 ≤ w
+token_wide place b bs x w e = let found : Found place (b ∷ bs) (token x w) = subst (Found place (b ∷ bs)) e (piece_found place b bs) in found.0
+
+token_width : (x y : Symbol) (v w : ℕ) → token x v ≡ token y w → v ≡ w
+token_width x y v w e = cc
+
+number_width : (place : ℕ) (bytes : List ℕ) (width : ℕ) (x : Symbol) (w : ℕ) → number_by place bytes width ≡ token x w → width ≡ w
+number_width place bytes width x w e =
+    by_bool (nat_lt most_digits width || begins_with_letter (drop width bytes))
+    (λ wrong. let f : bad (BadNumber place) ≡ token x w = sym (if_then _ _ _ wrong) ∙ e in absurd (cc))
+    (λ right. token_width _ _ _ _ (sym (if_else _ _ _ right) ∙ e))
+
+-- a text is read to a quote that no other follows
+no_shorter : (s t left rest : List ℕ) → flat_map doubled s ++ 39 ∷ left ≡ flat_map doubled t ++ 39 ∷ rest → is_whole (text []) rest ≡ true
+    → length (flat_map doubled s) ≤ length (flat_map doubled t)
+no_shorter [] t left rest e over = omega arith
+no_shorter (b ∷ s) [] left rest e over =
+    by_bool (b == 39)
+    (λ quote. let f : 39 ∷ 39 ∷ (flat_map doubled s ++ 39 ∷ left) ≡ 39 ∷ rest = rw quote at e in
+    let more : 39 ∷ (flat_map doubled s ++ 39 ∷ left) ≡ rest = cc in
+    absurd (let wrong : false ≡ true = subst (λ r. is_whole (text []) r ≡ true) (sym more) over in cc))
+    (λ other. let f : b ∷ (flat_map doubled s ++ 39 ∷ left) ≡ 39 ∷ rest = rw other at e in
+    let same : b ≡ 39 = cc in absurd (let wrong = rw (eq-eqb b 39 same) at other in cc))
+no_shorter (b ∷ s) (c ∷ t) left rest e over =
+    by_bool (b == 39)
+    (λ quote. by_bool (c == 39)
+    (λ second. let f : 39 ∷ 39 ∷ (flat_map doubled s ++ 39 ∷ left) ≡ 39 ∷ 39 ∷ (flat_map doubled t ++ 39 ∷ rest) = rw (quote, second) at e in
+    let tails : flat_map doubled s ++ 39 ∷ left ≡ flat_map doubled t ++ 39 ∷ rest = cc in
+    let less = no_shorter s t left rest tails over in rw (quote, second) (omega (arith, less)))
+    (λ other. let f : 39 ∷ 39 ∷ (flat_map doubled s ++ 39 ∷ left) ≡ c ∷ (flat_map doubled t ++ 39 ∷ rest) = rw (quote, other) at e in
+    let same : 39 ≡ c = cc in absurd (let wrong = rw (eq-eqb c 39 (sym same)) at other in cc)))
+    (λ other. by_bool (c == 39)
+    (λ second. let f : b ∷ (flat_map doubled s ++ 39 ∷ left) ≡ 39 ∷ 39 ∷ (flat_map doubled t ++ 39 ∷ rest) = rw (other, second) at e in
+    let same : b ≡ 39 = cc in absurd (let wrong = rw (eq-eqb b 39 same) at other in cc))
+    (λ neither. let f : b ∷ (flat_map doubled s ++ 39 ∷ left) ≡ c ∷ (flat_map doubled t ++ 39 ∷ rest) = rw (other, neither) at e in
+    let tails : flat_map doubled s ++ 39 ∷ left ≡ flat_map doubled t ++ 39 ∷ rest = cc in
+    let less = no_shorter s t left rest tails over in rw (other, neither) (omega (arith, less))))
+
+text_longest : (place : ℕ) (t left : List ℕ) (x : Symbol) (w : ℕ) → front_piece place (quoted t ++ left) ≡ token x w → length (quoted t) ≤ w
+unfolding quoted
+text_longest place t left x w e =
+    let behind : (flat_map doubled t ++ 39 ∷ []) ++ left ≡ flat_map doubled t ++ 39 ∷ left = append_assoc (flat_map doubled t) (39 ∷ []) left in
+    let bytes = flat_map doubled t ++ 39 ∷ left in
+    go (said place (place + 1) false bytes) refl (reads place (place + 1) false bytes) (sym (ap (text_piece place) behind) ∙ e)
+  where
+    go : (o : Result (List ℕ) QueryFault) → said place (place + 1) false (flat_map doubled t ++ 39 ∷ left) ≡ o
+        → Reads place (place + 1) false (flat_map doubled t ++ 39 ∷ left) o
+        → text_piece place (flat_map doubled t ++ 39 ∷ left) ≡ token x w → length (39 ∷ (flat_map doubled t ++ 39 ∷ [])) ≤ w
+    go (Ok u) h (rest, parted, printed, over) f =
+        let same : token (text u) (length (flat_map doubled u) + 2) ≡ token x w = sym (text_is place (flat_map doubled t ++ 39 ∷ left) (Ok u) h) ∙ f in
+        let width : length (flat_map doubled u) + 2 ≡ w = cc in
+        omega (arith, width, no_shorter t u left rest parted over, length-append (flat_map doubled t) (39 ∷ []))
+    go (Err q) h is f =
+        let same : bad q ≡ token x w = sym (text_is place (flat_map doubled t ++ 39 ∷ left) (Err q) h) ∙ f in absurd (cc)
+
+-- what begins there has at least as many bytes as any token that the bytes begin with
+as_wide : (place : ℕ) (longer left : List ℕ) (y x : Symbol) (w : ℕ) → IsToken place longer y → front_piece place (longer ++ left) ≡ token x w → length longer ≤ w
+as_wide place [] left y x w (a_word begins all same) e = absurd (cc)
+as_wide place (b ∷ bs) left y x w (a_word begins all same) e =
+    let bytes = (b ∷ bs) ++ left in
+    let piece : word_piece place bytes ≡ token x w =
+    sym (if_else (is_blank b) _ _ (no_blank_by is_letter b begins refl refl refl refl) ∙ if_then (is_letter b) _ _ begins) ∙ e in
+    let width : prefix_len is_word_byte bytes ≡ w = token_width _ _ _ _ piece in
+    omega (arith, width, run_within is_word_byte (b ∷ bs) left all)
+as_wide place longer left y x w (a_number n e same) f = go longer (numeral_parts most_digits longer n e) f
+  where
+    go : (digits : List ℕ) → (1 ≤ length digits) × (length digits ≤ most_digits) × (list_all is_ascii_digit digits ≡ true) × (digits_value 10 digits ≡ n)
+        → front_piece place (digits ++ left) ≡ token x w → length digits ≤ w
+    go [] (some, few, all, value) f = omega arith
+    go (b ∷ bs) (some, few, all, value) f =
+        let bytes = (b ∷ bs) ++ left in
+        let first = and_parts (is_ascii_digit b) (list_all is_ascii_digit bs) all in
+        let piece : number_by place bytes (prefix_len is_ascii_digit bytes) ≡ token x w = sym (digit_piece place b (bs ++ left) first.0) ∙ f in
+        let width : prefix_len is_ascii_digit bytes ≡ w = number_width place bytes (prefix_len is_ascii_digit bytes) x w piece in
+        omega (arith, width, run_within is_ascii_digit (b ∷ bs) left all)
+as_wide place longer left y x w (a_text t printed cut same) f =
+    let g : front_piece place (quoted t ++ left) ≡ token x w = sym (ap (λ l. front_piece place (l ++ left)) cut) ∙ f in
+    let long = text_longest place t left x w g in omega (arith, ap length cut, long)
+as_wide place longer left y x w (a_sign there) f =
+    each_sign (λ (s, z). front_piece place (s ++ left) ≡ token x w → length s ≤ w) longer y
+    (two (relation r.AtMost), (two (relation r.Unequal), (two (relation r.AtLeast), (one 60, (one 62, (one 61, (one 44, (one 40, (one 41, (one 42, (one 59, (one 43, (one 45, tt))))))))))))) there f
+  where
+    one : (b : ℕ) → front_piece place (b ∷ left) ≡ token x w → 1 ≤ w
+    one b g = token_wide place b left x w g
+
+    two : (z : Symbol) → token z 2 ≡ token x w → 2 ≤ w
+    two z g = let width : 2 ≡ w = token_width _ _ _ _ g in omega (arith, width)
+
+pub longest : (place : ℕ) (word bytes longer left : List ℕ) (x y : Symbol) → IsToken place word x → is_whole x bytes ≡ true
+    → IsToken place longer y → longer ++ left ≡ word ++ bytes → length longer ≤ length word
+longest place word bytes longer left x y is over other same =
+    as_wide place longer left y x (length word) other (ap (front_piece place) same ∙ token_front place word bytes x is over)

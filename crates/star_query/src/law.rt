@@ -1,12 +1,12 @@
 //! Laws of the cut and the grammar: functions with no body, whose clauses hold of all texts.
 
-ghost use Rattle.std.specs.Prelude.{◌≡◌, ◌≢◌, ◌↔◌, ℕ, List, [], length, Some, Ok, Err};
+ghost use Rattle.std.specs.Prelude.{◌≡◌, ◌≢◌, ◌≤◌, ◌++◌, ◌↔◌, ℕ, List, [], length, true, Some, Ok, Err};
 ghost use Rattle.star_query.specs.declared.token.Word.{Word};
 ghost use Rattle.star_query.specs.declared.fault.QueryFault.{QueryFault};
 ghost use Rattle.star_query.specs.declared.fault.QueryFault.TheVariants.{OutOfMemory};
-ghost use Rattle.star_query.specs.Symbols.{Placed, spelling, lowered};
+ghost use Rattle.star_query.specs.Symbols.{Placed, Symbol, spelling, lowered};
 ghost use Rattle.star_query.specs.Cut.{cut_of, reserved};
-ghost use Rattle.star_query.specs.Tokens.{AreTokens, IsStopped};
+ghost use Rattle.star_query.specs.Tokens.{AreTokens, IsStopped, IsToken, is_whole};
 ghost use Rattle.star_query.specs.Tree.{Tree};
 ghost use Rattle.star_query.specs.Grammar.{Mark};
 ghost use Rattle.star_query.specs.Limits.{IsQueryWithinLimits};
@@ -57,6 +57,14 @@ pub fn texts_that_mean_a_tree_have_no_fault()
 pub fn tokens_make_their_text()
     ensures { (bytes : List ℕ) (tokens : List Placed)
         → (cut_of bytes ≡ Ok tokens) ↔ AreTokens (length bytes) [] 0 bytes tokens }
+{}
+
+/// No longer bytes that stand there are a token: what a token goes on with is never behind it.
+pub fn tokens_are_the_longest()
+    ensures { (place : ℕ) (word bytes longer left : List ℕ) (x y : Symbol)
+        → IsToken place word x → is_whole x bytes ≡ true
+        → IsToken place longer y → longer ++ left ≡ word ++ bytes
+        → length longer ≤ length word }
 {}
 
 /// A text has no cut exactly where behind some tokens something stops it: a byte that begins none,
