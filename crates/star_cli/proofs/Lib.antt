@@ -9,3 +9,4 @@ mod WorkedFaults
 mod WorkedFailures
 mod WorkedReports
 pub mod Giving
+pub mod FolderReads

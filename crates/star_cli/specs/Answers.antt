@@ -84,25 +84,38 @@ IsTried limits out texts file answer =
     IsAnswered out (IsTrialReport limits.rows texts file limits.visits)
     (IsNoTrial limits.rows texts file limits.visits) answer
 
--- what the engine answers: `query` and `exec` alone write notes
+-- what the engine answers over five texts and a file: `query` and `exec` alone write notes
+abbrev pub IsGivenOf : {S N : Type 0} → Task → TableTexts → List ℕ → Change S → Change N
+    → Result Bool EngineFault → Type 0
+IsGivenOf Sample texts file out notes result =
+    IsListedAndBenched out texts result × IsUntouched notes
+IsGivenOf (Check folder) texts file out notes result =
+    IsWhole (IsListed out texts) result × IsUntouched notes
+IsGivenOf (Bench folder) texts file out notes result =
+    IsBenched out texts result × IsUntouched notes
+IsGivenOf (Query folder path) texts file out notes result =
+    IsWhole (IsQueried out notes texts file) result
+IsGivenOf (Explain path) texts file out notes result =
+    IsWhole (IsExplanation out file) result × IsUntouched notes
+IsGivenOf (Exec folder path) texts file out notes result =
+    IsWhole (IsExecuted out notes texts file) result
+IsGivenOf (Quote folder path) texts file out notes result =
+    IsWhole (IsQuoted out texts file) result × IsUntouched notes
+IsGivenOf (Trial folder path limits) texts file out notes result =
+    IsWhole (IsTried limits out texts file) result × IsUntouched notes
+
+-- over the bytes that were read
 abbrev pub IsGiven : {S N : Type 0} → Task → Bytes → Change S → Change N
     → Result Bool EngineFault → Type 0
-IsGiven Sample bytes out notes result =
-    IsListedAndBenched out (text_of bytes.texts) result × IsUntouched notes
-IsGiven (Check folder) bytes out notes result =
-    IsWhole (IsListed out (text_of bytes.texts)) result × IsUntouched notes
-IsGiven (Bench folder) bytes out notes result =
-    IsBenched out (text_of bytes.texts) result × IsUntouched notes
-IsGiven (Query folder file) bytes out notes result =
-    IsWhole (IsQueried out notes (text_of bytes.texts) bytes.file.now) result
-IsGiven (Explain file) bytes out notes result =
-    IsWhole (IsExplanation out bytes.file.now) result × IsUntouched notes
-IsGiven (Exec folder file) bytes out notes result =
-    IsWhole (IsExecuted out notes (text_of bytes.texts) bytes.file.now) result
-IsGiven (Quote folder file) bytes out notes result =
-    IsWhole (IsQuoted out (text_of bytes.texts) bytes.file.now) result × IsUntouched notes
-IsGiven (Trial folder file limits) bytes out notes result =
-    IsWhole (IsTried limits out (text_of bytes.texts) bytes.file.now) result × IsUntouched notes
+IsGiven task bytes out notes result =
+    IsGivenOf task (text_of bytes.texts) bytes.file.now out notes result
+
+-- a task over the tables of a folder, under the widest limit on rows
+abbrev pub IsOfFolder : Task → Type 0
+IsOfFolder Sample = ⊥
+IsOfFolder (Explain path) = ⊥
+IsOfFolder (Trial folder path limits) = limits.rows ≡ most_rows
+IsOfFolder _ = Unit {0}
 
 -- ---- the exit status
 
@@ -113,10 +126,16 @@ IsEnded err (Ok true) status = IsUntouched err × (status ≡ 0)
 IsEnded err (Ok false) status = IsUntouched err × (status ≡ 1)
 IsEnded err (Err fault) status = IsFaultTold err fault status
 
--- what the engine answers, with its notes on standard error, and behind them how the program ends
-pub record IsExit {S E : Type 0} (task : Task) (bytes : Bytes) (out : Change S) (err : Change E)
-    (status : ℕ) : Type 0 where
+-- what the engine answers over five texts and a file, with its notes on standard error, and behind
+-- them how the program ends
+pub record IsExitOf {S E : Type 0} (task : Task) (texts : TableTexts) (file : List ℕ)
+    (out : Change S) (err : Change E) (status : ℕ) : Type 0 where
   pub result : Result Bool EngineFault
   pub noted : E
-  pub given : IsGiven task bytes out (record err { new = noted }) result
+  pub given : IsGivenOf task texts file out (record err { new = noted }) result
   pub ended : IsEnded (record err { old = noted }) result status
+
+-- over the bytes that were read
+abbrev pub IsExit : {S E : Type 0} → Task → Bytes → Change S → Change E → (status : ℕ) → Type 0
+IsExit task bytes out err status =
+    IsExitOf task (text_of bytes.texts) bytes.file.now out err status

@@ -4,6 +4,7 @@ pub mod FolderLoads
 pub mod Lines
 pub mod Names
 pub mod Private
+pub mod ReadFolders
 pub mod Reports
 pub mod Sessions
 pub mod Shelves

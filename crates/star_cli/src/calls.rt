@@ -13,8 +13,8 @@ use star_engine::{
 use star_schema::{Limits, Sink};
 use std::alloc::Global;
 
-// The answer of a call that refuses nothing by its Ok.
-fn whole(answer: Result<(), EngineFault>) -> Result<bool, EngineFault>
+/// The answer of a call that refuses nothing by its Ok.
+pub(crate) fn whole(answer: Result<(), EngineFault>) -> Result<bool, EngineFault>
     ensures { result ≡ spec.whole answer }
 {
     match answer {

@@ -1,13 +1,14 @@
 // The commands of the program.
 
-ghost use Rattle.std.specs.Prelude.{◌≡◌, true};
+ghost use Rattle.std.specs.Prelude.{◌≡◌, true, IfOk, IfSome};
+ghost use Rattle.star_cli.specs.ReadFolders.{AreWidelyRead};
 ghost use Rattle.star_engine.specs.Answered.{change};
 ghost use Rattle.star_cli.specs.Reports.{AreAllJudged};
 
-use crate::answers::{Bytes, answer};
+use crate::answers::{Bytes, answer, answer_read};
 use crate::errands::{ReadFile, errands_of, read_files};
 use crate::failure::Failure;
-use crate::files::{Folder, find_folder, read_file};
+use crate::files::{find_folder, read_file, read_tables};
 use crate::input::StandardInput;
 use crate::lines::tell;
 use crate::loads::load_engine;
@@ -15,7 +16,7 @@ use crate::reports::{Errand, Halt, deliver_all, end, judge_all};
 use crate::sessions::hold;
 use crate::shelf::Directory;
 use crate::words::{Reports, Request, Task, request_of};
-use star_engine::{Engine, sample};
+use star_engine::{Engine, ReadTables, sample};
 use star_schema::{Out, Sink};
 use star_statements::Source;
 use std::alloc::{AllocError, Global};
@@ -23,15 +24,17 @@ use std::io::{BufReader, Write};
 use std::rt::{Env, Files};
 use std::{env, io};
 
-// The bytes that are read for a task.
+// What is read for a task: the tables of a folder, and a file.
 #[derive(Drop)]
 struct Read {
-    tables: Option<Folder>,
+    tables: Option<ReadTables>,
     file: Vec<u8>,
 }
 
 // Reads what a task is about: its file first, and then its tables.
-fn read_for<'a, R: Files + AllocGlobal>(rt: &R, task: Task<'a>) -> Result<Read, Failure<'a>> {
+fn read_for<'a, R: Files + AllocGlobal>(rt: &R, task: Task<'a>) -> Result<Read, Failure<'a>>
+    ensures { IfOk result (λ read. IfSome read.tables AreWidelyRead) }
+{
     Ok(match task {
         Task::Sample => Read {
             tables: None,
@@ -42,7 +45,7 @@ fn read_for<'a, R: Files + AllocGlobal>(rt: &R, task: Task<'a>) -> Result<Read, 
             file: read_file(rt, file)?,
         },
         Task::Check { folder } | Task::Bench { folder } => Read {
-            tables: Some(Folder::read(rt, folder)?),
+            tables: Some(read_tables(rt, folder)?),
             file: Vec::new(rt.alloc()),
         },
         Task::Query { folder, file }
@@ -51,45 +54,34 @@ fn read_for<'a, R: Files + AllocGlobal>(rt: &R, task: Task<'a>) -> Result<Read, 
         | Task::Trial { folder, file, .. } => {
             let file = read_file(rt, file)?;
             Read {
-                tables: Some(Folder::read(rt, folder)?),
+                tables: Some(read_tables(rt, folder)?),
                 file,
             }
         }
     })
 }
 
-impl Read {
-    // The parts of lineorder, where a folder was read.
-    fn lineorder(&self, alloc: Global) -> Result<Vec<&[u8]>, AllocError> {
-        match &self.tables {
-            Some(tables) => tables.lineorder(alloc),
-            None => Ok(Vec::new(alloc)),
-        }
-    }
-
-    fn bytes<'a>(&'a self, lineorder: &'a [&'a [u8]]) -> Bytes<'a> {
-        let texts = match &self.tables {
-            Some(tables) => tables.texts(lineorder),
-            None => sample(),
-        };
-        Bytes {
-            texts,
-            file: self.file.as_slice(),
-        }
-    }
-}
-
 // Answers a task over what was read for it.
 fn answer_over<S: Sink, E: Sink>(
     alloc: Global,
     task: Task<'_>,
-    read: &Read,
+    read: Read,
     out: &mut S,
     err: &mut E,
-) -> u8 {
-    match read.lineorder(alloc) {
-        Ok(parts) => answer(alloc, task, &read.bytes(parts.as_slice()), out, err),
-        Err(_) => Failure::from(AllocError).tell(alloc, out, err),
+) -> u8
+    requires { IfSome read.tables AreWidelyRead }
+{
+    let Read { tables, file } = read;
+    let file = file.as_slice();
+    match tables {
+        Some(tables) => answer_read(alloc, task, tables, file, out, err),
+        None => {
+            let bytes = Bytes {
+                texts: sample(),
+                file,
+            };
+            answer(alloc, task, &bytes, out, err)
+        }
     }
 }
 
@@ -101,7 +93,7 @@ fn answer_task<R: Files + AllocGlobal, S: Sink, E: Sink>(
     err: &mut E,
 ) -> u8 {
     match read_for(rt, task) {
-        Ok(read) => answer_over(rt.alloc(), task, &read, out, err),
+        Ok(read) => answer_over(rt.alloc(), task, read, out, err),
         Err(failure) => failure.tell(rt.alloc(), out, err),
     }
 }

@@ -1,7 +1,12 @@
 // The files and folders that a command reads.
 
+ghost use Rattle.std.specs.Prelude.{◌≡◌, IfOk, OnOk};
+ghost use Rattle.star_schema.specs.declared.table.TableId.{TableId};
+ghost use Rattle.star_cli.specs.ReadFolders.{AreWidelyRead, HasReadSome, StaysBetween};
+
 use crate::failure::Failure;
-use star_engine::{FileFault, Input, Texts, read_expected};
+use star_engine::{FileFault, Input, ReadTables, TableReader, read_expected, read_part};
+use star_schema::{Limits, TableId};
 use std::alloc::{AllocError, Global};
 use std::fs::{File, OpenFile};
 use std::rt::Files;
@@ -18,16 +23,6 @@ const LINEORDER: &str = "lineorder.tbl";
 
 /// The most bytes that the file of a program may have.
 const MOST_FILE_BYTES: u64 = 16_777_216;
-
-/// The bytes of the table files of a folder. Those of lineorder are in parts.
-#[derive(Drop)]
-pub(crate) struct Folder {
-    date: Vec<u8>,
-    customer: Vec<u8>,
-    supplier: Vec<u8>,
-    part: Vec<u8>,
-    lineorder: Vec<Vec<u8>>,
-}
 
 // Opens a file, if it is there. Only what is not found is not there.
 fn open_there<R: Files>(rt: &R, path: &str) -> Result<Option<R::File>, FileFault> {
@@ -97,28 +92,81 @@ pub(crate) fn read_file<'a, R: Files + AllocGlobal>(
     read_at_most(rt, path, path, MOST_FILE_BYTES)
 }
 
+// Gives a reader of a table the bytes of a file as one more part, if it is there, and tells whether it
+// is. The file is opened once, and read in pieces. One that is told to have more bytes than may be is
+// not read.
+fn feed_there<R: Files + AllocGlobal>(
+    rt: &R,
+    path: &str,
+    reader: &mut TableReader,
+) -> Result<bool, FileFault>
+    ensures { OnOk result (StaysBetween reader.old reader.new) }
+{
+    let Some(file) = open_there(rt, path)? else {
+        return Ok(false);
+    };
+    if told_size(&file) > MOST_TABLE_BYTES {
+        return Err(FileFault::Failed);
+    }
+    read_part(rt.alloc(), &mut Input::new(file), reader, MOST_TABLE_BYTES)?;
+    Ok(true)
+}
+
+// Gives a reader of a table the file of the table, by its name in the folder, and tells whether it is
+// there.
+fn feed_file<R: Files + AllocGlobal>(
+    rt: &R,
+    folder: &str,
+    name: &'static str,
+    reader: &mut TableReader,
+) -> Result<bool, Failure<'static>>
+    ensures { OnOk result (StaysBetween reader.old reader.new) }
+{
+    let path = format!(in rt.alloc(); "{folder}/{name}")?;
+    match feed_there(rt, path.as_str(), reader) {
+        Ok(there) => Ok(there),
+        Err(fault) => Err(failure_of(fault, Failure::File(name))),
+    }
+}
+
+fn boxed(alloc: Global, reader: TableReader) -> Result<Box<TableReader>, AllocError>
+    ensures { IfOk result (λ boxed. boxed.value ≡ reader) }
+{
+    Ok(Box::new(alloc, reader)?)
+}
+
+// Reads a table of one file.
 fn read_table<R: Files + AllocGlobal>(
     rt: &R,
     folder: &str,
     name: &'static str,
-) -> Result<Vec<u8>, Failure<'static>> {
-    let path = format!(in rt.alloc(); "{folder}/{name}")?;
-    read_at_most(rt, path.as_str(), name, MOST_TABLE_BYTES)
+    table: TableId,
+) -> Result<Box<TableReader>, Failure<'static>>
+    ensures { IfOk result (λ reader. HasReadSome reader.value table) }
+{
+    let mut reader = TableReader::new(rt.alloc(), table, Limits::widest())?;
+    if !feed_file(rt, folder, name, &mut reader)? {
+        return Err(Failure::File(name));
+    }
+    Ok(boxed(rt.alloc(), reader)?)
 }
 
 fn path_of_part(alloc: Global, folder: &str, number: u16) -> Result<String, AllocError> {
     format!(in alloc; "{folder}/lineorder.tbl.{number}")
 }
 
-// The bytes of a part of lineorder, by its number, if it is there.
-fn read_part<R: Files + AllocGlobal>(
+// Gives a reader a part of lineorder, by its number, and tells whether it is there.
+fn feed_part<R: Files + AllocGlobal>(
     rt: &R,
     folder: &str,
     number: u16,
-) -> Result<Option<Vec<u8>>, Failure<'static>> {
+    reader: &mut TableReader,
+) -> Result<bool, Failure<'static>>
+    ensures { OnOk result (StaysBetween reader.old reader.new) }
+{
     let path = path_of_part(rt.alloc(), folder, number)?;
-    match read_there(rt, path.as_str(), MOST_TABLE_BYTES) {
-        Ok(part) => Ok(part),
+    match feed_there(rt, path.as_str(), reader) {
+        Ok(there) => Ok(there),
         Err(fault) => Err(failure_of(fault, Failure::Part(number))),
     }
 }
@@ -137,47 +185,73 @@ fn refuse_part<R: Files + AllocGlobal>(
     }
 }
 
-fn add_part(parts: &mut Vec<Vec<u8>>, part: Vec<u8>) -> Result<(), AllocError> {
-    Ok(parts.push(part)?)
-}
-
-// The bytes of the parts of lineorder, from the first up to one that is not there.
-fn read_parts<R: Files + AllocGlobal>(
+// Gives a reader the parts of lineorder, from the first up to one that is not there, and tells whether
+// there is one.
+fn feed_parts<R: Files + AllocGlobal>(
     rt: &R,
     folder: &str,
-) -> Result<Vec<Vec<u8>>, Failure<'static>> {
-    let mut parts = Vec::new(rt.alloc());
+    reader: &mut TableReader,
+) -> Result<bool, Failure<'static>>
+    ensures { OnOk result (StaysBetween reader.old reader.new) }
+{
     for number in 1..=MOST_PARTS {
-        match read_part(rt, folder, number)? {
-            Some(part) => add_part(&mut parts, part)?,
-            None => return Ok(parts),
+        if !feed_part(rt, folder, number, reader)? {
+            return Ok(number > 1);
         }
     }
     refuse_part(rt, folder, MOST_PARTS + 1)?;
-    Ok(parts)
+    Ok(true)
 }
 
-// The bytes of lineorder: its file, or else its parts, of which there is one at least.
+// Gives a reader the file of lineorder, or else its parts, and tells whether there is one.
+fn feed_lineorder<R: Files + AllocGlobal>(
+    rt: &R,
+    folder: &str,
+    reader: &mut TableReader,
+) -> Result<bool, Failure<'static>>
+    ensures { OnOk result (StaysBetween reader.old reader.new) }
+{
+    if feed_file(rt, folder, LINEORDER, reader)? {
+        return Ok(true);
+    }
+    feed_parts(rt, folder, reader)
+}
+
+// Reads lineorder: its file, or else its parts, of which there is one at least.
 fn read_lineorder<R: Files + AllocGlobal>(
     rt: &R,
     folder: &str,
-) -> Result<Vec<Vec<u8>>, Failure<'static>> {
-    let path = format!(in rt.alloc(); "{folder}/{LINEORDER}")?;
-    match read_there(rt, path.as_str(), MOST_TABLE_BYTES) {
-        Ok(Some(whole)) => {
-            let mut parts = Vec::new(rt.alloc());
-            add_part(&mut parts, whole)?;
-            Ok(parts)
-        }
-        Ok(None) => {
-            let parts = read_parts(rt, folder)?;
-            if parts.is_empty() {
-                return Err(Failure::File(LINEORDER));
-            }
-            Ok(parts)
-        }
-        Err(fault) => Err(failure_of(fault, Failure::File(LINEORDER))),
+) -> Result<Box<TableReader>, Failure<'static>>
+    ensures { IfOk result (λ reader. HasReadSome reader.value TableId.Lineorder) }
+{
+    let mut reader = TableReader::new(rt.alloc(), TableId::Lineorder, Limits::widest())?;
+    if !feed_lineorder(rt, folder, &mut reader)? {
+        return Err(Failure::File(LINEORDER));
     }
+    Ok(boxed(rt.alloc(), reader)?)
+}
+
+/// Reads the tables of a folder, in their order. Where there is no file of lineorder its parts are
+/// read, `lineorder.tbl.1` and on, up to the first that is not there. What the tables' bytes say is
+/// looked at later: a fault of them comes behind every failure to read a file.
+pub(crate) fn read_tables<R: Files + AllocGlobal>(
+    rt: &R,
+    folder: &str,
+) -> Result<ReadTables, Failure<'static>>
+    ensures { IfOk result AreWidelyRead }
+{
+    let date = read_table(rt, folder, "date.tbl", TableId::Date)?;
+    let customer = read_table(rt, folder, "customer.tbl", TableId::Customer)?;
+    let supplier = read_table(rt, folder, "supplier.tbl", TableId::Supplier)?;
+    let part = read_table(rt, folder, "part.tbl", TableId::Part)?;
+    let lineorder = read_lineorder(rt, folder)?;
+    Ok(ReadTables {
+        date,
+        customer,
+        supplier,
+        part,
+        lineorder,
+    })
 }
 
 /// Sees to it that a folder is there, which a failure names as the words do.
@@ -186,41 +260,5 @@ pub(crate) fn find_folder<'a, R: Files>(rt: &R, folder: &'a str) -> Result<(), F
         Ok(metadata) if metadata.is_dir() => Ok(()),
         Err(error) if error.kind() == io::ErrorKind::OutOfMemory => Err(Failure::from(AllocError)),
         _ => Err(Failure::File(folder)),
-    }
-}
-
-impl Folder {
-    /// Reads the files, in the order of the tables. Where there is no file of lineorder its parts
-    /// are read, `lineorder.tbl.1` and on, up to the first that is not there.
-    pub(crate) fn read<R: Files + AllocGlobal>(
-        rt: &R,
-        folder: &str,
-    ) -> Result<Folder, Failure<'static>> {
-        Ok(Folder {
-            date: read_table(rt, folder, "date.tbl")?,
-            customer: read_table(rt, folder, "customer.tbl")?,
-            supplier: read_table(rt, folder, "supplier.tbl")?,
-            part: read_table(rt, folder, "part.tbl")?,
-            lineorder: read_lineorder(rt, folder)?,
-        })
-    }
-
-    /// The parts of lineorder, lent.
-    pub(crate) fn lineorder(&self, alloc: Global) -> Result<Vec<&[u8]>, AllocError> {
-        self.lineorder
-            .iter()
-            .map(|part| part.as_slice())
-            .collect(alloc)
-    }
-
-    /// The texts of the tables, of which lineorder's parts are given.
-    pub(crate) fn texts<'a>(&'a self, lineorder: &'a [&'a [u8]]) -> Texts<'a> {
-        Texts {
-            date: self.date.as_slice(),
-            customer: self.customer.as_slice(),
-            supplier: self.supplier.as_slice(),
-            part: self.part.as_slice(),
-            lineorder,
-        }
     }
 }

@@ -8,6 +8,7 @@ mod commands;
 mod errands;
 mod failure;
 mod files;
+mod folder_calls;
 mod help;
 mod input;
 mod lines;
@@ -19,7 +20,7 @@ mod sessions;
 mod shelf;
 mod words;
 
-pub use crate::answers::{Bytes, answer};
+pub use crate::answers::{Bytes, answer, answer_read};
 pub use crate::commands::{command, run};
 pub use crate::input::StandardInput;
 pub use crate::lines::{tell, tell_fault};

@@ -3,38 +3,42 @@
 ghost use Rattle.std.specs.Prelude.{IfErr, IfOk, OnOk};
 ghost use Rattle.star_engine.specs.Answered.{IsUntouched, change};
 ghost use Rattle.star_cli.specs.FolderLoads.{AreTables, IsFolderRefused, IsWidest};
+ghost use Rattle.star_cli.specs.ReadFolders.{AreWidelyRead};
 
 use crate::failure::Failure;
-use crate::files::Folder;
+use crate::files::read_tables;
 use crate::lines::tell_fault;
 use star_catalogue::Catalogue;
-use star_engine::{Engine, EngineFault};
+use star_engine::{Engine, EngineFault, ReadTables};
 use star_schema::{Limits, Sink};
 use std::alloc::{AllocError, Global};
 use std::rt::Files;
 
-// The tables of the files of a folder, under the widest limits.
-fn load_read(alloc: Global, read: &Folder) -> Result<Catalogue, EngineFault>
+// The tables of a folder, which were read, under the widest limits.
+fn load_read(alloc: Global, read: ReadTables) -> Result<Catalogue, EngineFault>
+    requires { AreWidelyRead read }
     ensures { IfOk result (λ catalogue. AreTables catalogue) }
 {
-    let lineorder = read.lineorder(alloc)?;
-    Ok(Catalogue::load(alloc, &read.texts(lineorder.as_slice()), Limits::widest())?)
+    Ok(Catalogue::finish(alloc, read)?)
 }
 
 // An engine over them.
-fn engine_of(alloc: Global, read: &Folder) -> Result<Engine, EngineFault>
+fn engine_of(alloc: Global, read: ReadTables) -> Result<Engine, EngineFault>
+    requires { AreWidelyRead read }
     ensures { IfOk result (λ engine. IsWidest engine) }
 {
-    let lineorder = read.lineorder(alloc)?;
-    Engine::load(alloc, &read.texts(lineorder.as_slice()), Limits::widest())
+    let engine = Engine::of_read(alloc, read, Limits::widest())?;
+    Ok(engine)
 }
 
-// The files of a folder whose name is not empty.
-fn read_named<R: Files + AllocGlobal>(rt: &R, folder: &str) -> Result<Folder, Failure<'static>> {
+// The tables of a folder whose name is not empty.
+fn read_named<R: Files + AllocGlobal>(rt: &R, folder: &str) -> Result<ReadTables, Failure<'static>>
+    ensures { IfOk result AreWidelyRead }
+{
     if folder.is_empty() {
         return Err(Failure::EmptyFolder);
     }
-    Folder::read(rt, folder)
+    read_tables(rt, folder)
 }
 
 /// Loads the tables of a folder under the widest limits. Where it can't, it tells why as the
@@ -56,13 +60,13 @@ pub fn load_folder<R: Files + AllocGlobal, S: Sink, E: Sink>(
         Ok(read) => read,
         Err(failure) => return Err(failure.tell(rt.alloc(), out, err)),
     };
-    match load_read(rt.alloc(), &read) {
+    match load_read(rt.alloc(), read) {
         Ok(catalogue) => Ok(catalogue),
         Err(fault) => Err(tell_fault(rt.alloc(), err, &fault)),
     }
 }
 
-/// Loads an engine over the tables of a folder, as `load_folder` does; the files' bytes are let go.
+/// Loads an engine over the tables of a folder, as `load_folder` does.
 pub fn load_engine<R: Files + AllocGlobal, S: Sink, E: Sink>(
     rt: &R,
     folder: &str,
@@ -79,7 +83,7 @@ pub fn load_engine<R: Files + AllocGlobal, S: Sink, E: Sink>(
         Ok(read) => read,
         Err(failure) => return Err(failure.tell(rt.alloc(), out, err)),
     };
-    match engine_of(rt.alloc(), &read) {
+    match engine_of(rt.alloc(), read) {
         Ok(engine) => Ok(engine),
         Err(unloaded) => Err(tell_fault(rt.alloc(), err, &unloaded)),
     }

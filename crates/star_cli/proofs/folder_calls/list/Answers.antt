@@ -1,0 +1,15 @@
+use Rattle.star_engine.specs.Answered.{IsAnswered, change}
+use Rattle.star_engine.specs.Listing.{IsListing}
+use Rattle.star_engine.specs.Loads.{IsUnloaded}
+use Rattle.star_cli.proofs.Giving.{widest}
+use Rattle.star_cli.proofs.folder_calls.list.Goals as goal
+
+pub returns : goal.returns
+returns g c = λ texts are. (
+  c.check_read.result,
+  widest (λ rows visits. IsAnswered (change g.S.Sink.contents g.S.Sink.is_failed c.args.out.now c.check_read.new.out) (IsListing rows texts) (IsUnloaded rows texts) c.check_read.result) c.widest.result.rows c.widest.result.visits c.widest.ensures.rows c.widest.ensures.visits (c.check_read.ensures texts (rw c.widest.ensures.rows are)),
+  c.whole.ensures,
+)
+
+pub check_read-requires : goal.check_read-requires
+check_read-requires g c = let (texts, are) = c.requires in (texts, rw c.widest.ensures.rows are)
