@@ -1,8 +1,8 @@
 use Rattle.star_schema.specs.Loadable.{database_of}
 use Rattle.star_engine.specs.Answered.{IsAnswered, change}
-use Rattle.star_engine.specs.Bench.{AllFit, IsBench, SomeIsUnfit}
+use Rattle.star_engine.specs.Bench.{AllFit, IsBench}
 use Rattle.star_engine.specs.Loads.{IsUnloaded}
-use Rattle.std.specs.Prelude.{IfOk, true, false, ◌≡◌}
+use Rattle.std.specs.Prelude.{◌↔◌, IfOk, IsTrue}
 use Rattle.star_cli.proofs.Giving.{widest}
 use Rattle.star_cli.proofs.folder_calls.answer_benchmark.Goals as goal
 
@@ -10,8 +10,7 @@ pub returns : goal.returns
 returns g c = λ texts are.
     record {
       answered = widest (λ rows visits. IsAnswered (change g.S.Sink.contents g.S.Sink.is_failed c.args.out.now c.bench_read.new.out) (IsBench rows visits texts) (IsUnloaded rows texts) c.bench_read.result) c.widest.result.rows c.widest.result.visits c.widest.ensures.rows c.widest.ensures.visits (c.bench_read.ensures.answered texts (rw c.widest.ensures.rows are));
-      all_fit = widest (λ rows visits. IfOk c.bench_read.result (λ fits. fits ≡ true → AllFit visits (database_of texts))) c.widest.result.rows c.widest.result.visits c.widest.ensures.rows c.widest.ensures.visits (c.bench_read.ensures.all_fit texts (rw c.widest.ensures.rows are));
-      some_unfit = widest (λ rows visits. IfOk c.bench_read.result (λ fits. fits ≡ false → SomeIsUnfit visits (database_of texts))) c.widest.result.rows c.widest.result.visits c.widest.ensures.rows c.widest.ensures.visits (c.bench_read.ensures.some_unfit texts (rw c.widest.ensures.rows are));
+      fits = widest (λ rows visits. IfOk c.bench_read.result (λ fits. IsTrue fits ↔ AllFit visits (database_of texts))) c.widest.result.rows c.widest.result.visits c.widest.ensures.rows c.widest.ensures.visits (c.bench_read.ensures.fits texts (rw c.widest.ensures.rows are));
     }
 
 pub bench_read-requires : goal.bench_read-requires
