@@ -1,4 +1,4 @@
-//! Tests of `star_group` over its public items: worked rows of both stores.
+//! Tests of `star_group` over its public items: worked rows of all stores.
 #![tactic(auto)]
 
 #[cfg(test)]

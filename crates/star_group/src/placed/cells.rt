@@ -73,6 +73,22 @@ fn take_lane(aggregate: Aggregate, cells: &mut [i128], at: &[u32], lane: &[i64])
     }
 }
 
+// The same, in a loop of its own for each kind of aggregate.
+fn take_lane_of(aggregate: Aggregate, cells: &mut [i128], at: &[u32], lane: &[i64])
+    requires same { length lane.now ≡ length at.now }
+    requires within { AreWithin at.now (length cells.old) }
+    requires stays { CanTake aggregate lane.now at.now cells.old }
+    ensures cells { cells.new ≡ column_after aggregate lane.now at.now cells.old (length at.now) }
+    ensures len { length cells.new ≡ length cells.old }
+{
+    match aggregate {
+        Aggregate::Sum => take_lane(Aggregate::Sum, cells, at, lane),
+        Aggregate::Count => take_lane(Aggregate::Count, cells, at, lane),
+        Aggregate::Min => take_lane(Aggregate::Min, cells, at, lane),
+        Aggregate::Max => take_lane(Aggregate::Max, cells, at, lane),
+    }
+}
+
 // The places of some rows have puts.
 pub(crate) fn mark(seen: &mut [bool], at: &[u32])
     requires within { AreWithin at.now (length seen.old) }
@@ -109,7 +125,7 @@ pub(crate) fn take_column(
 {
     let start = number * places;
     let end = start + places;
-    take_lane(aggregate, &mut cells[start..end], at, lane);
+    take_lane_of(aggregate, &mut cells[start..end], at, lane);
 }
 
 // The cells of each aggregate with the number of one put at its place.

@@ -78,7 +78,7 @@ pub(super) fn add_places(
     ensures widths { AreAsWide rows.old rows.new }
 {
     let (places, many) = (seen.len(), aggregates.len());
-    for place in 0..places {
+    for place in 0..seen.len() {
         if seen[place] {
             let key = key_at(spans, place);
             let row = row_at(cells, places, many, place);

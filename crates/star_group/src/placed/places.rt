@@ -16,11 +16,11 @@ impl Span {
     pub(crate) fn offset(self, word: i64) -> Option<u32>
         ensures { result ≡ up_to self.last (word -ℤ self.low) }
     {
-        let offset = u32::try_from(word.checked_sub(self.low)?).ok()?;
-        if offset <= self.last {
-            Some(offset)
-        } else {
+        let high = self.low + i64::from(self.last);
+        if word < self.low || high < word {
             None
+        } else {
+            Some((word - self.low) as u32)
         }
     }
 
