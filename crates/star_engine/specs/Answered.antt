@@ -13,12 +13,8 @@ pub record Change (S : Type 0) : Type 0 where
   pub new : S
 
 abbrev pub change : {S : Type 0} → (S → Option (List ℕ)) → (S → Bool) → S → S → Change S
-change contents is_failed old new = record {
-  contents = contents;
-  is_failed = is_failed;
-  old = old;
-  new = new;
-}
+change contents is_failed old new =
+    record { contents = contents; is_failed = is_failed; old = old; new = new }
 
 -- a fault that is due, or want of memory; and no write has failed
 abbrev pub OrMemory : (EngineFault → Type 0) → EngineFault → Type 0
