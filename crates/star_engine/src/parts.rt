@@ -11,7 +11,7 @@ use std::alloc::Global;
 use std::io::Read;
 
 /// The most bytes of one read, and so of one piece of a table.
-const MOST_OF_A_PIECE: usize = 1_048_576;
+const MOST_OF_A_PIECE: usize = 262_144;
 
 // Gives a reader of a table the bytes of one more read, and says how many there were; no more than
 // are left of a limit.
@@ -78,7 +78,7 @@ fn feed_all<R: Read>(
 }
 
 /// Gives a reader of a table all bytes of a file as one more part, up to the first read that gives
-/// none; no more than `limit`. They come in pieces, as they are read, of at most 1 MiB: no more of
+/// none; no more than `limit`. They come in pieces, as they are read, of at most 256 KiB: no more of
 /// them is in memory at once. No read is tried again, so there are at most `limit + 1`.
 pub fn read_part<R: Read>(
     alloc: Global,
