@@ -16,7 +16,9 @@ fn program(alloc: Global, registers: u32, shape: &str, lines: &str) -> Result<St
 const SHAPES: &[&str] = &["plain", "cube"];
 
 // So many of the first rows are left, and so many of the last ones.
-const LEFT: &[u64] = &[0, 1, 2, 63, 64, 65, 127, 128, 1_023, 1_024, 1_025, 1_099, 1_100];
+const LEFT: &[u64] = &[
+    0, 1, 2, 63, 64, 65, 127, 128, 1_023, 1_024, 1_025, 1_099, 1_100,
+];
 
 #[test]
 fn rows_left_at_the_ends_of_words_and_batches(rt: HostRuntime) -> Result<(), Fail> {
