@@ -94,6 +94,7 @@ def of_folders() -> list[Command]:
         Command("`star bench`, one file", ("bench", "tables")),
         Command("`star bench`, three parts", ("bench", "parts")),
         Command("`star bench`, refusals among the answers", ("bench", "outlier")),
+        Command("`star session`, no statement", ("session", "tables")),
         Command("`star`, no words", (), (b"", LISTING)),
     ]
 

@@ -1,34 +1,60 @@
-// Writes three folders of tables of one size: `ordinary`, with random keys, pairs of keys and texts;
-// `hostile`, with ones that collide under the hash with a fixed seed of the toolchain's maps, whose
-// formula stands here: it tells what whoever writes a file can reckon; and `unseeded`, with keys of
-// customers that collide under the hash of the index of keys, SipHash-1-3, as it is without the seed
-// that each index has of its own. All keys of customers lie far apart.
+// Writes folders of tables of one size: `ordinary`, as the benchmark's generator makes them, and hostile
+// ones, each of which is meant to make one step of a load slow:
 //
-//     rustc --edition 2021 -O plain/hostile.rs && ./hostile FOLDER CUSTOMERS LINES
+// - `keys`: each dimension has sparse random keys, and the lines refer to them in random order.
+// - `pairs`: the pairs of keys of lineorder come in random order, in lines as short as can be.
+// - `texts`: customers have sparse random keys and seven texts of 4 random letters.
+// - `alike`: the same, where the random letters come behind 8 that all texts share.
+// - `forgotten`: customers have seven of 2,000 texts that are told apart in their middle letters alone.
+// - `unseeded`: keys of customers that collide under the hash of the index of keys, SipHash-1-3, as it is
+//   without the seed that each index has of its own.
+//
+//     rustc --edition 2021 -O plain/hostile.rs && ./hostile FOLDER BYTES
 
 use std::collections::hash_map::DefaultHasher;
+use std::collections::HashSet;
 use std::fs::{self, File};
 use std::hash::Hasher;
 use std::io::{BufWriter, Result, Write};
-use std::path::Path;
+use std::path::{Path, PathBuf};
 
-const FIRST: u64 = 0x243f_6a88_85a3_08d3;
-const MULTIPLIER: u64 = 0x9e37_79b9_7f4a_7c15;
-/// How many low bits of their hashes colliding values share.
+/// How many low bits of their hashes colliding keys share, and how many such keys there are.
 const SHARED: u32 = 12;
+const COLLIDING: usize = 30_000;
 
-fn fold(a: u64, b: u64) -> u64 {
-    let product = a as u128 * b as u128;
-    product as u64 ^ (product >> 64) as u64
-}
+const LETTERS: &[u8; 64] = b"ABCDEFGHIJKLMNOPQRSTUVWXYZabcdefghijklmnopqrstuvwxyz0123456789#-";
 
-fn fed_number(state: u64, number: u64) -> u64 {
-    fold(state ^ number, MULTIPLIER ^ 16)
-}
+/// A row of numbers that look random, the same in each run (splitmix64).
+struct Numbers(u64);
 
-fn hash_of_text(text: &[u8]) -> u64 {
-    let start = fed_number(FIRST, text.len() as u64);
-    text.iter().fold(start, |state, byte| fold(state ^ u64::from(*byte), MULTIPLIER ^ 2))
+impl Numbers {
+    fn next(&mut self) -> u64 {
+        self.0 = self.0.wrapping_add(0x9e37_79b9_7f4a_7c15);
+        let mixed = (self.0 ^ (self.0 >> 30)).wrapping_mul(0xbf58_476d_1ce4_e5b9);
+        let mixed = (mixed ^ (mixed >> 27)).wrapping_mul(0x94d0_49bb_1331_11eb);
+        mixed ^ (mixed >> 31)
+    }
+
+    fn below(&mut self, count: usize) -> usize {
+        (self.next() % count as u64) as usize
+    }
+
+    /// A number of 18 digits.
+    fn sparse(&mut self) -> u64 {
+        100_000_000_000_000_000 + self.next() % 900_000_000_000_000_000
+    }
+
+    fn letters(&mut self, count: usize) -> String {
+        (0..count).map(|_| char::from(LETTERS[self.below(LETTERS.len())])).collect()
+    }
+
+    fn one_of<'a>(&mut self, words: &[&'a str]) -> &'a str {
+        words[self.below(words.len())]
+    }
+
+    fn key(&mut self, keys: &[u64]) -> u64 {
+        keys[self.below(keys.len())]
+    }
 }
 
 /// What the index makes of the hash of a key, where no seed stands before the key.
@@ -39,77 +65,166 @@ fn unseeded_hash(key: u64) -> u64 {
     hash ^ (hash >> 32)
 }
 
-/// A row of numbers that look random, the same in each run.
-struct Numbers(u64);
-
-impl Numbers {
-    fn next(&mut self) -> u64 {
-        self.0 = self.0.wrapping_add(MULTIPLIER);
-        fold(self.0 ^ 0xa076_1d64_78bd_642f, self.0 ^ 0xe703_7ed1_a0b4_28db)
-    }
-}
-
-/// So many values that a hash does not tell apart, or any where `collide` is false.
-fn values<T>(count: usize, collide: bool, seed: u64, make: impl Fn(u64) -> T, hash: impl Fn(&T) -> u64) -> Vec<T> {
-    let mut numbers = Numbers(seed);
+/// Different numbers that a function gives.
+fn different(count: usize, mut make: impl FnMut() -> u64) -> Vec<u64> {
+    let mut met = HashSet::with_capacity(count);
     let mut found = Vec::with_capacity(count);
     while found.len() < count {
-        let value = make(numbers.next());
-        if !collide || hash(&value) & ((1 << SHARED) - 1) == 0 {
-            found.push(value);
+        let number = make();
+        if met.insert(number) {
+            found.push(number);
         }
     }
     found
 }
 
-/// A number of 17 digits.
-fn key(number: u64) -> u64 {
-    10_000_000_000_000_000 + number % 90_000_000_000_000_000
+/// The keys of the four dimensions.
+struct Keys {
+    dates: Vec<u64>,
+    customers: Vec<u64>,
+    suppliers: Vec<u64>,
+    parts: Vec<u64>,
 }
 
-fn text(mut number: u64) -> [u8; 12] {
-    [0; 12].map(|_| {
-        let letter = b'a' + (number % 26) as u8;
-        number /= 26;
-        letter
-    })
+impl Keys {
+    /// Those of the benchmark's generator, for this count of lines.
+    fn ordinary(lines: usize) -> Keys {
+        let dates = (1992..1999).flat_map(|year| (1..13).flat_map(move |month| (1..29).map(move |day| (year * 100 + month) * 100 + day)));
+        let to = |count: usize| (1..=count.max(1) as u64).collect();
+        Keys { dates: dates.collect(), customers: to(lines / 200), suppliers: to(lines / 3000), parts: to(lines / 30) }
+    }
+
+    fn one_each() -> Keys {
+        Keys { dates: vec![1], customers: vec![1], suppliers: vec![1], parts: vec![1] }
+    }
+
+    fn sparse(count: usize, numbers: &mut Numbers) -> Keys {
+        let mut some = || different(count, || numbers.sparse());
+        Keys { dates: some(), customers: some(), suppliers: some(), parts: some() }
+    }
 }
 
-fn write(folder: &Path, customers: usize, lines: usize, collide: bool, unseeded: bool) -> Result<()> {
-    fs::create_dir_all(folder)?;
-    let keys = if unseeded {
-        values(customers, true, 1, key, |key| unseeded_hash(*key))
-    } else {
-        values(customers, collide, 1, key, |key| fed_number(FIRST, *key))
-    };
-    let names = values(customers, collide, 2, text, |text| hash_of_text(text));
-    let orders = values(lines, collide, 3, key, |key| fed_number(fed_number(FIRST, *key), 1));
-    let file = |name: &str| File::create(folder.join(name)).map(BufWriter::new);
-    writeln!(file("date.tbl")?, "19930210|February 10, 1993|Wednesday|February|1993|199302|Feb1993|4|10|41|2|6|Winter|0|0|0|1|")?;
-    writeln!(file("supplier.tbl")?, "1|Supplier#000000001|b1|UNITED KI5|UNITED KINGDOM|EUROPE|33-444-444-4444|")?;
-    writeln!(file("part.tbl")?, "1|lace spring|MFGR#1|MFGR#12|MFGR#121|lace|SMALL PLATED TIN|7|JUMBO PKG|")?;
-    let mut customer = file("customer.tbl")?;
-    for (key, name) in keys.iter().zip(&names) {
-        let name = String::from_utf8_lossy(name);
-        writeln!(customer, "{key}|{name}|a1|UNITED KI1|UNITED KINGDOM|EUROPE|33-111-111-1111|BUILDING|")?;
+/// A folder that is being written, up to a count of bytes.
+struct Folder {
+    path: PathBuf,
+    left: i64,
+}
+
+impl Folder {
+    fn new(path: PathBuf, bytes: usize) -> Result<Folder> {
+        fs::create_dir_all(&path)?;
+        Ok(Folder { path, left: bytes as i64 })
     }
-    let mut lineorder = file("lineorder.tbl")?;
-    for (line, order) in orders.iter().enumerate() {
-        let customer = keys[line % keys.len()];
-        writeln!(lineorder, "{order}|1|{customer}|1|1|19930210|2-HIGH|0|10|1000|3000|2|980|600|2|19930210|MAIL|")?;
+
+    /// Writes a table row by row, as long as there are rows and bytes are left.
+    fn table(&mut self, name: &str, rows: impl IntoIterator<Item = String>) -> Result<()> {
+        let mut file = BufWriter::new(File::create(self.path.join(name))?);
+        for row in rows {
+            self.left -= row.len() as i64 + 1;
+            writeln!(file, "{row}")?;
+            if self.left <= 0 {
+                break;
+            }
+        }
+        file.flush()
     }
-    customer.flush()?;
-    lineorder.flush()
+
+    /// Writes the dimensions with ordinary texts.
+    fn dimensions(&mut self, keys: &Keys, numbers: &mut Numbers) -> Result<()> {
+        self.table("date.tbl", keys.dates.iter().map(|key| {
+            format!("{key}|February {key}|Wednesday|February|1993|199302|Feb1993|4|10|41|2|6|Winter|0|0|0|1|")
+        }))?;
+        let nations = ["UNITED KINGDOM", "FRANCE", "CHINA", "PERU", "KENYA"];
+        self.table("customer.tbl", keys.customers.iter().map(|key| {
+            let (address, nation) = (numbers.letters(15), numbers.one_of(&nations));
+            format!("{key}|Customer#{key:09}|{address}|{nation:.9} {}|{nation}|EUROPE|33-{}|BUILDING|", key % 10, key % 9_999_999)
+        }))?;
+        self.table("supplier.tbl", keys.suppliers.iter().map(|key| {
+            let (address, nation) = (numbers.letters(15), numbers.one_of(&nations));
+            format!("{key}|Supplier#{key:09}|{address}|{nation:.9} {}|{nation}|EUROPE|33-{}|", key % 10, key % 9_999_999)
+        }))?;
+        let colours = ["lace", "spring", "almond", "antique", "blue", "burnished"];
+        self.table("part.tbl", keys.parts.iter().map(|key| {
+            let (colour, other, brand) = (numbers.one_of(&colours), numbers.one_of(&colours), numbers.below(1000));
+            format!("{key}|{colour} {other}|MFGR#{}|MFGR#{}|MFGR#{brand}|{colour}|SMALL PLATED TIN|{}|JUMBO PKG|", brand / 200, brand / 40, 1 + key % 50)
+        }))
+    }
+
+    /// Writes lines as the generator does, to the end of the bytes, with rising pairs of keys.
+    fn lines(&mut self, keys: &Keys, numbers: &mut Numbers) -> Result<()> {
+        let priorities = ["1-URGENT", "2-HIGH", "3-MEDIUM", "4-NOT SPECI", "5-LOW"];
+        let modes = ["AIR", "FOB", "MAIL", "RAIL", "REG AIR", "SHIP", "TRUCK"];
+        self.table("lineorder.tbl", (0..).map(|line| {
+            let (quantity, price, discount) = (1 + numbers.below(50), 100_000 + numbers.below(9_000_000), numbers.below(11));
+            format!(
+                "{}|{}|{}|{}|{}|{}|{}|0|{quantity}|{price}|{}|{discount}|{}|{}|{}|{}|{}|",
+                1 + line / 4, 1 + line % 4, numbers.key(&keys.customers), numbers.key(&keys.parts), numbers.key(&keys.suppliers),
+                numbers.key(&keys.dates), numbers.one_of(&priorities), 2 * price, price * (100 - discount) / 100, price * 6 / 10,
+                numbers.below(9), numbers.key(&keys.dates), numbers.one_of(&modes),
+            )
+        }))
+    }
+
+    /// Writes customers to the end of the bytes, with one row in each other table.
+    fn customers(&mut self, mut row: impl FnMut(usize) -> String) -> Result<()> {
+        let keys = Keys::one_each();
+        self.dimensions(&keys, &mut Numbers(1))?;
+        self.table("lineorder.tbl", ["1|1|1|1|1|1|A|0|1|1|1|1|1|1|1|1|B|".to_string()])?;
+        let others = (1..).map(|place| row(place));
+        self.table("customer.tbl", std::iter::once("1|A|B|C|D|E|F|G|".to_string()).chain(others))
+    }
+}
+
+fn seven(mut text: impl FnMut() -> String) -> String {
+    (0..7).map(|_| text() + "|").collect()
+}
+
+/// The kinds of folders.
+const KINDS: [&str; 7] = ["ordinary", "keys", "pairs", "texts", "alike", "forgotten", "unseeded"];
+
+fn write(folder: &Path, kind: &str, bytes: usize) -> Result<()> {
+    let mut made = Folder::new(folder.join(kind), bytes)?;
+    let mut numbers = Numbers(7);
+    match kind {
+        "keys" => {
+            let keys = Keys::sparse(bytes / 1200, &mut numbers);
+            made.dimensions(&keys, &mut numbers)?;
+            made.lines(&keys, &mut numbers)
+        }
+        "pairs" => {
+            let count = bytes / 38;
+            let orders = different(count, || numbers.below(3 * count) as u64);
+            made.dimensions(&Keys::one_each(), &mut Numbers(1))?;
+            made.table("lineorder.tbl", orders.iter().map(|order| format!("{order}|1|1|1|1|1|A|0|1|1|1|1|1|1|1|1|B|")))
+        }
+        "texts" => made.customers(|_| format!("{}|{}", numbers.sparse(), seven(|| numbers.letters(4)))),
+        "alike" => made.customers(|_| format!("{}|{}", numbers.sparse(), seven(|| format!("ALLALIKE{}", numbers.letters(4))))),
+        "forgotten" => made.customers(|place| {
+            format!("{}|{}", place + 1, seven(|| format!("a{}{}z", char::from(LETTERS[numbers.below(50)]), char::from(LETTERS[numbers.below(40)]))))
+        }),
+        "unseeded" => {
+            let mut tried = Numbers(9);
+            let colliding = std::iter::repeat_with(|| tried.sparse()).filter(|key| unseeded_hash(*key) & ((1 << SHARED) - 1) == 0);
+            let keys = Keys { customers: colliding.take(COLLIDING).collect(), ..Keys::ordinary(bytes / 100) };
+            made.dimensions(&keys, &mut numbers)?;
+            made.lines(&keys, &mut numbers)
+        }
+        _ => {
+            let keys = Keys::ordinary(bytes / 100);
+            made.dimensions(&keys, &mut numbers)?;
+            made.lines(&keys, &mut numbers)
+        }
+    }
 }
 
 fn main() -> Result<()> {
     let words: Vec<String> = std::env::args().collect();
-    let [_, folder, customers, lines] = words.as_slice() else {
-        panic!("hostile FOLDER CUSTOMERS LINES");
+    let [_, folder, bytes] = words.as_slice() else {
+        panic!("hostile FOLDER BYTES");
     };
-    let (customers, lines) = (customers.parse().expect("customers"), lines.parse().expect("lines"));
-    for (name, collide, unseeded) in [("ordinary", false, false), ("hostile", true, false), ("unseeded", false, true)] {
-        write(&Path::new(folder).join(name), customers, lines, collide, unseeded)?;
+    let bytes = bytes.parse().expect("a count of bytes");
+    for kind in KINDS {
+        write(Path::new(folder), kind, bytes)?;
     }
     Ok(())
 }

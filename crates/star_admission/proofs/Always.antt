@@ -27,7 +27,8 @@ use Rattle.star_admission.specs.Refusals.{op_reason, scan_reason}
 use Rattle.star_admission.specs.Standing.{at_place}
 use Rattle.star_admission.specs.Private.Forward.{code_puts_to, open_with, none_open}
 use Rattle.star_admission.specs.Quote.{turns_met, quote}
-use Rattle.star_admission.specs.Moments.{sum_of, picked, IsMoment, Onward, InEachTurn, Throughout, AtEveryMoment, all_shares}
+use Rattle.star_admission.specs.Moments.{sum_of, picked, IsMoment, all_shares}
+use Rattle.star_admission.specs.Private.Throughout.{HoldsThroughout, InEachTurn, Onward, Throughout}
 use Rattle.star_admission.specs.Laws.{IsAccepted, TotalsLie}
 use Rattle.star_admission.proofs.TallyOrder.{AtMost, at_most_trans, at_most_plus, at_most_turn}
 use Rattle.star_admission.proofs.Tallied.{sum_up, sum_down, IsTallied, tallied_more, tallied_members, sums_lie, shares_lie}
@@ -212,8 +213,8 @@ module _ (w : World) (catalogue : IsLoaded w) (parts : Parts) (all : Shares)
 
 -- ---- a whole program
 
-pub at_every_moment : (w : World) (parts : Parts) → IsAccepted w parts → AtEveryMoment w parts
-at_every_moment w parts accepted =
+pub accepted_throughout : (w : World) (parts : Parts) → IsAccepted w parts → HoldsThroughout w parts
+accepted_throughout w parts accepted =
     always w accepted.loaded parts (all_shares w parts)
     (record { sums = all_fit w parts accepted; few = few_puts w parts accepted }) parts.body 1
     none_open at_first no_tallies no_registers empty_store

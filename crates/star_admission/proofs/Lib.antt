@@ -20,7 +20,7 @@ pub mod Sound
 mod Room
 mod Runs
 mod SumRanges
-mod Always
+pub mod Always
 mod Refused
 mod Scopes
 mod Told
@@ -40,3 +40,5 @@ mod WorkedMostRows
 mod ToldBounds
 mod ToldColumns
 pub mod BeforePuts
+pub mod EachMoment
+mod MomentPlaces

@@ -38,7 +38,7 @@ use Rattle.star_program.specs.declared.fault.TrapKind.{TrapKind}
 use Rattle.star_program.specs.declared.fault.TrapKind.TheVariants.{Wrong}
 use Rattle.star_admission.specs.Contexts.{Context, after_op, after_scan, at_end, in_scan, key_share, known_share, op_key_shares, operation_known, put_share, result_known}
 use Rattle.star_admission.specs.Fitting.{Agrees, FitsAt}
-use Rattle.star_admission.specs.Moments.{InEachTurn, Onward, Throughout}
+use Rattle.star_admission.specs.Private.Throughout.{InEachTurn, Onward, Throughout}
 use Rattle.star_admission.specs.MostRows.{all_key_shares, each_values, numbers_to, values_of, width, width_of}
 use Rattle.star_admission.specs.Ranges.{Known, KnownNumber, KnownText, KnownPlace, KnownRow, KnownFlag, Table, loaded_known}
 use Rattle.star_admission.specs.Tallies.{Share, Shares, hull_of, hull_with, most_of}

@@ -39,7 +39,7 @@ use Rattle.star_admission.specs.Laws.{IsAccepted}
 use Rattle.star_admission.specs.Moments.{all_shares}
 use Rattle.star_admission.specs.MostRows.{all_key_shares, most_rows, rows_of_groupings}
 use Rattle.star_admission.specs.Tallies.{most_of}
-use Rattle.star_admission.proofs.Always.{at_every_moment}
+use Rattle.star_admission.proofs.Always.{accepted_throughout}
 use Rattle.star_admission.proofs.FewGroups.{AreAmong, IsOne, few_groups, sizes}
 use Rattle.star_admission.proofs.PutKeys.{AreListed, KeysAmong, all_listed, each_listed, kept, same_many, sizes_are}
 use Rattle.star_admission.proofs.Runs.{ends}
@@ -253,7 +253,7 @@ module _ (w : World) (parts : Parts) where
   listed_end accepted =
       ends_unshown (shown_fault parts) _ _ accepted.admissible.report
       (kept w parts parts.report values (all_shares w parts) parts.body 1 at_first no_registers empty_store
-      (at_every_moment w parts accepted)
+      (accepted_throughout w parts accepted)
       (all_listed w parts parts.report parts.body at_first (λ r. tt) (λ place s h. h)) tt)
 
   few_end : IsAccepted w parts → EndsWith (run_of w parts) (λ s. length (s.updates_of parts.report) ≤ most)

@@ -1,5 +1,5 @@
 -- What a moment asks of registers and of what comes next, and what it refuses, by computation.
-use Rattle.std.proofs.Common.{◌≡◌, ℕ, zero, suc, ◌^◌, ◌-◌, ◌<◌, true, false, [], ◌∷◌, Some, None, refl, arith}
+use Rattle.std.proofs.Common.{◌≡◌, ℕ, zero, suc, ◌^◌, ◌-◌, ◌<◌, true, false, [], ◌∷◌, Some, None, refl, ap, arith}
 use Rattle.std.specs.Prelude.{ℤ, pos}
 use Rattle.std.proofs.lemmas.Int.{ints}
 use Rattle.star_schema.specs.declared.table.TableId.TheVariants.{Date, Lineorder}
@@ -7,18 +7,20 @@ use Rattle.star_schema.specs.declared.column.ColumnId.TheVariants.{CRegion, CNat
 use Rattle.star_schema.specs.declared.group.Aggregate.TheVariants.{Sum, Count}
 use Rattle.star_schema.specs.Schema.{column_of}
 use Rattle.star_interval.specs.Range.{only, is_i64}
-use Rattle.star_program.specs.Code.{Stop, Each}
+use Rattle.star_program.specs.Code.{Code, Stop, Then, Each}
 use Rattle.star_program.specs.declared.value.Value.TheVariants.{Number, Text, Place, Row, Flag}
-use Rattle.star_program.specs.Values.{Registers}
+use Rattle.star_program.specs.Values.{Registers, no_registers, with_entry}
 use Rattle.star_program.specs.declared.program.Parts.{Parts}
-use Rattle.star_program.specs.Effects.{EndsTurn, empty_store}
+use Rattle.star_program.specs.Effects.{Effect, EndsTurn, Store, act, empty_store}
 use Rattle.star_program.specs.Run.{Ended}
 use Rattle.star_program.specs.World.{World}
 use Rattle.star_program.proofs.Sample.{sample, plain}
 use Rattle.star_admission.specs.Bounds.{NamesI64, AllNameI64, AreI64}
+use Rattle.star_admission.specs.Contexts.{after_scan, at_end, at_first, in_scan}
 use Rattle.star_admission.specs.Fitting.{FitsValue, FitsAt}
 use Rattle.star_admission.specs.Laws.{EndsWithin, SumsFit, TotalLies}
-use Rattle.star_admission.specs.Moments.{IsMoment, AtEveryMoment, Onward, picked, sum_of}
+use Rattle.star_admission.specs.Moments.{IsMet, IsMoment, Moment, behind, behind_scan, first_moment, in_turn, itself, moment, picked, sum_of}
+use Rattle.star_admission.specs.Private.Throughout.{HoldsThroughout, Onward}
 use Rattle.star_admission.specs.Ranges.{Table, Known, KnownText, KnownPlace, KnownRow, KnownFlag, given, loaded_known}
 use Rattle.star_admission.specs.Tallies.{no_shares}
 use Rattle.star_admission.proofs.Words.{const, add, keep, put, read, acts, over}
@@ -111,17 +113,71 @@ turn_over : Onward (EndsTurn empty_store) (λ regs s. ⊥)
 turn_over = tt
 
 -- a trap comes at no moment
-sum_leaves : AtEveryMoment sample
+sum_leaves : HoldsThroughout sample
     (over [] (acts (const 0 (pos 9223372036854775807) ∷ add 1 0 0 ∷ []) Stop)) → ⊥
 unfolding is_i64
 sum_leaves h = h.1.1
 
-flag_missing : AtEveryMoment sample (over [] (acts (keep 0 ∷ []) Stop)) → ⊥
+flag_missing : HoldsThroughout sample (over [] (acts (keep 0 ∷ []) Stop)) → ⊥
 flag_missing h = h.1
 
 -- nor does a scan into a register that isn't declared
-row_undeclared : AtEveryMoment sample (over [] (Each Date 10 Stop Stop)) → ⊥
+row_undeclared : HoldsThroughout sample (over [] (Each Date 10 Stop Stop)) → ⊥
 row_undeclared h = let p = h.1 in omega (arith, p)
+
+-- ---- the moments of a run
+
+-- a scan of the dates, of which each turn makes a number, and a number behind it
+abbrev each_date : Parts
+each_date = over [] (Each Date 0 (acts (const 1 (pos 7) ∷ []) Stop) (acts (const 2 (pos 9) ∷ []) Stop))
+
+abbrev visits : ℕ → Store
+visits n = record empty_store { visits = n }
+
+-- the second turn begins with its own row alone, and is counted
+second_turn : IsMet sample each_date (moment (in_scan sample at_first Date 0) (acts (const 1 (pos 7) ∷ []) Stop) 2
+    (with_entry no_registers 0 (Row Date 1)) (visits 2))
+second_turn =
+    in_turn at_first Date 0 (acts (const 1 (pos 7) ∷ []) Stop) (acts (const 2 (pos 9) ∷ []) Stop) 1 no_registers
+    empty_store (visits 1) 1 itself (omega arith) (omega arith) refl
+
+-- behind the scan the registers are those before it, and its turns are counted
+behind_its_scan : IsMet sample each_date (moment
+    (after_scan at_first (at_end sample each_date (in_scan sample at_first Date 0) (acts (const 1 (pos 7) ∷ []) Stop)))
+    (acts (const 2 (pos 9) ∷ []) Stop) 3 no_registers (visits 3))
+behind_its_scan =
+    behind_scan at_first Date 0 (acts (const 1 (pos 7) ∷ []) Stop) (acts (const 2 (pos 9) ∷ []) Stop) 1 no_registers
+    empty_store (visits 3) itself (omega arith) refl
+
+-- behind an instruction that traps nothing is met
+abbrev flagless : Parts
+flagless = over [] (acts (keep 0 ∷ []) Stop)
+
+acted : Moment → Effect
+acted m = acted_by m.left
+  where
+    acted_by : Code → Effect
+    acted_by (Then op rest) = act sample flagless m.context.inside m.registers m.store op
+    acted_by _ = EndsTurn m.store
+
+nothing_behind_a_trap : (m : Moment) → IsMet sample flagless m → m ≡ first_moment flagless
+unfolding acted
+nothing_behind_a_trap m itself = refl
+nothing_behind_a_trap m (behind x op rest at before after s t earlier goes) =
+    let was : moment x (Then op rest) at before s ≡ first_moment flagless =
+    nothing_behind_a_trap (moment x (Then op rest) at before s) earlier in
+    let acts_so : act sample flagless x.inside before s op ≡ acted (first_moment flagless) = ap acted was in
+    let bad : ⊥ = cc in absurd bad
+nothing_behind_a_trap m (in_turn x table r body rest at registers s t row earlier declared lt turned) =
+    let was : moment x (Each table r body rest) at registers s ≡ first_moment flagless =
+    nothing_behind_a_trap (moment x (Each table r body rest) at registers s) earlier in
+    let code : Each table r body rest ≡ flagless.body = ap (λ k. k.left) was in
+    let bad : ⊥ = cc in absurd bad
+nothing_behind_a_trap m (behind_scan x table r body rest at registers s t earlier declared turned) =
+    let was : moment x (Each table r body rest) at registers s ≡ first_moment flagless =
+    nothing_behind_a_trap (moment x (Each table r body rest) at registers s) earlier in
+    let code : Each table r body rest ≡ flagless.body = ap (λ k. k.left) was in
+    let bad : ⊥ = cc in absurd bad
 
 -- ---- bounds
 

@@ -1,2 +1,3 @@
 -- What no public clause speaks of.
 pub mod Forward
+pub mod Throughout

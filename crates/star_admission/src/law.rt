@@ -2,19 +2,19 @@
 
 ghost use Rattle.std.specs.List.{last_or, sum_by};
 ghost use Rattle.std.specs.Option.{option_map};
-ghost use Rattle.std.specs.Prelude.{◌≡◌, ◌↔◌, ◌≤◌, ◌<◌, ◌^◌, ◌∷◌, ℕ, ℤ, All, List, None, Some, length};
+ghost use Rattle.std.specs.Prelude.{◌≡◌, ◌↔◌, ◌≤◌, ◌<◌, ◌^◌, ◌∷◌, ℕ, ℤ, All, List, None, Some, length, true};
 ghost use Rattle.star_common.specs.First.{first_answer};
 ghost use Rattle.star_schema.specs.declared.table.TableId.{TableId};
 ghost use Rattle.star_interval.specs.Range.{FitsI64, FitsI128};
 ghost use Rattle.star_program.specs.declared.op.Op.TheVariants.{Put};
 ghost use Rattle.star_program.specs.declared.program.Parts.{Parts};
 ghost use Rattle.star_program.specs.Code.{Code, Then};
-ghost use Rattle.star_program.specs.Effects.{Store, update_of};
+ghost use Rattle.star_program.specs.Effects.{GoesOn, Store, act, update_of};
 ghost use Rattle.star_program.specs.Faults.{group_at};
 ghost use Rattle.star_program.specs.Limits.{IsWithinLimits};
 ghost use Rattle.star_program.specs.Outcome.{IsOutcome};
 ghost use Rattle.star_program.specs.declared.outcome.Outcome.{Outcome};
-ghost use Rattle.star_program.specs.Run.{EndsWith, bounded_run_of, run_of};
+ghost use Rattle.star_program.specs.Run.{EndsWith, bounded_run_of, meaning_of, run_of};
 ghost use Rattle.star_program.specs.Values.{Registers};
 ghost use Rattle.star_program.specs.World.{World};
 ghost use Rattle.star_group.specs.Stores.{HasRoom, group_declared};
@@ -23,10 +23,11 @@ ghost use Rattle.star_admission.specs.Bounds.{AreI64};
 ghost use Rattle.star_admission.specs.Contexts.{Context, at_end, at_first};
 ghost use Rattle.star_admission.specs.Laws.{EndsWithin, IsAccepted, SumsFit, TotalsLie};
 ghost use Rattle.star_admission.specs.Meetings.{IsMetWithinQuote};
-ghost use Rattle.star_admission.specs.Moments.{AtEveryMoment, Throughout};
+ghost use Rattle.star_admission.specs.Moments.{AtEveryMoment, HoldsFrom, IsMet, IsMetFrom, Moment, StandsIn, moment};
 ghost use Rattle.star_admission.specs.MostRows.{most_rows};
 ghost use Rattle.star_admission.specs.Quote.{quote};
 ghost use Rattle.star_admission.specs.Private.Forward.{first_reason, none_open};
+ghost use Rattle.star_admission.specs.Private.Throughout.{HoldsThroughout};
 ghost use Rattle.star_admission.specs.declared.reason.Reached.{Reached};
 ghost use Rattle.star_admission.specs.declared.reason.Reason.TheVariants.{Overflow};
 ghost use Rattle.star_admission.specs.Standing.{instructions_of, reason_of};
@@ -53,15 +54,18 @@ pub fn admissible_programs_never_trap()
         → IsAccepted w parts → EndsWith (run_of w parts) (TotalsLie w parts) }
 {}
 
-/// Before each put of a run in which that holds of every moment, the updates of its group with this
-/// one are such as a store asks for: the sums of each key list add up within 128 bits, and the counts
-/// within 64.
+/// Where a run goes on behind a put, and that holds of every moment that it meets, the updates of its
+/// group with this one are such as a store asks for: the sums of each key list add up within 128
+/// bits, and the counts within 64.
 pub fn each_put_has_room()
-    ensures { (w : World) (parts : Parts) (all : Shares) (x : Context) (group : ℕ)
-        (keys values : List ℕ) (rest : Code) (at : ℕ) (registers : Registers) (s : Store)
-        → Throughout w parts all x (Then (Put group keys values) rest) at registers s
+    ensures { (w : World) (parts : Parts) (all : Shares) (first : Moment) (x : Context)
+        (group : ℕ) (keys values : List ℕ) (rest : Code) (at : ℕ) (before after : Registers)
+        (s t : Store)
+        → HoldsFrom w parts all first
+        → IsMetFrom w parts first (moment x (Then (Put group keys values) rest) at before s)
+        → act w parts x.inside before s (Put group keys values) ≡ GoesOn after t
         → HasRoom (group_declared (group_at parts group))
-        (update_of (group_at parts group) registers keys values ∷ s.updates_of group) }
+        (update_of (group_at parts group) before keys values ∷ s.updates_of group) }
 {}
 
 /// No program makes more turns than it is quoted: its run with a bound of at least the quote is its
@@ -141,9 +145,26 @@ pub fn instructions_are_judged_in_their_contexts()
         ≡ Some (at_end w parts at_first parts.body) }
 {}
 
+/// Each moment that a run meets stands among the instructions of its program, and the ends of its
+/// bodies, with its number and in its context.
+pub fn moments_stand_in_their_contexts()
+    ensures { (w : World) (parts : Parts) (m : Moment)
+        → IsMet w parts m → StandsIn w parts m }
+{}
+
 /// One pass over the code of a program finds the first instruction that is refused.
 fn one_pass_finds_the_first()
     ensures { (w : World) (parts : Parts)
         → first_reason w parts none_open at_first 1 parts.body
         ≡ first_answer (reason_of w parts) (instructions_of w parts) }
+{}
+
+/// What holds throughout a run, said along its code, holds at each moment that the run meets; and
+/// the other way round, where the run comes to its end.
+fn what_holds_throughout_holds_at_every_moment()
+    ensures moments { (w : World) (parts : Parts)
+        → HoldsThroughout w parts → AtEveryMoment w parts }
+    ensures whole { (w : World) (parts : Parts) → AtEveryMoment w parts
+        → EndsWith (meaning_of w (λ visits. true) parts) (λ s. Unit {0})
+        → HoldsThroughout w parts }
 {}

@@ -1,5 +1,5 @@
 -- The keys of a table as numbers and as pairs of numbers.
-use Rattle.std.proofs.Common.{◌≡◌, ◌≢◌, ◌&&◌, ◌∷◌, ◌∙◌, ℤ, List, [], All, AllPairs, Bool, true, false, None, length, map, refl, ap}
+use Rattle.std.proofs.Common.{◌≡◌, ◌≢◌, ◌&&◌, ◌∷◌, ◌∙◌, ℕ, ℤ, List, [], All, AllPairs, Bool, true, false, Option, Some, None, length, map, refl, ap}
 use Rattle.std.specs.Cmp.Rules.{signed_items}
 use Rattle.std.specs.List.{zip}
 use Rattle.std.specs.Option.{option_map}
@@ -16,7 +16,7 @@ use Rattle.star_catalogue.specs.declared.fault.LoadFault.TheVariants.{DuplicateK
 use Rattle.star_catalogue.specs.Load.{first_repeat, keys_fault, same_key}
 use Rattle.star_catalogue.specs.Private.Keys.{same_pair}
 use Rattle.star_catalogue.proofs.Apart.{apart-map}
-use Rattle.star_catalogue.proofs.Repeats.{apart_no_repeat, first_repeat-map}
+use Rattle.star_catalogue.proofs.Repeats.{apart_no_repeat, first_repeat-map, no_repeat_apart}
 
 -- keys of one number, and of two
 abbrev pub one : ℤ → List ℤ
@@ -93,3 +93,13 @@ pub distinct_no_fault : (t : TableId) (rows : List (List Value)) → HasDistinct
     → keys_fault t rows ≡ None
 distinct_no_fault t rows h =
     ap (option_map (DuplicateKey t)) (apart_no_repeat same_key signed_items (keys_of t rows) h)
+
+-- keys without a fault differ
+pub no_fault_distinct : (t : TableId) (rows : List (List Value)) → keys_fault t rows ≡ None
+    → HasDistinctKeys t rows
+no_fault_distinct t rows none =
+    no_repeat_apart same_key signed_items (keys_of t rows) (unmapped (first_repeat same_key (keys_of t rows)) none)
+  where
+    unmapped : (o : Option ℕ) → option_map (DuplicateKey t) o ≡ None → o ≡ None
+    unmapped None e = refl
+    unmapped (Some n) e = cc e

@@ -5,13 +5,13 @@ use Rattle.std.specs.Cmp.{IsEquivalence}
 use Rattle.std.specs.List.{enumerate_from, list_any, slice_get, IsDistinct}
 use Rattle.std.proofs.lemmas.Bool.{cases_Bool}
 use Rattle.std.proofs.lemmas.List.{get_or_default, get_or-take, length-take-le, take_all, take_more, take-map}
-use Rattle.std.proofs.lemmas.List.Folds.{list_any_none}
+use Rattle.std.proofs.lemmas.List.Folds.{list_any_at, list_any_none}
 use Rattle.std.proofs.lemmas.List.FromFn.{get_or-enumerate_from, length-enumerate_from}
 use Rattle.std.proofs.lemmas.Map.Keys.{any_passes_from_place, IsDistinct-push}
 use Rattle.std.proofs.lemmas.Option.{get_or_from_slice_get, slice_get-get_or, slice_get_within}
 use Rattle.star_common.specs.First.{first_answer}
-use Rattle.star_common.proofs.Firsts.{enumerated_at, first_answer_here, first_answer_none, first_answer_on}
-use Rattle.star_column.proofs.Trees.{pushed_before, pushed_cases, pushed_here}
+use Rattle.star_common.proofs.Firsts.{all_without_answer, enumerated_at, first_answer_here, first_answer_none, first_answer_on}
+use Rattle.star_column.proofs.Pushed.{pushed_before, pushed_cases, pushed_here}
 use Rattle.star_catalogue.specs.Private.Places.{ArePlaces, StandsAt}
 use Rattle.star_catalogue.specs.Load.{first_repeat, repeat_at}
 
@@ -252,3 +252,23 @@ apart_no_repeat same decides keys apart =
       same_place,
       apart_before same decides keys apart i d.1 few,
     ) refl)
+
+-- keys of which none repeats all differ
+pub no_repeat_apart : {K : Type 0} (same : K → K → Bool) → ((a b : K) → Decides (same a b) (a ≡ b))
+    → (keys : List K) → first_repeat same keys ≡ None → AllPairs (λ a b. a ≢ b) keys
+unfolding first_repeat
+no_repeat_apart same decides keys none i j d before within equal =
+    let all = all_without_answer (λ (p, k). repeat_at same keys p k) (enumerate_from 0 keys) none in
+    let here : repeat_at same keys (0 + j) (get_or keys j d) ≡ None =
+    rw (get_or-enumerate_from 0 keys j (0, d) within) at
+    (all j (0, d) (omega (arith, within, length-enumerate_from 0 keys))) in
+    let at_place : repeat_at same keys j (get_or keys j d) ≡ None =
+    let same_place : 0 + j ≡ j = omega arith in rw same_place at here in
+    let earlier : same (get_or keys j d) (get_or (take j keys) i d) ≡ true =
+    rw (get_or-take j keys i d before)
+    ((decides (get_or keys j d) (get_or keys i d)).1 (sym equal)) in
+    let found : list_any (same (get_or keys j d)) (take j keys) ≡ true =
+    list_any_at (same (get_or keys j d)) (take j keys) i d
+    (omega (arith, before, within, length-take j keys)) earlier in
+    let bad : Some (j + 1) ≡ None = rw found at at_place in
+    absurd (cc bad)

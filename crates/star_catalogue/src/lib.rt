@@ -7,6 +7,7 @@ mod columns;
 mod dimension;
 mod fault;
 mod keys;
+pub mod law;
 mod read_tables;
 mod references;
 mod referred;

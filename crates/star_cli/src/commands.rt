@@ -12,6 +12,7 @@ use crate::files::{find_folder, read_file, read_tables};
 use crate::input::StandardInput;
 use crate::lines::tell;
 use crate::loads::load_engine;
+use crate::progress::Watch;
 use crate::reports::{Errand, Halt, deliver_all, end, judge_all};
 use crate::sessions::hold;
 use crate::shelf::Directory;
@@ -32,7 +33,11 @@ struct Read {
 }
 
 // Reads what a task is about: its file first, and then its tables.
-fn read_for<'a, R: Files + AllocGlobal>(rt: &R, task: Task<'a>) -> Result<Read, Failure<'a>>
+fn read_for<'a, R: Files + AllocGlobal, P: Watch>(
+    rt: &R,
+    task: Task<'a>,
+    progress: &mut P,
+) -> Result<Read, Failure<'a>>
     ensures { IfOk result (λ read. IfSome read.tables AreWidelyRead) }
 {
     Ok(match task {
@@ -45,7 +50,7 @@ fn read_for<'a, R: Files + AllocGlobal>(rt: &R, task: Task<'a>) -> Result<Read, 
             file: read_file(rt, file)?,
         },
         Task::Check { folder } | Task::Bench { folder } => Read {
-            tables: Some(read_tables(rt, folder)?),
+            tables: Some(read_tables(rt, folder, progress)?),
             file: Vec::new(rt.alloc()),
         },
         Task::Query { folder, file }
@@ -54,7 +59,7 @@ fn read_for<'a, R: Files + AllocGlobal>(rt: &R, task: Task<'a>) -> Result<Read, 
         | Task::Trial { folder, file, .. } => {
             let file = read_file(rt, file)?;
             Read {
-                tables: Some(read_tables(rt, folder)?),
+                tables: Some(read_tables(rt, folder, progress)?),
                 file,
             }
         }
@@ -86,13 +91,14 @@ fn answer_over<S: Sink, E: Sink>(
 }
 
 // Answers a task.
-fn answer_task<R: Files + AllocGlobal, S: Sink, E: Sink>(
+fn answer_task<R: Files + AllocGlobal, P: Watch, S: Sink, E: Sink>(
     rt: &R,
     task: Task<'_>,
+    progress: &mut P,
     out: &mut S,
     err: &mut E,
 ) -> u8 {
-    match read_for(rt, task) {
+    match read_for(rt, task, progress) {
         Ok(read) => answer_over(rt.alloc(), task, read, out, err),
         Err(failure) => failure.tell(rt.alloc(), out, err),
     }
@@ -124,17 +130,18 @@ fn hold_over<I: io::Read + Drop, S: Sink, E: Sink>(
 }
 
 // Holds a session over the tables of a folder.
-fn hold_session<R: Files + AllocGlobal, I: io::Read + Drop, S: Sink, E: Sink>(
+fn hold_session<R: Files + AllocGlobal, I: io::Read + Drop, P: Watch, S: Sink, E: Sink>(
     rt: &R,
     folder: &str,
     input: StandardInput<I>,
+    progress: &mut P,
     out: &mut S,
     err: &mut E,
 ) -> u8 {
     if input.is_terminal {
         tell(err, b"loading the tables\n");
     }
-    match load_engine(rt, folder, out, err) {
+    match load_engine(rt, folder, progress, out, err) {
         Ok(engine) => hold_over(rt.alloc(), &engine, input, out, err),
         Err(status) => status,
     }
@@ -164,14 +171,15 @@ fn report_over<'f, R: Files + AllocGlobal, S: Sink>(
 }
 
 // Loads the tables, does what is asked of files that were read, and gives the exit status.
-fn report_read<R: Files + AllocGlobal, S: Sink, E: Sink>(
+fn report_read<R: Files + AllocGlobal, P: Watch, S: Sink, E: Sink>(
     rt: &R,
     asked: &Reports<'_>,
     files: &[ReadFile<'_>],
+    progress: &mut P,
     out: &mut S,
     err: &mut E,
 ) -> u8 {
-    let engine = match load_engine(rt, asked.folder, out, err) {
+    let engine = match load_engine(rt, asked.folder, progress, out, err) {
         Ok(engine) => engine,
         Err(status) => return status,
     };
@@ -193,14 +201,15 @@ fn ready<'a, R: Files + AllocGlobal>(
 }
 
 // Does what is asked of files: before any table is read, all of them are.
-fn make_reports<R: Files + AllocGlobal, S: Sink, E: Sink>(
+fn make_reports<R: Files + AllocGlobal, P: Watch, S: Sink, E: Sink>(
     rt: &R,
     asked: &Reports<'_>,
+    progress: &mut P,
     out: &mut S,
     err: &mut E,
 ) -> u8 {
     match ready(rt, asked) {
-        Ok(files) => report_read(rt, asked, files.as_slice(), out, err),
+        Ok(files) => report_read(rt, asked, files.as_slice(), progress, out, err),
         Err(failure) => failure.tell(rt.alloc(), out, err),
     }
 }
@@ -210,22 +219,24 @@ fn make_reports<R: Files + AllocGlobal, S: Sink, E: Sink>(
 /// meets its limit, 2 for words that are no command, 3 for table files that can't be loaded, 4 for
 /// a file that is no query, 5 for a file that is no program, 6 for a file that can't be read or
 /// output that can't be written, 7 for want of memory. A session reads its statements from `input`;
-/// nothing else does.
-pub fn command<R: Files + AllocGlobal, I: io::Read + Drop, W: Write, E: Write>(
+/// nothing else does. `progress` is told how far the reading of the tables' files is, before anything
+/// else is written, but for the first line of a session.
+pub fn command<R: Files + AllocGlobal, I: io::Read + Drop, P: Watch, W: Write, E: Write>(
     rt: &R,
     words: &[String],
     input: StandardInput<I>,
+    progress: &mut P,
     out: &mut W,
     err: &mut E,
 ) -> u8 {
     let mut answers = Out::new(&mut *out);
     let mut notes = Out::new(&mut *err);
     match request_of(rt.alloc(), words) {
-        Ok(Request::Answer(task)) => answer_task(rt, task, &mut answers, &mut notes),
+        Ok(Request::Answer(task)) => answer_task(rt, task, progress, &mut answers, &mut notes),
         Ok(Request::Session { folder }) => {
-            hold_session(rt, folder, input, &mut answers, &mut notes)
+            hold_session(rt, folder, input, progress, &mut answers, &mut notes)
         }
-        Ok(Request::Reports(asked)) => make_reports(rt, &asked, &mut answers, &mut notes),
+        Ok(Request::Reports(asked)) => make_reports(rt, &asked, progress, &mut answers, &mut notes),
         Err(failure) => failure.tell(rt.alloc(), &mut answers, &mut notes),
     }
 }
@@ -249,14 +260,15 @@ fn failure_of_words(error: &io::Error) -> Failure<'static> {
 
 /// Does what the words of the program's own command line ask for, and gives the exit status of
 /// `command`; 2 too where a word is not UTF-8.
-pub fn run<R: Env + Files + AllocGlobal, I: io::Read + Drop, W: Write, E: Write>(
+pub fn run<R: Env + Files + AllocGlobal, I: io::Read + Drop, P: Watch, W: Write, E: Write>(
     rt: &R,
     input: StandardInput<I>,
+    progress: &mut P,
     out: &mut W,
     err: &mut E,
 ) -> u8 {
     match read_words(rt) {
-        Ok(words) => command(rt, words.as_slice(), input, out, err),
+        Ok(words) => command(rt, words.as_slice(), input, progress, out, err),
         Err(error) => failure_of_words(&error).tell(
             rt.alloc(),
             &mut Out::new(&mut *out),

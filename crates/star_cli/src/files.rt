@@ -5,6 +5,7 @@ ghost use Rattle.star_schema.specs.declared.table.TableId.{TableId};
 ghost use Rattle.star_cli.specs.ReadFolders.{AreWidelyRead, HasReadSome, StaysBetween};
 
 use crate::failure::Failure;
+use crate::progress::{TableFile, Watch, Watched};
 use star_engine::{FileFault, Input, ReadTables, TableReader, read_expected, read_part};
 use star_schema::{Limits, TableId};
 use std::alloc::{AllocError, Global};
@@ -92,40 +93,61 @@ pub(crate) fn read_file<'a, R: Files + AllocGlobal>(
     read_at_most(rt, path, path, MOST_FILE_BYTES)
 }
 
+// The failure that names a file of a table.
+fn named(file: TableFile) -> Failure<'static> {
+    match file {
+        TableFile::Named(name) => Failure::File(name),
+        TableFile::Part(number) => Failure::Part(number),
+    }
+}
+
+fn path_of(alloc: Global, folder: &str, file: TableFile) -> Result<String, AllocError> {
+    format!(in alloc; "{folder}/{file}")
+}
+
 // Gives a reader of a table the bytes of a file as one more part, if it is there, and tells whether it
 // is. The file is opened once, and read in pieces. One that is told to have more bytes than may be is
 // not read.
-fn feed_there<R: Files + AllocGlobal>(
+fn feed_there<R: Files + AllocGlobal, P: Watch>(
     rt: &R,
     path: &str,
+    file: TableFile,
     reader: &mut TableReader,
+    progress: &mut P,
 ) -> Result<bool, FileFault>
     ensures { OnOk result (StaysBetween reader.old reader.new) }
 {
-    let Some(file) = open_there(rt, path)? else {
+    let Some(opened) = open_there(rt, path)? else {
         return Ok(false);
     };
-    if told_size(&file) > MOST_TABLE_BYTES {
+    let size = told_size(&opened);
+    if size > MOST_TABLE_BYTES {
         return Err(FileFault::Failed);
     }
-    read_part(rt.alloc(), &mut Input::new(file), reader, MOST_TABLE_BYTES)?;
+    let watched = Watched::new(opened, file, size, progress);
+    read_part(
+        rt.alloc(),
+        &mut Input::new(watched),
+        reader,
+        MOST_TABLE_BYTES,
+    )?;
     Ok(true)
 }
 
-// Gives a reader of a table the file of the table, by its name in the folder, and tells whether it is
-// there.
-fn feed_file<R: Files + AllocGlobal>(
+// Gives a reader of a table a file of it in the folder, and tells whether it is there.
+fn feed_file<R: Files + AllocGlobal, P: Watch>(
     rt: &R,
     folder: &str,
-    name: &'static str,
+    file: TableFile,
     reader: &mut TableReader,
+    progress: &mut P,
 ) -> Result<bool, Failure<'static>>
     ensures { OnOk result (StaysBetween reader.old reader.new) }
 {
-    let path = format!(in rt.alloc(); "{folder}/{name}")?;
-    match feed_there(rt, path.as_str(), reader) {
+    let path = path_of(rt.alloc(), folder, file)?;
+    match feed_there(rt, path.as_str(), file, reader, progress) {
         Ok(there) => Ok(there),
-        Err(fault) => Err(failure_of(fault, Failure::File(name))),
+        Err(fault) => Err(failure_of(fault, named(file))),
     }
 }
 
@@ -136,39 +158,20 @@ fn boxed(alloc: Global, reader: TableReader) -> Result<Box<TableReader>, AllocEr
 }
 
 // Reads a table of one file.
-fn read_table<R: Files + AllocGlobal>(
+fn read_table<R: Files + AllocGlobal, P: Watch>(
     rt: &R,
     folder: &str,
     name: &'static str,
     table: TableId,
+    progress: &mut P,
 ) -> Result<Box<TableReader>, Failure<'static>>
     ensures { IfOk result (λ reader. HasReadSome reader.value table) }
 {
     let mut reader = TableReader::new(rt.alloc(), table, Limits::widest())?;
-    if !feed_file(rt, folder, name, &mut reader)? {
+    if !feed_file(rt, folder, TableFile::Named(name), &mut reader, progress)? {
         return Err(Failure::File(name));
     }
     Ok(boxed(rt.alloc(), reader)?)
-}
-
-fn path_of_part(alloc: Global, folder: &str, number: u16) -> Result<String, AllocError> {
-    format!(in alloc; "{folder}/lineorder.tbl.{number}")
-}
-
-// Gives a reader a part of lineorder, by its number, and tells whether it is there.
-fn feed_part<R: Files + AllocGlobal>(
-    rt: &R,
-    folder: &str,
-    number: u16,
-    reader: &mut TableReader,
-) -> Result<bool, Failure<'static>>
-    ensures { OnOk result (StaysBetween reader.old reader.new) }
-{
-    let path = path_of_part(rt.alloc(), folder, number)?;
-    match feed_there(rt, path.as_str(), reader) {
-        Ok(there) => Ok(there),
-        Err(fault) => Err(failure_of(fault, Failure::Part(number))),
-    }
 }
 
 // Refuses a part of lineorder that is there, which would be one too many. It is not read.
@@ -177,7 +180,7 @@ fn refuse_part<R: Files + AllocGlobal>(
     folder: &str,
     number: u16,
 ) -> Result<(), Failure<'static>> {
-    let path = path_of_part(rt.alloc(), folder, number)?;
+    let path = path_of(rt.alloc(), folder, TableFile::Part(number))?;
     match open_there(rt, path.as_str()) {
         Ok(None) => Ok(()),
         Ok(Some(_)) => Err(Failure::Part(number)),
@@ -187,15 +190,16 @@ fn refuse_part<R: Files + AllocGlobal>(
 
 // Gives a reader the parts of lineorder, from the first up to one that is not there, and tells whether
 // there is one.
-fn feed_parts<R: Files + AllocGlobal>(
+fn feed_parts<R: Files + AllocGlobal, P: Watch>(
     rt: &R,
     folder: &str,
     reader: &mut TableReader,
+    progress: &mut P,
 ) -> Result<bool, Failure<'static>>
     ensures { OnOk result (StaysBetween reader.old reader.new) }
 {
     for number in 1..=MOST_PARTS {
-        if !feed_part(rt, folder, number, reader)? {
+        if !feed_file(rt, folder, TableFile::Part(number), reader, progress)? {
             return Ok(number > 1);
         }
     }
@@ -204,47 +208,48 @@ fn feed_parts<R: Files + AllocGlobal>(
 }
 
 // Gives a reader the file of lineorder, or else its parts, and tells whether there is one.
-fn feed_lineorder<R: Files + AllocGlobal>(
+fn feed_lineorder<R: Files + AllocGlobal, P: Watch>(
     rt: &R,
     folder: &str,
     reader: &mut TableReader,
+    progress: &mut P,
 ) -> Result<bool, Failure<'static>>
     ensures { OnOk result (StaysBetween reader.old reader.new) }
 {
-    if feed_file(rt, folder, LINEORDER, reader)? {
+    if feed_file(rt, folder, TableFile::Named(LINEORDER), reader, progress)? {
         return Ok(true);
     }
-    feed_parts(rt, folder, reader)
+    feed_parts(rt, folder, reader, progress)
 }
 
 // Reads lineorder: its file, or else its parts, of which there is one at least.
-fn read_lineorder<R: Files + AllocGlobal>(
+fn read_lineorder<R: Files + AllocGlobal, P: Watch>(
     rt: &R,
     folder: &str,
+    progress: &mut P,
 ) -> Result<Box<TableReader>, Failure<'static>>
     ensures { IfOk result (λ reader. HasReadSome reader.value TableId.Lineorder) }
 {
     let mut reader = TableReader::new(rt.alloc(), TableId::Lineorder, Limits::widest())?;
-    if !feed_lineorder(rt, folder, &mut reader)? {
+    if !feed_lineorder(rt, folder, &mut reader, progress)? {
         return Err(Failure::File(LINEORDER));
     }
     Ok(boxed(rt.alloc(), reader)?)
 }
 
-/// Reads the tables of a folder, in their order. Where there is no file of lineorder its parts are
-/// read, `lineorder.tbl.1` and on, up to the first that is not there. What the tables' bytes say is
-/// looked at later: a fault of them comes behind every failure to read a file.
-pub(crate) fn read_tables<R: Files + AllocGlobal>(
+// Reads the tables of a folder, in their order.
+fn read_all<R: Files + AllocGlobal, P: Watch>(
     rt: &R,
     folder: &str,
+    progress: &mut P,
 ) -> Result<ReadTables, Failure<'static>>
     ensures { IfOk result AreWidelyRead }
 {
-    let date = read_table(rt, folder, "date.tbl", TableId::Date)?;
-    let customer = read_table(rt, folder, "customer.tbl", TableId::Customer)?;
-    let supplier = read_table(rt, folder, "supplier.tbl", TableId::Supplier)?;
-    let part = read_table(rt, folder, "part.tbl", TableId::Part)?;
-    let lineorder = read_lineorder(rt, folder)?;
+    let date = read_table(rt, folder, "date.tbl", TableId::Date, progress)?;
+    let customer = read_table(rt, folder, "customer.tbl", TableId::Customer, progress)?;
+    let supplier = read_table(rt, folder, "supplier.tbl", TableId::Supplier, progress)?;
+    let part = read_table(rt, folder, "part.tbl", TableId::Part, progress)?;
+    let lineorder = read_lineorder(rt, folder, progress)?;
     Ok(ReadTables {
         date,
         customer,
@@ -252,6 +257,23 @@ pub(crate) fn read_tables<R: Files + AllocGlobal>(
         part,
         lineorder,
     })
+}
+
+/// Reads the tables of a folder, in their order. Where there is no file of lineorder its parts are
+/// read, `lineorder.tbl.1` and on, up to the first that is not there. What the tables' bytes say is
+/// looked at later: a fault of them comes behind every failure to read a file. `progress` is told how
+/// far it is, from its begin to its end.
+pub(crate) fn read_tables<R: Files + AllocGlobal, P: Watch>(
+    rt: &R,
+    folder: &str,
+    progress: &mut P,
+) -> Result<ReadTables, Failure<'static>>
+    ensures { IfOk result AreWidelyRead }
+{
+    progress.begin();
+    let read = read_all(rt, folder, progress);
+    progress.end();
+    read
 }
 
 /// Sees to it that a folder is there, which a failure names as the words do.

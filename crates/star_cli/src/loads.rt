@@ -8,6 +8,7 @@ ghost use Rattle.star_cli.specs.ReadFolders.{AreWidelyRead};
 use crate::failure::Failure;
 use crate::files::read_tables;
 use crate::lines::tell_fault;
+use crate::progress::Watch;
 use star_catalogue::Catalogue;
 use star_engine::{Engine, EngineFault, ReadTables};
 use star_schema::{Limits, Sink};
@@ -32,21 +33,27 @@ fn engine_of(alloc: Global, read: ReadTables) -> Result<Engine, EngineFault>
 }
 
 // The tables of a folder whose name is not empty.
-fn read_named<R: Files + AllocGlobal>(rt: &R, folder: &str) -> Result<ReadTables, Failure<'static>>
+fn read_named<R: Files + AllocGlobal, P: Watch>(
+    rt: &R,
+    folder: &str,
+    progress: &mut P,
+) -> Result<ReadTables, Failure<'static>>
     ensures { IfOk result AreWidelyRead }
 {
     if folder.is_empty() {
         return Err(Failure::EmptyFolder);
     }
-    read_tables(rt, folder)
+    read_tables(rt, folder, progress)
 }
 
 /// Loads the tables of a folder under the widest limits. Where it can't, it tells why as the
 /// commands of `star` do, and gives the exit status: 2 where the folder's name is empty, 3 for table
-/// files that can't be loaded, 6 for a file that can't be read, 7 for want of memory.
-pub fn load_folder<R: Files + AllocGlobal, S: Sink, E: Sink>(
+/// files that can't be loaded, 6 for a file that can't be read, 7 for want of memory. `progress` is
+/// told how far the reading of the files is.
+pub fn load_folder<R: Files + AllocGlobal, P: Watch, S: Sink, E: Sink>(
     rt: &R,
     folder: &str,
+    progress: &mut P,
     out: &mut S,
     err: &mut E,
 ) -> Result<Catalogue, u8>
@@ -56,7 +63,7 @@ pub fn load_folder<R: Files + AllocGlobal, S: Sink, E: Sink>(
     ensures told { IfErr result (IsFolderRefused (change S.contents S.is_failed out.old out.new)
         (change E.contents E.is_failed err.old err.new)) }
 {
-    let read = match read_named(rt, folder) {
+    let read = match read_named(rt, folder, progress) {
         Ok(read) => read,
         Err(failure) => return Err(failure.tell(rt.alloc(), out, err)),
     };
@@ -67,9 +74,10 @@ pub fn load_folder<R: Files + AllocGlobal, S: Sink, E: Sink>(
 }
 
 /// Loads an engine over the tables of a folder, as `load_folder` does.
-pub fn load_engine<R: Files + AllocGlobal, S: Sink, E: Sink>(
+pub fn load_engine<R: Files + AllocGlobal, P: Watch, S: Sink, E: Sink>(
     rt: &R,
     folder: &str,
+    progress: &mut P,
     out: &mut S,
     err: &mut E,
 ) -> Result<Engine, u8>
@@ -79,7 +87,7 @@ pub fn load_engine<R: Files + AllocGlobal, S: Sink, E: Sink>(
     ensures told { IfErr result (IsFolderRefused (change S.contents S.is_failed out.old out.new)
         (change E.contents E.is_failed err.old err.new)) }
 {
-    let read = match read_named(rt, folder) {
+    let read = match read_named(rt, folder, progress) {
         Ok(read) => read,
         Err(failure) => return Err(failure.tell(rt.alloc(), out, err)),
     };

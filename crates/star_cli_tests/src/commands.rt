@@ -52,7 +52,7 @@ pub(crate) fn run_over<R: Files + AllocGlobal, I: Read + Drop>(
     let words = owned(rt.alloc(), words)?;
     let mut out = Vec::with_capacity(rt.alloc(), ROOM)?;
     let mut err = Vec::with_capacity(rt.alloc(), ROOM)?;
-    match command(rt, words.as_slice(), input, &mut out, &mut err) {
+    match command(rt, words.as_slice(), input, &mut (), &mut out, &mut err) {
         7 => Err(AllocError),
         status => Ok(Ran { status, out, err }),
     }
@@ -223,7 +223,14 @@ fn tells_output_that_fails(rt: HostRuntime) -> Result<(), Fail> {
     let mut err = Vec::with_capacity(rt.alloc(), ROOM)?;
     let mut left = room.as_mut_slice();
     let no_words = Vec::new(rt.alloc());
-    let status = command(&rt, no_words.as_slice(), piped(b""), &mut left, &mut err);
+    let status = command(
+        &rt,
+        no_words.as_slice(),
+        piped(b""),
+        &mut (),
+        &mut left,
+        &mut err,
+    );
     if status == 7 {
         return Err(Fail::from(AllocError));
     }

@@ -7,7 +7,13 @@ mod commands;
 #[cfg(test)]
 mod damaged;
 #[cfg(test)]
+mod folders;
+#[cfg(test)]
 mod parts;
+#[cfg(test)]
+mod progress;
+#[cfg(test)]
+mod reads;
 #[cfg(test)]
 mod reports;
 #[cfg(test)]

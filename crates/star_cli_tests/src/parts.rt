@@ -9,11 +9,11 @@ use std::test::Fail;
 use std::{fs, io};
 
 // The sample's lines of orders: the two first, with no line end behind them, and the three last.
-const TWO: &[u8] = b"\
+pub(crate) const TWO: &[u8] = b"\
     1|1|1|1|2|19930210|2-HIGH|0|10|1000|3000|2|980|600|2|19940105|MAIL|\n\
     1|2|1|2|1|19930210|2-HIGH|0|30|2000|3000|3|1940|1200|0|19940105|RAIL|";
 
-const THREE: &[u8] = b"\
+pub(crate) const THREE: &[u8] = b"\
     2|1|2|1|2|19940105|5-LOW|0|24|500|500|1|495|700|4|19940105|SHIP|\n\
     3|1|3|3|2|19971215|1-URGENT|0|50|3000|3700|0|3000|1000|8|19971215|TRUCK|\n\
     3|2|1|2|1|19971215|1-URGENT|0|1|700|3700|10|630|100|1|19971215|AIR|\n";

@@ -313,7 +313,14 @@ fn takes_a_thousand_files(rt: HostRuntime) -> Result<(), Fail> {
         let words = many(rt.alloc(), count)?;
         let mut out = Vec::with_capacity(rt.alloc(), 4_096)?;
         let mut err = Vec::with_capacity(rt.alloc(), 4_096)?;
-        let ended = command(&rt, words.as_slice(), piped(b""), &mut out, &mut err);
+        let ended = command(
+            &rt,
+            words.as_slice(),
+            piped(b""),
+            &mut (),
+            &mut out,
+            &mut err,
+        );
         if ended == 7 {
             return Err(Fail::from(AllocError));
         }

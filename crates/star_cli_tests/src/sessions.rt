@@ -212,7 +212,14 @@ fn spoken_short<R: Files + AllocGlobal>(
 ) -> Result<(u8, Vec<u8>, Vec<u8>), AllocError> {
     let words = owned(rt.alloc(), ["session", "short"].as_slice())?;
     let statements = b"select count(*) from lineorder;\nselect count(*) from lineorder;\n";
-    match command(rt, words.as_slice(), piped(statements), &mut out, &mut err) {
+    match command(
+        rt,
+        words.as_slice(),
+        piped(statements),
+        &mut (),
+        &mut out,
+        &mut err,
+    ) {
         7 => Err(AllocError),
         status => Ok((status, out.taken, err.taken)),
     }

@@ -61,7 +61,14 @@ pub(crate) fn run_short<R: Files + AllocGlobal>(
     mut err: Short,
 ) -> Result<(u8, Vec<u8>, Vec<u8>), AllocError> {
     let words = owned(rt.alloc(), words)?;
-    match command(rt, words.as_slice(), piped(b""), &mut out, &mut err) {
+    match command(
+        rt,
+        words.as_slice(),
+        piped(b""),
+        &mut (),
+        &mut out,
+        &mut err,
+    ) {
         7 => Err(AllocError),
         status => Ok((status, out.taken, err.taken)),
     }

@@ -1,29 +1,29 @@
-// From the texts of rows to their codes: first each row's text gets a number, in the order of first
-// meeting, and then each number is replaced by the place of its text in the dictionary.
+// From the texts of rows to their codes: the texts that are kept are put in order, each different
+// one becomes the next text of the dictionary, and its place there is the code of all that equal it.
 
-ghost use Rattle.std.specs.Prelude.{◌≡◌, ◌+◌, ◌<◌, ◌≤◌, ◌^◌, ◌++◌, ◌∷◌, [], All, IfOk, OnOk, length, map, slice_index, take};
+ghost use Rattle.std.specs.Prelude.{◌≡◌, ◌↔◌, ◌-◌, ◌+◌, ◌<◌, ◌≤◌, ◌^◌, ℕ, List, All, IfOk, IsTrue, OnOk, Some, length, map, slice_get, slice_index, take};
 ghost use Rattle.std.specs.Int.RustNames.{unsigned_abs};
 ghost use Rattle.star_flat.specs.Repeated.{places};
-ghost use Rattle.star_column.specs.Private.Codes.{AreNumbers, LeadBack};
+ghost use Rattle.star_column.specs.Private.Order.{AreInOrder, key_of, texts_of};
+ghost use Rattle.star_column.specs.Private.Codes.{AreNumbers, LeadTo, different};
 
-use crate::distinct::{Distinct, Numbered};
+use crate::dictionary::Dictionary;
+use crate::ordered::{Numbered, in_order};
 use star_flat::{FlatNumbers, FlatTexts, RepeatedTexts, SignedWord, SignedWords};
 use std::alloc::{AllocError, Global};
 
-/// The different ones of these texts, and for each text its number among them. Only texts that are
-/// kept are numbered by themselves.
-pub(crate) fn number_each<'t>(
+/// The dictionary of these texts, and the code of each. Only texts that are kept are put in order.
+pub(crate) fn code_each(
     alloc: Global,
-    texts: &'t RepeatedTexts,
-) -> Result<(Distinct<'t>, Vec<u32>), AllocError>
+    texts: &RepeatedTexts,
+) -> Result<(Dictionary, Vec<u32>), AllocError>
     requires { length texts.now < 2 ^ 32 }
-    ensures numbers { IfOk result (λ numbered. AreNumbers numbered.0 numbered.1.items texts.now) }
-    ensures few { IfOk result (λ numbered. length numbered.0 ≤ length texts.now) }
+    ensures { IfOk result (λ coded. AreNumbers coded.0 coded.1.items texts.now) }
 {
     let (kept, rows) = texts.parts();
-    let (distinct, numbers) = number_kept(alloc, kept)?;
-    let each = numbers_at(alloc, rows, numbers.as_slice())?;
-    Ok((distinct, each))
+    let (dictionary, codes) = code_kept(alloc, kept)?;
+    let each = numbers_at(alloc, rows, codes.as_slice())?;
+    Ok((dictionary, each))
 }
 
 /// What stands at each of these places.
@@ -57,53 +57,72 @@ fn read_at<S: SignedWord>(
     Ok(found)
 }
 
-/// The different ones of these texts, and for each text its number among them.
-fn number_kept<'t>(
-    alloc: Global,
-    texts: &'t FlatTexts,
-) -> Result<(Distinct<'t>, Vec<u32>), AllocError>
+/// The dictionary of these texts, and the code of each.
+fn code_kept(alloc: Global, texts: &FlatTexts) -> Result<(Dictionary, Vec<u32>), AllocError>
     requires { length texts.now < 2 ^ 32 }
-    ensures numbers { IfOk result (λ numbered. AreNumbers numbered.0 numbered.1.items texts.now) }
-    ensures few { IfOk result (λ numbered. length numbered.0 ≤ length texts.now) }
+    ensures { IfOk result (λ coded. AreNumbers coded.0 coded.1.items texts.now) }
 {
-    let mut distinct = Distinct::new(alloc);
-    let mut numbers = Vec::with_capacity(alloc, texts.len())?;
-    for row in 0..texts.len() {
-        let number = next_number(&mut distinct, numbers.as_slice(), texts)?;
-        numbers.push_reserved(number);
-    }
-    Ok((distinct, numbers))
+    let ordered = in_order(alloc, texts)?;
+    let (put, codes) = code_ordered(alloc, texts, ordered.as_slice())?;
+    Ok((Dictionary::of_ordered(put), codes))
 }
 
-/// The number of the first text that has none yet.
-fn next_number<'t>(
-    distinct: &mut Distinct<'t>,
-    numbers: &[u32],
-    texts: &'t FlatTexts,
-) -> Result<u32, AllocError>
-    requires numbered { AreNumbers distinct.old numbers.now (take (length numbers.now) texts.now) }
-    requires left { length numbers.now < length texts.now }
-    requires few { length distinct.old < 2 ^ 32 }
-    ensures numbered { IfOk result (λ number. AreNumbers
-        distinct.new
-        (numbers.now ++ number ∷ [])
-        (take (length numbers.now + 1) texts.now)) }
-    ensures few { OnOk result (length distinct.new ≤ length distinct.old + 1) }
+/// The different ones of these texts, which are in order, and the code of each text.
+fn code_ordered(
+    alloc: Global,
+    texts: &FlatTexts,
+    ordered: &[Numbered<'_>],
+) -> Result<(FlatTexts, Vec<u32>), AllocError>
+    requires few { length texts.now < 2 ^ 32 }
+    requires ordered { AreInOrder texts.now ordered.now }
+    ensures texts { IfOk result
+        (λ coded. coded.0 ≡ different (texts_of texts.now ordered.now)) }
+    ensures few { IfOk result (λ coded. length coded.0 ≤ length texts.now) }
+    ensures len { IfOk result (λ coded. length coded.1.items ≡ length texts.now) }
+    ensures codes { IfOk result (λ coded. LeadTo coded.0 coded.1.items texts.now ordered.now) }
 {
-    distinct.number_of(texts.get(numbers.len()))
-}
-
-/// For each number of these texts, which are in order, the place of the text.
-pub(crate) fn places_of(alloc: Global, ordered: &[Numbered<'_>]) -> Result<Vec<u32>, AllocError>
-    requires few { length ordered.now < 2 ^ 32 }
-    requires within { All (λ e. e.number < length ordered.now) ordered.now }
-    ensures len { IfOk result (λ places. length places.items ≡ length ordered.now) }
-    ensures places { IfOk result
-        (λ places. LeadBack places.items (map (λ e. e.number) ordered.now)) }
-{
-    let mut places = vec![in alloc; 0; ordered.len()]?;
+    let mut put = FlatTexts::new(alloc);
+    let mut codes = vec![in alloc; 0; ordered.len()]?;
     for (place, numbered) in ordered.iter().enumerate() {
-        places[numbered.number as usize] = place as u32;
+        codes[numbered.number as usize] = put_next(&mut put, texts, ordered, place)?;
     }
-    Ok(places)
+    Ok((put, codes))
+}
+
+/// Whether the key at a place is the one before it.
+fn repeats(ordered: &[Numbered<'_>], place: usize) -> bool
+    requires { place < length ordered.now }
+    ensures { IsTrue result
+        ↔ ((0 < place)
+        × (slice_get (map key_of ordered.now) (place - 1)
+        ≡ slice_get (map key_of ordered.now) place)) }
+{
+    place > 0 && ordered[place - 1].has_key_of(&ordered[place])
+}
+
+/// Puts the text at a place behind those of the places before, unless it repeats the last of them,
+/// and answers its code.
+fn put_next(
+    put: &mut FlatTexts,
+    texts: &FlatTexts,
+    ordered: &[Numbered<'_>],
+    place: usize,
+) -> Result<u32, AllocError>
+    requires within { place < length ordered.now }
+    requires few { length texts.now < 2 ^ 32 }
+    requires ordered { AreInOrder texts.now ordered.now }
+    requires put { put.old ≡ different (take place (texts_of texts.now ordered.now)) }
+    requires no_more { length put.old ≤ place }
+    ensures put { OnOk result
+        (put.new ≡ different (take (place + 1) (texts_of texts.now ordered.now))) }
+    ensures no_more { OnOk result (length put.new ≤ place + 1) }
+    ensures kept { OnOk result ((code : ℕ) (text : List ℕ) → slice_get put.old code ≡ Some text
+        → slice_get put.new code ≡ Some text) }
+    ensures code { IfOk result (λ code. slice_get put.new code
+        ≡ slice_get (texts_of texts.now ordered.now) place) }
+{
+    if !repeats(ordered, place) {
+        put.push(texts.get(ordered[place].number as usize))?;
+    }
+    Ok((put.len() - 1) as u32)
 }

@@ -5,11 +5,8 @@ ghost use Rattle.std.specs.List.Sorted.{IsStrictlySortedBy};
 ghost use Rattle.star_schema.specs.Dictionary.{text_cmp, low_in, high_in};
 ghost use Rattle.star_column.specs.Private.Edge.{is_after};
 
-use crate::distinct::Numbered;
 use star_flat::FlatTexts;
-use std::alloc::{AllocError, Global};
 use std::cmp::Ordering;
-use std::convert::AsSlice;
 use std::marker::Model;
 
 /// Texts in the order of their bytes, each once.
@@ -99,25 +96,12 @@ impl Dictionary {
         low as u32
     }
 
-    /// The dictionary of these texts, which are in the order of their bytes, each once.
-    pub(crate) fn build(alloc: Global, ordered: &[Numbered<'_>]) -> Result<Dictionary, AllocError>
-        requires sorted { IsStrictlySortedBy text_cmp (map (λ e. e.text.now) ordered.now) }
-        requires few { length ordered.now < 2 ^ 32 }
-        ensures { IfOk result (λ dictionary. dictionary ≡ map (λ e. e.text.now) ordered.now) }
+    /// The dictionary with these texts, which are in the order of their bytes, each once.
+    pub(crate) fn of_ordered(texts: FlatTexts) -> Dictionary
+        requires sorted { IsStrictlySortedBy text_cmp texts }
+        requires few { length texts < 2 ^ 32 }
+        ensures { result ≡ texts }
     {
-        Ok(Dictionary {
-            texts: flatten(alloc, ordered)?,
-        })
+        Dictionary { texts }
     }
-}
-
-/// These texts in flat storage.
-pub(crate) fn flatten<T: AsSlice<u8>>(alloc: Global, texts: &[T]) -> Result<FlatTexts, AllocError>
-    ensures { IfOk result (λ flat. flat ≡ map T.items texts.now) }
-{
-    let mut flat = FlatTexts::new(alloc);
-    for text in texts {
-        flat.push(text.as_slice())?;
-    }
-    Ok(flat)
 }

@@ -5,10 +5,10 @@
 mod coding;
 mod column;
 mod dictionary;
-mod distinct;
 mod join_index;
 mod mask;
 mod number;
+mod ordered;
 mod packed;
 mod text;
 mod view;

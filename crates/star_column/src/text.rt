@@ -4,7 +4,7 @@ ghost use Rattle.std.specs.Prelude.{◌≡◌, ◌<◌, ◌^◌, IfOk, length, m
 ghost use Rattle.star_schema.specs.Dictionary.{dictionary_of, codes_of, low_in, high_in, HasCode};
 ghost use Rattle.star_column.specs.Width.{bits_of};
 
-use crate::coding::{number_each, places_of};
+use crate::coding::code_each;
 use crate::column::ColumnData;
 use crate::dictionary::Dictionary;
 use crate::view::ColumnView;
@@ -55,8 +55,7 @@ impl TextColumn {
 
     /// The column of these texts, of which there are at most 4,294,967,295. They are let go.
     ///
-    /// Only different texts are sorted: a text that is kept is looked up in a tree of the different
-    /// ones.
+    /// Only texts that are kept are sorted, so that no texts are slow to find.
     pub fn from_flat(alloc: Global, texts: RepeatedTexts) -> Result<TextColumn, AllocError>
         requires { length texts < 2 ^ 32 }
         ensures { IfOk result (λ column. column ≡ texts) }
@@ -69,11 +68,8 @@ impl TextColumn {
         requires { length texts.now < 2 ^ 32 }
         ensures { IfOk result (λ column. column ≡ texts.now) }
     {
-        let (distinct, numbers) = number_each(alloc, texts)?;
-        let ordered = distinct.into_ordered(alloc)?;
-        let dictionary = Dictionary::build(alloc, ordered.as_slice())?;
-        let places = places_of(alloc, ordered.as_slice())?;
-        let codes = Words::of_places(alloc, numbers.as_slice(), places.as_slice())?;
+        let (dictionary, codes) = code_each(alloc, texts)?;
+        let codes = Words::of_codes(alloc, codes.as_slice(), dictionary.entries())?;
         Ok(TextColumn { codes, dictionary })
     }
 

@@ -194,27 +194,19 @@ impl Words {
         }
     }
 
-    /// What stands at each of these places, in the least width in which every place fits.
-    pub(crate) fn of_places(
-        alloc: Global,
-        places: &[u32],
-        values: &[u32],
-    ) -> Result<Words, AllocError>
-        requires places { All (λ place. place < length values.now) places.now }
-        requires held { All (λ place. slice_index values.now place < length values.now) places.now }
-        requires few { length values.now < 2 ^ 32 }
-        ensures numbers { IfOk result
-            (λ words. numbers_in words ≡ map (λ place. slice_index values.now place) places.now) }
-        ensures width { IfOk result
-            (λ words. width_of words ≡ least_width (length values.now - 1)) }
+    /// These codes, in the least width in which each code of a dictionary with so many entries fits.
+    pub(crate) fn of_codes(alloc: Global, codes: &[u32], entries: u32) -> Result<Words, AllocError>
+        requires { All (λ code. code < entries) codes.now }
+        ensures numbers { IfOk result (λ words. numbers_in words ≡ codes.now) }
+        ensures width { IfOk result (λ words. width_of words ≡ least_width (entries - 1)) }
     {
-        let span = values.len().saturating_sub(1);
-        if span <= usize::from(u8::MAX) {
-            Ok(Words::Bits8(values_at(alloc, places, values)?))
-        } else if span <= usize::from(u16::MAX) {
-            Ok(Words::Bits16(values_at(alloc, places, values)?))
+        let span = entries.saturating_sub(1);
+        if span <= u32::from(u8::MAX) {
+            Ok(Words::Bits8(narrow(alloc, codes)?))
+        } else if span <= u32::from(u16::MAX) {
+            Ok(Words::Bits16(narrow(alloc, codes)?))
         } else {
-            Ok(Words::Bits32(values_at(alloc, places, values)?))
+            Ok(Words::Bits32(narrow(alloc, codes)?))
         }
     }
 }
@@ -237,17 +229,14 @@ fn differences<S: SignedWord, W: Word>(
     Ok(words)
 }
 
-/// What stands at each of these places.
-fn values_at<W: Word>(alloc: Global, places: &[u32], values: &[u32]) -> Result<Vec<W>, AllocError>
-    requires places { All (λ place. place < length values.now) places.now }
-    requires fit { All (λ place. slice_index values.now place < W.limit) places.now }
-    ensures { IfOk result
-        (λ words. map W.number words.items
-        ≡ map (λ place. slice_index values.now place) places.now) }
+/// These numbers as words in which they fit.
+fn narrow<W: Word>(alloc: Global, numbers: &[u32]) -> Result<Vec<W>, AllocError>
+    requires { All (λ number. number < W.limit) numbers.now }
+    ensures { IfOk result (λ words. map W.number words.items ≡ numbers.now) }
 {
-    let mut words = Vec::with_capacity(alloc, places.len())?;
-    for place in places {
-        words.push_reserved(W::of(u64::from(values[*place as usize])));
+    let mut words = Vec::with_capacity(alloc, numbers.len())?;
+    for number in numbers {
+        words.push_reserved(W::of(u64::from(*number)));
     }
     Ok(words)
 }

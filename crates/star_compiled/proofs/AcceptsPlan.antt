@@ -34,6 +34,8 @@ use Rattle.star_admission.specs.Standing.{at_place}
 use Rattle.star_admission.specs.Private.Forward.{first_reason, none_open, open_with}
 use Rattle.star_compiled.specs.Compiled.{Env, Rest, env_first, conjuncts_code, keys_code, values_code, put_code, turn_code, body_code, compiled, key_of_group, register_count, before, expression_code}
 use Rattle.star_compiled.specs.Judged.{AreBoundsI64}
+use Rattle.star_compiled.specs.Wide.{turn_wide}
+use Rattle.star_compiled.proofs.FirstWide.{NothingElse, turn_wide_is}
 use Rattle.star_compiled.proofs.ForeignKeys.{AreForeign, are_foreign}
 use Rattle.star_compiled.proofs.Joins.{of_text}
 use Rattle.star_compiled.proofs.Points.{Turn, both_none, or_none_right, Overflows, in_turn}
@@ -362,30 +364,50 @@ module _ (w : World) (p : Plan) (sound : IsSoundPlan p) (n : ℕ) (pending : ℕ
 some_room : (m : ℕ) → nat_lt 0 (1 + m + 0) ≡ true
 some_room m = grind arith
 
--- its instructions alone
-pub instructions_judged : (w : World) (p : Plan) → IsSoundPlan p
-    → Accepted (AreColumnsI64 w p) (list_all (measure_fits w.bounds) p.measures)
-    (first_reason w (compiled p) none_open at_first 1 (compiled p).body)
-instructions_judged w p sound =
-    let f = compiled p in
-    let n = 1 * w.size Lineorder in
-    let pending : ℕ → Bool = open_with none_open (body_code p) in
-    let known : Table = with_entry (λ _. None) 0 (KnownRow Lineorder) in
-    let written : ℕ → Bool = λ q. false || nat_eq 0 q in
-    let nodes = list_all (measure_fits w.bounds) p.measures in
-    let inside = first_reason w f pending (in_turn n known written) 2 (turn_code p) in
-    let inner = turn_accepted w p sound n pending 2 known written
-    (record {
-      fact = refl;
-      some = omega arith;
-      columns = λ c r e. absurd (cc);
-      rows = λ t r e. absurd (cc);
-      fresh = λ q h. ne_eqb 0 q (omega arith);
-    })
-    (omega arith) in
-    let goes : first_reason w f none_open at_first 1 f.body ≡ inside =
-    (λ j. option_or (at_place 1 (option_map Faulty
-    (option_or (unless (some_room (register_count (turn_code p)) j) BadRegister) None)))
-    (option_or inside None))
-    ∙ or_none_right inside in
-    subst (Accepted (AreColumnsI64 w p) nodes) (sym goes) inner
+module _ (w : World) (p : Plan) (sound : IsSoundPlan p) where
+  -- in the turn of its scan
+  abbrev inside : Option (ℕ × Reason)
+  inside =
+      first_reason w (compiled p) (open_with none_open (body_code p))
+      (in_turn (1 * w.size Lineorder) (with_entry (λ _. None) 0 (KnownRow Lineorder))
+      (λ q. false || nat_eq 0 q)) 2 (turn_code p)
+
+  in_turn_alone : first_reason w (compiled p) none_open at_first 1 (compiled p).body ≡ inside
+  in_turn_alone =
+      (λ j. option_or (at_place 1 (option_map Faulty
+      (option_or (unless (some_room (register_count (turn_code p)) j) BadRegister) None)))
+      (option_or inside None))
+      ∙ or_none_right inside
+
+  inside_judged : Accepted (AreColumnsI64 w p) (list_all (measure_fits w.bounds) p.measures) inside
+  inside_judged =
+      turn_accepted w p sound (1 * w.size Lineorder) (open_with none_open (body_code p)) 2
+      (with_entry (λ _. None) 0 (KnownRow Lineorder)) (λ q. false || nat_eq 0 q)
+      (record {
+        fact = refl;
+        some = omega arith;
+        columns = λ c r e. absurd (cc);
+        rows = λ t r e. absurd (cc);
+        fresh = λ q h. ne_eqb 0 q (omega arith);
+      })
+      (omega arith)
+
+  -- its instructions alone
+  pub instructions_judged : Accepted (AreColumnsI64 w p)
+      (list_all (measure_fits w.bounds) p.measures)
+      (first_reason w (compiled p) none_open at_first 1 (compiled p).body)
+  instructions_judged =
+      subst (Accepted (AreColumnsI64 w p) (list_all (measure_fits w.bounds) p.measures))
+      (sym in_turn_alone) inside_judged
+
+  alone : {S : Type 0} {b : Bool} (o : Option (ℕ × Reason)) → Accepted S b o → NothingElse o
+  alone o (inl h) = inl h.0
+  alone o (inr h) = inr h.0
+
+  -- and the first of them that is refused
+  pub first_instruction : first_reason w (compiled p) none_open at_first 1 (compiled p).body
+      ≡ turn_wide w.bounds p
+  first_instruction =
+      in_turn_alone
+      ∙ turn_wide_is w (compiled p) (open_with none_open (body_code p)) (1 * w.size Lineorder)
+      (λ q. false || nat_eq 0 q) p (alone inside inside_judged)

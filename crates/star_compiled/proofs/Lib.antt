@@ -25,6 +25,7 @@ mod Vectors
 mod ForeignKeys
 mod Constants
 mod Points
+mod FirstWide
 mod AcceptsColumns
 mod Accepts
 mod AcceptsPlan
@@ -32,3 +33,4 @@ mod Verdicts
 mod OutsideBounds
 mod WorkedVerdicts
 mod WorkedAnswers
+mod WorkedCounts

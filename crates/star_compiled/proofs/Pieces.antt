@@ -1,7 +1,7 @@
 -- What the pieces of a compiled program do, from their ends: instructions, operators and tests.
 use Rattle.std.proofs.Common.{◌≡◌, ℕ, ◌+◌, ◌≤◌, ◌<◌, Bool, true, false, List, Option, Some, None, refl, sym, ap, subst, ◌∙◌, arith}
-use Rattle.std.specs.Prelude.{ℤ, pos, ◌+ℤ◌, ◌&&◌, not, nat_lt}
-use Rattle.std.specs.Option.{option_map, option_or}
+use Rattle.std.specs.Prelude.{ℤ, pos, ◌+ℤ◌, ◌&&◌, not, nat_lt, unwrap_or}
+use Rattle.std.specs.Option.{is_some, option_map, option_or}
 use Rattle.std.specs.Ordering.{int_cmp, nat_cmp, is_eq, is_lt, is_le}
 use Rattle.std.specs.Cmp.Lexicographic.{slice_cmp, nat_list_cmp_total}
 use Rattle.star_schema.specs.declared.table.TableId.{TableId}
@@ -19,22 +19,23 @@ use Rattle.star_program.specs.declared.fault.Fault.{Fault}
 use Rattle.star_program.specs.declared.op.Edge.TheVariants.{Low, High}
 use Rattle.star_program.specs.declared.op.Op.TheVariants.{Assign}
 use Rattle.star_program.specs.declared.op.Operation.{Operation}
-use Rattle.star_program.specs.declared.op.Operation.TheVariants.{Const, Edge, Binary, Within, Not}
+use Rattle.star_program.specs.declared.op.Operation.TheVariants.{Const, Edge, Find, Binary, Within, Not}
 use Rattle.star_program.specs.declared.op.Operator.{Operator}
 use Rattle.star_program.specs.declared.op.Operator.TheVariants as operator
 use Rattle.star_program.specs.declared.program.Parts.{Parts}
 use Rattle.star_program.specs.declared.value.Value.{Value}
 use Rattle.star_program.specs.declared.value.Value.TheVariants.{Number, Place, Row, Flag}
-use Rattle.star_program.specs.Code.{Code}
+use Rattle.star_program.specs.Code.{Code, Then}
 use Rattle.star_program.specs.World.{World, is_text}
 use Rattle.star_program.specs.Values.{Registers, with_entry, number_in, flag_in}
 use Rattle.star_program.specs.declared.fault.TrapKind.{TrapKind}
-use Rattle.star_program.specs.declared.fault.TrapKind.TheVariants.{Wrong, Overflow}
+use Rattle.star_program.specs.declared.fault.TrapKind.TheVariants.{Wrong, AbsentKey, Overflow}
 use Rattle.star_program.specs.Faults.{unless, fault_of}
-use Rattle.star_program.specs.Effects.{Store, Effect, answer_of, loaded, fits_register, unless_trap, kinds_in}
+use Rattle.star_program.specs.Effects.{Store, Effect, GoesOn, LookUp, marked, answer_of, loaded, fits_register, unless_trap, kinds_in}
 use Rattle.star_program.specs.Private.Doing.{sets, assigns}
 use Rattle.star_program.specs.Run.{End, Ended, follow, meaning}
 use Rattle.star_compiled.specs.Compiled.{Env, Rest, binary_code, loaded_in, found_in, one_more, write, test_code, between_code}
+use Rattle.star_compiled.specs.Counts.{lookups_in}
 use Rattle.star_compiled.proofs.Entries.{entry_same, entry_other}
 use Rattle.star_compiled.proofs.TurnRows.{Shows}
 use Rattle.star_compiled.proofs.Joins.{holds_numbers, holds_texts}
@@ -56,6 +57,27 @@ no_trap : (b : Bool) (kind : TrapKind) (x : Effect) (n : ℕ) (next : Registers 
 no_trap true kind x n next e h = h
 no_trap false kind x n next e h = absurd (cc)
 
+-- the look-ups so far, with those of some code by the flags of its keeps
+abbrev pub ahead : Store → Code → List Bool → ℕ
+ahead s code flags = s.lookups + lookups_in code flags
+
+found_sets : (b : Bool) (regs regs' : Registers) (s s' : Store)
+    → unless_trap (unless b AbsentKey) (GoesOn regs s') ≡ GoesOn regs' s → s' ≡ s
+found_sets true regs regs' s s' e = cc
+found_sets false regs regs' s s' e = absurd (cc)
+
+-- an operation that sets a register and nothing more looks nothing up
+no_look : (w : World) (f : Parts) (o : Operation) (v : Value) (regs : Registers) (s : Store)
+    (t : ℕ) → assigns w f regs s t o ≡ sets regs s t v → (rest : Code) (flags : List Bool)
+    → ahead s rest flags ≡ ahead s (Then (Assign t o) rest) flags
+no_look w f (Find table key) v regs s t e rest flags =
+    let found = found_sets (is_some (w.find table (number_in (regs key))))
+    (with_entry regs t (Row table (unwrap_or (w.find table (number_in (regs key))) 0)))
+    (with_entry regs t v) s (marked LookUp s) e in
+    let more : s.lookups + 1 ≡ s.lookups = ap (λ s. s.lookups) found in
+    absurd (omega arith)
+no_look w f _ v regs s t e rest flags = refl
+
 module _ (w : World) (f : Parts) (may : ℕ → Bool) (at : TableId → ℕ) where
   -- the registers hold what is known of the turn's rows
   pub record Knows (env : Env) (regs : Registers) : Type 0 where
@@ -67,9 +89,10 @@ module _ (w : World) (f : Parts) (may : ℕ → Bool) (at : TableId → ℕ) whe
         × (regs r ≡ Some (Row t (at t)))
 
   -- a piece came to its end: what follows runs to the same end, from registers that keep those from
-  -- before and have what the piece says
+  -- before and have what the piece says; nothing is visited or put, and in all there are so many
+  -- look-ups, by the flags of the keeps that follow
   pub record Reached {A : Type 0} (Says : ℕ → Registers → A → Type 0) (k : Env → A → Code)
-      (env : Env) (regs : Registers) (s e : Store) : Type 0 where
+      (env : Env) (regs : Registers) (s e : Store) (total : List Bool → ℕ) : Type 0 where
     pub env' : Env
     pub out : A
     pub n : ℕ
@@ -80,6 +103,9 @@ module _ (w : World) (f : Parts) (may : ℕ → Bool) (at : TableId → ℕ) whe
     pub kept : (q : ℕ) → q < env.next → regs' q ≡ regs q
     pub says : Says env'.next regs' out
     pub same : s'.updates_of ≡ s.updates_of
+    pub visits : s'.visits ≡ s.visits
+    pub updates : s'.updates ≡ s.updates
+    pub looked : (flags : List Bool) → ahead s' (k env' out) flags ≡ total flags
     pub goes : meaning w f may (k env' out) n true regs' s' ≡ Ended e
 
   abbrev pub At : Value → ℕ → Registers → ℕ → Type 0
@@ -89,11 +115,13 @@ module _ (w : World) (f : Parts) (may : ℕ → Bool) (at : TableId → ℕ) whe
   pub chained_as : {A B C : Type 0} {P : ℕ → Registers → A → Type 0}
       {Q : ℕ → Registers → B → Type 0} {S : ℕ → Registers → C → Type 0} {k : Env → A → Code}
       {l : Env → B → Code} {m : Env → C → Code} {env : Env} {regs : Registers} {s e : Store}
-      (p : Reached P k env regs s e) (q : Reached Q l p.env' p.regs' p.s' e) (out : C)
+      {total : List Bool → ℕ} (p : Reached P k env regs s e total)
+      (q : Reached Q l p.env' p.regs' p.s' e (ahead p.s' (k p.env' p.out))) (out : C)
       → S q.env'.next q.regs' out
+      → ((flags : List Bool) → ahead q.s' (m q.env' out) flags ≡ ahead q.s' (l q.env' q.out) flags)
       → meaning w f may (m q.env' out) q.n true q.regs' q.s' ≡ Ended e
-      → Reached S m env regs s e
-  chained_as p q out says goes = record {
+      → Reached S m env regs s e total
+  chained_as p q out says alike goes = record {
     env' = q.env';
     out = out;
     n = q.n;
@@ -104,18 +132,24 @@ module _ (w : World) (f : Parts) (may : ℕ → Bool) (at : TableId → ℕ) whe
     kept = λ r h. q.kept r (let a = p.onward in omega arith) ∙ p.kept r h;
     says = says;
     same = q.same ∙ p.same;
+    visits = q.visits ∙ p.visits;
+    updates = q.updates ∙ p.updates;
+    looked = λ flags. alike flags ∙ q.looked flags ∙ p.looked flags;
     goes = goes;
   }
 
   pub chained : {A B : Type 0} {P : ℕ → Registers → A → Type 0} {Q : ℕ → Registers → B → Type 0}
       {k : Env → A → Code} {l : Env → B → Code} {env : Env} {regs : Registers} {s e : Store}
-      (p : Reached P k env regs s e) → Reached Q l p.env' p.regs' p.s' e → Reached Q l env regs s e
-  chained p q = chained_as p q q.out q.says q.goes
+      {total : List Bool → ℕ} (p : Reached P k env regs s e total)
+      → Reached Q l p.env' p.regs' p.s' e (ahead p.s' (k p.env' p.out))
+      → Reached Q l env regs s e total
+  chained p q = chained_as p q q.out q.says (λ flags. refl) q.goes
 
   -- nothing was done
   pub reached : {A : Type 0} (P : ℕ → Registers → A → Type 0) (k : Env → A → Code) (env : Env)
       (out : A) (n : ℕ) (regs : Registers) (s e : Store) → Knows env regs → P env.next regs out
       → meaning w f may (k env out) n true regs s ≡ Ended e → Reached P k env regs s e
+      (ahead s (k env out))
   reached P k env out n regs s e knows says h =
       record {
         env' = env;
@@ -128,6 +162,9 @@ module _ (w : World) (f : Parts) (may : ℕ → Bool) (at : TableId → ℕ) whe
         kept = λ q h. refl;
         says = says;
         same = refl;
+        visits = refl;
+        updates = refl;
+        looked = λ flags. refl;
         goes = h;
       }
 
@@ -156,12 +193,13 @@ module _ (w : World) (f : Parts) (may : ℕ → Bool) (at : TableId → ℕ) whe
   Runs {A} Says piece =
       (k : Env → A → Code) (env : Env) (n : ℕ) (regs : Registers) (s e : Store) → Knows env regs
       → meaning w f may (piece env k) n true regs s ≡ Ended e → Reached Says k env regs s e
+      (ahead s (piece env k))
 
   -- the next register is set
   is_set : (v : Value) (k : Rest) (env : Env) (n : ℕ) (regs : Registers) (s e : Store)
       → Knows env regs
       → meaning w f may (k (one_more env) env.next) (n + 1) true (with_entry regs env.next v) s
-      ≡ Ended e → Reached (At v) k env regs s e
+      ≡ Ended e → Reached (At v) k env regs s e (ahead s (k (one_more env) env.next))
   is_set v k env n regs s e knows h = record {
     env' = one_more env;
     out = env.next;
@@ -173,18 +211,30 @@ module _ (w : World) (f : Parts) (may : ℕ → Bool) (at : TableId → ℕ) whe
     kept = λ q h. entry_other regs env.next q v h;
     says = new_at env regs v;
     same = refl;
+    visits = refl;
+    updates = refl;
+    looked = λ flags. refl;
     goes = h;
   }
+
+  in_all : {A : Type 0} {P : ℕ → Registers → A → Type 0} {k : Env → A → Code} {env : Env}
+      {regs : Registers} {s e : Store} {some total : List Bool → ℕ}
+      → ((flags : List Bool) → some flags ≡ total flags) → Reached P k env regs s e some
+      → Reached P k env regs s e total
+  in_all {P = P} {k = k} {env = env} {regs = regs} {s = s} {e = e} same r =
+      subst (Reached P k env regs s e) (λ i flags. same flags i) r
 
   -- an operation that sets the next register
   pub wrote : (o : Operation) (v : Value) (k : Rest) (env : Env) (n : ℕ) (regs : Registers)
       (s e : Store) → Knows env regs
       → assigns w f regs s env.next o ≡ sets regs s env.next v
       → meaning w f may (write o env k) n true regs s ≡ Ended e → Reached (At v) k env regs s e
+      (ahead s (write o env k))
   wrote o v k env n regs s e knows d h =
       let next = meaning w f may (k (one_more env) env.next) (n + 1) true in
       let g = no_fault (fault_of f true None (kinds_in regs) (Assign env.next o)) _ _ n next e h in
-      is_set v k env n regs s e knows (subst (λ x. follow n x next ≡ Ended e) d g)
+      in_all (no_look w f o v regs s env.next d (k (one_more env) env.next))
+      (is_set v k env n regs s e knows (subst (λ x. follow n x next ≡ Ended e) d g))
 
   -- ---- operators
 
@@ -192,6 +242,7 @@ module _ (w : World) (f : Parts) (may : ℕ → Bool) (at : TableId → ℕ) whe
       (s e : Store) → Knows env regs
       → meaning w f may (write (Binary o l r) env k) n true regs s ≡ Ended e
       → Reached (At (answer_of o (regs l) (regs r))) k env regs s e
+      (ahead s (write (Binary o l r) env k))
   answered o l r k env n regs s e knows h =
       let v = answer_of o (regs l) (regs r) in
       let next = meaning w f may (k (one_more env) env.next) (n + 1) true in
@@ -211,7 +262,8 @@ module _ (w : World) (f : Parts) (may : ℕ → Bool) (at : TableId → ℕ) whe
       let at_left = q.kept p.out p.says.0 ∙ p.says.1 in
       let same : answer_of o (q.regs' p.out) (q.regs' q.out) ≡ answer_of o (Some v) (Some u) =
       λ i. answer_of o (at_left i) (q.says.1 i) in
-      chained p (chained q (subst (λ x. Reached (At x) k q.env' q.regs' q.s' e) same
+      chained p (chained q (subst (λ x. Reached (At x) k q.env' q.regs' q.s' e
+      (ahead q.s' (write (Binary o p.out q.out) q.env' k))) same
       (answered o p.out q.out k q.env' q.n q.regs' q.s' e q.knows q.goes)))
 
   -- ---- tests
@@ -221,13 +273,15 @@ module _ (w : World) (f : Parts) (may : ℕ → Bool) (at : TableId → ℕ) whe
   number_rank c n true p = absurd (cc)
   number_rank c n false p = refl
 
-  pub as_flag : (a b : Bool) (k : Rest) (env : Env) (regs : Registers) (s e : Store) → a ≡ b
-      → Reached (At (Flag a)) k env regs s e → Reached (At (Flag b)) k env regs s e
-  as_flag a b k env regs s e p r = subst (λ b. Reached (At (Flag b)) k env regs s e) p r
+  pub as_flag : {total : List Bool → ℕ} (a b : Bool) (k : Rest) (env : Env) (regs : Registers)
+      (s e : Store) → a ≡ b → Reached (At (Flag a)) k env regs s e total
+      → Reached (At (Flag b)) k env regs s e total
+  as_flag {total = total} a b k env regs s e p r =
+      subst (λ b. Reached (At (Flag b)) k env regs s e total) p r
 
-  pub with_not : (b : Bool) (k : Rest) (env : Env) (regs : Registers) (s e : Store)
-      → Reached (At (Flag b)) (λ e y. write (Not y) e k) env regs s e
-      → Reached (At (Flag (not b))) k env regs s e
+  pub with_not : {total : List Bool → ℕ} (b : Bool) (k : Rest) (env : Env) (regs : Registers)
+      (s e : Store) → Reached (At (Flag b)) (λ e y. write (Not y) e k) env regs s e total
+      → Reached (At (Flag (not b))) k env regs s e total
   with_not b k env regs s e p =
       chained p (wrote (Not p.out) (Flag (not b)) k p.env' p.n p.regs' p.s' e p.knows
       (ap (λ o. sets p.regs' p.s' p.env'.next (Flag (not (flag_in o)))) p.says.1) p.goes)
@@ -239,7 +293,7 @@ module _ (w : World) (f : Parts) (may : ℕ → Bool) (at : TableId → ℕ) whe
       → ((m t : ℕ) (regs' : Registers) (s' : Store) → regs' x ≡ regs x → regs' m ≡ Some v
       → assigns w f regs' s' t (test m) ≡ sets regs' s' t (Flag b))
       → meaning w f may (write o env (λ e m. write (test m) e k)) n true regs s ≡ Ended e
-      → Reached (At (Flag b)) k env regs s e
+      → Reached (At (Flag b)) k env regs s e (ahead s (write o env (λ e m. write (test m) e k)))
   bound_test x o v test b k env n regs s e knows below d last h =
       let p = wrote o v (λ e m. write (test m) e k) env n regs s e knows d h in
       chained p (wrote (test p.out) (Flag b) k p.env' p.n p.regs' p.s' e p.knows
@@ -255,6 +309,7 @@ module _ (w : World) (f : Parts) (may : ℕ → Bool) (at : TableId → ℕ) whe
       → regs' m2 ≡ Some v2 → assigns w f regs' s' t (test m1 m2) ≡ sets regs' s' t (Flag b))
       → meaning w f may (write o1 env (λ e m1. write o2 e (λ e m2. write (test m1 m2) e k))) n true
       regs s ≡ Ended e → Reached (At (Flag b)) k env regs s e
+      (ahead s (write o1 env (λ e m1. write o2 e (λ e m2. write (test m1 m2) e k))))
   bounds_test x o1 o2 v1 v2 test b k env n regs s e knows below d d2 last h =
       let p =
       wrote o1 v1 (λ e m1. write o2 e (λ e m2. write (test m1 m2) e k)) env n regs s e knows d h in
@@ -284,6 +339,7 @@ module _ (w : World) (f : Parts) (may : ℕ → Bool) (at : TableId → ℕ) whe
     number_test : (q : Relation) (z a : ℤ) → number_in (regs x) ≡ z
         → meaning w f may (test_code q c x (held.Number a) env k) n true regs s ≡ Ended e
         → Reached (At (Flag (tests q (int_cmp z a)))) k env regs s e
+        (ahead s (test_code q c x (held.Number a) env k))
     number_test sign.Equal z a at_x h =
         bound_test x (Const a) (Number a) (λ m. Binary operator.Equal x m) _ k env n regs s e knows
         below refl
@@ -320,6 +376,7 @@ module _ (w : World) (f : Parts) (may : ℕ → Bool) (at : TableId → ℕ) whe
     number_between : (z a b : ℤ) → number_in (regs x) ≡ z
         → meaning w f may (between_code c x (held.Number a) (held.Number b) env k) n true regs s
         ≡ Ended e → Reached (At (Flag (is_le (int_cmp a z) && is_le (int_cmp z b)))) k env regs s e
+        (ahead s (between_code c x (held.Number a) (held.Number b) env k))
     number_between z a b at_x h =
         bounds_test x (Const a) (Const (b +ℤ pos 1)) (Number a) (Number (b +ℤ pos 1))
         (λ m1 m2. Within x m1 m2) _ k env n regs s e knows below refl (λ regs' s' t. refl)
@@ -338,6 +395,8 @@ module _ (w : World) (f : Parts) (may : ℕ → Bool) (at : TableId → ℕ) whe
           (λ e m2. write (Within x m1 m2) e l))) n true regs s ≡ Ended e
           → Reached (At (Flag
           (not (is_lt (slice_cmp nat_cmp v a)) && is_le (slice_cmp nat_cmp v b)))) l env regs s e
+          (ahead s (write (Edge Low c a) env (λ e m1. write (Edge High c b) e
+          (λ e m2. write (Within x m1 m2) e l))))
       text_within a b l h =
           bounds_test x (Edge Low c a) (Edge High c b) (Place c (w.low c a)) (Place c (w.high c b))
           (λ m1 m2. Within x m1 m2) _ l env n regs s e knows below refl (λ regs' s' t. refl)
@@ -350,6 +409,7 @@ module _ (w : World) (f : Parts) (may : ℕ → Bool) (at : TableId → ℕ) whe
       text_test : (q : Relation) (t : List ℕ) → meaning w f may
           (test_code q c x (held.Text t) env k) n true regs s ≡ Ended e
           → Reached (At (Flag (tests q (slice_cmp nat_cmp v t)))) k env regs s e
+          (ahead s (test_code q c x (held.Text t) env k))
       text_test sign.Equal t h =
           as_flag _ _ k env regs s e (eq_both (slice_cmp nat_cmp v t)) (text_within t t k h)
       text_test sign.Unequal t h =
@@ -386,7 +446,7 @@ module _ (w : World) (f : Parts) (may : ℕ → Bool) (at : TableId → ℕ) whe
       text_between : (a b : List ℕ) → meaning w f may
           (between_code c x (held.Text a) (held.Text b) env k) n true regs s ≡ Ended e
           → Reached (At (Flag (is_le (slice_cmp nat_cmp a v) && is_le (slice_cmp nat_cmp v b)))) k
-          env regs s e
+          env regs s e (ahead s (between_code c x (held.Text a) (held.Text b) env k))
       text_between a b h =
           as_flag _ _ k env regs s e (ap (λ o. o && is_le (slice_cmp nat_cmp v b))
           (sym (le_not_lt (slice_cmp nat_cmp v a))
@@ -402,6 +462,7 @@ module _ (w : World) (f : Parts) (may : ℕ → Bool) (at : TableId → ℕ) whe
         → regs x ≡ Some (loaded w c i (is_text c))
         → meaning w f may (test_code q c x lit env k) n true regs s ≡ Ended e
         → Reached (At (Flag (tests q (value_cmp v lit)))) k env regs s e
+        (ahead s (test_code q c x lit env k))
     test_runs q i (held.Number z) (held.Number a) shows kind at_x h =
         number_test q z a (ap number_in at_x ∙ number_rank c i (is_text c) shows.0 ∙ shows.1) h
     test_runs q i (held.Text v) (held.Text t) shows kind at_x h =
@@ -418,6 +479,7 @@ module _ (w : World) (f : Parts) (may : ℕ → Bool) (at : TableId → ℕ) whe
         → regs x ≡ Some (loaded w c i (is_text c))
         → meaning w f may (between_code c x from upto env k) n true regs s ≡ Ended e
         → Reached (At (Flag (is_le (value_cmp from v) && is_le (value_cmp v upto)))) k env regs s e
+        (ahead s (between_code c x from upto env k))
     between_runs i (held.Number z) (held.Number a) (held.Number b) shows k1 k2 at_x h =
         number_between z a b (ap number_in at_x ∙ number_rank c i (is_text c) shows.0 ∙ shows.1) h
     between_runs i (held.Text v) (held.Text a) (held.Text b) shows k1 k2 at_x h =

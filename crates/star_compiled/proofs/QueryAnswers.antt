@@ -1,5 +1,5 @@
 -- The answers of plans are those of their queries.
-use Rattle.std.proofs.Common.{ℕ, List, refl}
+use Rattle.std.proofs.Common.{ℕ, List, refl, ◌∙◌}
 use Rattle.std.specs.Prelude.{All}
 use Rattle.star_schema.specs.declared.table.TableId.{TableId}
 use Rattle.star_schema.specs.Database.{Database, rows_in}
@@ -7,17 +7,21 @@ use Rattle.star_schema.specs.Loadable.{IsSound}
 use Rattle.star_schema.specs.Tables.{IsRowOf}
 use Rattle.star_query.specs.Derives.{Means}
 use Rattle.star_query.specs.Tree.{Tree}
-use Rattle.star_plan.specs.Meaning.{Plan}
+use Rattle.star_plan.specs.Meaning.{Plan, plan_rows}
 use Rattle.star_plan.specs.Resolved.{IsResolved}
 use Rattle.star_plan.specs.WellNamed.{IsWellNamed}
 use Rattle.star_plan.proofs.Conditions.{no_fault}
 use Rattle.star_plan.proofs.Kept.{kept_sound}
 use Rattle.star_program.specs.World.{World}
-use Rattle.star_answers.proofs.OwnWords.{own_answer}
+use Rattle.std.proofs.lemmas.List.Sorted.{length_permutation}
+use Rattle.star_answers.specs.Rows.{selected}
+use Rattle.star_answers.proofs.OwnWords.{own_answer, selected_reordered}
 use Rattle.star_world.specs.Shown.{IsWorldOf}
 use Rattle.star_world.specs.WorldOf.{world_of}
 use Rattle.star_compiled.specs.Answers.{AnswersTheQuery, ReportsTheQuery}
+use Rattle.star_compiled.specs.Counts.{CountsTheRows}
 use Rattle.star_compiled.proofs.Answered.{answers_the_plan}
+use Rattle.star_compiled.proofs.Rows.{counts_the_rows}
 use Rattle.star_compiled.proofs.SeenRows.{sees}
 
 pub answers_the_query : (database : Database) (w : World) (query : Tree) (p : Plan)
@@ -29,6 +33,23 @@ answers_the_query database w query p rows world named resolved may s outcome run
     own_answer (rows_in database) query p named resolved outcome.names outcome.rows
     (answers_the_plan (rows_in database) w (sees database w rows world) p sound may s outcome run
     told)
+
+pub counts_the_rows_of_the_query : (database : Database) (w : World) (query : Tree) (p : Plan)
+    → ((t : TableId) → All (IsRowOf t) (rows_in database t))
+    → IsWorldOf database w → IsWellNamed query → IsResolved query p
+    → CountsTheRows (rows_in database) w query p
+counts_the_rows_of_the_query database w query p rows world named resolved may s run =
+    let sound = kept_sound query p (no_fault query named) resolved in
+    let ts = rows_in database in
+    let counted = counts_the_rows ts w (sees database w rows world) p sound may s run in
+    record {
+      visits = counted.0;
+      lookups = counted.1;
+      updates =
+          counted.2
+          ∙ length_permutation (selected ts query) (plan_rows ts p)
+          (selected_reordered ts query p named resolved);
+    }
 
 pub reports_the_query : ((database : Database) → IsSound database → IsWorldOf database
     (world_of database)) → (database : Database) (text : List ℕ) (query : Tree) (p : Plan)

@@ -1,9 +1,11 @@
 -- The joined rows are the fact's rows, each with the rows that are found for it.
-use Rattle.std.proofs.Common.{◌≡◌, ℕ, zero, suc, ◌+◌, ◌<◌, Bool, true, false, List, [], ◌∷◌, ◌++◌, length, Option, Some, None, refl, sym, ap, subst, ◌∙◌, arith, append-nil, cond}
+use Rattle.std.proofs.Common.{◌≡◌, ℕ, zero, suc, ◌+◌, ◌<◌, Bool, true, false, List, [], ◌∷◌, ◌++◌, length, Option, Some, None, refl, sym, ap, subst, ◌∙◌, arith, append-nil, zero-add, cond}
 use mathlib.Core.List.{reverse_aux, map-map}
 use Rattle.std.proofs.lemmas.Bool.{and_parts, cond-true, cond-false, false_from_ne_true, not-true, or_right}
 use Rattle.std.specs.Prelude.{ℤ, ◌||◌, not, map, filter, if◌then◌else◌, unwrap_or}
-use Rattle.std.specs.List.{flat_map, AllByRecursion, list_all}
+use Rattle.std.specs.List.{flat_map, AllByRecursion, list_all, sum_by}
+use Rattle.std.proofs.lemmas.List.{length-map}
+use Rattle.std.proofs.lemmas.List.Sums.{sum_by-cons}
 use Rattle.std.specs.declared.cmp.Ordering.{Ordering}
 use Rattle.std.specs.declared.cmp.Ordering.TheVariants.{Less, Equal, Greater}
 use Rattle.std.specs.Ordering.{int_cmp, is_eq}
@@ -26,13 +28,14 @@ use Rattle.star_program.specs.World.{World, IsRowOf, is_text}
 use Rattle.star_program.specs.Values.{no_registers}
 use Rattle.star_program.specs.Effects.{Store, empty_store}
 use Rattle.star_program.specs.Shown.{shown_fault}
-use Rattle.star_program.specs.Run.{End, Ended, unless_unshown, meaning_of}
+use Rattle.star_program.specs.Run.{End, Ended, unless_unshown, meaning_of, run_while}
 use Rattle.star_answers.proofs.Choices.{table_turned}
 use Rattle.star_compiled.specs.Compiled.{foreign_of, compiled}
 use Rattle.star_compiled.specs.Answers.{PutsTheRows, update_of_row}
+use Rattle.star_compiled.specs.Counts.{lookups_of, turn_lookups}
 use Rattle.star_compiled.proofs.TurnRows.{Sees, Shows, IsTurn, row_at, numbers, place_in}
 use Rattle.star_compiled.proofs.Joins.{foreign_refers, of_text}
-use Rattle.star_compiled.proofs.Turns.{scan_runs}
+use Rattle.star_compiled.proofs.Turns.{Scanned, scan_runs, updates_of_rows}
 use Rattle.star_compiled.proofs.Programs.{shows_what_is_there}
 
 -- what a join of the plan gives
@@ -398,14 +401,51 @@ module _ (ts : Tables) (w : World) (seen : Sees ts w) (p : Plan) (sound : IsSoun
   shown_runs None go q e h = h
   shown_runs (Some n) go q e h = absurd (cc)
 
-  -- the law
+  -- the run of its scan
+  scanned : (may : ℕ → Bool) (e : Store) → run_while w may (compiled p) ≡ Ended e
+      → Scanned (updates_of_rows w (compiled p) may p (place_in w p.joins) row_of_fact is_turn place_of_fact
+      (numbers (w.size Lineorder) 0)) (w.size Lineorder)
+      (sum_by (λ i. turn_lookups p (row_of_fact i)) (numbers (w.size Lineorder) 0)) empty_store e
+  scanned may e h =
+      scan_runs w (compiled p) may p (place_in w p.joins) row_of_fact is_turn place_of_fact refl
+      sound 1 false no_registers empty_store e
+      (shown_runs (shown_fault (compiled p)) (λ _. meaning_of w may (compiled p))
+      (shows_what_is_there p sound) e h)
+
+  -- the laws
   pub puts_the_rows : PutsTheRows ts w p
   puts_the_rows may e h =
-      let run =
-      shown_runs (shown_fault (compiled p)) (λ _. meaning_of w may (compiled p))
-      (shows_what_is_there p sound) e h in
-      scan_runs w (compiled p) may p (place_in w p.joins) row_of_fact is_turn place_of_fact refl
-      sound 1 false no_registers empty_store e run
+      (scanned may e h).put
       ∙ ap (λ n. reverse_aux (map (λ i. update_of_row w p (row_of_fact i))
       (filter (λ i. all_hold p.conjuncts (row_of_fact i)) (numbers n 0))) []) (seen.size Lineorder)
       ∙ ap (λ us. reverse_aux us []) (sym rows_are)
+
+  looked_up_in : (is : List ℕ)
+      → sum_by (turn_lookups p) (map row_of_fact is) ≡ sum_by (λ i. turn_lookups p (row_of_fact i)) is
+  looked_up_in [] = refl
+  looked_up_in (i ∷ is) =
+      sum_by-cons (turn_lookups p) (row_of_fact i) (map row_of_fact is)
+      ∙ ap (λ n. turn_lookups p (row_of_fact i) + n) (looked_up_in is)
+      ∙ sym (sum_by-cons (λ i. turn_lookups p (row_of_fact i)) i is)
+
+  pub counts_the_rows : (may : ℕ → Bool) (e : Store) → run_while w may (compiled p) ≡ Ended e
+      → (e.visits ≡ length (ts Lineorder)) × (e.lookups ≡ lookups_of ts p)
+      × (e.updates ≡ length (plan_rows ts p))
+  counts_the_rows may e h =
+      let s = scanned may e h in
+      let size = seen.size Lineorder in
+      let rows = λ (n : ℕ). numbers n 0 in (
+        s.visits ∙ zero-add (w.size Lineorder) ∙ size,
+        s.lookups
+            ∙ zero-add (sum_by (λ i. turn_lookups p (row_of_fact i)) (rows (w.size Lineorder)))
+            ∙ ap (λ n. sum_by (λ i. turn_lookups p (row_of_fact i)) (rows n)) size
+            ∙ sym (looked_up_in (rows (length (ts Lineorder))))
+            ∙ ap (sum_by (turn_lookups p)) (sym joined_are),
+        s.updates
+            ∙ zero-add (length (map (λ i. update_of_row w p (row_of_fact i))
+            (filter (λ i. all_hold p.conjuncts (row_of_fact i)) (rows (w.size Lineorder)))))
+            ∙ ap (λ n. length (map (λ i. update_of_row w p (row_of_fact i))
+            (filter (λ i. all_hold p.conjuncts (row_of_fact i)) (rows n)))) size
+            ∙ ap length (sym rows_are)
+            ∙ length-map (plan_rows ts p) (update_of_row w p),
+      )

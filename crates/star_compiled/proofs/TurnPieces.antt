@@ -32,7 +32,7 @@ use Rattle.star_compiled.specs.Compiled.{Env, Rest, loaded_in, found_in, with_lo
 use Rattle.star_compiled.proofs.TurnRows.{Shows, IsTurn}
 use Rattle.star_compiled.proofs.Entries.{entry_same, entry_other, entry_known}
 use Rattle.star_compiled.proofs.Joins.{holds_numbers}
-use Rattle.star_compiled.proofs.Pieces.{no_fault, Knows, Reached, At, chained, reached, knows_more, Runs, wrote, binary_runs, number_rank, with_not, test_runs, between_runs}
+use Rattle.star_compiled.proofs.Pieces.{ahead, no_fault, Knows, Reached, At, chained, reached, knows_more, Runs, wrote, binary_runs, number_rank, with_not, test_runs, between_runs}
 
 module _ (w : World) (f : Parts) (may : ℕ → Bool) (at : TableId → ℕ) where
   -- ---- columns and rows
@@ -65,7 +65,7 @@ module _ (w : World) (f : Parts) (may : ℕ → Bool) (at : TableId → ℕ) whe
   load_runs : (c : ColumnId) (row : ℕ) (k : Rest) (env : Env) (n : ℕ) (regs : Registers)
       (s e : Store) → Knows w f may at env regs → row_in (regs row) ≡ at (table_of c)
       → meaning w f may (load_code c row env k) n true regs s ≡ Ended e
-      → Reached w f may at (At w f may at (here c)) k env regs s e
+      → Reached w f may at (At w f may at (here c)) k env regs s e (ahead s (load_code c row env k))
   load_runs c row k env n regs s e knows at_row h =
       let v = loaded w c (row_in (regs row)) (is_text c) in
       let same : v ≡ here c = ap (λ i. loaded w c i (is_text c)) at_row in
@@ -80,6 +80,9 @@ module _ (w : World) (f : Parts) (may : ℕ → Bool) (at : TableId → ℕ) whe
         kept = λ q h. entry_other regs env.next q v h;
         says = (omega arith, entry_same regs env.next v ∙ ap Some same);
         same = refl;
+        visits = refl;
+        updates = refl;
+        looked = λ flags. refl;
         goes =
             no_fault (fault_of f true None (kinds_in regs) (Assign env.next (Load c row))) _ _ n
             (meaning w f may (k (with_loaded env c) env.next) (n + 1) true) e h;
@@ -89,7 +92,7 @@ module _ (w : World) (f : Parts) (may : ℕ → Bool) (at : TableId → ℕ) whe
       → (n : ℕ) (regs : Registers) (s e : Store) → Knows w f may at env regs
       → table_of c ≡ Lineorder
       → meaning w f may (fact_code c env k o) n true regs s ≡ Ended e
-      → Reached w f may at (At w f may at (here c)) k env regs s e
+      → Reached w f may at (At w f may at (here c)) k env regs s e (ahead s (fact_code c env k o))
   fact_runs c k env (Some r) p n regs s e knows t h =
       reached w f may at (At w f may at (here c)) k env r n regs s e knows (knows.columns c r p) h
   fact_runs c k env None p n regs s e knows t h =
@@ -109,7 +112,7 @@ module _ (w : World) (f : Parts) (may : ℕ → Bool) (at : TableId → ℕ) whe
         → found_in env.found t ≡ o → (n : ℕ) (regs : Registers) (s e : Store)
         → Knows w f may at env regs
         → meaning w f may (row_code js t env k o) n true regs s ≡ Ended e
-        → Reached w f may at (At w f may at (Row t (at t))) k env regs s e
+        → Reached w f may at (At w f may at (Row t (at t))) k env regs s e (ahead s (row_code js t env k o))
     row_runs t j k env (Some r) p n regs s e knows h =
         reached w f may at (At w f may at (Row t (at t))) k env r n regs s e knows
         (knows.rows t r p) h
@@ -135,6 +138,9 @@ module _ (w : World) (f : Parts) (may : ℕ → Bool) (at : TableId → ℕ) whe
           kept = λ q h. entry_other p.regs' p.env'.next q (Row t (at t)) h;
           says = (omega arith, entry_same p.regs' p.env'.next (Row t (at t)));
           same = refl;
+          visits = refl;
+          updates = refl;
+          looked = λ flags. omega arith;
           goes =
               found_goes p.regs' p.s' p.env'.next t (w.find t (number_in (p.regs' p.out))) (at t)
               p.n next e is_key
@@ -146,7 +152,7 @@ module _ (w : World) (f : Parts) (may : ℕ → Bool) (at : TableId → ℕ) whe
         → is_table (table_of c) Lineorder ≡ b → (b || joins_table js (table_of c)) ≡ true
         → (n : ℕ) (regs : Registers) (s e : Store) → Knows w f may at env regs
         → meaning w f may (place_code js c env k b) n true regs s ≡ Ended e
-        → Reached w f may at (At w f may at (here c)) k env regs s e
+        → Reached w f may at (At w f may at (here c)) k env regs s e (ahead s (place_code js c env k b))
     place_runs c k env true p j n regs s e knows h =
         load_runs c 0 k env n regs s e knows
         (ap row_in knows.fact ∙ ap at (sym (table_same (table_of c) Lineorder p))) h
@@ -161,7 +167,7 @@ module _ (w : World) (f : Parts) (may : ℕ → Bool) (at : TableId → ℕ) whe
         → loaded_in env.loaded c ≡ o → in_scope js (table_of c) ≡ true
         → (n : ℕ) (regs : Registers) (s e : Store) → Knows w f may at env regs
         → meaning w f may (column_from js c env k o) n true regs s ≡ Ended e
-        → Reached w f may at (At w f may at (here c)) k env regs s e
+        → Reached w f may at (At w f may at (here c)) k env regs s e (ahead s (column_from js c env k o))
     column_from_runs c k env (Some r) p j n regs s e knows h =
         reached w f may at (At w f may at (here c)) k env r n regs s e knows (knows.columns c r p) h
     column_from_runs c k env None p j n regs s e knows h =

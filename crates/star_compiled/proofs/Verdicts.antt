@@ -19,7 +19,8 @@ use Rattle.star_admission.specs.Standing.{instructions_of, reason_of}
 use Rattle.star_admission.proofs.Forward.{first_standing}
 use Rattle.star_compiled.specs.Compiled.{compiled}
 use Rattle.star_compiled.specs.Judged.{AreBoundsI64, IsOverflow}
-use Rattle.star_compiled.proofs.AcceptsPlan.{Accepted, AreColumnsI64, instructions_judged}
+use Rattle.star_compiled.specs.Wide.{turn_wide}
+use Rattle.star_compiled.proofs.AcceptsPlan.{Accepted, AreColumnsI64, first_instruction, instructions_judged}
 use Rattle.star_compiled.proofs.Points.{or_none_right}
 use Rattle.star_compiled.proofs.Flat.{quote_is}
 use Rattle.star_compiled.proofs.Programs.{shows_what_is_there}
@@ -122,3 +123,11 @@ module _ (w : World) (most : ℕ) (p : Plan) where
     pub overflows : rows ≤ most → (Fits rows most w.bounds p → ⊥)
         → IsOverflow (first_refusal w most (compiled p))
     overflows few wide = over_when reason judged (within few) wide
+
+    -- and the first instruction that does is told
+    pub first : rows ≤ most
+        → first_refusal w most (compiled p) ≡ option_map Refused (turn_wide w.bounds p)
+    first few =
+        within few
+        ∙ ap (option_map Refused)
+        (sym (first_standing w (compiled p)) ∙ first_instruction w p sound)

@@ -24,22 +24,22 @@ use Rattle.star_world.specs.WorldOf.{world_of}
 use Rattle.star_compiled.specs.Answers.{update_of_row}
 use Rattle.star_compiled.specs.Compiled.{compiled}
 
-abbrev number : ℕ → Value
+abbrev pub number : ℕ → Value
 number n = Number (pos n)
 
-abbrev text : List ℕ → Value
+abbrev pub text : List ℕ → Value
 text bytes = Text bytes
 
 -- a customer, as far as the nation, and a line, as far as the revenue
-abbrev customer : ℕ → List ℕ → List Value
+abbrev pub customer : ℕ → List ℕ → List Value
 customer key nation = number key ∷ text [] ∷ text [] ∷ text [] ∷ text nation ∷ []
 
-abbrev line : (customer quantity revenue : ℕ) → List Value
+abbrev pub line : (customer quantity revenue : ℕ) → List Value
 line customer quantity revenue =
     number 1 ∷ number 1 ∷ number customer ∷ number 1 ∷ number 1 ∷ number 1 ∷ text [] ∷ text []
     ∷ number quantity ∷ number 1 ∷ number 1 ∷ number 1 ∷ number revenue ∷ []
 
-abbrev few : Database
+abbrev pub few : Database
 few = record {
   date = [];
   customer =
@@ -53,7 +53,7 @@ few = record {
 
 -- select c_nation, count(*), sum(lo_revenue) from lineorder, customer
 -- where lo_custkey = c_custkey and lo_quantity < 40 and c_nation <= 'PERU' group by c_nation
-abbrev by_nation : Plan
+abbrev pub by_nation : Plan
 by_nation = record {
   joins = record { foreign = LoCustkey; key = CCustkey } ∷ [];
   conjuncts =

@@ -1,6 +1,7 @@
 //! When nothing refuses a compiled program: exactly where its query fits.
 
 ghost use Rattle.std.specs.Prelude.{◌≡◌, ◌↔◌, ◌≤◌, ◌<◌, ℕ, None, Some, length};
+ghost use Rattle.std.specs.Option.{option_map};
 ghost use Rattle.star_schema.specs.Database.{Database, rows_in};
 ghost use Rattle.star_schema.specs.declared.table.TableId.TheVariants.{Lineorder};
 ghost use Rattle.star_plan.specs.Fits.{Fits};
@@ -9,14 +10,16 @@ ghost use Rattle.star_plan.specs.Sound.{IsSoundPlan};
 ghost use Rattle.star_plan.specs.Spelled.{IsSpelledPlan};
 ghost use Rattle.star_program.specs.World.{World};
 ghost use Rattle.star_world.specs.WorldOf.{world_of};
-ghost use Rattle.star_admission.specs.Admissible.{TooCostly, first_refusal};
+ghost use Rattle.star_admission.specs.Admissible.{Refused, TooCostly, first_refusal};
 ghost use Rattle.star_answers.specs.Fitting.{PlanFitsTables, bounds_in};
 ghost use Rattle.star_compiled.specs.Compiled.{compiled};
 ghost use Rattle.star_compiled.specs.Judged.{AreBoundsI64, IsOverflow};
+ghost use Rattle.star_compiled.specs.Wide.{turn_wide};
 
 /// Nothing refuses the program of a query that fits. Else lineorder's rows are over the limit on
 /// visits, and the program is refused for its quote, which is their number; or one of its
-/// instructions is refused since a range leaves 64 bits. There is no other refusal.
+/// instructions is refused since a range leaves 64 bits: the first of them, in the order in which a
+/// turn computes. There is no other refusal.
 ///
 /// What isn't refused fits, and what else is refused is refused so, over any catalogue and for any
 /// constants. What fits isn't refused where the bounds of the columns of numbers are of 64 bits,
@@ -36,6 +39,9 @@ pub fn compiled_programs_are_accepted_where_they_fit()
     ensures wide { (w : World) (most : ℕ) (p : Plan)
         → IsSoundPlan p → w.size Lineorder ≤ most → (Fits (w.size Lineorder) most w.bounds p → ⊥)
         → IsOverflow (first_refusal w most (compiled p)) }
+    ensures first { (w : World) (most : ℕ) (p : Plan)
+        → IsSoundPlan p → w.size Lineorder ≤ most
+        → first_refusal w most (compiled p) ≡ option_map Refused (turn_wide w.bounds p) }
 {}
 
 /// So it is over the world of five tables, by the bounds of their columns and the number of
@@ -53,4 +59,8 @@ pub fn compiled_programs_are_accepted_where_they_fit_the_tables()
         → IsSoundPlan p → length (rows_in database Lineorder) ≤ most
         → (PlanFitsTables most (rows_in database) p → ⊥)
         → IsOverflow (first_refusal (world_of database) most (compiled p)) }
+    ensures first { (database : Database) (most : ℕ) (p : Plan)
+        → IsSoundPlan p → length (rows_in database Lineorder) ≤ most
+        → first_refusal (world_of database) most (compiled p)
+        ≡ option_map Refused (turn_wide (bounds_in (rows_in database)) p) }
 {}

@@ -14,6 +14,7 @@ ghost use Rattle.star_plan.specs.WellNamed.{IsWellNamed};
 ghost use Rattle.star_program.specs.World.{World};
 ghost use Rattle.star_world.specs.Shown.{IsWorldOf};
 ghost use Rattle.star_compiled.specs.Answers.{AnswersThePlan, AnswersTheQuery, PutsTheRows, ReportsTheQuery};
+ghost use Rattle.star_compiled.specs.Counts.{CountsTheRows};
 
 use star_world::law::sound_rows_have_a_world;
 
@@ -39,6 +40,16 @@ pub fn compiled_programs_answer_their_queries()
         → ((table : TableId) → All (IsRowOf table) (rows_in database table))
         → IsWorldOf database w → IsWellNamed query → IsResolved query p
         → AnswersTheQuery (rows_in database) w query p }
+{}
+
+/// A run of it has visited each row of lineorder once, and made an update of each row that the query
+/// selects. It has looked up as many rows as finds stand in the row's turn before the keep of its
+/// first conjunct that doesn't hold.
+pub fn compiled_programs_count_the_rows()
+    ensures { (database : Database) (w : World) (query : Tree) (p : Plan)
+        → ((table : TableId) → All (IsRowOf table) (rows_in database table))
+        → IsWorldOf database w → IsWellNamed query → IsResolved query p
+        → CountsTheRows (rows_in database) w query p }
 {}
 
 /// And what is printed of it over sound rows, which have a world, is the report of the query's text.

@@ -1,8 +1,9 @@
 -- What is told of a query is one, and so is its fault; where it is told, no fault is due.
 use Rattle.std.proofs.Common.{◌≡◌, ◌≢◌, ◌∙◌, ◌≤◌, ◌<◌, ℕ, List, Some, None, ap, subst, sym, inl, inr, ◌⊎◌, arith}
-use Rattle.std.specs.Prelude.{nat_le}
+use Rattle.std.specs.Prelude.{length, nat_le}
+use Rattle.std.specs.Option.{option_map}
 use Rattle.std.proofs.lemmas.Bool.{leb-false, leb-true}
-use Rattle.star_schema.specs.Database.{Database, TableTexts}
+use Rattle.star_schema.specs.Database.{Database, TableTexts, rows_in}
 use Rattle.star_schema.specs.Loadable.{database_of}
 use Rattle.star_query.specs.declared.fault.QueryFault.{QueryFault}
 use Rattle.star_query.specs.Derives.{Means}
@@ -16,18 +17,18 @@ use Rattle.star_plan.specs.Meaning.{Plan}
 use Rattle.star_plan.specs.WellNamed.{IsWellNamed}
 use Rattle.star_plan.proofs.Conditions as names
 use Rattle.star_plan.proofs.OnePlan.{one_plan_of_a_text}
-use Rattle.star_program.specs.Effects.{Store}
-use Rattle.star_program.specs.Run.{End, Ended, run_of}
 use Rattle.star_catalogue.specs.declared.fault.LoadFault.{LoadFault}
 use Rattle.star_admission.specs.declared.reason.Reason.{Reason}
 use Rattle.star_admission.specs.Admissible as admissible
-use Rattle.star_admission.specs.Admissible.{first_refusal}
-use Rattle.star_world.specs.WorldOf.{world_of}
+use Rattle.star_admission.specs.Admissible.{Refused}
 use Rattle.star_verify.specs.declared.refusal.Refusal.{Refusal}
 use Rattle.star_verify.specs.declared.refusal.Refusal.TheVariants as refusal
 use Rattle.star_verify.specs.Shown.{refusal_shown}
 use Rattle.star_answers.proofs.OneAnswer.{one_report}
-use Rattle.star_compiled.specs.Compiled.{compiled}
+use Rattle.star_answers.specs.Fitting.{bounds_in}
+use Rattle.star_answers.specs.Rows.{selected}
+use Rattle.star_compiled.specs.Counts.{lookups_of}
+use Rattle.star_compiled.specs.Wide.{turn_wide}
 use Rattle.star_engine.specs.declared.fault.EngineFault.{EngineFault}
 use Rattle.star_engine.specs.declared.fault.EngineFault.TheVariants as engine
 use Rattle.star_engine.specs.Loads.{IsLoadFault}
@@ -45,14 +46,16 @@ pub telling_is_one : (visits : ℕ) (database : Database) (query : List ℕ) (te
     → telling ≡ other
 telling_is_one visits database query telling other h k =
     let plan = plan_is_one query h.p k.p h.meant k.meant in
-    let ended : Ended h.s ≡ Ended k.s =
-    sym h.ended ∙ ap (λ p. run_of (world_of database) (compiled p)) plan ∙ k.ended in
-    let same : h.s ≡ k.s = cc in
+    let tree : h.meant.tree ≡ k.meant.tree =
+    one_meaning query h.meant.tree k.meant.tree h.meant.means k.meant.means in
     let quoted : telling.quoted ≡ other.quoted = h.quoted ∙ sym k.quoted in
     let report : telling.report ≡ other.report =
     one_report database query telling.report other.report h.reported k.reported in
     let done : telling.done ≡ other.done =
-    h.done ∙ ap (λ s. counts_line s.visits s.lookups s.updates) same ∙ sym k.done in
+    h.done
+    ∙ (λ i. counts_line (fact_rows database) (lookups_of (rows_in database) (plan i))
+    (length (selected (rows_in database) (tree i))))
+    ∙ sym k.done in
     λ i. record { quoted = quoted i; report = report i; done = done i }
 
 -- ---- what a text that means a query is not
@@ -126,11 +129,15 @@ refusal_is_one : (visits : ℕ) (database : Database) (query : List ℕ) (a b : 
     → IsUnfit visits database query a → IsUnfit visits database query b → a ≡ b
 refusal_is_one visits database query a b h k =
     let plan = plan_is_one query h.p k.p h.meant k.meant in
-    let same : refusal_shown a ≡ refusal_shown b =
-    h.first ∙ ap (λ p. first_refusal (world_of database) visits (compiled p)) plan ∙ sym k.first in
     elim (at_most_or_more (fact_rows database) visits) [
-      | inl few ↦ (let told = h.wide few in shown_is_one a b _ told.4 (sym same ∙ told.4))
-      | inr many ↦ (let told = h.costly many in shown_is_one a b _ told (sym same ∙ told))
+      | inl few ↦ (
+          let same : refusal_shown a ≡ refusal_shown b =
+          h.first few
+          ∙ ap (λ p. option_map Refused (turn_wide (bounds_in (rows_in database)) p)) plan
+          ∙ sym (k.first few) in
+          let told = h.wide few in
+          shown_is_one a b _ told.4 (sym same ∙ told.4))
+      | inr many ↦ shown_is_one a b _ (h.costly many) (k.costly many)
     ]
 
 pub fault_is_one : (visits : ℕ) (database : Database) (query : List ℕ) (fault other : EngineFault)

@@ -1,5 +1,5 @@
 -- A file's report over some tables is one, and so is what is told of its run; where it is told, no fault is due.
-use Rattle.std.proofs.Common.{◌≡◌, ◌∙◌, ℕ, List, Some, subst, sym}
+use Rattle.std.proofs.Common.{◌≡◌, ◌∙◌, ℕ, List, subst, sym}
 use Rattle.star_schema.specs.Loadable.{database_of}
 use Rattle.star_schema.specs.Database.{Database, TableTexts}
 use Rattle.star_program.specs.declared.outcome.Outcome.{Outcome}
@@ -12,9 +12,9 @@ use Rattle.star_report.specs.Report.{report_text}
 use Rattle.star_report.proofs.OneOrder.{one_outcome}
 use Rattle.star_machine.specs.Trials.{Yields}
 use Rattle.star_world.specs.WorldOf.{world_of}
-use Rattle.star_program.specs.Text.Places.{text_fault}
+use Rattle.star_program.specs.Text.FirstFaults.{FirstFault}
 use Rattle.star_program.specs.declared.spelling.fault.TextFault.{TextFault}
-use Rattle.star_program.proofs.Text.Faultless.{faultless}
+use Rattle.star_program.proofs.Text.FirstFaultLaw.{never_both}
 use Rattle.star_verify.specs.declared.refusal.Refusal.{Refusal}
 use Rattle.star_engine.specs.declared.fault.EngineFault.{EngineFault}
 use Rattle.star_engine.specs.declared.fault.EngineFault.TheVariants.{Load, Program, Refused}
@@ -59,9 +59,9 @@ telling_is_one visits database file telling other h k =
 
 -- a text that spells a program has no fault
 no_fault : (file : List ℕ) (program : Parts) (fault : TextFault) → IsProgramOf file program
-    → text_fault file ≡ Some fault → ⊥
-no_fault file program fault of_file is =
-    let none = (faultless file).1 (program, of_file.spelled, of_file.limits) in cc
+    → FirstFault file fault → ⊥
+no_fault file program fault of_file first =
+    never_both file fault program first of_file.spelled of_file.limits
 
 accepted_is_not_refused : (database : Database) (most : ℕ) (file : List ℕ) (told refused : Parts)
     (refusal : Refusal) → IsProgramOf file told → IsProgramOf file refused

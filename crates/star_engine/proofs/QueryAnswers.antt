@@ -1,17 +1,21 @@
 -- What is told of the program of a query is what is told of the query.
 use Rattle.std.proofs.Common.{◌≡◌, ◌≤◌, ◌<◌, ◌∙◌, ℕ, List, Some, ap, subst, sym}
 use Rattle.std.specs.Prelude.{◌↔◌, Result}
-use Rattle.star_schema.specs.Database.{Database, TableTexts}
+use Rattle.std.specs.Option.{option_map}
+use Rattle.star_schema.specs.Database.{Database, TableTexts, rows_in}
 use Rattle.star_schema.specs.Loadable.{IsLoadable, database_of}
 use Rattle.star_plan.specs.Meaning.{Plan}
 use Rattle.star_program.specs.declared.program.Parts.{Parts}
 use Rattle.star_program.specs.Effects.{Store}
 use Rattle.star_program.specs.Run.{Ended, run_of}
-use Rattle.star_admission.specs.Admissible.{TooCostly, first_refusal}
+use Rattle.star_admission.specs.Admissible.{Refused, TooCostly, first_refusal}
 use Rattle.star_world.specs.WorldOf.{world_of}
 use Rattle.star_verify.specs.declared.refusal.Refusal.{Refusal}
+use Rattle.star_answers.specs.Fitting.{bounds_in}
 use Rattle.star_compiled.specs.Compiled.{compiled}
+use Rattle.star_compiled.specs.Counts.{HasCounted}
 use Rattle.star_compiled.specs.Judged.{IsOverflow}
+use Rattle.star_compiled.specs.Wide.{turn_wide}
 use Rattle.star_engine.specs.declared.fault.EngineFault.{EngineFault}
 use Rattle.star_engine.specs.declared.fault.EngineFault.TheVariants as engine
 use Rattle.star_engine.specs.Answered.{Change}
@@ -36,6 +40,11 @@ pub record IsJudged (most : ℕ) (database : Database) (query : List ℕ) (p : P
   pub quoted : quote_over database (compiled p) ≡ fact_rows database
   pub printed : (s : Store) → run_of (world_of database) (compiled p) ≡ Ended s
       → PrintsTheReport database query p s
+  pub first : fact_rows database ≤ most
+      → first_refusal (world_of database) most (compiled p)
+      ≡ option_map Refused (turn_wide (bounds_in (rows_in database)) p)
+  pub counted : (s : Store) → run_of (world_of database) (compiled p) ≡ Ended s
+      → (meant : IsPlanOf query p) → HasCounted (rows_in database) meant.tree p s
 
 module _ (most : ℕ) (database : Database) (query : List ℕ) (p : Plan)
     (meant : IsPlanOf query p) (judged : IsJudged most database query p) where
@@ -49,6 +58,7 @@ module _ (most : ℕ) (database : Database) (query : List ℕ) (p : Plan)
   report_told telling told =
       let s = told.yields.s in
       let outcome = told.yields.told in
+      let counted = judged.counted s told.yields.ended meant in
       record {
         fitting = judged.accepted.1 told.accepted;
         quoted = told.quoted ∙ ap quote_line judged.quoted;
@@ -56,14 +66,10 @@ module _ (most : ℕ) (database : Database) (query : List ℕ) (p : Plan)
             rw told.reported (judged.printed s told.yields.ended told.outcome told.yields.told);
         p = p;
         meant = meant;
-        s = s;
-        ended = told.yields.ended;
-        within =
-            subst (λ n. n ≤ fact_rows database) outcome.visits
-            (subst (λ n. told.outcome.visits ≤ n) judged.quoted told.within);
         done =
             told.done
-            ∙ (λ i. counts_line (outcome.visits i) (outcome.lookups i) (outcome.updates i));
+            ∙ (λ i. counts_line ((outcome.visits ∙ counted.visits) i)
+            ((outcome.lookups ∙ counted.lookups) i) ((outcome.updates ∙ counted.updates) i));
       }
 
   pub refusal_told : (refusal : Refusal) → IsRefusal database most (compiled p) refusal
@@ -78,7 +84,7 @@ module _ (most : ℕ) (database : Database) (query : List ℕ) (p : Plan)
         unfit = unfit;
         costly = λ over. first ∙ judged.costly over;
         wide = λ within. subst IsOverflow (sym first) (judged.wide within unfit);
-        first = first;
+        first = λ within. first ∙ judged.first within;
       }
 
   pub fault_told : (fault : EngineFault) → IsNotVerified database most (compiled p) fault

@@ -10,7 +10,7 @@ use Rattle.star_catalogue.specs.Load.{load_fault}
 use Rattle.star_catalogue.specs.declared.fault.LoadFault.{LoadFault}
 use Rattle.star_program.specs.declared.program.Parts.{Parts}
 use Rattle.star_program.specs.Limits.{IsWithinLimits}
-use Rattle.star_program.specs.Text.Places.{text_fault}
+use Rattle.star_program.specs.Text.FirstFaults.{FirstFault}
 use Rattle.star_program.specs.Text.Spelling.{Spells}
 use Rattle.star_engine.specs.declared.fault.EngineFault.{EngineFault}
 use Rattle.star_engine.specs.declared.fault.EngineFault.TheVariants.{Load, Program}
@@ -73,7 +73,7 @@ IsUnloaded most texts _ = ⊥
 
 -- why a file spells no program
 abbrev pub IsNoProgram : List ℕ → EngineFault → Type 0
-IsNoProgram file (Program fault) = text_fault file ≡ Some fault
+IsNoProgram file (Program fault) = FirstFault file fault
 IsNoProgram file _ = ⊥
 
 -- why there is no program over loaded tables: the file is read first

@@ -1,7 +1,7 @@
 -- What is answered to a query's text over the rows of five tables, and over their texts, and which
--- faults are due. No program is named here but by the instruction that a refusal tells and by the
--- counts of a run.
-use Rattle.std.specs.Prelude.{◌≡◌, ◌≢◌, ◌≤◌, ◌<◌, ℕ, List, Some, length}
+-- faults are due. The query's program is named here by its text, by its look-ups and by the instruction
+-- that a refusal tells, and no run of it.
+use Rattle.std.specs.Prelude.{◌≡◌, ◌≢◌, ◌≤◌, ◌<◌, ℕ, List, Some, length, option_map}
 use Rattle.star_schema.specs.declared.table.TableId.TheVariants.{Lineorder}
 use Rattle.star_schema.specs.Database.{Database, TableTexts, rows_in}
 use Rattle.star_query.specs.declared.fault.QueryFault.{QueryFault}
@@ -13,18 +13,18 @@ use Rattle.star_plan.specs.Faults.{plan_fault}
 use Rattle.star_plan.specs.Meaning.{Plan}
 use Rattle.star_plan.specs.Resolved.{IsResolved}
 use Rattle.star_plan.specs.WellNamed.{IsWellNamed}
-use Rattle.star_program.specs.Effects.{Store}
-use Rattle.star_program.specs.Run.{Ended, run_of}
 use Rattle.star_program.specs.Text.Spelling.{Spells}
 use Rattle.star_program.specs.Text.Written.{text_of}
-use Rattle.star_admission.specs.Admissible.{TooCostly, first_refusal}
-use Rattle.star_world.specs.WorldOf.{world_of}
+use Rattle.star_admission.specs.Admissible.{Refused, TooCostly}
 use Rattle.star_verify.specs.declared.refusal.Refusal.{Refusal}
 use Rattle.star_verify.specs.Shown.{refusal_shown}
-use Rattle.star_answers.specs.Fitting.{FitsTables}
+use Rattle.star_answers.specs.Fitting.{FitsTables, bounds_in}
 use Rattle.star_answers.specs.Reports.{IsReport}
+use Rattle.star_answers.specs.Rows.{selected}
 use Rattle.star_compiled.specs.Compiled.{compiled}
+use Rattle.star_compiled.specs.Counts.{lookups_of}
 use Rattle.star_compiled.specs.Judged.{IsOverflow}
+use Rattle.star_compiled.specs.Wide.{turn_wide}
 use Rattle.star_engine.specs.declared.fault.EngineFault.{EngineFault}
 use Rattle.star_engine.specs.declared.fault.EngineFault.TheVariants as engine
 use Rattle.star_engine.specs.Loads.{HoldsOfRows, IsLoadFault}
@@ -81,7 +81,7 @@ IsUnasked rows texts query (engine.Load fault) = IsQuery query × IsLoadFault ro
 IsUnasked rows texts query fault = IsNoQuery query fault
 
 -- why a query that doesn't fit is refused: lineorder's rows are over the limit on visits; or else a
--- range leaves 64 bits, and the first instruction of its program with such a range is told
+-- range leaves 64 bits, and the first number of its program with such a range is told
 pub record IsUnfit (most : ℕ) (database : Database) (query : List ℕ) (refusal : Refusal)
     : Type 0 where
   pub p : Plan
@@ -90,7 +90,8 @@ pub record IsUnfit (most : ℕ) (database : Database) (query : List ℕ) (refusa
   pub costly : most < fact_rows database
       → refusal_shown refusal ≡ Some (TooCostly (fact_rows database))
   pub wide : fact_rows database ≤ most → IsOverflow (refusal_shown refusal)
-  pub first : refusal_shown refusal ≡ first_refusal (world_of database) most (compiled p)
+  pub first : fact_rows database ≤ most
+      → refusal_shown refusal ≡ option_map Refused (turn_wide (bounds_in (rows_in database)) p)
 
 -- why a query has no report over these rows: it is read first, and then it is judged
 abbrev pub IsUnansweredOver : (visits : ℕ) → Database → (query : List ℕ) → EngineFault → Type 0
@@ -118,7 +119,8 @@ IsQueryQuote rows texts query text =
     HoldsOfRows rows texts (λ database. IsQueryQuoteOver database query text)
 
 -- what is told of a query that fits the rows of five tables: its quote, its report, and what the run
--- of its program did
+-- of its program does: it visits each row of lineorder once, and makes an update of each row that the
+-- query selects
 pub record IsQueryToldOver (visits : ℕ) (database : Database) (query : List ℕ)
     (telling : Telling) : Type 0 where
   pub fitting : FitsRows visits database query
@@ -126,10 +128,9 @@ pub record IsQueryToldOver (visits : ℕ) (database : Database) (query : List �
   pub reported : IsReport database query telling.report
   pub p : Plan
   pub meant : IsPlanOf query p
-  pub s : Store
-  pub ended : run_of (world_of database) (compiled p) ≡ Ended s
-  pub within : s.visits ≤ fact_rows database
-  pub done : telling.done ≡ counts_line s.visits s.lookups s.updates
+  pub done : telling.done
+      ≡ counts_line (fact_rows database) (lookups_of (rows_in database) p)
+      (length (selected (rows_in database) meant.tree))
 
 -- the report of the query that a text means, over five texts that can be loaded
 abbrev pub IsReportOf : (rows : ℕ) → TableTexts → (query report : List ℕ) → Type 0

@@ -123,8 +123,8 @@ pub(crate) fn quote_text_over<S: Sink>(
     quote_read(alloc, catalogue, &program, out)
 }
 
-/// As `check`, over the tables that five readers were given.
-pub fn check_read<S: Sink>(
+// Writes the listing of the tables that five readers were given.
+pub(crate) fn check_read<S: Sink>(
     alloc: Global,
     read: ReadTables,
     limits: Limits,
@@ -155,8 +155,9 @@ pub(crate) fn check<S: Sink>(
     check_read(alloc, read, limits, out)
 }
 
-/// As `trial_program`, over the tables that five readers were given.
-pub fn trial_program_read<S: Sink>(
+// Runs the program whose text a file holds over the tables that five readers were given, under a
+// bound.
+pub(crate) fn trial_program_read<S: Sink>(
     alloc: Global,
     read: ReadTables,
     file: &[u8],
@@ -194,8 +195,9 @@ pub(crate) fn trial_program<S: Sink>(
     trial_program_read(alloc, read, file, visits, limits, out)
 }
 
-/// As `answer_program`, over the tables that five readers were given.
-pub fn answer_program_read<S: Sink, N: Sink>(
+// Checks the program whose text a file holds over the tables that five readers were given, and runs
+// it.
+pub(crate) fn answer_program_read<S: Sink, N: Sink>(
     alloc: Global,
     read: ReadTables,
     file: &[u8],
@@ -235,8 +237,9 @@ pub(crate) fn answer_program<S: Sink, N: Sink>(
     answer_program_read(alloc, read, file, limits, out, notes)
 }
 
-/// As `quote_text`, over the tables that five readers were given.
-pub fn quote_text_read<S: Sink>(
+// Writes how many visits are quoted of what a file holds, over the tables that five readers were
+// given.
+pub(crate) fn quote_text_read<S: Sink>(
     alloc: Global,
     read: ReadTables,
     file: &[u8],

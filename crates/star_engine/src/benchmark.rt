@@ -178,8 +178,8 @@ pub(crate) fn bench_over<S: Sink>(
     Ok(found.fits)
 }
 
-/// As `bench`, over the tables that five readers were given.
-pub fn bench_read<S: Sink>(
+// Answers the thirteen queries over the tables that five readers were given.
+pub(crate) fn bench_read<S: Sink>(
     alloc: Global,
     read: ReadTables,
     limits: Limits,

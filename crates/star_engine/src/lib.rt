@@ -16,14 +16,13 @@ mod parts;
 mod queries;
 pub mod query_laws;
 mod quotes;
+mod read_calls;
 mod reading;
 mod reports;
 mod tellings;
 mod thirteen;
 mod writing;
 
-pub use answers::{answer_program_read, check_read, quote_text_read, trial_program_read};
-pub use benchmark::bench_read;
 pub use calls::{
     answer_program, answer_query, bench, check, explain_query, quote_text, trial_program,
 };
@@ -31,7 +30,10 @@ pub use engine::Engine;
 pub use fault::{EngineFault, FaultLine};
 pub use input::Input;
 pub use parts::read_part;
-pub use queries::answer_query_read;
+pub use read_calls::{
+    answer_program_read, answer_query_read, bench_read, check_read, quote_text_read,
+    trial_program_read,
+};
 pub use reading::{FileFault, read_expected, read_whole};
 pub use star_catalogue::{LoadFault, ReadTables, Texts, sample};
 pub use star_machine::{Fault, TrapKind, TrialFault};

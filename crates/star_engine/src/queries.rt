@@ -95,8 +95,8 @@ pub(crate) fn answer_query_over<S: Sink, N: Sink>(
     answer_compiled(alloc, catalogue, program, limits, out, notes)
 }
 
-/// As `answer_query`, over the tables that five readers were given.
-pub fn answer_query_read<S: Sink, N: Sink>(
+// Answers the query that a text means over the tables that five readers were given.
+pub(crate) fn answer_query_read<S: Sink, N: Sink>(
     alloc: Global,
     read: ReadTables,
     query: &[u8],

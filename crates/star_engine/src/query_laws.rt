@@ -1,7 +1,8 @@
 //! Laws of what queries are answered: functions with no body, whose clauses are the laws.
 
 ghost use Rattle.std.specs.Prelude.{◌≡◌, ◌≢◌, ◌≤◌, ◌<◌, ◌^◌, ◌↔◌, ℕ, List, Some, None};
-ghost use Rattle.star_schema.specs.Database.{Database, TableTexts};
+ghost use Rattle.std.specs.Option.{option_map};
+ghost use Rattle.star_schema.specs.Database.{Database, TableTexts, rows_in};
 ghost use Rattle.star_query.specs.Derives.{Means};
 ghost use Rattle.star_query.specs.Tree.{Tree};
 ghost use Rattle.star_plan.specs.Meaning.{Plan};
@@ -9,10 +10,13 @@ ghost use Rattle.star_plan.specs.WellNamed.{IsWellNamed};
 ghost use Rattle.star_program.specs.Effects.{Store};
 ghost use Rattle.star_program.specs.Run.{Ended, EndsWith, run_of};
 ghost use Rattle.star_program.specs.Text.Spellable.{IsSpellable};
-ghost use Rattle.star_admission.specs.Admissible.{TooCostly, first_refusal};
+ghost use Rattle.star_admission.specs.Admissible.{Refused, TooCostly, first_refusal};
 ghost use Rattle.star_world.specs.WorldOf.{world_of};
+ghost use Rattle.star_answers.specs.Fitting.{bounds_in};
 ghost use Rattle.star_compiled.specs.Compiled.{compiled};
+ghost use Rattle.star_compiled.specs.Counts.{HasCounted};
 ghost use Rattle.star_compiled.specs.Judged.{IsOverflow};
+ghost use Rattle.star_compiled.specs.Wide.{turn_wide};
 ghost use Rattle.star_engine.specs.Executions.{IsAcceptedWithin, quote_over};
 ghost use Rattle.star_engine.specs.declared.fault.EngineFault.{EngineFault};
 ghost use Rattle.star_engine.specs.declared.thirteen.BenchmarkQuery.{BenchmarkQuery};
@@ -27,16 +31,18 @@ use star_admission::law::{
 };
 use star_answers::law::plans_fit_where_their_queries_do;
 use star_compiled::acceptance::compiled_programs_are_accepted_where_they_fit_the_tables;
-use star_compiled::answers::compiled_programs_report_their_queries;
+use star_compiled::answers::{
+    compiled_programs_count_the_rows, compiled_programs_report_their_queries,
+};
 use star_compiled::law::{compiled_plans_are_programs, compiled_programs_visit_each_row_once};
-use star_world::law::sound_rows_are_loaded;
+use star_world::law::{sound_rows_are_loaded, sound_rows_have_a_world};
 
 /// Where a query fits the rows that are loaded, nothing refuses its program. Its run comes to its
 /// end with no trap, visits at most as many rows as lineorder has, and what is printed of it is the
 /// query's report.
 ///
 /// Where it doesn't fit it is refused: for its visits where lineorder has more rows than may be
-/// visited, and else since a range leaves 64 bits.
+/// visited, and else since a range leaves 64 bits, that of the first such number of a turn.
 pub fn queries_that_fit_are_answered()
     ensures accepted { (most : ℕ) (database : Database) (query : List ℕ) (p : Plan)
         → AreLoadedRows database → IsPlanOf query p
@@ -53,6 +59,10 @@ pub fn queries_that_fit_are_answered()
         → IsPlanOf query p → fact_rows database ≤ most
         → ¬ FitsRows most database query
         → IsOverflow (first_refusal (world_of database) most (compiled p)) }
+    ensures first { (most : ℕ) (database : Database) (query : List ℕ) (p : Plan)
+        → IsPlanOf query p → fact_rows database ≤ most
+        → first_refusal (world_of database) most (compiled p)
+        ≡ option_map Refused (turn_wide (bounds_in (rows_in database)) p) }
 {
     compiled_plans_are_programs();
     compiled_programs_visit_each_row_once();
@@ -65,7 +75,8 @@ pub fn queries_that_fit_are_answered()
 }
 
 /// The program of a query is quoted lineorder's row count, some text spells it, and wherever its
-/// run comes to its end, what is printed of it is the query's report.
+/// run comes to its end, what is printed of it is the query's report, each row of lineorder was visited
+/// once, and each row that the query selects is an update.
 pub fn programs_of_queries_report_them()
     ensures quoted { (database : Database) (p : Plan)
         → quote_over database (compiled p) ≡ fact_rows database }
@@ -74,10 +85,16 @@ pub fn programs_of_queries_report_them()
         → AreLoadedRows database → IsPlanOf query p
         → run_of (world_of database) (compiled p) ≡ Ended s
         → PrintsTheReport database query p s }
+    ensures counted { (database : Database) (query : List ℕ) (p : Plan) (s : Store)
+        → AreLoadedRows database → (meant : IsPlanOf query p)
+        → run_of (world_of database) (compiled p) ≡ Ended s
+        → HasCounted (rows_in database) meant.tree p s }
 {
     compiled_plans_are_programs();
     compiled_programs_visit_each_row_once();
     compiled_programs_report_their_queries();
+    compiled_programs_count_the_rows();
+    sound_rows_have_a_world();
 }
 
 /// Each of the thirteen texts of the benchmark means a query, and a query that is well named. So

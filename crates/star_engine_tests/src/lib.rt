@@ -17,6 +17,8 @@ mod lengths;
 #[cfg(test)]
 mod lines;
 #[cfg(test)]
+mod parts;
+#[cfg(test)]
 mod printed;
 #[cfg(test)]
 mod ranges;

@@ -63,3 +63,26 @@ impl Read for Zeros {
         }
     }
 }
+
+/// A reader of a text that gives at most so many bytes at once, and fails where `until_failure` bytes
+/// were given. A text that ends before is read to its end.
+#[derive(Drop)]
+pub struct Choppy<'a> {
+    pub left: &'a [u8],
+    pub at_once: usize,
+    pub until_failure: usize,
+}
+
+impl<'a> Read for Choppy<'a> {
+    fn read(&mut self, room: &mut [u8]) -> io::Result<usize> {
+        if self.until_failure == 0 {
+            return Err(io::Error::from(io::ErrorKind::Interrupted));
+        }
+        let most = self.at_once.min(self.until_failure);
+        let count = room.len().min(self.left.len()).min(most);
+        room[..count].copy_from_slice(&self.left[..count]);
+        self.left = &self.left[count..];
+        self.until_failure = self.until_failure.saturating_sub(count);
+        Ok(count)
+    }
+}

@@ -1,3 +1,4 @@
+pub mod Accepted
 pub mod Trials
 pub mod FaultTexts
 pub mod Sound

@@ -17,4 +17,8 @@ pub mod NoFault
 pub mod SpelledWords
 pub mod Spelled
 pub mod Sayable
+pub mod Takes
+pub mod Paths
+pub mod Begun
 pub mod Faultless
+pub mod FirstFaultLaw

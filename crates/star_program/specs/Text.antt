@@ -5,7 +5,7 @@ pub mod Numerals
 pub mod Statements
 pub mod Written
 pub mod Said
-pub mod Places
 pub mod Spelling
+pub mod FirstFaults
 pub mod Spellable
 pub mod FaultTexts

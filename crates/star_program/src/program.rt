@@ -5,7 +5,8 @@ ghost use Rattle.star_program.specs.Text.Written.{text_of};
 ghost use Rattle.star_program.specs.Faults.{group_at};
 ghost use Rattle.star_program.specs.Limits.{IsSmall, IsWithinLimits};
 ghost use Rattle.star_program.specs.Text.Spellable.{IsSpellable};
-ghost use Rattle.star_program.specs.Text.Spelling.{IsFirstFault, IsRead, Spells};
+ghost use Rattle.star_program.specs.Text.FirstFaults.{IsFirstFault};
+ghost use Rattle.star_program.specs.Text.Spelling.{IsRead, Spells};
 
 use crate::body::Body;
 use crate::group::GroupDecl;

@@ -1,9 +1,10 @@
-//! Laws of tables in pieces: functions with no body, whose clauses are the laws.
+//! Laws of texts of tables: functions with no body, whose clauses are the laws.
 
-ghost use Rattle.std.specs.Prelude.{◌≡◌, ◌++◌, ℕ, List};
+ghost use Rattle.std.specs.Prelude.{◌≡◌, ◌↔◌, ◌++◌, ℕ, List, None};
 ghost use Rattle.star_schema.specs.Records.{records_of};
+ghost use Rattle.star_schema.specs.Tables.{IsTable};
 ghost use Rattle.star_schema.specs.declared.table.TableId.{TableId};
-ghost use Rattle.star_reader.specs.Faults.{records_fault};
+ghost use Rattle.star_reader.specs.Faults.{records_fault, text_fault};
 ghost use Rattle.star_reader.specs.Pieces.{fault_from, joined, records_from};
 
 /// However a text is cut into pieces, in mid-record too, its records are those that end in each
@@ -15,4 +16,10 @@ pub fn any_cut_gives_the_records_of_the_text()
     ensures fault { (table : TableId) (most from : ℕ) (carried : List ℕ) (pieces : List (List ℕ))
         → fault_from table most from carried pieces
         ≡ records_fault table most from (records_of (carried ++ joined pieces)) }
+{}
+
+/// A text in parts has no fault exactly where it is a table, of at most so many rows.
+pub fn texts_without_a_fault_are_tables()
+    ensures { (table : TableId) (most : ℕ) (parts : List (List ℕ))
+        → (text_fault table most parts ≡ None) ↔ IsTable table most parts }
 {}

@@ -1,11 +1,15 @@
 // The ranges in which the keys of groups are expected.
 
+use crate::store::places;
 use star_catalogue::Catalogue;
 use star_interval::Interval;
 use star_program::{GroupDecl, GroupKey, Op, Operation, Step};
 use star_schema::is_text;
 use star_verify::Verified;
 use std::alloc::{AllocError, Global};
+
+// At most every sixteenth turn of a run has a place of its own.
+const TURNS_A_PLACE: u128 = 16;
 
 // The codes of so many texts.
 fn codes(entries: u32) -> Option<Interval> {
@@ -50,18 +54,14 @@ fn is_read(steps: &[Step], group: usize) -> bool {
     read
 }
 
-// The ranges of the keys of a group, up to the first of which none is known. Where totals of the group
-// are read, which would be added up each time, none is given.
-fn ranges_of(
+// The ranges of the keys of a group, up to the first of which none is known.
+fn known_ranges(
     alloc: Global,
     verified: &Verified<'_>,
     group: usize,
     declared: &GroupDecl,
 ) -> Result<Vec<Interval>, AllocError> {
     let mut ranges = Vec::new(alloc);
-    if is_read(verified.program().parts().body.as_slice(), group) {
-        return Ok(ranges);
-    }
     for (place, key) in declared.keys.as_slice().iter().enumerate() {
         match range_of(verified, group, place, *key) {
             Some(range) => ranges.push(range)?,
@@ -69,6 +69,32 @@ fn ranges_of(
         }
     }
     Ok(ranges)
+}
+
+// Whether there are few lists of keys in these ranges beside so many turns.
+fn are_few(ranges: &[Interval], turns: u128) -> bool {
+    match places(ranges) {
+        Some(places) => u128::from(places) <= turns / TURNS_A_PLACE,
+        None => false,
+    }
+}
+
+// The ranges in which the keys of a group are expected. None is given where totals of the group are
+// read, which would be added up each time, nor where more places would be cleared than a run fills.
+fn ranges_of(
+    alloc: Global,
+    verified: &Verified<'_>,
+    group: usize,
+    declared: &GroupDecl,
+) -> Result<Vec<Interval>, AllocError> {
+    if is_read(verified.program().parts().body.as_slice(), group) {
+        return Ok(Vec::new(alloc));
+    }
+    let ranges = known_ranges(alloc, verified, group, declared)?;
+    if are_few(ranges.as_slice(), verified.quote()) {
+        return Ok(ranges);
+    }
+    Ok(Vec::new(alloc))
 }
 
 // The ranges of the keys of each group. No clause tells them: they may make a run faster and change no

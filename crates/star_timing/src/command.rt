@@ -88,7 +88,7 @@ fn time_folder<R: Files + Clock + AllocGlobal, S: Sink, E: Sink>(
     ensures { AreTimesTold runs (change S.contents S.is_failed out.old out.new)
         (change E.contents E.is_failed err.old err.new) result }
 {
-    match load_folder(rt, folder, out, err) {
+    match load_folder(rt, folder, &mut (), out, err) {
         Ok(catalogue) => tell_times(rt, &catalogue, runs, out, err),
         Err(status) => status,
     }

@@ -1,6 +1,7 @@
 -- What is told of a query over tables, at the limit on visits and one past it, and what refuses it in which order.
 use Rattle.std.proofs.Common.{◌≡◌, ℕ, List, Some, arith, refl, ◌+◌}
 use Rattle.std.specs.Prelude.{codes}
+use Rattle.std.specs.Option.{option_map}
 use Rattle.std.specs.Fmt.{digits}
 use Rattle.star_schema.specs.Database.{Database, TableTexts, rows_in}
 use Rattle.star_schema.specs.Loadable.{IsLoadable, database_of}
@@ -8,15 +9,15 @@ use Rattle.star_query.specs.declared.fault.QueryFault.{QueryFault}
 use Rattle.star_plan.specs.declared.fault.PlanFault.{PlanFault}
 use Rattle.star_plan.specs.Meaning.{Plan}
 use Rattle.star_program.specs.Effects.{Store}
-use Rattle.star_program.specs.Run.{Ended, run_of}
 use Rattle.star_catalogue.specs.declared.fault.LoadFault.{LoadFault}
-use Rattle.star_admission.specs.Admissible.{TooCostly, first_refusal}
-use Rattle.star_world.specs.WorldOf.{world_of}
+use Rattle.star_admission.specs.Admissible.{Refused, TooCostly}
 use Rattle.star_verify.specs.declared.refusal.Refusal.{Refusal}
 use Rattle.star_verify.specs.Shown.{refusal_shown}
 use Rattle.star_answers.specs.Reports.{IsReport}
-use Rattle.star_compiled.specs.Compiled.{compiled}
+use Rattle.star_answers.specs.Fitting.{bounds_in}
+use Rattle.star_compiled.specs.Counts.{HasCounted}
 use Rattle.star_compiled.specs.Judged.{IsOverflow}
+use Rattle.star_compiled.specs.Wide.{turn_wide}
 use Rattle.star_engine.specs.declared.fault.EngineFault.TheVariants as engine
 use Rattle.star_engine.specs.Loads.{IsLoadFault}
 use Rattle.star_engine.specs.Noted.{Telling}
@@ -67,7 +68,7 @@ module _ (rows : ℕ) (texts : TableTexts) (query : List ℕ) where
 module _ (most : ℕ) (database : Database) (query : List ℕ) (refusal : Refusal) where
   -- as many rows as may be visited are not too many
   as_many_rows_as_may_be : (p : Plan) → IsPlanOf query p → (FitsRows most database query → ⊥) → fact_rows database ≡ most
-      → IsOverflow (refusal_shown refusal) → refusal_shown refusal ≡ first_refusal (world_of database) most (compiled p)
+      → IsOverflow (refusal_shown refusal) → refusal_shown refusal ≡ option_map Refused (turn_wide (bounds_in (rows_in database)) p)
       → IsUnfit most database query refusal
   as_many_rows_as_may_be p meant unfit many wide first = record {
     p = p;
@@ -75,7 +76,7 @@ module _ (most : ℕ) (database : Database) (query : List ℕ) (refusal : Refusa
     unfit = unfit;
     costly = λ more. absurd (omega arith);
     wide = λ less. wide;
-    first = first;
+    first = λ less. first;
   }
 
   then_a_range_is_too_wide : fact_rows database ≡ most → IsUnfit most database query refusal → IsOverflow (refusal_shown refusal)
@@ -104,19 +105,16 @@ module _ (rows visits : ℕ) (texts : TableTexts) (query : List ℕ) where
 
 module _ (visits : ℕ) (database : Database) (query : List ℕ) where
   -- each row of lineorder may be visited, and the counts are told in their order
-  every_row_visited : FitsRows visits database query → (report : List ℕ) → IsReport database query report → (p : Plan) → IsPlanOf query p
-      → (s : Store) → run_of (world_of database) (compiled p) ≡ Ended s → s.visits ≡ fact_rows database
+  every_row_visited : FitsRows visits database query → (report : List ℕ) → IsReport database query report → (p : Plan) → (meant : IsPlanOf query p)
+      → (s : Store) → HasCounted (rows_in database) meant.tree p s
       → IsQueryToldOver visits database query (record { quoted = quote_line (fact_rows database); report = report; done = counts_line s.visits s.lookups s.updates })
-  every_row_visited fitting report reported p meant s ended all = record {
+  every_row_visited fitting report reported p meant s counted = record {
     fitting = fitting;
     quoted = refl;
     reported = reported;
     p = p;
     meant = meant;
-    s = s;
-    ended = ended;
-    within = omega arith;
-    done = refl;
+    done = λ i. counts_line (counted.visits i) (counted.lookups i) (counted.updates i);
   }
 
   -- over rows that are loaded no fault of a load is due

@@ -1,12 +1,12 @@
 -- What is told of a program over tables, at the limit on visits, and how a trial of it ends.
-use Rattle.std.proofs.Common.{◌≡◌, ◌≤◌, ℕ, List, Some, arith, refl, ◌+◌}
+use Rattle.std.proofs.Common.{◌≡◌, ◌≤◌, ℕ, List, arith, refl, ◌+◌}
 use Rattle.star_schema.specs.Database.{Database, TableTexts}
 use Rattle.star_schema.specs.Loadable.{IsLoadable, database_of}
 use Rattle.star_program.specs.declared.outcome.Outcome.{Outcome}
 use Rattle.star_program.specs.declared.program.Parts.{Parts}
 use Rattle.star_program.specs.declared.spelling.fault.TextFault.{TextFault}
 use Rattle.star_program.specs.Run.{End, bounded_run_of, run_of}
-use Rattle.star_program.specs.Text.Places.{text_fault}
+use Rattle.star_program.specs.Text.FirstFaults.{FirstFault}
 use Rattle.star_catalogue.specs.declared.fault.LoadFault.{LoadFault}
 use Rattle.star_admission.specs.Admissible.{IsAdmissible}
 use Rattle.star_world.specs.WorldOf.{world_of}
@@ -60,7 +60,7 @@ module _ (texts : TableTexts) (file : List ℕ) where
       → IsUntold rows visits texts file (Refused refusal)
   a_refused_program rows visits refusal refused = refused
 
-  a_file_that_spells_no_program : (rows visits : ℕ) (fault : TextFault) → text_fault file ≡ Some fault → IsUntold rows visits texts file (Program fault)
+  a_file_that_spells_no_program : (rows visits : ℕ) (fault : TextFault) → FirstFault file fault → IsUntold rows visits texts file (Program fault)
   a_file_that_spells_no_program rows visits fault first = first
 
   -- ---- a trial
@@ -79,7 +79,7 @@ module _ (texts : TableTexts) (file : List ℕ) where
       → IsNoTrial rows texts file visits (Trial fault) → ⊥
   no_stop_of_a_trial_that_ends rows visits fault none no_trial = none no_trial.holds.program no_trial.holds.of_file no_trial.holds.holds
 
-  no_trial_of_no_program : (rows visits : ℕ) (fault : TextFault) → text_fault file ≡ Some fault → IsNoTrial rows texts file visits (Program fault)
+  no_trial_of_no_program : (rows visits : ℕ) (fault : TextFault) → FirstFault file fault → IsNoTrial rows texts file visits (Program fault)
   no_trial_of_no_program rows visits fault first = first
 
 no_run_stops_for_memory : (end : End) → IsStop end trial.OutOfMemory → ⊥

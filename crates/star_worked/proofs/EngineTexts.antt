@@ -1,5 +1,5 @@
 -- What `check`, `bench` and `quote` print: each line as it is read, and which text is quoted of which file.
-use Rattle.std.proofs.Common.{◌≡◌, ◌++◌, ◌∙◌, ℕ, true, false, List, [], ◌∷◌, Some, append-nil, ap, inl, inr, refl, subst, sym}
+use Rattle.std.proofs.Common.{◌≡◌, ◌++◌, ◌∙◌, ℕ, true, false, List, [], ◌∷◌, append-nil, ap, inl, inr, refl, subst, sym}
 use Rattle.std.specs.Prelude.{codes, map, neg_ℤ, pos}
 use Rattle.std.specs.Fmt.{digits}
 use Rattle.star_schema.specs.declared.column.ColumnId.TheVariants.{DDate, DDatekey, DYear, LoTax}
@@ -10,7 +10,7 @@ use Rattle.star_schema.specs.Schema.{column_of, place_of, table_name}
 use Rattle.star_schema.specs.Database.{Database, TableTexts}
 use Rattle.star_schema.specs.Loadable.{IsLoadable, database_of}
 use Rattle.star_program.specs.declared.spelling.fault.TextFault.{TextFault}
-use Rattle.star_program.specs.Text.Places.{text_fault}
+use Rattle.star_program.specs.Text.FirstFaults.{FirstFault}
 use Rattle.star_query.specs.declared.fault.QueryFault.{QueryFault}
 use Rattle.star_verify.specs.declared.refusal.Refusal.{Refusal}
 use Rattle.star_verify.specs.declared.refusal.Refusal.TheVariants.{TooCostly}
@@ -101,7 +101,7 @@ module _ (rows : ℕ) (texts : TableTexts) where
   the_quote_over_texts : (file text : List ℕ) → IsLoadable rows texts → IsQuoteTextOver (database_of texts) file text → IsQuoteText rows texts file text
   the_quote_over_texts file text loadable quoted = record { loadable = loadable; holds = quoted }
 
-  no_quote_of_no_program : (fault : TextFault) → text_fault a_program ≡ Some fault → IsUnquoted rows texts a_program (engine.Program fault)
+  no_quote_of_no_program : (fault : TextFault) → FirstFault a_program fault → IsUnquoted rows texts a_program (engine.Program fault)
   no_quote_of_no_program fault first = first
 
   no_quote_of_no_query : (fault : QueryFault) → IsQueryFault (codes "select") fault → IsUnquoted rows texts (codes "select") (engine.Query fault)

@@ -19,7 +19,7 @@ use Rattle.star_program.proofs.Text.Depths.{both_within, left_within, right_with
 
 -- ---- a code and another after it
 
-followed_says : (c d : Code) → code_says (followed c d) ≡ code_says c ++ code_says d
+pub followed_says : (c d : Code) → code_says (followed c d) ≡ code_says c ++ code_says d
 followed_says Stop d = refl
 followed_says (Then op c) d = ap (λ ss. says.Act op ∷ ss) (followed_says c d)
 followed_says (Each t r b c) d =

@@ -1,53 +1,28 @@
--- A text has no fault exactly where it spells a program within the limits.
-use Rattle.std.proofs.Common.{◌≡◌, ◌<◌, ◌+◌, ◌∙◌, ◌∷◌, ◌++◌, [], ℕ, false, List, Option, Some, None, Result, Ok, Err, append-nil, length, map, arith, ap, refl, sym, inl, inr}
+-- The parser refuses no line of a text exactly where it spells a program within the limits.
+use Rattle.std.proofs.Common.{◌≡◌, ◌↔◌, ◌+◌, ◌∙◌, ◌∷◌, ◌++◌, [], ℕ, false, List, Option, Some, None, Result, Ok, Err, append-nil, map, refl, sym, inl, inr}
 use Rattle.std.proofs.lemmas.Bool.{cases_Bool}
-use Rattle.star_program.specs.Code.{Stop, Then, Each}
-use Rattle.star_program.specs.Private.Drafts.{IsAdded, IsAt, finished, lines_say, nothing_read, told}
-use Rattle.star_program.specs.Private.Followed.{followed}
+use Rattle.star_program.specs.Private.Drafts.{IsAt, finished, nothing_read, told}
 use Rattle.star_program.specs.Limits.{IsWithinLimits}
 use Rattle.star_program.specs.Text.Lines.{is_blank, lines_of}
-use Rattle.star_program.specs.Text.Places.{advance, end_in, fault_from, reached_by, start, text_fault}
-use Rattle.star_program.specs.Text.Said.{said}
-use Rattle.star_program.specs.Text.Spelling.{Faultless, Spells}
+use Rattle.star_program.specs.Private.Places.{advance, end_in, fault_from, reached_by, start, text_fault}
+use Rattle.star_program.specs.Text.Said.{said, said_in}
+use Rattle.star_program.specs.Text.Spelling.{Spells}
 use Rattle.star_program.specs.declared.program.Parts.{Parts}
 use Rattle.star_program.specs.declared.spelling.draft.Draft.{Draft}
-use Rattle.star_program.specs.declared.spelling.draft.OpenScan.{OpenScan}
 use Rattle.star_program.specs.declared.spelling.fault.TextFault.{TextFault}
 use Rattle.star_program.specs.declared.spelling.place.Place.{Place}
 use Rattle.star_program.specs.declared.spelling.statement.Statement.{Statement}
-use Rattle.star_program.specs.declared.spelling.statement.Statement.TheVariants as says
+use Rattle.star_program.proofs.Text.Takes.{takes}
 use Rattle.star_program.proofs.Text.PassedLines.{blank_passed, end_opened, end_spelled, end_within, line_passed, nothing_at_start, nothing_told, opens_report}
 use Rattle.star_program.proofs.Text.FaultLemmas.{ended, refused, text_fault_is}
 use Rattle.star_program.proofs.Text.NoFault.{no_fault}
-
-last_split : {X : Type 0} (xs : List X) → 0 < length xs → (front : List X) × (x : X) × (xs ≡ front ++ x ∷ [])
-last_split [] h = absurd (omega arith)
-last_split (x ∷ []) h = ([], x, refl)
-last_split (x ∷ y ∷ xs) h =
-    let rest = last_split (y ∷ xs) (omega arith) in
-    (x ∷ rest.0, rest.1, ap (λ l. x ∷ l) rest.2)
-
--- a draft takes each statement, but for an end where no scan is open
-takes : (d : Draft) (s : Statement) → (s ≡ says.End → 0 < length d.scans) → (e : Draft) × IsAdded d s e
-takes d says.Header may = (d, refl)
-takes d (says.Registers n) may = (record d { registers = n }, refl)
-takes d (says.Group place group) may = (record d { groups = d.groups ++ group ∷ [] }, refl)
-takes d (says.Act op) may = (record d { body = followed d.body (Then op Stop) }, refl)
-takes d (says.Scan t r) may = (record d { scans = d.scans ++ record { before = d.body; table = t; target = r } ∷ []; body = Stop }, refl)
-takes d says.End may =
-    let split = last_split d.scans (may refl) in
-    let o : OpenScan = split.1 in
-    (record d { scans = split.0; body = followed o.before (Each o.table o.target d.body Stop) }, record { scan = o; scans = split.2; body = refl })
-takes d (says.Report g) may = (record d { report = g }, refl)
-takes d (says.Show show) may = (record d { shows = d.shows ++ show ∷ [] }, refl)
-takes d (says.Sort key) may = (record d { sorts = d.sorts ++ key ∷ [] }, refl)
 
 reached_says : (p : Place) (line : ℕ) (o : Option Statement) (q : Place) → reached_by p line o ≡ Ok q → (s : Statement) × (o ≡ Some s)
 reached_says p line None q h = let bad : ⊥ = cc in absurd bad
 reached_says p line (Some s) q h = (s, refl)
 
 -- a line after which the text goes on says a statement
-advance_says : (p : Place) (line : ℕ) (text : List ℕ) (q : Place) → advance p line text ≡ Ok q → (s : Statement) × (said text ≡ Some s)
+pub advance_says : (p : Place) (line : ℕ) (text : List ℕ) (q : Place) → advance p line text ≡ Ok q → (s : Statement) × (said text ≡ Some s)
 unfolding advance
 advance_says p line text q h = elim (cases_Bool (opens_report p text)) [
   | inl report ↦ let bad : ⊥ = let no = rw report at h in cc in absurd bad
@@ -64,7 +39,7 @@ faultless_advances p line text texts filled h = settled (advance p line text) re
 -- the texts from a place on end at another, and the draft there says them all
 abbrev Finishes : Place → Draft → List (List ℕ) → Type 0
 Finishes p d texts =
-    (q : Place) × (e : Draft) × (n : ℕ) × IsAt q e × (map Some (told p.stage d) ++ lines_say texts ≡ map Some (told q.stage e)) × (end_in q.stage q.depth n ≡ None)
+    (q : Place) × (e : Draft) × (n : ℕ) × IsAt q e × (map Some (told p.stage d) ++ said_in texts ≡ map Some (told q.stage e)) × (end_in q.stage q.depth n ≡ None)
 
 finishes : (texts : List (List ℕ)) (p : Place) (d : Draft) (line : ℕ) → IsAt p d → fault_from p line texts ≡ None → Finishes p d texts
 finishes [] p d line at h = (p, d, line, at, append-nil (map Some (told p.stage d)), sym (ended p line) ∙ h)
@@ -85,8 +60,8 @@ finishes (text ∷ texts) p d line at h = elim (cases_Bool (is_blank text)) [
 spells_one : (text : List ℕ) → text_fault text ≡ None → (p : Parts) × Spells text p × IsWithinLimits p
 spells_one text h =
     let end = finishes (lines_of text) start nothing_read 1 nothing_at_start (sym (text_fault_is text) ∙ h) in
-    let all : lines_say (lines_of text) ≡ map Some (told end.0.stage end.1) = rw nothing_told at end.4 in
+    let all : said_in (lines_of text) ≡ map Some (told end.0.stage end.1) = rw nothing_told at end.4 in
     (finished end.1, end_spelled end.0 end.1 end.2 text end.3 end.5 all, end_within end.0 end.1 end.2 end.3 end.5)
 
-pub faultless : Faultless
+pub faultless : (text : List ℕ) → (text_fault text ≡ None) ↔ ((p : Parts) × Spells text p × IsWithinLimits p)
 faultless text = (spells_one text, λ (p, spells, small). no_fault text p spells small)

@@ -13,7 +13,7 @@ use Rattle.star_program.specs.Text.Keywords.{keyword_name, keyword_of, same}
 use Rattle.star_program.specs.Limits.{IsSmall, IsWithinLimits}
 use Rattle.star_program.specs.Text.Lines.{is_blank, lines_of, words_of}
 use Rattle.star_program.specs.Text.Numerals.{count_of}
-use Rattle.star_program.specs.Text.Places.{advance, after, after_in, after_step, begins_report, end_in, fault_from, is_small, is_within, start, text_fault}
+use Rattle.star_program.specs.Private.Places.{advance, after, after_in, after_step, begins_report, end_in, fault_from, is_small, is_within, start, text_fault}
 use Rattle.star_program.specs.Text.Said.{by_keyword, by_words, one, said}
 use Rattle.star_program.specs.Text.Spelling.{Spells, statements_of}
 use Rattle.star_program.specs.declared.group.GroupDecl.{GroupDecl}
@@ -77,7 +77,7 @@ pub record Follows (p : Place) (s : Statement) (q : Place) : Type 0 where
   pub within : is_within q ≡ true
   pub small : is_small s ≡ true
 
-abbrev Walks : Place → List Statement → Place → Type 0
+abbrev pub Walks : Place → List Statement → Place → Type 0
 Walks p [] q = p ≡ q
 Walks p (s ∷ ss) q = (r : Place) × Follows p s r × Walks r ss q
 
@@ -85,7 +85,7 @@ walks_on : (p q r : Place) (ss ts : List Statement) → Walks p ss q → Walks q
 walks_on p q r [] ts w v = rw w v
 walks_on p q r (s ∷ ss) ts w v = (w.0, w.1, walks_on w.0 q r ss ts w.2 v)
 
-no_report : (p q : Place) (text : List ℕ) (s : Statement) → said text ≡ Some s → after p s ≡ Some q → (nat_lt 0 p.depth && begins_report (words_of text)) ≡ false
+pub no_report : (p q : Place) (text : List ℕ) (s : Statement) → said text ≡ Some s → after p s ≡ Some q → (nat_lt 0 p.depth && begins_report (words_of text)) ≡ false
 unfolding after
 no_report p q text s is goes = elim (cases_Bool (begins_report (words_of text))) [
   | inl begins ↦
@@ -100,7 +100,7 @@ no_report p q text s is goes = elim (cases_Bool (begins_report (words_of text)))
     no_and true = refl
     no_and false = refl
 
-advances : (p q : Place) (line : ℕ) (text : List ℕ) (s : Statement) → said text ≡ Some s → Follows p s q → advance p line text ≡ Ok q
+pub advances : (p q : Place) (line : ℕ) (text : List ℕ) (s : Statement) → said text ≡ Some s → Follows p s q → advance p line text ≡ Ok q
 unfolding advance
 advances p q line text s is goes =
     let may = goes.after in
@@ -246,7 +246,7 @@ walk_sorts (k ∷ ks) g i sh so m few room shows is within =
     (place stage.Sorts g i 0 sh (so + 1), sort_follows g i sh so k few room shows (omega arith), walk_sorts ks g i sh (so + 1) m few room shows (omega arith) within)
 
 -- a text may end below the report
-abbrev Ends : Place → List Statement → Type 0
+abbrev pub Ends : Place → List Statement → Type 0
 Ends p ss = (q : Place) × Walks p ss q × ((n : ℕ) → end_in q.stage q.depth n ≡ None)
 
 sorts_end : (ks : List SortKey) (g i sh : ℕ) → g ≤ 8 → i ≤ 4096 → sh ≤ 16 → length ks ≤ 16 → Ends (place stage.Shows g i 0 sh 0) (map says.Sort ks)
@@ -269,7 +269,7 @@ header_follows = record { after = refl; within = refl; small = refl }
 body_first : (gs code tail : List Statement) (r : Statement) → gs ++ (code ++ r ∷ tail) ≡ gs ++ ((code ++ r ∷ []) ++ tail)
 body_first gs code tail r = ap (λ ss. gs ++ ss) (sym (append_assoc code (r ∷ []) tail))
 
-program_ends : (p : Parts) → IsWithinLimits p → Ends start (statements_of p)
+pub program_ends : (p : Parts) → IsWithinLimits p → Ends start (statements_of p)
 program_ends p h =
     let g : ℕ = length p.groups in
     let i : ℕ = code_size p.body in

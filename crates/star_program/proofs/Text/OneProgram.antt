@@ -144,7 +144,7 @@ program_said p =
     ∙ ap (λ ss. ss ++ said_by (lines_of_code 0 p.body ++ report)) (groups_said 0 p.groups) ∙ ap (λ ss. groups_say 0 p.groups ++ ss) middle in
     ap (λ ss. says.Header ∷ says.Registers p.registers ∷ ss) front
 
-map_some_apart : (ss ts : List Statement) → map Some ss ≡ map Some ts → ss ≡ ts
+pub map_some_apart : (ss ts : List Statement) → map Some ss ≡ map Some ts → ss ≡ ts
 map_some_apart [] [] e = refl
 map_some_apart [] (t ∷ ts) e = cc
 map_some_apart (s ∷ ss) [] e = cc

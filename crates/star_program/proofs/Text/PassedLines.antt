@@ -4,13 +4,13 @@ use Rattle.std.proofs.Common.{◌≡◌, ◌⊎◌, ◌==◌, ◌&&◌, ◌<◌,
 use Rattle.std.proofs.lemmas.Bool.{and_parts, cases_Bool, eqb-false, eqb-true, leb-true}
 use Rattle.std.proofs.lemmas.List.{map_push, nil_from_length}
 use Rattle.star_program.specs.Code.{Stop, Then, code_size}
-use Rattle.star_program.specs.Private.Drafts.{Counts, IsAdded, IsAt, IsClosed, IsInOrder, IsPassed, IsRefused, begun, closed, finished, lines_say, nothing_read, told, whole}
+use Rattle.star_program.specs.Private.Drafts.{Counts, IsAdded, IsAt, IsClosed, IsInOrder, IsPassed, IsRefused, begun, closed, finished, nothing_read, told, whole}
 use Rattle.star_program.specs.Private.Followed.{followed}
 use Rattle.star_program.specs.Limits.{IsSmall, IsWithinLimits}
 use Rattle.star_program.specs.Text.Lines.{is_blank, lines_of, words_of}
 use Rattle.star_program.specs.Private.Within.{IsWithin}
-use Rattle.star_program.specs.Text.Places.{advance, after, after_in, after_step, begins_report, end_in, is_small, is_within, reached, start}
-use Rattle.star_program.specs.Text.Said.{said}
+use Rattle.star_program.specs.Private.Places.{advance, after, after_in, after_step, begins_report, end_in, is_small, is_within, reached, start}
+use Rattle.star_program.specs.Text.Said.{said, said_in}
 use Rattle.star_program.specs.Text.Spelling.{Spells}
 use Rattle.star_program.specs.declared.group.GroupDecl.{GroupDecl}
 use Rattle.star_program.specs.declared.op.Op.{Op}
@@ -39,7 +39,7 @@ some_depth p q h = elim (cases_Bool (p.depth == 0)) [
   | inr some ↦ let other = eqb-false p.depth 0 some in omega (arith, other)
 ]
 
-ends_some : (st : Stage) (p q : Place) → after_in st p says.End ≡ Some q → 0 < p.depth
+pub ends_some : (st : Stage) (p q : Place) → after_in st p says.End ≡ Some q → 0 < p.depth
 ends_some stage.Groups p q h = some_depth p q h
 ends_some stage.Body p q h = some_depth p q h
 ends_some st p q h = let bad : ⊥ = cc in absurd bad
@@ -169,7 +169,7 @@ goes stage.Sorts g i dp sh so d (says.Sort key) q e at may within small added =
     rw (← is, added) (record { within = there; counts = counts_sort g i dp sh so key d at.counts; order = at.order }, whole_sort d key)
 goes st g i dp sh so d s q e at may within small added = let bad : ⊥ = cc in absurd bad
 
-after_is : (p : Place) (s : Statement) → after p s ≡ after_in p.stage p s
+pub after_is : (p : Place) (s : Statement) → after p s ≡ after_in p.stage p s
 unfolding after
 after_is p s = refl
 
@@ -178,7 +178,7 @@ goes_on p d s q e at may within small added = goes p.stage p.groups p.instructio
 
 -- ---- a line
 
-reached_ok : (p : Place) (line : ℕ) (s : Statement) (o : Option Place) (q : Place) → reached p line s o ≡ Ok q → (o ≡ Some q) × (is_within q ≡ true) × (is_small s ≡ true)
+pub reached_ok : (p : Place) (line : ℕ) (s : Statement) (o : Option Place) (q : Place) → reached p line s o ≡ Ok q → (o ≡ Some q) × (is_within q ≡ true) × (is_small s ≡ true)
 reached_ok p line s None q h = let bad : ⊥ = cc in absurd bad
 reached_ok p line s (Some r) q h = elim (cases_Bool (is_within r && is_small s)) [
   | inl small ↦
@@ -192,7 +192,7 @@ reached_ok p line s (Some r) q h = elim (cases_Bool (is_within r && is_small s))
 abbrev pub opens_report : Place → List ℕ → Bool
 opens_report p text = nat_lt 0 p.depth && begins_report (words_of text)
 
-advance_ok : (p : Place) (line : ℕ) (text : List ℕ) (s : Statement) (q : Place) → said text ≡ Some s → advance p line text ≡ Ok q → reached p line s (after p s) ≡ Ok q
+pub advance_ok : (p : Place) (line : ℕ) (text : List ℕ) (s : Statement) (q : Place) → said text ≡ Some s → advance p line text ≡ Ok q → reached p line s (after p s) ≡ Ok q
 unfolding advance
 advance_ok p line text s q is h = elim (cases_Bool (opens_report p text)) [
   | inl report ↦ let bad : ⊥ = let no = rw report at h in cc in absurd bad
@@ -200,10 +200,10 @@ advance_ok p line text s q is h = elim (cases_Bool (opens_report p text)) [
 ]
 
 said_more : (p : Place) (d : Draft) (s : Statement) (q : Place) (e : Draft) (text : List ℕ) (texts : List (List ℕ)) → is_blank text ≡ false → said text ≡ Some s
-    → told q.stage e ≡ told p.stage d ++ s ∷ [] → map Some (told p.stage d) ++ lines_say (text ∷ texts) ≡ map Some (told q.stage e) ++ lines_say texts
+    → told q.stage e ≡ told p.stage d ++ s ∷ [] → map Some (told p.stage d) ++ said_in (text ∷ texts) ≡ map Some (told q.stage e) ++ said_in texts
 said_more p d s q e text texts filled is more =
     let all : map Some (told q.stage e) ≡ map Some (told p.stage d) ++ Some s ∷ [] = ap (map Some) more ∙ map_push Some (told p.stage d) s in
-    rw (filled, is, all) (sym (append_assoc (map Some (told p.stage d)) (Some s ∷ []) (lines_say texts)))
+    rw (filled, is, all) (sym (append_assoc (map Some (told p.stage d)) (Some s ∷ []) (said_in texts)))
 
 -- a line whose statement was added
 pub line_passed : (p : Place) (d : Draft) (line : ℕ) (text : List ℕ) (s : Statement) (q : Place) (e : Draft) → is_blank text ≡ false → IsAt p d → said text ≡ Some s
@@ -277,7 +277,7 @@ end_within p d line at h =
       sorts = omega (arith, counts.4, at.within.sorts);
     }
 
-pub end_spelled : (p : Place) (d : Draft) (line : ℕ) (text : List ℕ) → IsAt p d → end_in p.stage p.depth line ≡ None → lines_say (lines_of text) ≡ map Some (told p.stage d) → Spells text (finished d)
+pub end_spelled : (p : Place) (d : Draft) (line : ℕ) (text : List ℕ) → IsAt p d → end_in p.stage p.depth line ≡ None → said_in (lines_of text) ≡ map Some (told p.stage d) → Spells text (finished d)
 unfolding Spells
 end_spelled p d line text at h all =
     let last = ended_in p.stage p.depth line d at.order h in

@@ -1,5 +1,5 @@
 -- A program of every statement and instruction, its text, and lines that say nothing or stand wrongly.
-use Rattle.std.proofs.Common.{◌≡◌, ℕ, List, [], ◌∷◌, Option, Some, None, codes, refl, true, false, pos, negsuc}
+use Rattle.std.proofs.Common.{◌≡◌, ℕ, List, [], ◌∷◌, Some, None, codes, refl, true, false, pos, negsuc}
 use Rattle.std.specs.Prelude.{◌++◌, map, replicate}
 use Rattle.std.specs.Fmt.{digits}
 use Rattle.star_common.specs.Quotes.{quoted}
@@ -28,7 +28,9 @@ use Rattle.star_program.specs.TrapTexts.{kind_text, wrong_text}
 use Rattle.star_program.specs.Text.Keywords.{aggregate_name, aggregate_of, column_of, direction_name, direction_of, keyword_name, keyword_of, mnemonic_name, mnemonic_of, shape_name, shape_of, table_of}
 use Rattle.star_program.specs.Text.Lines.{is_blank, lines_of, pieces_of, words_of}
 use Rattle.star_program.specs.Text.Numerals.{constant_of, count_of, is_name, register_of}
-use Rattle.star_program.specs.Text.Places.{advance, after, fault_from, is_small, is_within, start, text_fault}
+use Rattle.star_program.specs.Text.FirstFaults.{FirstFault}
+use Rattle.star_program.proofs.Text.FirstFaultLaw.{first_refused, refused_first}
+use Rattle.star_program.specs.Private.Places.{advance, after, fault_from, is_small, is_within, start, text_fault}
 use Rattle.star_program.specs.Text.Said.{by_keyword, by_words, group_column_of, group_key_of, operation_of, said, unquoted}
 use Rattle.star_program.specs.Text.Spelling.{statements_of}
 use Rattle.star_program.specs.Text.Statements.{lines_of_code}
@@ -69,9 +71,12 @@ is_said : map said (lines_of whole_text) ≡ map Some (statements_of whole)
 unfolding said by_words by_keyword lines_of lines_of_code words_of pieces_of keyword_of keyword_name count_of register_of constant_of is_name shape_of aggregate_of group_key_of column_of table_of table_name mnemonic_of mnemonic_name operation_of unquoted group_column_of direction_of schema.column_of
 is_said = refl
 
-is_faultless : text_fault whole_text ≡ None
+is_faultless : (f : TextFault) → FirstFault whole_text f → ⊥
 unfolding text_fault fault_from start advance after is_within is_small said by_words by_keyword lines_of lines_of_code words_of pieces_of keyword_of keyword_name count_of register_of constant_of is_name shape_of aggregate_of group_key_of column_of table_of table_name mnemonic_of mnemonic_name operation_of unquoted group_column_of direction_of schema.column_of
-is_faultless = refl
+is_faultless f first = none (first_refused whole_text f first)
+  where
+    none : None ≡ Some f → ⊥
+    none e = cc
 
 its_instructions : (code_size whole.body ≡ 20) × (scan_depth whole.body ≡ 2)
 its_instructions = (refl, refl)
@@ -136,16 +141,28 @@ says_nothing_either = refl
 
 -- ---- lines where they may not stand
 
-abbrev fault_after : List ℕ → Option TextFault
-fault_after text = text_fault (codes "star program 1\nregisters 4096\n" ++ text)
+abbrev behind : List ℕ → List ℕ
+behind text = codes "star program 1\nregisters 4096\n" ++ text
 
-misplaced : (fault_after (codes "registers 1\n") ≡ Some (BadLine 3)) × (fault_after (codes "group 1 plain : count\n") ≡ Some (BadLine 3)) × (fault_after (codes "end\n") ≡ Some (BadLine 3)) × (fault_after (codes "report 0\nkeep r0\n") ≡ Some (BadLine 4)) × (fault_after (codes "report 0\nshow a key 0\nsort key 0 ascending\nshow a key 0\n") ≡ Some (BadLine 6)) × (fault_after (codes "keep r0\ngroup 0 plain : count\n") ≡ Some (BadLine 4)) × (fault_after (codes "scan customer r0\nend\n") ≡ Some (BadLine 5))
+misplaced : FirstFault (behind (codes "registers 1\n")) (BadLine 3) × FirstFault (behind (codes "group 1 plain : count\n")) (BadLine 3) × FirstFault (behind (codes "end\n")) (BadLine 3) × FirstFault (behind (codes "report 0\nkeep r0\n")) (BadLine 4) × FirstFault (behind (codes "report 0\nshow a key 0\nsort key 0 ascending\nshow a key 0\n")) (BadLine 6) × FirstFault (behind (codes "keep r0\ngroup 0 plain : count\n")) (BadLine 4) × FirstFault (behind (codes "scan customer r0\nend\n")) (BadLine 5)
 unfolding text_fault fault_from start advance after is_within is_small said by_words by_keyword lines_of words_of pieces_of keyword_of keyword_name count_of register_of constant_of is_name shape_of aggregate_of group_key_of table_of table_name group_column_of direction_of
-misplaced = (refl, refl, refl, refl, refl, refl, refl)
+misplaced = (
+  refused_first (behind (codes "registers 1\n")) (BadLine 3) refl,
+  refused_first (behind (codes "group 1 plain : count\n")) (BadLine 3) refl,
+  refused_first (behind (codes "end\n")) (BadLine 3) refl,
+  refused_first (behind (codes "report 0\nkeep r0\n")) (BadLine 4) refl,
+  refused_first (behind (codes "report 0\nshow a key 0\nsort key 0 ascending\nshow a key 0\n")) (BadLine 6) refl,
+  refused_first (behind (codes "keep r0\ngroup 0 plain : count\n")) (BadLine 4) refl,
+  refused_first (behind (codes "scan customer r0\nend\n")) (BadLine 5) refl,
+)
 
-too_large : (fault_after (codes "scan part r0\nscan part r0\nscan part r0\nscan part r0\n") ≡ Some (TooLarge 6)) × (fault_after (codes "group 0 plain number number number number number number number : count\n") ≡ Some (TooLarge 3)) × (fault_after (codes "group 0 plain : sum sum sum sum sum sum sum sum sum\n") ≡ Some (TooLarge 3))
+too_large : FirstFault (behind (codes "scan part r0\nscan part r0\nscan part r0\nscan part r0\n")) (TooLarge 6) × FirstFault (behind (codes "group 0 plain number number number number number number number : count\n")) (TooLarge 3) × FirstFault (behind (codes "group 0 plain : sum sum sum sum sum sum sum sum sum\n")) (TooLarge 3)
 unfolding text_fault fault_from start advance after is_within is_small said by_words by_keyword lines_of words_of pieces_of keyword_of keyword_name count_of register_of shape_of aggregate_of group_key_of table_of table_name
-too_large = (refl, refl, refl)
+too_large = (
+  refused_first (behind (codes "scan part r0\nscan part r0\nscan part r0\nscan part r0\n")) (TooLarge 6) refl,
+  refused_first (behind (codes "group 0 plain number number number number number number number : count\n")) (TooLarge 3) refl,
+  refused_first (behind (codes "group 0 plain : sum sum sum sum sum sum sum sum sum\n")) (TooLarge 3) refl,
+)
 
 -- ---- the words of faults
 

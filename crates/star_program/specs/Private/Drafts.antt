@@ -1,13 +1,12 @@
 -- A program as far as its text was read, and what that much of the text says.
-use Rattle.std.specs.Prelude.{◌≡◌, ℕ, ◌+◌, ◌≤◌, List, [], ◌∷◌, ◌++◌, All, Option, Some, filter, length, map, not}
+use Rattle.std.specs.Prelude.{◌≡◌, ℕ, ◌+◌, ◌≤◌, List, [], ◌∷◌, ◌++◌, All, Some, length, map}
 use Rattle.star_common.specs.Memory.{UnlessMemory}
 use Rattle.star_program.specs.Code.{Code, Stop, Then, Each, code_size, scan_depth}
 use Rattle.star_program.specs.Private.Followed.{followed}
 use Rattle.star_program.specs.Limits.{IsSmall}
-use Rattle.star_program.specs.Text.Lines.{is_blank}
 use Rattle.star_program.specs.Private.Within.{IsWithin}
-use Rattle.star_program.specs.Text.Places.{fault_from}
-use Rattle.star_program.specs.Text.Said.{said}
+use Rattle.star_program.specs.Private.Places.{fault_from}
+use Rattle.star_program.specs.Text.Said.{said_in}
 use Rattle.star_program.specs.declared.group.GroupDecl.{GroupDecl}
 use Rattle.star_program.specs.declared.program.Parts.{Parts}
 use Rattle.star_program.specs.declared.spelling.draft.Draft.{Draft}
@@ -118,15 +117,11 @@ pub record IsAt (p : Place) (d : Draft) : Type 0 where
   pub counts : Counts p.groups p.instructions p.depth p.shows p.sorts d
   pub order : IsInOrder p.stage d
 
--- what the lines that aren't blank say, as far as they say something
-abbrev pub lines_say : List (List ℕ) → List (Option Statement)
-lines_say texts = map said (filter (λ line. not (is_blank line)) texts)
-
 -- a line was read: the place and the draft after it
 pub record IsPassed (p : Place) (d : Draft) (line : ℕ) (text : List ℕ) (q : Place) (e : Draft) : Type 0 where
   pub at : IsAt q e
   pub faults : (texts : List (List ℕ)) → fault_from p line (text ∷ texts) ≡ fault_from q (line + 1) texts
-  pub says : (texts : List (List ℕ)) → map Some (told p.stage d) ++ lines_say (text ∷ texts) ≡ map Some (told q.stage e) ++ lines_say texts
+  pub says : (texts : List (List ℕ)) → map Some (told p.stage d) ++ said_in (text ∷ texts) ≡ map Some (told q.stage e) ++ said_in texts
 
 -- a line was refused: there was no memory, or whatever follows it, its fault is the first of the text
 abbrev pub IsRefused : TextFault → Place → ℕ → List ℕ → Type 0

@@ -1,5 +1,5 @@
 -- What a line of a program says, by its words.
-use Rattle.std.specs.Prelude.{ℕ, ◌==◌, ◌&&◌, if◌then◌else◌, List, [], ◌∷◌, Option, Some, None, codes}
+use Rattle.std.specs.Prelude.{ℕ, ◌==◌, ◌&&◌, if◌then◌else◌, List, [], ◌∷◌, Option, Some, None, codes, filter, map, not}
 use Rattle.std.specs.List.{list_all}
 use Rattle.std.specs.Option.{option_and_then, option_map}
 use Rattle.star_schema.specs.Tables.{is_printable}
@@ -180,3 +180,7 @@ by_words (w ∷ ws) = by_first (keyword_of w) w ws
 -- what a line says, if it says something: its bytes are printable
 unfoldable pub said : List ℕ → Option Statement
 said line = if list_all is_printable line then by_words (words_of line) else None
+
+-- what lines say that aren't blank, one after another
+abbrev pub said_in : List (List ℕ) → List (Option Statement)
+said_in lines = map said (filter (λ line. not (is_blank line)) lines)

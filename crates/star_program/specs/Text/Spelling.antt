@@ -1,10 +1,7 @@
 -- Which programs a text spells (this project's text of programs).
-use Rattle.std.specs.Prelude.{◌≡◌, ◌↔◌, not, ℕ, List, None, Some, Result, MatchResult, filter, map}
-use Rattle.star_common.specs.Memory.{UnlessMemory}
-use Rattle.star_program.specs.Text.Lines.{is_blank, lines_of}
-use Rattle.star_program.specs.Limits.{IsWithinLimits}
-use Rattle.star_program.specs.Text.Places.{text_fault}
-use Rattle.star_program.specs.Text.Said.{said}
+use Rattle.std.specs.Prelude.{◌≡◌, ℕ, List, Some, Result, MatchResult, map}
+use Rattle.star_program.specs.Text.Lines.{lines_of}
+use Rattle.star_program.specs.Text.Said.{said_in}
 use Rattle.star_program.specs.Text.Statements.{lines_of_program}
 use Rattle.star_program.specs.declared.program.Parts.{Parts}
 use Rattle.star_program.specs.declared.spelling.fault.TextFault.{TextFault}
@@ -17,20 +14,12 @@ statements_of p = map (λ line. line.says) (lines_of_program p)
 
 -- a text spells a program: its lines that aren't blank say the program's statements, one after another
 unfoldable pub Spells : List ℕ → Parts → Type 0
-Spells text p = map said (filter (λ line. not (is_blank line)) (lines_of text)) ≡ map Some (statements_of p)
+Spells text p = said_in (lines_of text) ≡ map Some (statements_of p)
 
 -- no text spells two programs
 abbrev pub OneProgram : Type 0
 OneProgram = (text : List ℕ) (p q : Parts) → Spells text p → Spells text q → p ≡ q
 
--- there was no memory, or this is the first fault of the text
-abbrev pub IsFirstFault : List ℕ → TextFault → Type 0
-IsFirstFault text f = UnlessMemory fault.OutOfMemory f (text_fault text ≡ Some f)
-
 -- a program is read, unless memory runs out
 abbrev pub IsRead : Parts → Result Parts TextFault → Type 0
 IsRead p result = MatchResult result (λ q. q ≡ p) (λ f. f ≡ fault.OutOfMemory)
-
--- a text has no fault exactly where it spells a program within the limits
-abbrev pub Faultless : Type 0
-Faultless = (text : List ℕ) → (text_fault text ≡ None) ↔ ((p : Parts) × Spells text p × IsWithinLimits p)

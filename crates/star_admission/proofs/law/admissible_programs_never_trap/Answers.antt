@@ -4,7 +4,8 @@ use Rattle.std.specs.Prelude.{nat_lt, true}
 use Rattle.std.proofs.lemmas.Bool.{lt-ltb}
 use Rattle.star_admission.proofs.Runs.{ends}
 use Rattle.star_admission.proofs.SumRanges.{sums_fit}
-use Rattle.star_admission.proofs.Always.{at_every_moment, totals_lie}
+use Rattle.star_admission.proofs.Always.{accepted_throughout, totals_lie}
+use Rattle.star_admission.proofs.EachMoment.{throughout_holds}
 use Rattle.star_admission.proofs.law.admissible_programs_never_trap.Goals as goal
 
 pub returns-clause-ends : goal.returns-clause-ends
@@ -17,7 +18,8 @@ returns-clause-never_limited c = λ w parts most accepted enough. ends w parts
     (λ k h. lt-ltb k most (omega (arith, h, enough))) _ (λ s tallied visits. visits)
 
 pub returns-clause-moments : goal.returns-clause-moments
-returns-clause-moments c = at_every_moment
+returns-clause-moments c = λ w parts accepted.
+    throughout_holds w parts (accepted_throughout w parts accepted)
 
 pub returns-clause-sums : goal.returns-clause-sums
 returns-clause-sums c = sums_fit

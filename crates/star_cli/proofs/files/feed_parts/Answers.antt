@@ -6,10 +6,10 @@ loop-number-init g c = stays c.args.reader.now
 
 pub loop-number-preserved : goal.loop-number-preserved
 loop-number-preserved g c =
-    stays_on c.args.reader.now c.loop-number.reader c.feed_part.new.reader c.loop-number.invariant
-    c.in_ok-feed_part.ensures
+    stays_on c.args.reader.now c.loop-number.reader c.feed_file.new.reader c.loop-number.invariant
+    c.in_ok-feed_file.ensures
 
 pub returns-then-not-branch : goal.returns-then-not-branch
 returns-then-not-branch g c =
-    stays_on c.args.reader.now c.loop-number.reader c.feed_part.new.reader c.loop-number.invariant
-    c.in_ok-feed_part.ensures
+    stays_on c.args.reader.now c.loop-number.reader c.feed_file.new.reader c.loop-number.invariant
+    c.in_ok-feed_file.ensures

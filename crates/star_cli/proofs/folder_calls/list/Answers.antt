@@ -1,13 +1,18 @@
 use Rattle.star_engine.specs.Answered.{IsAnswered, change}
 use Rattle.star_engine.specs.Listing.{IsListing}
 use Rattle.star_engine.specs.Loads.{IsUnloaded}
+use Rattle.star_engine.proofs.ByClauses.{is_answered}
 use Rattle.star_cli.proofs.Giving.{widest}
 use Rattle.star_cli.proofs.folder_calls.list.Goals as goal
 
 pub returns : goal.returns
 returns g c = λ texts are. (
   c.check_read.result,
-  widest (λ rows visits. IsAnswered (change g.S.Sink.contents g.S.Sink.is_failed c.args.out.now c.check_read.new.out) (IsListing rows texts) (IsUnloaded rows texts) c.check_read.result) c.widest.result.rows c.widest.result.visits c.widest.ensures.rows c.widest.ensures.visits (c.check_read.ensures texts (rw c.widest.ensures.rows are)),
+  widest (λ rows visits. IsAnswered (change g.S.Sink.contents g.S.Sink.is_failed c.args.out.now c.check_read.new.out) (IsListing rows texts) (IsUnloaded rows texts) c.check_read.result) c.widest.result.rows c.widest.result.visits c.widest.ensures.rows c.widest.ensures.visits (is_answered (change g.S.Sink.contents g.S.Sink.is_failed c.args.out.now c.check_read.new.out)
+      (IsListing c.widest.result.rows texts)
+      (IsUnloaded c.widest.result.rows texts) c.check_read.result
+      (c.check_read.ensures.written texts (rw c.widest.ensures.rows are)) (c.check_read.ensures.broken texts (rw c.widest.ensures.rows are))
+      (c.check_read.ensures.refused texts (rw c.widest.ensures.rows are)) c.check_read.ensures.memory),
   c.whole.ensures,
 )
 

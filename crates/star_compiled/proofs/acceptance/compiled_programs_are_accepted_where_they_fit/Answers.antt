@@ -1,5 +1,5 @@
 -- The clauses are lemmas.
-use Rattle.star_compiled.proofs.Verdicts.{accepted_fits, costly, fitting_accepted, overflows}
+use Rattle.star_compiled.proofs.Verdicts.{accepted_fits, costly, first, fitting_accepted, overflows}
 use Rattle.star_compiled.proofs.acceptance.compiled_programs_are_accepted_where_they_fit.Goals as goal
 
 pub returns : goal.returns
@@ -8,4 +8,5 @@ returns c = record {
   accepted = accepted_fits;
   costly = costly;
   wide = overflows;
+  first = first;
 }

@@ -1,6 +1,6 @@
 -- The law over the world of the tables.
 use Rattle.star_world.specs.WorldOf.{world_of}
-use Rattle.star_compiled.proofs.Verdicts.{accepted_fits, costly, fitting_accepted, overflows}
+use Rattle.star_compiled.proofs.Verdicts.{accepted_fits, costly, first, fitting_accepted, overflows}
 use Rattle.star_compiled.proofs.acceptance.compiled_programs_are_accepted_where_they_fit_the_tables.Goals as goal
 
 pub returns-clause-fits : goal.returns-clause-fits
@@ -14,3 +14,6 @@ returns-clause-costly c = λ database. costly (world_of database)
 
 pub returns-clause-wide : goal.returns-clause-wide
 returns-clause-wide c = λ database. overflows (world_of database)
+
+pub returns-clause-first : goal.returns-clause-first
+returns-clause-first c = λ database. first (world_of database)

@@ -22,6 +22,8 @@ returns c =
       wide = fit.wide most database query p meant;
       quoted = report.quoted database p;
       printed = λ s. report.printed database query p s loaded meant;
+      first = fit.first most database query p meant;
+      counted = λ s ended meant. report.counted database query p s loaded meant ended;
     })
     THIRTEEN c.in_ok-all.all found.fits found.text.items c.in_ok-all.ensures
     c.in_ok-sections_of.ensures

@@ -24,5 +24,7 @@ returns g c = λ query program.
       wide = fit.wide most database query program.p program.meant;
       quoted = report.quoted database program.p;
       printed = λ s. report.printed database query program.p s loaded program.meant;
+      first = fit.first most database query program.p program.meant;
+      counted = λ s ended meant. report.counted database query program.p s loaded meant ended;
     })
     c.execute.ensures

@@ -16,3 +16,9 @@ pub returns-clause-printed : goal.returns-clause-printed
 returns-clause-printed c = λ database query p s loaded meant ended outcome told.
     c.compiled_programs_report_their_queries.ensures database query meant.tree p loaded.sound
     loaded.rows meant.means meant.named meant.resolved (λ visits. true) s outcome ended told
+
+pub returns-clause-counted : goal.returns-clause-counted
+returns-clause-counted c = λ database query p s loaded meant ended.
+    c.compiled_programs_count_the_rows.ensures database (world_of database) meant.tree p loaded.rows
+    (c.sound_rows_have_a_world.ensures database loaded.sound) meant.named meant.resolved
+    (λ visits. true) s ended

@@ -37,6 +37,11 @@ returns-clause-wide c = λ most database query p meant within unfit.
     c.compiled_programs_are_accepted_where_they_fit_the_tables.ensures.wide database most p
     (plan_sound query p meant) within (λ fits. unfit (own.1 fits))
 
+pub returns-clause-first : goal.returns-clause-first
+returns-clause-first c = λ most database query p meant.
+    c.compiled_programs_are_accepted_where_they_fit_the_tables.ensures.first database most p
+    (plan_sound query p meant)
+
 pub returns-clause-answered : goal.returns-clause-answered
 returns-clause-answered c = λ most database query p loaded meant fits small.
     let w = world_of database in

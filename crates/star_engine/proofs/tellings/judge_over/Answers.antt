@@ -29,6 +29,8 @@ returns c =
       wide = fit.wide most database file p meant;
       quoted = report.quoted database p;
       printed = λ s. report.printed database file p s loaded meant;
+      first = fit.first most database file p meant;
+      counted = λ s ended meant. report.counted database file p s loaded meant ended;
     } in
     matched_as (λ line. IsProgramForecast database most c.in_ok-program.program (string_bytes line))
     (λ line. IsJudgedOver most database file (string_bytes line))

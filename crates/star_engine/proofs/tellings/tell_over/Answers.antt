@@ -29,6 +29,8 @@ returns c =
       wide = fit.wide most database file p meant;
       quoted = report.quoted database p;
       printed = λ s. report.printed database file p s loaded meant;
+      first = fit.first most database file p meant;
+      counted = λ s ended meant. report.counted database file p s loaded meant ended;
     } in
     matched_as (λ told. IsProgramTold database most c.in_ok-program.program (telling_of told))
     (λ told. IsFileToldOver most database file (telling_of told))

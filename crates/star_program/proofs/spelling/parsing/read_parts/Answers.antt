@@ -1,8 +1,9 @@
 use Rattle.std.proofs.Common.{◌∙◌, ◌++◌, Some, ap, append-nil, arith, inl, inr, map, refl, sym}
 use Rattle.std.proofs.lemmas.Result.{err_from_is_err_and}
-use Rattle.star_program.specs.Private.Drafts.{lines_say, told}
+use Rattle.star_program.specs.Text.Said.{said_in}
+use Rattle.star_program.specs.Private.Drafts.{told}
 use Rattle.star_program.specs.Text.Lines.{lines_of}
-use Rattle.star_program.specs.Text.Places.{fault_from}
+use Rattle.star_program.specs.Private.Places.{fault_from}
 use Rattle.star_program.proofs.Text.PassedLines.{end_spelled, end_within, nothing_at_start, nothing_told}
 use Rattle.star_program.proofs.Text.FaultLemmas.{ended, text_fault_is}
 use Rattle.star_program.proofs.spelling.parsing.read_parts.Goals as goal
@@ -22,7 +23,7 @@ loop-first-preserved c =
     let line = c.in-Some.ensures.line in
     record {
       faults = was.faults ∙ ap (fault_from c.loop-first.place c.loop-first.line) line ∙ passed.faults (lines_of c.in-Some.after.now);
-      says = was.says ∙ ap (λ texts. map Some (told c.loop-first.place.stage c.loop-first.draft) ++ lines_say texts) line ∙ passed.says (lines_of c.in-Some.after.now);
+      says = was.says ∙ ap (λ texts. map Some (told c.loop-first.place.stage c.loop-first.draft) ++ said_in texts) line ∙ passed.says (lines_of c.in-Some.after.now);
       at = passed.at;
       room = omega (arith, c.in-Some.ensures.shorter);
     }
@@ -45,7 +46,7 @@ pub returns-in-None : goal.returns-in-None
 returns-in-None c =
     let was = c.loop-first.invariant in
     let ends = sym c.end_fault.ensures ∙ c.in-None.is in
-    let all = was.says ∙ ap (λ texts. map Some (told c.loop-first.place.stage c.loop-first.draft) ++ lines_say texts) c.in_default.ensures.line
+    let all = was.says ∙ ap (λ texts. map Some (told c.loop-first.place.stage c.loop-first.draft) ++ said_in texts) c.in_default.ensures.line
     ∙ append-nil (map Some (told c.loop-first.place.stage c.loop-first.draft)) in
     rw c.finish.ensures
     (end_spelled c.loop-first.place c.loop-first.draft c.loop-first.line c.args.text.now was.at ends all, end_within c.loop-first.place c.loop-first.draft c.loop-first.line was.at ends)

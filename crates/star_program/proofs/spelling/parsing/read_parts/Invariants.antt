@@ -1,14 +1,15 @@
 -- The lines so far have no fault, and say what the draft says.
 use Rattle.std.proofs.Common.{◌≡◌, ◌≤◌, ◌+◌, ◌++◌, Some, length, map}
-use Rattle.star_program.specs.Private.Drafts.{IsAt, lines_say, told}
+use Rattle.star_program.specs.Text.Said.{said_in}
+use Rattle.star_program.specs.Private.Drafts.{IsAt, told}
 use Rattle.star_program.specs.Text.Lines.{lines_of}
-use Rattle.star_program.specs.Text.Places.{fault_from, start}
+use Rattle.star_program.specs.Private.Places.{fault_from, start}
 use Rattle.star_program.proofs.spelling.parsing.read_parts.Given as goal
 
 abbrev pub invariant-loop-first : goal.invariant-loop-first
 invariant-loop-first l = record {
   faults : fault_from start 1 (lines_of l.text) ≡ fault_from l.place l.line (lines_of l.rest);
-  says : lines_say (lines_of l.text) ≡ map Some (told l.place.stage l.draft) ++ lines_say (lines_of l.rest);
+  says : said_in (lines_of l.text) ≡ map Some (told l.place.stage l.draft) ++ said_in (lines_of l.rest);
   at : IsAt l.place l.draft;
   room : l.line + length l.rest ≤ length l.text + 1;
 }

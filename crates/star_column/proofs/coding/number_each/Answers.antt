@@ -1,7 +1,0 @@
-use Rattle.star_column.proofs.Repeats.{each_numbered}
-use Rattle.star_column.proofs.coding.number_each.Goals as goal
-
-pub returns-clause-numbers : goal.returns-clause-numbers
-returns-clause-numbers c =
-    rw (c.in_ok-each.ensures, c.as_slice.ensures.value, ← c.parts.ensures.texts)
-    (each_numbered _ _ _ _ c.parts.ensures.repeated c.in_ok-distinct.ensures.numbers)

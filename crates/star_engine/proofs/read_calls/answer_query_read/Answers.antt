@@ -1,0 +1,53 @@
+use Rattle.star_engine.specs.Queries.{IsQueryQuote, IsQueryTold, IsReportOf, IsUnanswered}
+use Rattle.star_engine.proofs.Reported.{query_report}
+use Rattle.star_engine.specs.Answered.{change}
+use Rattle.star_engine.proofs.ByClauses.{has_reported, has_told, is_telling_broken_off, is_telling_refused, is_telling_untold}
+use Rattle.star_engine.proofs.read_calls.answer_query_read.Goals as goal
+
+pub returns-clause-reported : goal.returns-clause-reported
+returns-clause-reported g c = λ texts are.
+    has_reported (change g.S.Sink.contents g.S.Sink.is_failed c.args.out.now c.answer_query_read.new.out)
+    (change g.N.Sink.contents g.N.Sink.is_failed c.args.notes.now c.answer_query_read.new.notes)
+    (IsQueryQuote c.args.limits.rows texts c.args.query.now)
+    (IsQueryTold c.args.limits.rows c.args.limits.visits texts c.args.query.now)
+    (IsUnanswered c.args.limits.rows c.args.limits.visits texts c.args.query.now)
+    c.answer_query_read.result
+    (IsReportOf c.args.limits.rows texts c.args.query.now)
+    (query_report c.args.limits.rows c.args.limits.visits texts c.args.query.now)
+    (c.answer_query_read.ensures texts are)
+
+pub returns-clause-noted : goal.returns-clause-noted
+returns-clause-noted g c = λ texts are.
+    has_told (change g.S.Sink.contents g.S.Sink.is_failed c.args.out.now c.answer_query_read.new.out)
+    (change g.N.Sink.contents g.N.Sink.is_failed c.args.notes.now c.answer_query_read.new.notes)
+    (IsQueryQuote c.args.limits.rows texts c.args.query.now)
+    (IsQueryTold c.args.limits.rows c.args.limits.visits texts c.args.query.now)
+    (IsUnanswered c.args.limits.rows c.args.limits.visits texts c.args.query.now)
+    c.answer_query_read.result (c.answer_query_read.ensures texts are)
+
+pub returns-clause-broken : goal.returns-clause-broken
+returns-clause-broken g c = λ texts are.
+    is_telling_broken_off (change g.S.Sink.contents g.S.Sink.is_failed c.args.out.now c.answer_query_read.new.out)
+    (change g.N.Sink.contents g.N.Sink.is_failed c.args.notes.now c.answer_query_read.new.notes)
+    (IsQueryQuote c.args.limits.rows texts c.args.query.now)
+    (IsQueryTold c.args.limits.rows c.args.limits.visits texts c.args.query.now)
+    (IsUnanswered c.args.limits.rows c.args.limits.visits texts c.args.query.now)
+    c.answer_query_read.result (c.answer_query_read.ensures texts are)
+
+pub returns-clause-refused : goal.returns-clause-refused
+returns-clause-refused g c = λ texts are.
+    is_telling_refused (change g.S.Sink.contents g.S.Sink.is_failed c.args.out.now c.answer_query_read.new.out)
+    (change g.N.Sink.contents g.N.Sink.is_failed c.args.notes.now c.answer_query_read.new.notes)
+    (IsQueryQuote c.args.limits.rows texts c.args.query.now)
+    (IsQueryTold c.args.limits.rows c.args.limits.visits texts c.args.query.now)
+    (IsUnanswered c.args.limits.rows c.args.limits.visits texts c.args.query.now)
+    c.answer_query_read.result (c.answer_query_read.ensures texts are)
+
+pub returns-clause-memory : goal.returns-clause-memory
+returns-clause-memory g c = λ texts are.
+    is_telling_untold (change g.S.Sink.contents g.S.Sink.is_failed c.args.out.now c.answer_query_read.new.out)
+    (change g.N.Sink.contents g.N.Sink.is_failed c.args.notes.now c.answer_query_read.new.notes)
+    (IsQueryQuote c.args.limits.rows texts c.args.query.now)
+    (IsQueryTold c.args.limits.rows c.args.limits.visits texts c.args.query.now)
+    (IsUnanswered c.args.limits.rows c.args.limits.visits texts c.args.query.now)
+    c.answer_query_read.result (c.answer_query_read.ensures texts are)
