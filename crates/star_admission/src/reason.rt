@@ -20,6 +20,8 @@ pub struct Reached {
 /// Columns that a number is computed from, in the order of all columns, each once.
 pub type ReachedColumns = Items<Reached>;
 
+// The bounds of an overflow are two plain numbers: an interval carries that its low end is at most
+// its high one, which a range that is only known doesn't.
 /// Why an instruction is refused.
 #[derive(Drop)]
 pub enum Reason {

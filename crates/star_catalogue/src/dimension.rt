@@ -91,6 +91,8 @@ fn row_in_slot(row: u32) -> Option<u32>
     if row == NO_ROW { None } else { Some(row) }
 }
 
+// A load looks up five foreign keys a line by it. A hash for each would cost more than the rest of
+// the look-up.
 /// A short way to the rows of keys that lie close together: for each number from the least key on
 /// the row with that key, or `NO_ROW`.
 #[derive(Drop)]

@@ -78,6 +78,8 @@ fn check_references(tables: &Tables) -> Result<(), LoadFault>
     Ok(())
 }
 
+// A load finds the rows of foreign keys column by column. Only where a key is absent are the
+// records gone through again.
 /// The first foreign key that is no key of its table, by record and then by column, where one is
 /// none.
 pub(crate) fn absent_key(tables: &Tables) -> LoadFault

@@ -35,6 +35,7 @@ fn name_of(path: &str) -> Option<&str>
     Path::new(path).file_stem()
 }
 
+// There are 1,000 names at most, so each is compared with all before it.
 fn is_taken(names: &[&str], name: &str) -> bool {
     names.iter().any(|taken| *taken == name)
 }

@@ -43,6 +43,8 @@ pub(crate) fn status_of(fault: &EngineFault) -> u8
     }
 }
 
+// The line of a fault is made whole before any of it is written, so that the law of sinks says what
+// the stream gains.
 /// Writes the line of a fault, and gives its exit status; those of want of memory where there is
 /// none for the line.
 pub fn tell_fault<S: Sink>(alloc: Global, err: &mut S, fault: &EngineFault) -> u8

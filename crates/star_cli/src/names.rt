@@ -25,6 +25,8 @@ fn write_escape<W: fmt::Write>(escape: EscapeDefault, f: &mut fmt::Formatter<W>)
     Ok(())
 }
 
+// `escape_default` writes these letters as `escape_debug` does, but for the zero; and its clause
+// says so beyond ASCII too.
 fn write_letter<W: fmt::Write>(letter: char, f: &mut fmt::Formatter<W>) -> fmt::Result
     ensures { WritesOnOk W.write_str_gives f.old result (shown_letter letter) f.new }
 {

@@ -76,6 +76,9 @@ fn line_of(alloc: Global, file: TableFile, came: u64, size: u64) -> Result<Strin
     format!(in alloc; "{BLANK}{file} {came} of {size} MB")
 }
 
+// The terminal is an end of standard error of its own, which `main` hands over only where standard
+// error is a terminal: so nothing reaches a file, and what contracts say of the streams that calls
+// are handed holds as it is.
 /// Shows on one line of a terminal which file a load reads and how many megabytes of it have come, once
 /// the load has taken a second; at most ten times in a second. The line is wiped in the end. A terminal
 /// that can't be written to is shown nothing more.

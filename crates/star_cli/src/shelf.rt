@@ -30,6 +30,8 @@ impl From<AllocError> for ShelfFault {
     }
 }
 
+// A shelf keeps in mind how far the report came whose write failed: else a body that tells of a
+// failed write without any would meet the contract.
 /// A place that keeps reports, each under a name of its own.
 pub trait Shelf {
     // The reports that were kept, in order, where they are known.
@@ -47,6 +49,8 @@ pub trait Shelf {
             (IsUnkept (shelving reports failed_at self.old self.new) report.now) };
 }
 
+// A part that a killed run left is written over by the next. A folder is one command's at a time:
+// two that write reports of one name at once share its part.
 /// A folder as a shelf. A report is the file `NAME.report`. It is written whole under another name,
 /// `NAME.report.part`, and then renamed, so that no half report is ever seen under its own.
 #[derive(Clone, Copy)]

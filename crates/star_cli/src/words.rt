@@ -199,6 +199,8 @@ fn tables_told<'a>(alloc: Global) -> Failure<'a> {
 }
 
 // The task that the words ask for.
+// Each command's words are parsed by themselves: of the command that is parsed the parser's clauses
+// say that the required words are there, and of one inside it little more than its name.
 fn task_of<'a>(alloc: Global, words: &'a [String]) -> Result<Task<'a>, Failure<'a>> {
     let Some((name, rest)) = words.split_first() else {
         return Ok(Task::Sample);

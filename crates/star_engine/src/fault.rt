@@ -17,6 +17,8 @@ use std::alloc::AllocError;
 use std::fmt;
 use thiserror::Error;
 
+// A fault may hold the columns behind a range, so it is neither copied nor compared. The
+// conversions are written by hand, since clauses cite what each gives.
 /// Why an answer was not given. Shown, it is its `FaultLine`.
 #[derive(Debug, Drop, Error)]
 #[error("{line}", line = FaultLine(self))]

@@ -33,6 +33,8 @@ impl<R: Read> Input<R> {
     }
 
     // One read, with no second try where it fails.
+    // That it fails only where this call of the reader does, no clause can tell: of an error the
+    // library's `Read` says only that no known byte was taken.
     pub(crate) fn read(&mut self, room: &mut [u8]) -> Result<usize, FileFault>
         ensures bound { ReadsAtMost result room.new }
         ensures bytes { ReadConsumes (R.remaining (reader_of self.old))

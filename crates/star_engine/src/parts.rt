@@ -10,6 +10,8 @@ use star_reader::TableReader;
 use std::alloc::Global;
 use std::io::Read;
 
+// The room for a piece is cleared for each file, of which there may be a thousand small ones, and
+// stays in the processor's cache.
 /// The most bytes of one read, and so of one piece of a table.
 const MOST_OF_A_PIECE: usize = 262_144;
 

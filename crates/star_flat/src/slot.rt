@@ -5,6 +5,8 @@ ghost use Rattle.std.specs.Prelude.{◌<◌};
 /// How many slots there are for texts that were met lately.
 pub const SLOTS: usize = 256;
 
+// The clause bounds the answer alone: a text in a slot is compared before it is believed, so the
+// spread of texts decides only how soon an equal one is found.
 /// The slot of a text, by its length, its first and its last byte. Other texts have it too.
 #[inline(always)]
 pub fn slot_of(text: &[u8]) -> usize

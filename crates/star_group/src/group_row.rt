@@ -10,6 +10,7 @@ pub(crate) type Key = [Option<KeyValue>; 6];
 
 pub(crate) const ALL: Key = [None; 6];
 
+// Of the `ArrayVec` of the crate `arrayvec` contracts would see a record that holds the list.
 /// The first items of an array. A contract sees the list of them.
 #[derive(Drop)]
 pub struct Prefix<T, const MOST: usize> {

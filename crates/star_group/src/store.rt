@@ -58,6 +58,8 @@ pub trait GroupStore: Drop {
         ensures refused { OnErr result ((puts : List Put) → has self.old puts → has self.new puts) }
         ensures group { group self.new ≡ group self.old };
 
+    // The condition is asked row by row: that there is room for all rows together gives no room for
+    // the first, since positive sums may be greater before negative numbers come.
     /// The puts of some rows, one after another in order. Its condition is that of each of these
     /// puts. Where memory is refused the content is that with the puts of the first rows.
     fn put_batch(&mut self, batch: &PutBatch<'_>) -> Result<(), AllocError>

@@ -52,6 +52,8 @@ impl Model for Body {
 }
 
 impl Body {
+    // Whoever makes bodies by hand owes that they nest no deeper than a stack bears: `Program::new`
+    // refuses deep ones, but letting go of them goes as deep as they do.
     /// The body of these steps.
     pub fn from_vec(steps: Vec<Step>) -> Body
         ensures { result ≡ code_of_steps steps.items }

@@ -131,6 +131,8 @@ impl Program {
         Ok(Program { parts })
     }
 
+    // A text is also written of a program that no text spells: `new` takes registers, places and
+    // names that no line can say, and keys of groups that are of a column of numbers.
     /// The program's text: a line for each statement, one space between words, two before a line
     /// for each scan round it, numbers without zeros in front, a line feed after each line.
     pub fn to_text(&self) -> Result<Vec<u8>, AllocError>

@@ -27,6 +27,8 @@ pub(crate) trait Listing {
         ensures reads { ReadsOne (spot_of parser.old) (spot_of parser.new) result }
         ensures shorter { length parser.new.left.now ≤ length parser.old.left.now };
 
+    // What each list has here is proved among the definitions (`specs/Private/Lists.antt`), since
+    // an `impl` may name nothing else of its own crate.
     ghost is_list: { IsListOf ReadsOne ReadsAll };
 }
 

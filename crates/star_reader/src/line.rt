@@ -28,6 +28,8 @@ fn from(line: &[u8], place: usize) -> &[u8]
 
 // Adds the values of a line to the columns of its table, if it is a record of them, and tells
 // whether it is. Where it is none the columns may differ in length.
+// Fields are found here and not by `csv`: that takes two steps of its machine a field, and a number
+// would be looked through for its end twice.
 fn push_line(columns: &mut [RawColumn], line: &[u8]) -> Result<bool, AllocError>
     ensures pushed { (at_row : ℕ) → IfOk result (λ whole. MatchBool whole
         (AddsRecord at_row (fields_of line.now) columns.old columns.new)

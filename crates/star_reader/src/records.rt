@@ -47,6 +47,8 @@ fn read_records(
     Ok(most)
 }
 
+// The lines begin with a line end since `csv` takes a byte order mark off the front of what it
+// reads, and one in mid-text has to stay.
 /// Adds the rows of lines, which begin with a line end, to the columns of a table with so many rows,
 /// and says how many there are then. After a fault the columns may differ in length. The reader is
 /// let go here, at one place.

@@ -96,6 +96,8 @@ impl TableReader {
         Ok(reader)
     }
 
+    // A fault is kept and told by `finish`, so that a load reads all files before it tells what is
+    // wrong with the contents of one.
     /// Reads one more piece of the part that is open. Where memory is refused `finish` will say so.
     pub fn feed(&mut self, alloc: Global, piece: &[u8])
         ensures { (table : TableId) (most : ℕ) (parts : List (List ℕ)) (text : List ℕ)

@@ -12,6 +12,8 @@ ghost use Rattle.star_program.specs.World.{World};
 ghost use Rattle.star_report.specs.Report.{report_text};
 ghost use Rattle.star_report.specs.Columns.{ColumnKind, AreRowsOf, IsFieldValue};
 
+// The numbers of these rows have at most 64 digits (`AreRowsOf`): beyond these the toolchain does
+// not say what is printed of a number.
 /// One text has one meaning: rows of the same columns with the same text are the same rows.
 pub fn one_text_has_one_meaning()
     ensures { (names : List (List ℕ)) (kinds : List ColumnKind) (rows others : List (List Cell))

@@ -7,6 +7,7 @@ ghost use Rattle.star_timing.specs.Times.{IsBest, IsMedian, seconds_text};
 use std::fmt;
 use std::time::Duration;
 
+// The best is told since what disturbs a run only makes it slower.
 /// The best and the median time of some runs, in microseconds.
 #[derive(Clone, Copy)]
 pub(crate) struct Summary {

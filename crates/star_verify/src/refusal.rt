@@ -9,6 +9,8 @@ use star_admission::Reason;
 use std::alloc::AllocError;
 use std::fmt;
 
+// A case for each of the twelve lines would say the number of the instruction in most of them; and
+// what refuses an instruction is asked and proved without its number.
 /// Why a program is refused. Instructions count from 1, as they stand in the text.
 #[derive(Drop)]
 pub enum Refusal {

@@ -188,6 +188,8 @@ const NO_KEYS: Front = Front {
 };
 
 // How many rows the report of a program can have at most, by what is put to the keys of each group.
+// Two closer bounds are left out, as both ask for more to be kept: by the updates and values of
+// each put by itself, and by keys that hang on one another, as a year on a date.
 pub(crate) fn most_rows(catalogue: &Catalogue, parts: &Parts, keys: &[Tally]) -> u128
     requires limits { IsWithinLimits parts.now }
     requires len { length keys.now ≡ 64 }

@@ -49,6 +49,8 @@ fn put_row(
 
 // The row of one put merged into that of each grouping of its keys that shows one; or no row
 // changes. A plain group has one such row, which takes no lists of keys and places.
+// Only a put of a plain group asks the newest rows first: one of a cube or a rollup finds several
+// rows, and asking for each there took no fewer instructions.
 #[inline(always)]
 fn put_beside(
     rows: &mut KeyedRows,

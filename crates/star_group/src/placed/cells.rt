@@ -24,6 +24,7 @@ fn narrow_at(words: &[i64], at: usize)
 }
 
 // That each of some words has 64 bits.
+// The loop only reads, and the compiler leaves it out.
 pub(crate) fn are_narrow(words: &[i64])
     ensures { (at : ℕ) → is_i64 (slice_index_or words.now at (pos 0)) ≡ true }
 {

@@ -25,6 +25,8 @@ use std::alloc::AllocError;
 
 impl PlacedStore {
     // The total of all puts.
+    // None is kept beside the places, so that a put changes its own cells alone. A group whose
+    // total a program reads gets no places: a read in a scan would go over all of them each time.
     pub(super) fn whole_total(&self) -> Total
         ensures { (puts : List Put) → Has self.now puts
             → HasAggregates (group_of self.now) puts result }

@@ -70,6 +70,8 @@ impl Span {
 }
 
 // The place of a key list.
+// It is a number in a mixed base: the first key's offset, and the size of its range times the place
+// of the others. One division a key gives the keys back, so no two lists share a place.
 pub(crate) fn place_of(spans: &[Span], keys: &[KeyValue]) -> Option<usize>
     requires same { length keys.now ≡ length spans.now }
     requires few { places spans.now ≤ 65536 }

@@ -27,6 +27,8 @@ const ALL: Lead = Lead { rank: 3, value: 0 };
 
 // The number of a row, and what leads it: in the column that is compared first, and in the next. The
 // row whose leads are less comes first. Both leads lie flat, as a sort moves these about.
+// The number takes four bytes, as in the links of a store: a group of 2^32 rows or more is told as
+// refused memory.
 #[derive(Clone, Copy)]
 pub(super) struct Led {
     value: i64,

@@ -89,6 +89,8 @@ fn compare_by(sort: SortKey, rows: &GroupRows, a: usize, b: usize) -> Ordering
 }
 
 // By the sort keys, and then by all keys of the rows.
+// In code this orders all rows, with NULL before the numbers. In the definition NULL meets no other
+// row: an aggregate is NULL in all rows of a group or in none.
 fn compare_rows(sorts: &[SortKey], rows: &GroupRows, a: usize, b: usize) -> Ordering
     ensures { result ≡ row_order sorts.now
         (row_shown (row_at rows.now a)) (row_shown (row_at rows.now b)) }

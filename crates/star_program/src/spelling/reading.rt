@@ -198,6 +198,7 @@ fn read_assigned(alloc: Global, target: u16, line: &[u8]) -> Result<Op, LineFaul
 }
 
 // The number of a group, its shape, and the line after them.
+// `group 00` is group 0: a group's number is compared as a number.
 fn group_head(line: &[u8]) -> Option<(u16, (Shape, &[u8]))>
     ensures { option_map (λ head. (head.0, (head.1.0, words_of head.1.1.now))) result
         ≡ spec.group_head (words_of line.now) }
