@@ -3,7 +3,9 @@
 //! than they need.
 #![tactic(auto)]
 
+mod coding;
 mod numbers;
+mod ordered;
 mod repeated;
 mod slot;
 mod texts;

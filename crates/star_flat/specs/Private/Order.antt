@@ -1,8 +1,14 @@
 -- The keys of texts, and their order.
 use Rattle.std.specs.Prelude.{◌≡◌, ◌+◌, ◌*◌, ◌<◌, ℕ, zero, suc, List, [], All, Contains, drop, length, map, min, slice_index, slice_index_or}
+use Rattle.std.specs.Cmp.Lexicographic.{slice_cmp}
 use Rattle.std.specs.List.Sorted.{IsSorted}
-use Rattle.star_column.specs.declared.ordered.Numbered.{Numbered}
-use Rattle.star_schema.specs.Dictionary.{text_cmp}
+use Rattle.std.specs.Ordering.{nat_cmp}
+use Rattle.std.specs.declared.cmp.Ordering.{Ordering}
+use Rattle.star_flat.specs.declared.ordered.Numbered.{Numbered}
+
+-- texts compare by their bytes, and one that another goes on from is less
+abbrev pub text_cmp : List ℕ → List ℕ → Ordering
+text_cmp a b = slice_cmp nat_cmp a b
 
 -- the first bytes of a text as the digits of a number, the first byte the highest, with zeros for
 -- those that it lacks

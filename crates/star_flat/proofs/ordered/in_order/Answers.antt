@@ -1,5 +1,5 @@
-use Rattle.star_column.proofs.InOrder.{AreInOrder-sorted}
-use Rattle.star_column.proofs.ordered.in_order.Goals as goal
+use Rattle.star_flat.proofs.InOrder.{AreInOrder-sorted}
+use Rattle.star_flat.proofs.ordered.in_order.Goals as goal
 
 pub returns : goal.returns
 returns c =

@@ -1,10 +1,10 @@
 use Rattle.std.proofs.Common.{◌≡◌, ◌∙◌, ◌+◌, take, sym, arith, true≢false}
-use Rattle.star_column.specs.Private.Codes.{different}
-use Rattle.star_column.specs.Private.Order.{texts_of}
-use Rattle.star_column.proofs.CodesKept.{code_here, put_again, put_new, some_put}
-use Rattle.star_column.proofs.Pushed.{pushed_before}
-use Rattle.star_column.proofs.coding.put_next.Goals as goal
-use Rattle.star_column.proofs.coding.put_next.Goals.{then-not-repeats+in_ok-push, else-not-repeats}
+use Rattle.star_flat.specs.Private.Codes.{different}
+use Rattle.star_flat.specs.Private.Order.{texts_of}
+use Rattle.star_flat.proofs.CodesKept.{code_here, put_again, put_new, some_put}
+use Rattle.star_flat.proofs.Pushed.{pushed_before}
+use Rattle.star_flat.proofs.coding.put_next.Goals as goal
+use Rattle.star_flat.proofs.coding.put_next.Goals.{then-not-repeats+in_ok-push, else-not-repeats}
 
 pub returns-clause-put : goal.returns-clause-put
 returns-clause-put c =

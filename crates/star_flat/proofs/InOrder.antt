@@ -7,11 +7,10 @@ use Rattle.std.proofs.lemmas.List.{get_or-map, length-map}
 use Rattle.std.proofs.lemmas.List.Elements.{All-get_or}
 use Rattle.std.proofs.lemmas.List.FromFn.{get_or-range_with_len, length-range_with_len}
 use Rattle.std.proofs.lemmas.List.Sorted.{All-permutation, Contains-permutation, IsPermutation-map, length_permutation}
-use Rattle.star_schema.specs.Dictionary.{text_cmp}
-use Rattle.star_column.specs.declared.ordered.Numbered.{Numbered}
-use Rattle.star_column.specs.Private.Order.{AreInOrder, IsKeyed, text_at, texts_of}
-use Rattle.star_column.proofs.Enumerated.{nothing}
-use Rattle.star_column.proofs.Keys.{by_key, up_by_text}
+use Rattle.star_flat.specs.declared.ordered.Numbered.{Numbered}
+use Rattle.star_flat.specs.Private.Order.{AreInOrder, IsKeyed, text_at, text_cmp, texts_of}
+use Rattle.star_flat.proofs.Enumerated.{nothing}
+use Rattle.star_flat.proofs.Keys.{by_key, up_by_text}
 
 abbrev pub number_of : Numbered → ℕ
 number_of e = e.number

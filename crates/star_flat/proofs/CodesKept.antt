@@ -1,5 +1,5 @@
 -- The codes of texts that were put in order.
-use Rattle.std.proofs.Common.{◌≡◌, ◌↔◌, ℕ, ◌+◌, ◌-◌, ◌<◌, false, List, [], ◌∷◌, ◌++◌, Option, Some, length, get_or, map, set, take, refl, sym, ap, ◌∙◌, inl, inr, ⊎_elim, arith, subst, true≢false}
+use Rattle.std.proofs.Common.{◌≡◌, ◌↔◌, ℕ, ◌+◌, ◌-◌, ◌<◌, ◌≤◌, false, List, [], ◌∷◌, ◌++◌, Option, Some, length, get_or, map, set, take, refl, sym, ap, ◌∙◌, inl, inr, ⊎_elim, arith, subst, true≢false}
 use Rattle.std.specs.Cmp.Lexicographic.{bytes_decides}
 use Rattle.std.specs.List.{Contains, slice_get}
 use Rattle.std.specs.List.Sorted.{IsStrictlySortedBy}
@@ -7,23 +7,22 @@ use Rattle.std.specs.Option.{option_map, unwrap_or}
 use Rattle.std.specs.Ordering.{eq_by_cmp, is_eq}
 use Rattle.std.specs.declared.cmp.Ordering.{Ordering}
 use Rattle.std.specs.declared.cmp.Ordering.TheVariants.{Less, Equal, Greater}
-use Rattle.std.proofs.lemmas.Bool.{cases_Bool, cases_eq}
+use Rattle.std.proofs.lemmas.Bool.{cases_Bool, cases_eq, cases_lt}
 use Rattle.std.proofs.lemmas.Cmp.{nat_list_cmp_total, tied_itself}
 use Rattle.std.proofs.lemmas.List.{ext_get_or, get_or-map, get_or_default, get_or-set_same, get_or-set_other, get_or-take, length-map, length-take}
-use Rattle.std.proofs.lemmas.List.Elements.{All-contains, All-get_or, All-more, Contains-get_or}
+use Rattle.std.proofs.lemmas.List.Elements.{All-get_or, All-more, Contains-get_or}
 use Rattle.std.proofs.lemmas.List.Kept.{Contains-from_dedup, IsStrictlySortedBy-dedup}
+use Rattle.std.proofs.lemmas.Map.Keys.{Less-from_sorted}
 use Rattle.std.proofs.lemmas.Map.Lookups.{exact_bytes}
 use Rattle.std.proofs.lemmas.Option.{get_or_from_slice_get, slice_get-get_or, slice_get-map, slice_get_within}
-use Rattle.star_common.proofs.Members.{from_contains_map}
-use Rattle.star_flat.specs.Repeated.{texts_at}
-use Rattle.star_schema.specs.Dictionary.{text_cmp}
-use Rattle.star_column.specs.declared.ordered.Numbered.{Numbered}
-use Rattle.star_column.specs.Private.Codes.{AreNumbers, LeadTo, different, same_text}
-use Rattle.star_column.specs.Private.Order.{AreInOrder, IsKeyed, key_of, text_at, texts_of}
-use Rattle.star_column.proofs.Different.{different_again, different_new, stands_last}
-use Rattle.star_column.proofs.Enumerated.{nothing}
-use Rattle.star_column.proofs.InOrder.{number_of}
-use Rattle.star_column.proofs.Keys.{same_key}
+use Rattle.star_flat.specs.Repeated.{AreRepeated, texts_at}
+use Rattle.star_flat.specs.declared.ordered.Numbered.{Numbered}
+use Rattle.star_flat.specs.Private.Codes.{LeadTo, different, same_text}
+use Rattle.star_flat.specs.Private.Order.{AreInOrder, IsKeyed, key_of, text_at, text_cmp, texts_of}
+use Rattle.star_flat.proofs.Different.{different_again, different_new, stands_last}
+use Rattle.star_flat.proofs.Enumerated.{nothing}
+use Rattle.star_flat.proofs.InOrder.{number_of}
+use Rattle.star_flat.proofs.Keys.{same_key}
 
 some_same : {X : Type 0} {x y : X} → Some x ≡ Some y → x ≡ y
 some_same {X} {x} {y} e = ap (λ (o : Option X). unwrap_or o x) e
@@ -50,17 +49,43 @@ pub sorted_different : (texts : List (List ℕ)) (ordered : List Numbered) → A
 sorted_different texts ordered order =
     IsStrictlySortedBy-dedup nat_list_cmp_total ties (texts_of texts ordered) order.sorted
 
+-- a text stands at one place of texts that are strictly in order
+not_before : (ts : List (List ℕ)) → IsStrictlySortedBy text_cmp ts → (m n : ℕ) (t : List ℕ)
+    → slice_get ts m ≡ Some t → slice_get ts n ≡ Some t → m < n → ⊥
+not_before ts sorted m n t at_m at_n before =
+    let less : text_cmp t t ≡ Less =
+    (λ i. text_cmp (sym (get_or_from_slice_get ts m t [] at_m) i)
+    (sym (get_or_from_slice_get ts n t [] at_n) i))
+    ∙ Less-from_sorted text_cmp ts m n [] sorted before (slice_get_within ts n t at_n) in
+    true≢false (sym (ap is_eq (tied_itself nat_list_cmp_total t)) ∙ ap is_eq less)
+
+one_place : (ts : List (List ℕ)) → IsStrictlySortedBy text_cmp ts → (m n : ℕ) (t : List ℕ)
+    → slice_get ts m ≡ Some t → slice_get ts n ≡ Some t → m ≡ n
+one_place ts sorted m n t at_m at_n =
+    ⊎_elim {C = m ≡ n}
+    (λ before. absurd (not_before ts sorted m n t at_m at_n before))
+    (λ from. ⊎_elim {C = m ≡ n}
+    (λ after. absurd (not_before ts sorted n m t at_n at_m after))
+    (λ upto. omega (arith, from, upto))
+    (cases_lt n m))
+    (cases_lt m n)
+
 module _ (texts : List (List ℕ)) (ordered : List Numbered) (order : AreInOrder texts ordered) where
   -- ---- the codes are the places of the texts there
   module _ (put : List (List ℕ)) (codes : List ℕ) (made : put ≡ different (texts_of texts ordered))
-      (len : length codes ≡ length texts) (lead : LeadTo put codes texts ordered) where
+      (few : length put ≤ length texts) (len : length codes ≡ length texts)
+      (lead : LeadTo put codes texts ordered) where
     coded_at : (n : ℕ) → n < length texts → slice_get put (get_or codes n 0) ≡ slice_get texts n
     coded_at n h =
-        let e = from_contains_map number_of ordered n (order.all n h) in
-        subst (λ m. slice_get put (get_or codes m 0) ≡ slice_get texts m) e.2
-        (All-contains
+        let there = order.all n h in
+        let within : there.0 < length ordered =
+        omega (arith, there.1, length-map ordered number_of) in
+        let is : (get_or ordered there.0 nothing).number ≡ n =
+        sym (get_or-map number_of ordered there.0 nothing n within) ∙ there.2 in
+        subst (λ m. slice_get put (get_or codes m 0) ≡ slice_get texts m) is
+        (All-get_or
         (λ (x : Numbered). slice_get put (get_or codes x.number 0) ≡ slice_get texts x.number)
-        ordered e.0 lead e.1)
+        ordered there.0 nothing within lead)
 
     stands_at : (n : ℕ) → n < length codes
         → slice_get put (get_or codes n 0) ≡ Some (get_or texts n [])
@@ -68,28 +93,46 @@ module _ (texts : List (List ℕ)) (ordered : List Numbered) (order : AreInOrder
         let within : n < length texts = omega (arith, h, len) in
         coded_at n within ∙ slice_get-get_or texts n [] within
 
-    met : (text : List ℕ) → Contains put text → Contains texts text
-    met text h =
-        let kept = Contains-from_dedup same_text (texts_of texts ordered) text
-        (subst (λ ts. Contains ts text) made h) in
-        let e = from_contains_map (text_at texts) ordered text kept in
-        let within = All-contains (λ (x : Numbered). x.number < length texts) ordered e.0
-        order.within e.1 in
-        subst (λ t. Contains texts t) e.2 (Contains-get_or texts e.0.number [] within)
+    pub texts_coded : texts_at put codes ≡ texts
+    texts_coded = ext_get_or [] (texts_at put codes) texts
+        (length-map codes (λ place. get_or put place []) ∙ len)
+        (λ i h. let within : i < length codes =
+        omega (arith, h, length-map codes (λ place. get_or put place [])) in
+        get_or-map (λ place. get_or put place []) codes i 0 [] within
+        ∙ get_or_from_slice_get put (get_or codes i 0) (get_or texts i []) [] (stands_at i within))
 
-    pub numbers_of_codes : AreNumbers put codes texts
-    numbers_of_codes = record {
+    -- each text that was put is that of a number
+    number_put : (p : ℕ) → p < length put → (n : ℕ) × (n < length texts) × (get_or texts n [] ≡ get_or put p [])
+    number_put p h =
+        let text = get_or put p [] in
+        let there = Contains-from_dedup same_text (texts_of texts ordered) text
+        (subst (λ ts. Contains ts text) made (Contains-get_or put p [] h)) in
+        let within : there.0 < length ordered =
+        omega (arith, there.1, length-map ordered (text_at texts)) in
+        let e = get_or ordered there.0 nothing in (
+          e.number,
+          All-get_or (λ (x : Numbered). x.number < length texts) ordered there.0 nothing within
+              order.within,
+          sym (get_or-map (text_at texts) ordered there.0 nothing text within) ∙ there.2,
+        )
+
+    met : (p : ℕ) → p < length put → Contains codes p
+    met p h =
+        let there = number_put p h in
+        let within : there.0 < length codes = omega (arith, there.1, len) in
+        let code : get_or codes there.0 0 ≡ p =
+        one_place put (rw made (sorted_different texts ordered order)) (get_or codes there.0 0) p
+        (get_or put p []) (stands_at there.0 within ∙ ap Some there.2) (slice_get-get_or put p [] h) in
+        (there.0, within, get_or_default codes there.0 p 0 within ∙ code)
+
+    pub codes_met : AreRepeated put codes
+    codes_met = record {
       within = λ k d h.
           let code = get_or_default codes k d 0 h in
           let inside = slice_get_within put (get_or codes k 0) (get_or texts k []) (stands_at k h) in
           omega (arith, code, inside);
-      texts_are = ext_get_or [] (texts_at put codes) texts
-          (length-map codes (λ place. get_or put place []) ∙ len)
-          (λ i h. let within : i < length codes =
-          omega (arith, h, length-map codes (λ place. get_or put place [])) in
-          get_or-map (λ place. get_or put place []) codes i 0 [] within
-          ∙ get_or_from_slice_get put (get_or codes i 0) (get_or texts i []) [] (stands_at i within));
       met = met;
+      few = omega (arith, few, len);
     }
 
   -- ---- the text at a place

@@ -1,7 +1,7 @@
 use Rattle.std.proofs.Common.{◌≡◌, All, length, map, vec_len, vec_capacity}
 use Rattle.std.specs.List.{range_with_len}
-use Rattle.star_column.specs.Private.Order.{IsKeyed}
-use Rattle.star_column.proofs.ordered.with_numbers.Given as goal
+use Rattle.star_flat.specs.Private.Order.{IsKeyed}
+use Rattle.star_flat.proofs.ordered.with_numbers.Given as goal
 
 abbrev pub invariant-loop-place : goal.invariant-loop-place
 invariant-loop-place l = record {

@@ -1,6 +1,6 @@
 use Rattle.std.proofs.Common.{◌≡◌, ◌<◌, ◌^◌, All}
-use Rattle.star_column.specs.Private.Order.{digits}
-use Rattle.star_column.proofs.ordered.digits_of.Given as goal
+use Rattle.star_flat.specs.Private.Order.{digits}
+use Rattle.star_flat.proofs.ordered.digits_of.Given as goal
 
 abbrev pub invariant-loop-place : goal.invariant-loop-place
 invariant-loop-place l = record {

@@ -5,8 +5,8 @@ use Rattle.std.specs.List.{dedup_from, slice_get}
 use Rattle.std.proofs.lemmas.Bool.{cases_Bool}
 use Rattle.std.proofs.lemmas.List.{get_or-take, length_push, length-take-le, take_more}
 use Rattle.std.proofs.lemmas.Option.{slice_get-get_or, slice_get_within, get_or_from_slice_get}
-use Rattle.star_column.specs.Private.Codes.{different, same_text}
-use Rattle.star_column.proofs.Pushed.{pushed_here}
+use Rattle.star_flat.specs.Private.Codes.{different, same_text}
+use Rattle.star_flat.proofs.Pushed.{pushed_here}
 
 abbrev from : List ℕ → List (List ℕ) → List (List ℕ)
 from t ts = dedup_from same_text t ts

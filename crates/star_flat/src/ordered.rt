@@ -2,9 +2,9 @@
 
 ghost use Rattle.std.specs.Prelude.{◌≡◌, ◌↔◌, ◌<◌, ◌^◌, All, IfOk, IsTrue, drop, length, map, slice_index};
 ghost use Rattle.std.specs.List.{range_with_len};
-ghost use Rattle.star_column.specs.Private.Order.{AreInOrder, IsKeyed, digits, front, key_of};
+ghost use Rattle.star_flat.specs.Private.Order.{AreInOrder, IsKeyed, digits, front, key_of};
 
-use star_flat::FlatTexts;
+use crate::texts::FlatTexts;
 use std::alloc::{AllocError, Global};
 
 /// How many bytes of a text its front holds.

@@ -10,9 +10,8 @@ use Rattle.std.proofs.lemmas.Cmp.{nat_cmp_total, nat_list_cmp_total, tied_itself
 use Rattle.std.proofs.lemmas.List.{get_or_past}
 use Rattle.std.proofs.lemmas.List.Elements.{All-get_or}
 use Rattle.std.proofs.lemmas.Map.Lookups.{exact_bytes}
-use Rattle.star_schema.specs.Dictionary.{text_cmp}
-use Rattle.star_column.specs.declared.ordered.Numbered.{Numbered}
-use Rattle.star_column.specs.Private.Order.{IsKeyed, digits, front, key_of, text_at}
+use Rattle.star_flat.specs.declared.ordered.Numbered.{Numbered}
+use Rattle.star_flat.specs.Private.Order.{IsKeyed, digits, front, key_of, text_at, text_cmp}
 
 -- ---- numbers that compare
 less : (m n : ℕ) → m < n → nat_cmp m n ≡ Less

@@ -1,7 +1,7 @@
 -- Texts with their places as numbers.
 use Rattle.std.proofs.Common.{◌≡◌, ℕ, zero, suc, ◌+◌, [], ◌∷◌, ◌++◌, ap, ◌∙◌, arith, add-one}
 use Rattle.std.specs.List.{range_with_len}
-use Rattle.star_column.specs.declared.ordered.Numbered.{Numbered}
+use Rattle.star_flat.specs.declared.ordered.Numbered.{Numbered}
 
 -- what a read past the end would give
 abbrev pub nothing : Numbered

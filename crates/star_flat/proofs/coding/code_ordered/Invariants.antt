@@ -1,7 +1,7 @@
 use Rattle.std.proofs.Common.{◌≡◌, ◌≤◌, length, take}
-use Rattle.star_column.specs.Private.Codes.{LeadTo, different}
-use Rattle.star_column.specs.Private.Order.{texts_of}
-use Rattle.star_column.proofs.coding.code_ordered.Given as goal
+use Rattle.star_flat.specs.Private.Codes.{LeadTo, different}
+use Rattle.star_flat.specs.Private.Order.{texts_of}
+use Rattle.star_flat.proofs.coding.code_ordered.Given as goal
 
 abbrev pub invariant-loop-place : goal.invariant-loop-place
 invariant-loop-place l = record {

@@ -2,10 +2,10 @@ use Rattle.std.proofs.Common.{◌≡◌, ◌∙◌, ◌++◌, ◌∷◌, ◌+◌
 use Rattle.std.specs.List.{range_with_len}
 use Rattle.std.proofs.lemmas.List.{map-append}
 use Rattle.std.proofs.lemmas.List.Elements.{All-push}
-use Rattle.star_column.specs.declared.ordered.Numbered.{Numbered}
-use Rattle.star_column.specs.Private.Order.{IsKeyed}
-use Rattle.star_column.proofs.Enumerated.{range_with_len-more}
-use Rattle.star_column.proofs.ordered.with_numbers.Goals as goal
+use Rattle.star_flat.specs.declared.ordered.Numbered.{Numbered}
+use Rattle.star_flat.specs.Private.Order.{IsKeyed}
+use Rattle.star_flat.proofs.Enumerated.{range_with_len-more}
+use Rattle.star_flat.proofs.ordered.with_numbers.Goals as goal
 
 more_numbers : (old new : List Numbered) (e : Numbered) (n : ℕ) → new ≡ old ++ e ∷ []
     → e.number ≡ n → map (λ e. e.number) old ≡ range_with_len 0 n

@@ -1,6 +1,6 @@
 use Rattle.std.proofs.Common.{arith}
-use Rattle.star_column.proofs.Keys.{front_is}
-use Rattle.star_column.proofs.ordered.front_of.Goals as goal
+use Rattle.star_flat.proofs.Keys.{front_is}
+use Rattle.star_flat.proofs.ordered.front_of.Goals as goal
 
 pub returns-clause-front : goal.returns-clause-front
 returns-clause-front c =

@@ -1,16 +1,16 @@
-use Rattle.std.proofs.Common.{◌≤◌, ◌^◌, sym, arith}
-use Rattle.std.specs.Int.{w8}
+use Rattle.std.proofs.Common.{◌<◌, ◌≤◌, ◌^◌, sym, arith}
+use Rattle.std.proofs.lemmas.List.Elements.{All-from_get_or}
 use Rattle.std.proofs.Math.Nat.{pow-le-pow_right}
 use Rattle.std.proofs.lemmas.Grind.{pow_more}
-use Rattle.star_column.proofs.Keys.{byte_fits, digits_more, digits_none}
-use Rattle.star_column.proofs.Masks.{all_fit}
-use Rattle.star_column.proofs.ordered.digits_of.Goals as goal
+use Rattle.star_flat.proofs.Keys.{byte_fits, digits_more, digits_none}
+use Rattle.star_flat.proofs.ordered.digits_of.Goals as goal
 
 pub loop-place-init : goal.loop-place-init
 loop-place-init c = record {
   value = sym (digits_none c.args.text.now);
   below = omega arith;
-  bytes = all_fit w8 c.args.text.now c.type_inv.text;
+  bytes = All-from_get_or (λ byte. byte < 256) c.args.text.now 0
+      (λ k h. (c.type_inv.text k).fits);
 }
 
 pub overflow_mul-digits : goal.overflow_mul-digits
