@@ -1,9 +1,9 @@
 -- Texts that are told by their places among other texts.
-use Rattle.std.proofs.Common.{◌≡◌, ℕ, ◌+◌, ◌<◌, List, [], ◌∷◌, ◌++◌, Some, length, get_or, map, refl, sym, ap, ◌∙◌, arith, length-append, subst, ⊎_elim}
+use Rattle.std.proofs.Common.{◌≡◌, ℕ, ◌+◌, ◌<◌, List, [], ◌∷◌, ◌++◌, Some, length, get_or, map, take, refl, sym, ap, ◌∙◌, arith, length-append, subst, ⊎_elim}
 use Rattle.std.specs.Prelude.{Result, Ok, Err, IfOk, OnErr, OnOk}
 use Rattle.std.specs.List.{All, Contains, slice_get}
 use Rattle.std.proofs.lemmas.Bool.{cases_eq}
-use Rattle.std.proofs.lemmas.List.{get_or_append_left, get_or_default, get_or_push, get_or-map, length-map, map-append}
+use Rattle.std.proofs.lemmas.List.{get_or_append_left, get_or_default, get_or_push, get_or-map, length-map, map-append, take_more}
 use Rattle.std.proofs.lemmas.List.Elements.{All-get_or, All-head, All-map, All-push, All-tail, All-weaker, Contains-append_left, Contains-push}
 use Rattle.std.proofs.lemmas.Option.{get_or_from_slice_get, slice_get_within}
 use Rattle.std.proofs.lemmas.Simd.{map-map}
@@ -80,6 +80,16 @@ module _ (ts : List (List ℕ)) (ps : List ℕ) (repeated : AreRepeated ts ps) (
       map-append (λ q. get_or (ts ++ t ∷ []) q []) ps (length ts ∷ [])
       ∙ (λ i. same_texts ts (t ∷ []) ps repeated.within i
       ++ get_or_push ts t [] (length ts) refl i ∷ [])
+
+-- the place of one more row
+pub places_more : (f : ℕ → ℕ) (ps : List ℕ) (row p : ℕ) (old new : List ℕ)
+    → slice_get ps row ≡ Some p → old ≡ map f (take row ps) → new ≡ old ++ f p ∷ []
+    → new ≡ map f (take (row + 1) ps)
+places_more f ps row p old new at so_far pushed =
+    pushed ∙ ap (λ xs. xs ++ f p ∷ []) so_far
+    ∙ sym (ap (map f) (take_more ps row p (slice_get_within ps row p at))
+    ∙ map-append f (take row ps) (get_or ps row p ∷ [])
+    ∙ ap (λ q. map f (take row ps) ++ f q ∷ []) (get_or_from_slice_get ps row p p at))
 
 -- places of places: of rows among some texts, and of these among different ones
 module _ (ts ds : List (List ℕ)) (ps ns : List ℕ) (repeated : AreRepeated ts ps)
