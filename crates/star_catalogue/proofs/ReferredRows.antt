@@ -15,7 +15,7 @@ use Rattle.star_catalogue.specs.declared.referred.Referred.{Referred}
 use Rattle.star_catalogue.specs.ReferredRows.{AreReferredRows}
 use Rattle.star_catalogue.specs.Private.Referred.{AreFound, AreOfFirst, AreReferred, AreRowsOf, rows_kept}
 use Rattle.star_schema.proofs.Same.{at_index}
-use Rattle.star_column.proofs.Pushed.{pushed_cases}
+use Rattle.star_flat.proofs.Pushed.{pushed_cases}
 use Rattle.star_reader.proofs.RowPlaces.{length-numbers_at}
 use Rattle.star_catalogue.proofs.Copies.{copied_more}
 

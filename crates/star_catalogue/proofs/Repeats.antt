@@ -11,7 +11,7 @@ use Rattle.std.proofs.lemmas.Map.Keys.{any_passes_from_place, IsDistinct-push}
 use Rattle.std.proofs.lemmas.Option.{get_or_from_slice_get, slice_get-get_or, slice_get_within}
 use Rattle.star_common.specs.First.{first_answer}
 use Rattle.star_common.proofs.Firsts.{all_without_answer, enumerated_at, first_answer_here, first_answer_none, first_answer_on}
-use Rattle.star_column.proofs.Pushed.{pushed_before, pushed_cases, pushed_here}
+use Rattle.star_flat.proofs.Pushed.{pushed_before, pushed_cases, pushed_here}
 use Rattle.star_catalogue.specs.Private.Places.{ArePlaces, StandsAt}
 use Rattle.star_catalogue.specs.Load.{first_repeat, repeat_at}
 

@@ -3,46 +3,57 @@ use Rattle.std.proofs.Common.{◌≡◌, ℕ, ◌-◌, ◌^◌, ◌<◌, List, [
 use Rattle.std.specs.List.{Contains, slice_get}
 use Rattle.std.specs.List.Sorted.{IsStrictlySortedBy}
 use Rattle.std.specs.Option.{option_map}
-use Rattle.std.proofs.lemmas.List.{length-map}
+use Rattle.std.proofs.lemmas.List.{get_or_default, length-map}
 use Rattle.std.proofs.lemmas.List.Elements.{All-contains, Contains-get_or}
 use Rattle.std.proofs.lemmas.Option.{get_or_from_slice_get, slice_get-get_or, slice_get-map, slice_get_within}
-use Rattle.star_common.proofs.Members.{from_contains_map}
-use Rattle.star_flat.specs.Repeated.{texts_at}
+use Rattle.star_common.proofs.Members.{contains_mapped, from_contains_map}
+use Rattle.star_flat.specs.Repeated.{AreRepeated, texts_at}
 use Rattle.star_schema.specs.Dictionary.{codes_of, dictionary_of, text_cmp}
 use Rattle.star_schema.proofs.Dictionaries.{one_dictionary}
-use Rattle.star_column.specs.Private.Codes.{AreCodes, AreNumbers}
+use Rattle.star_column.specs.Private.Codes.{AreCodes}
 use Rattle.star_column.specs.Width.{bits_of, least_width}
 use Rattle.star_column.proofs.Coded.{least_width-codes_of}
 
 -- ---- the codes of all rows
--- each of the texts is among the different ones
-all_met : (ds : List (List ℕ)) (ns : List ℕ) (ts : List (List ℕ)) → AreNumbers ds ns ts
-    → (t : List ℕ) → Contains ts t → Contains ds t
-all_met ds ns ts numbered t h =
-    let w = from_contains_map (λ n. get_or ds n []) ns t
-    (subst (λ xs. Contains xs t) (sym numbered.texts_are) h) in
-    subst (λ x. Contains ds x) w.2
-    (Contains-get_or ds w.0 [] (All-contains (λ n. n < length ds) ns w.0 numbered.within w.1))
+module _ (ds : List (List ℕ)) (ns : List ℕ) (ts : List (List ℕ)) (same : texts_at ds ns ≡ ts)
+    (numbered : AreRepeated ds ns) where
+  -- each of the texts is among the different ones
+  all_met : (t : List ℕ) → Contains ts t → Contains ds t
+  all_met t h =
+      let w = from_contains_map (λ n. get_or ds n []) ns t
+      (subst (λ xs. Contains xs t) (sym same) h) in
+      subst (λ x. Contains ds x) w.2
+      (Contains-get_or ds w.0 [] (All-contains (λ n. n < length ds) ns w.0 numbered.within w.1))
+
+  -- and each of these is one of the texts
+  met : (t : List ℕ) → Contains ds t → Contains ts t
+  met t h =
+      subst (λ xs. Contains xs t) same
+      (subst (λ x. Contains (texts_at ds ns) x) (get_or_default ds h.0 [] t h.1 ∙ h.2)
+      (contains_mapped (λ n. get_or ds n []) ns h.0 (numbered.met h.0 h.1)))
 
 -- what a column keeps, as its parts were built
-module _ (ds : List (List ℕ)) (ns : List ℕ) (ts : List (List ℕ)) (numbered : AreNumbers ds ns ts)
-    (sorted : IsStrictlySortedBy text_cmp ds) (few : length ts < 2 ^ 32) where
+module _ (ds : List (List ℕ)) (ns : List ℕ) (ts : List (List ℕ)) (same : texts_at ds ns ≡ ts)
+    (numbered : AreRepeated ds ns) (sorted : IsStrictlySortedBy text_cmp ds)
+    (few : length ts < 2 ^ 32) where
   -- different texts in order are the dictionary of the texts that they are numbered for
   dictionary_is : ds ≡ dictionary_of ts
-  dictionary_is = (one_dictionary ds ts).0
-      (record { sorted = sorted; holds = λ t. (numbered.met t, all_met ds ns ts numbered t) })
+  dictionary_is = (one_dictionary ds ts).0 (record {
+    sorted = sorted;
+    holds = λ t. (met ds ns ts same numbered t, all_met ds ns ts same numbered t);
+  })
 
   module _ (codes : List ℕ) (read : codes ≡ ns) where
     pub coded_column : AreCodes ds codes × (texts_at ds codes ≡ ts)
     coded_column = rw read (
       record {
         few = let same_length : length ns ≡ length ts =
-            sym (length-map ns (λ n. get_or ds n [])) ∙ ap length numbered.texts_are in
+            sym (length-map ns (λ n. get_or ds n [])) ∙ ap length same in
             omega (arith, same_length, few);
         within = numbered.within;
-        dictionary_is = dictionary_is ∙ ap dictionary_of (sym numbered.texts_are);
+        dictionary_is = dictionary_is ∙ ap dictionary_of (sym same);
       },
-      numbered.texts_are,
+      same,
     )
 
     pub width_of_column : (width entries : ℕ) → entries ≡ length ds

@@ -1,6 +1,5 @@
 pub mod Bounds
 pub mod Codes
 pub mod Edge
-pub mod Order
 pub mod Views
 pub mod Words

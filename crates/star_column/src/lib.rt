@@ -8,7 +8,6 @@ mod dictionary;
 mod join_index;
 mod mask;
 mod number;
-mod ordered;
 mod packed;
 mod text;
 mod view;

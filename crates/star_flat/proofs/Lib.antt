@@ -1,2 +1,8 @@
+pub mod CodesKept
 pub mod CutLemmas
+pub mod Different
+pub mod Enumerated
+pub mod InOrder
+pub mod Keys
+pub mod Pushed
 pub mod RepeatedLemmas

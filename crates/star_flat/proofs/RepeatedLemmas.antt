@@ -1,11 +1,12 @@
 -- Texts that are told by their places among other texts.
-use Rattle.std.proofs.Common.{◌≡◌, ℕ, ◌+◌, ◌<◌, List, [], ◌∷◌, ◌++◌, Some, length, get_or, refl, sym, ◌∙◌, arith, length-append, subst, ⊎_elim}
-use Rattle.std.specs.Prelude.{Result, Ok, Err, OnErr, OnOk}
+use Rattle.std.proofs.Common.{◌≡◌, ℕ, ◌+◌, ◌<◌, List, [], ◌∷◌, ◌++◌, Some, length, get_or, map, take, refl, sym, ap, ◌∙◌, arith, length-append, subst, ⊎_elim}
+use Rattle.std.specs.Prelude.{Result, Ok, Err, IfOk, OnErr, OnOk}
 use Rattle.std.specs.List.{All, Contains, slice_get}
 use Rattle.std.proofs.lemmas.Bool.{cases_eq}
-use Rattle.std.proofs.lemmas.List.{get_or_append_left, get_or_push, map-append}
-use Rattle.std.proofs.lemmas.List.Elements.{All-head, All-push, All-tail, All-weaker, Contains-append_left, Contains-push}
+use Rattle.std.proofs.lemmas.List.{get_or_append_left, get_or_default, get_or_push, get_or-map, length-map, map-append, take_more}
+use Rattle.std.proofs.lemmas.List.Elements.{All-get_or, All-head, All-map, All-push, All-tail, All-weaker, Contains-append_left, Contains-push}
 use Rattle.std.proofs.lemmas.Option.{get_or_from_slice_get, slice_get_within}
+use Rattle.std.proofs.lemmas.Simd.{map-map}
 use Rattle.star_flat.specs.Repeated.{AreRepeated, texts_at}
 
 -- what follows from what holds of each kind of answer
@@ -25,6 +26,11 @@ on_ok (Err e) ok f = tt
 pub on_two : {T E A B G : Type 0} (r : Result T E) → OnOk r A → OnOk r B → (A → B → G) → OnOk r G
 on_two (Ok x) a b f = f a b
 on_two (Err e) a b f = tt
+
+pub if_all : {T E : Type 0} {A B C D G : T → Type 0} (r : Result T E) → IfOk r A → IfOk r B
+    → IfOk r C → IfOk r D → ((x : T) → A x → B x → C x → D x → G x) → IfOk r G
+if_all (Ok x) a b c d f = f x a b c d
+if_all (Err e) a b c d f = tt
 
 module _ (ts : List (List ℕ)) (ps : List ℕ) (repeated : AreRepeated ts ps) where
   -- one more row with a text that is kept
@@ -74,3 +80,64 @@ module _ (ts : List (List ℕ)) (ps : List ℕ) (repeated : AreRepeated ts ps) (
       map-append (λ q. get_or (ts ++ t ∷ []) q []) ps (length ts ∷ [])
       ∙ (λ i. same_texts ts (t ∷ []) ps repeated.within i
       ++ get_or_push ts t [] (length ts) refl i ∷ [])
+
+-- the place of one more row
+pub places_more : (f : ℕ → ℕ) (ps : List ℕ) (row p : ℕ) (old new : List ℕ)
+    → slice_get ps row ≡ Some p → old ≡ map f (take row ps) → new ≡ old ++ f p ∷ []
+    → new ≡ map f (take (row + 1) ps)
+places_more f ps row p old new at so_far pushed =
+    pushed ∙ ap (λ xs. xs ++ f p ∷ []) so_far
+    ∙ sym (ap (map f) (take_more ps row p (slice_get_within ps row p at))
+    ∙ map-append f (take row ps) (get_or ps row p ∷ [])
+    ∙ ap (λ q. map f (take row ps) ++ f q ∷ []) (get_or_from_slice_get ps row p p at))
+
+-- places of places: of rows among some texts, and of these among different ones
+module _ (ts ds : List (List ℕ)) (ps ns : List ℕ) (repeated : AreRepeated ts ps)
+    (coded : AreRepeated ds ns) (same : texts_at ds ns ≡ ts) where
+  pub count : length ns ≡ length ts
+  count = sym (length-map ns (λ n. get_or ds n [])) ∙ ap length same
+
+  same_text : (p : ℕ) → p < length ts → get_or ds (get_or ns p 0) [] ≡ get_or ts p []
+  same_text p h =
+      sym (get_or-map (λ n. get_or ds n []) ns p 0 [] (omega (arith, h, count)))
+      ∙ ap (λ xs. get_or xs p []) same
+
+  met : (d : ℕ) → d < length ds → Contains (map (λ p. get_or ns p 0) ps) d
+  met d h =
+      let there = coded.met d h in
+      let row = repeated.met there.0 (omega (arith, there.1, count)) in (
+        row.0,
+        omega (arith, row.1, length-map ps (λ p. get_or ns p 0)),
+        get_or-map (λ p. get_or ns p 0) ps row.0 there.0 d row.1
+            ∙ ap (λ p. get_or ns p 0) row.2
+            ∙ sym (get_or_default ns there.0 d 0 there.1) ∙ there.2,
+      )
+
+  pub places_coded : AreRepeated ds (map (λ p. get_or ns p 0) ps)
+  places_coded = record {
+    within = All-map (λ n. n < length ds) (λ p. get_or ns p 0) ps
+        (All-weaker (λ p. p < length ts) (λ p. get_or ns p 0 < length ds)
+        (λ p h. All-get_or (λ n. n < length ds) ns p 0 (omega (arith, h, count)) coded.within)
+        ps repeated.within);
+    met = met;
+    few = omega (
+      arith,
+      coded.few,
+      count,
+      repeated.few,
+      length-map ps (λ p. get_or ns p 0),
+    );
+  }
+
+  pub texts_of_coded : texts_at ds (map (λ p. get_or ns p 0) ps) ≡ texts_at ts ps
+  texts_of_coded = map-map (λ n. get_or ds n []) (λ p. get_or ns p 0) ps ∙ agree ps repeated.within
+    where
+      agree : (qs : List ℕ) → All (λ p. p < length ts) qs
+          → map (λ p. get_or ds (get_or ns p 0) []) qs ≡ map (λ p. get_or ts p []) qs
+      agree [] within = refl
+      agree (q ∷ qs) within = λ i. same_text q (All-head (λ p. p < length ts) q qs within) i
+          ∷ agree qs (All-tail (λ p. p < length ts) q qs within) i
+
+  pub places_read : All (λ p. p < length ns) ps
+  places_read = All-weaker (λ p. p < length ts) (λ p. p < length ns)
+      (λ p h. omega (arith, h, count)) ps repeated.within

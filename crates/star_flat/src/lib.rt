@@ -1,9 +1,13 @@
 //! Lists in flat storage: of texts, one buffer for the bytes of all and one for where each ends; of
 //! texts many of which are equal, those and a place among them for each; of numbers, words no wider
-//! than they need.
+//! than they need. And of a list of texts the different ones in order, with the place of each text
+//! among them.
 #![tactic(auto)]
 
+mod coding;
+mod marks;
 mod numbers;
+mod ordered;
 mod repeated;
 mod slot;
 mod texts;

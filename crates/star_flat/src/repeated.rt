@@ -1,24 +1,32 @@
 // A list of texts, many of which are equal.
 
-ghost use Rattle.std.specs.Prelude.{◌≡◌, ◌<◌, ◌++◌, ◌∷◌, [], IfSome, Some, length, slice_get, OnErr, OnOk};
+ghost use Rattle.std.specs.Prelude.{◌≡◌, ◌<◌, ◌^◌, ◌++◌, ◌∷◌, [], All, IfOk, IfSome, Some, length, map, slice_get, slice_index, OnErr, OnOk};
 ghost use Rattle.star_flat.specs.Repeated.{AreRepeated, places, texts_at};
 
+use crate::marks::may_repeat;
 use crate::numbers::FlatNumbers;
 use crate::slot::{SLOTS, slot_of};
 use crate::texts::FlatTexts;
 use std::alloc::{AllocError, Global};
 use std::marker::Model;
 
+/// How many texts are kept at least before they are compacted. The places of so many fit into words
+/// of 16 bits.
+const MANY: usize = 32_768;
+
 /// A list of texts, which a contract sees as the list of their bytes. A text that equals one that
 /// was put lately is not kept again: for each text there is the place of an equal one among those
-/// that are kept.
+/// that are kept. Where many are kept that may repeat, they are compacted: of equal ones one stays.
 #[derive(Drop)]
 pub struct RepeatedTexts {
+    alloc: Global,
     kept: FlatTexts,
     rows: FlatNumbers,
     // Places of texts that were put lately, each in the slot of its text. Any place may stand here:
     // it is tried.
     recent: [usize; SLOTS],
+    // How many texts are kept before they are compacted next. Any number may stand here.
+    most: usize,
 }
 
 impl Model for RepeatedTexts {
@@ -65,9 +73,7 @@ fn push_place(rows: &mut FlatNumbers, place: usize) -> Result<(), AllocError>
     }
 }
 
-/// Keeps a text, and puts its place at the end, or changes nothing where memory is refused. Apart
-/// from `push`, which stays short so.
-#[cold]
+/// Keeps a text, and puts its place at the end, or changes nothing where memory is refused.
 fn keep(kept: &mut FlatTexts, rows: &mut FlatNumbers, text: &[u8]) -> Result<(), AllocError>
     ensures kept { OnOk result (kept.new ≡ kept.old ++ text.now ∷ []) }
     ensures rows { OnOk result (places rows.new ≡ places rows.old ++ length kept.old ∷ []) }
@@ -84,15 +90,48 @@ fn keep(kept: &mut FlatTexts, rows: &mut FlatNumbers, text: &[u8]) -> Result<(),
     }
 }
 
+/// What stands at the place of each row.
+fn renumbered(alloc: Global, rows: &FlatNumbers, numbers: &[u32]) -> Result<FlatNumbers, AllocError>
+    requires { All (λ place. place < length numbers.now) (places rows.now) }
+    ensures { IfOk result (λ renumbered. places renumbered
+        ≡ map (λ place. slice_index numbers.now place) (places rows.now)) }
+{
+    let mut renumbered = FlatNumbers::new(alloc);
+    for row in 0..rows.len() {
+        push_place(&mut renumbered, numbers[place_at(rows, row)] as usize)?;
+    }
+    Ok(renumbered)
+}
+
+/// Keeps one of equal texts alone, and puts its place for each row, or changes nothing where memory
+/// is refused.
+fn keep_different(
+    alloc: Global,
+    kept: &mut FlatTexts,
+    rows: &mut FlatNumbers,
+) -> Result<(), AllocError>
+    requires few { length kept.old < 2 ^ 32 }
+    requires repeated { AreRepeated kept.old (places rows.old) }
+    ensures texts { texts_at kept.new (places rows.new) ≡ texts_at kept.old (places rows.old) }
+    ensures repeated { AreRepeated kept.new (places rows.new) }
+{
+    let (different, codes) = kept.coded(alloc)?;
+    *rows = renumbered(alloc, rows, codes.as_slice())?;
+    *kept = different;
+    Ok(())
+}
+
 impl RepeatedTexts {
     /// No texts. Takes no memory.
     pub fn new(alloc: Global) -> RepeatedTexts
         ensures { result ≡ [] }
     {
         RepeatedTexts {
+            alloc,
             kept: FlatTexts::new(alloc),
             rows: FlatNumbers::new(alloc),
             recent: [0; SLOTS],
+            most: MANY,
         }
     }
 
@@ -128,10 +167,38 @@ impl RepeatedTexts {
     {
         match recent_place(&self.recent, &self.kept, text) {
             Some(place) => push_place(&mut self.rows, place),
-            None => {
-                self.recent[slot_of(text)] = self.kept.len();
-                keep(&mut self.kept, &mut self.rows, text)
-            }
+            None => self.push_other(text),
         }
+    }
+
+    /// Puts a text at the end that equals none of those that were put lately, or changes nothing
+    /// where memory is refused. Apart from `push`, which stays short so.
+    #[cold]
+    fn push_other(&mut self, text: &[u8]) -> Result<(), AllocError>
+        ensures ok { OnOk result (self.new ≡ self.old ++ text.now ∷ []) }
+        ensures err { OnErr result (self.new ≡ self.old) }
+    {
+        if self.kept.len() >= self.most {
+            self.compact()?;
+        }
+        self.recent[slot_of(text)] = self.kept.len();
+        keep(&mut self.kept, &mut self.rows, text)
+    }
+
+    /// Keeps one of equal texts alone, where they may repeat, or changes nothing where memory is
+    /// refused.
+    ///
+    /// Until the next time at least as many texts are kept as are left now, and as a quarter of the
+    /// rows. So each text that is kept pays for the sort of two texts and for the new places of four
+    /// rows, and no choice of texts takes more than n log n.
+    fn compact(&mut self) -> Result<(), AllocError>
+        ensures { self.new ≡ self.old }
+    {
+        if may_repeat(self.alloc, &self.kept)? {
+            keep_different(self.alloc, &mut self.kept, &mut self.rows)?;
+        }
+        let left = self.kept.len();
+        self.most = MANY.max(left.saturating_add(left.max(self.rows.len() / 4)));
+        Ok(())
     }
 }

@@ -1,7 +1,14 @@
-use Rattle.star_column.proofs.Repeats.{each_numbered}
+use Rattle.star_flat.proofs.RepeatedLemmas.{places_coded, texts_of_coded}
 use Rattle.star_column.proofs.coding.code_each.Goals as goal
 
-pub returns : goal.returns
-returns c =
-    rw (c.in_ok-each.ensures, c.as_slice.ensures.value, ← c.parts.ensures.texts)
-    (each_numbered _ _ _ _ c.parts.ensures.repeated c.in_ok-dictionary.ensures)
+pub returns-clause-texts : goal.returns-clause-texts
+returns-clause-texts c =
+    rw (c.of_ordered.ensures, c.in_ok-each.ensures, c.as_slice.ensures.value, ← c.parts.ensures.texts)
+    (texts_of_coded _ _ _ _ c.parts.ensures.repeated c.in_ok-different.ensures.repeated
+    c.in_ok-different.ensures.texts)
+
+pub returns-clause-repeated : goal.returns-clause-repeated
+returns-clause-repeated c =
+    rw (c.of_ordered.ensures, c.in_ok-each.ensures, c.as_slice.ensures.value)
+    (places_coded _ _ _ _ c.parts.ensures.repeated c.in_ok-different.ensures.repeated
+    c.in_ok-different.ensures.texts)

@@ -8,9 +8,9 @@ invariant_of-result c =
     let sorted = rw c.dictionary.view_is at c.dictionary.invariant.1 in
     let read = c.in_ok-codes.ensures.numbers ∙ c.as_slice.ensures.value in (
       (coded_column c.in_ok-dictionary.dictionary c.in_ok-dictionary.codes.items c.args.texts.now
-          c.in_ok-dictionary.ensures sorted c.requires (numbers_in c.in_ok-codes.codes) read).0,
+          c.in_ok-dictionary.ensures.texts c.in_ok-dictionary.ensures.repeated sorted c.requires (numbers_in c.in_ok-codes.codes) read).0,
       width_of_column c.in_ok-dictionary.dictionary c.in_ok-dictionary.codes.items c.args.texts.now
-          c.in_ok-dictionary.ensures sorted c.requires (numbers_in c.in_ok-codes.codes) read
+          c.in_ok-dictionary.ensures.texts c.in_ok-dictionary.ensures.repeated sorted c.requires (numbers_in c.in_ok-codes.codes) read
           (width_of c.in_ok-codes.codes) c.entries.result c.entries.ensures
           c.in_ok-codes.ensures.width,
     )

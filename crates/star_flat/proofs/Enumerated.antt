@@ -1,0 +1,21 @@
+-- Texts with their places as numbers.
+use Rattle.std.proofs.Common.{◌≡◌, ℕ, zero, suc, ◌+◌, [], ◌∷◌, ◌++◌, ap, ◌∙◌, arith, add-one}
+use Rattle.std.specs.List.{range_with_len}
+use Rattle.star_flat.specs.declared.ordered.Numbered.{Numbered}
+
+-- what a read past the end would give
+abbrev pub nothing : Numbered
+nothing = record { front = 0; rest = record { ref_ptr = (0, 0); now = [] }; number = 0 }
+
+range_with_len-suc : (a n : ℕ) → range_with_len a (suc n) ≡ range_with_len a n ++ (a + n) ∷ []
+range_with_len-suc a zero = let same : a ≡ a + 0 = omega arith in ap (λ m. m ∷ []) same
+range_with_len-suc a (suc n) = let same : a + 1 + n ≡ a + suc n =
+    omega arith in
+    ap (λ ms. a ∷ ms)
+    (range_with_len-suc (a + 1) n ∙ ap (λ m. range_with_len (a + 1) n ++ m ∷ []) same)
+
+pub range_with_len-more : (n : ℕ) → range_with_len 0 (n + 1) ≡ range_with_len 0 n ++ n ∷ []
+range_with_len-more n = let same : 0 + n ≡ n =
+    omega arith in
+    ap (range_with_len 0) (add-one n) ∙ range_with_len-suc 0 n
+    ∙ ap (λ m. range_with_len 0 n ++ m ∷ []) same

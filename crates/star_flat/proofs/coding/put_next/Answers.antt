@@ -1,0 +1,78 @@
+use Rattle.std.proofs.Common.{◌≡◌, ◌∙◌, ◌+◌, take, sym, arith, true≢false}
+use Rattle.star_flat.specs.Private.Codes.{different}
+use Rattle.star_flat.specs.Private.Order.{texts_of}
+use Rattle.star_flat.proofs.CodesKept.{code_here, put_again, put_new, some_put}
+use Rattle.star_flat.proofs.Pushed.{pushed_before}
+use Rattle.star_flat.proofs.coding.put_next.Goals as goal
+use Rattle.star_flat.proofs.coding.put_next.Goals.{then-not-repeats+in_ok-push, else-not-repeats}
+
+pub returns-clause-put : goal.returns-clause-put
+returns-clause-put c =
+    let texts = c.args.texts.now in
+    let ordered = c.args.ordered.now in
+    elim c.if-not-repeats.branch [
+      | then-not-repeats+in_ok-push w ↦
+          rw w.put-is
+          (put_new texts ordered c.requires.ordered c.args.place c.requires.within c.args.put.now
+          w.push.new.self w.get.result.now c.requires.put
+          (λ h. true≢false (sym (c.repeats.ensures.1 h) ∙ w.if-not-repeats.true)) w.get.ensures
+          w.in_ok-push.ensures.ok)
+      | else-not-repeats w ↦
+          let same = c.repeats.ensures.0 w.if-not-repeats.false in
+          rw w.put-is
+          (put_again texts ordered c.requires.ordered c.args.place c.requires.within c.args.put.now
+          c.requires.put same.0 same.1)
+    ]
+
+pub overflow_sub-result : goal.overflow_sub-result
+overflow_sub-result c =
+    let texts = c.args.texts.now in
+    let ordered = c.args.ordered.now in
+    let made : c.if-not-repeats.put ≡ different (take (c.args.place + 1) (texts_of texts ordered)) =
+    elim c.if-not-repeats.branch [
+      | then-not-repeats+in_ok-push w ↦
+          rw w.put-is
+          (put_new texts ordered c.requires.ordered c.args.place c.requires.within c.args.put.now
+          w.push.new.self w.get.result.now c.requires.put
+          (λ h. true≢false (sym (c.repeats.ensures.1 h) ∙ w.if-not-repeats.true)) w.get.ensures
+          w.in_ok-push.ensures.ok)
+      | else-not-repeats w ↦
+          let same = c.repeats.ensures.0 w.if-not-repeats.false in
+          rw w.put-is
+          (put_again texts ordered c.requires.ordered c.args.place c.requires.within c.args.put.now
+          c.requires.put same.0 same.1)
+    ] in
+    let some = some_put texts ordered c.requires.ordered c.args.place c.requires.within
+    c.if-not-repeats.put made in
+    omega (arith, some, c.len.ensures)
+
+pub returns-clause-kept : goal.returns-clause-kept
+returns-clause-kept c code text at =
+    elim c.if-not-repeats.branch [
+      | then-not-repeats+in_ok-push w ↦
+          rw (w.put-is, w.in_ok-push.ensures.ok)
+          (pushed_before c.args.put.now w.get.result.now code text at)
+      | else-not-repeats w ↦ rw w.put-is (λ i. at i)
+    ]
+
+pub returns-clause-code : goal.returns-clause-code
+returns-clause-code c =
+    let texts = c.args.texts.now in
+    let ordered = c.args.ordered.now in
+    let made : c.if-not-repeats.put ≡ different (take (c.args.place + 1) (texts_of texts ordered)) =
+    elim c.if-not-repeats.branch [
+      | then-not-repeats+in_ok-push w ↦
+          rw w.put-is
+          (put_new texts ordered c.requires.ordered c.args.place c.requires.within c.args.put.now
+          w.push.new.self w.get.result.now c.requires.put
+          (λ h. true≢false (sym (c.repeats.ensures.1 h) ∙ w.if-not-repeats.true)) w.get.ensures
+          w.in_ok-push.ensures.ok)
+      | else-not-repeats w ↦
+          let same = c.repeats.ensures.0 w.if-not-repeats.false in
+          rw w.put-is
+          (put_again texts ordered c.requires.ordered c.args.place c.requires.within c.args.put.now
+          c.requires.put same.0 same.1)
+    ] in
+    rw c.len.ensures
+    (code_here texts ordered c.requires.ordered c.args.place c.requires.within c.if-not-repeats.put
+    made)

@@ -1,0 +1,20 @@
+use Rattle.star_flat.proofs.RepeatedLemmas.{places_coded, places_read, texts_of_coded}
+use Rattle.star_flat.proofs.repeated.keep_different.Goals as goal
+
+pub renumbered-requires : goal.renumbered-requires
+renumbered-requires c =
+    rw c.as_slice.ensures.value
+    (places_read _ _ _ _ c.requires.repeated c.in_ok-different.ensures.repeated
+    c.in_ok-different.ensures.texts)
+
+pub returns-clause-texts : goal.returns-clause-texts
+returns-clause-texts c =
+    rw (c.in_ok-rows.ensures, c.as_slice.ensures.value)
+    (texts_of_coded _ _ _ _ c.requires.repeated c.in_ok-different.ensures.repeated
+    c.in_ok-different.ensures.texts)
+
+pub returns-clause-repeated : goal.returns-clause-repeated
+returns-clause-repeated c =
+    rw (c.in_ok-rows.ensures, c.as_slice.ensures.value)
+    (places_coded _ _ _ _ c.requires.repeated c.in_ok-different.ensures.repeated
+    c.in_ok-different.ensures.texts)
