@@ -1,1 +1,2 @@
+pub mod FewPuts
 pub mod SmallPuts

@@ -3,3 +3,5 @@
 
 #[cfg(test)]
 mod cubes;
+#[cfg(test)]
+mod placed;
