@@ -1,33 +1,28 @@
-// Placed stores beside the other stores over the same puts: about the ends of the ranges of keys, with
-// numbers at the ends of 64 bits, and in batches.
+// Placed stores beside the other stores over the same puts: about the ends of the ranges of keys, and with
+// numbers at the ends of 64 bits.
 
-ghost use Rattle.std.specs.Prelude.{◌≡◌, ◌≤◌, ◌<◌, ◌+◌, ◌^◌, ◌∷◌, [], ℕ, IfOk, OnOk, length, pos, slice_index_or, true};
+ghost use Rattle.std.specs.Prelude.{◌≡◌, ◌<◌, ◌+◌, ◌^◌, ◌∷◌, [], IfOk, OnOk};
 ghost use Rattle.star_schema.specs.declared.group.Aggregate.TheVariants.{Sum, Count, Min, Max};
-ghost use Rattle.star_program.specs.declared.group.GroupDecl.{GroupDecl as Declared};
-ghost use Rattle.star_interval.specs.Range.{is_i64};
-ghost use Rattle.star_group.specs.Stores.{group_declared};
-ghost use Rattle.star_group_tests.specs.Few.{HasFew, IsOfNumbers, IsOfTests};
+ghost use Rattle.star_group_tests.specs.Few.{HasFew, IsOfTests};
 
-use star_group::{
-    DeferredStore, EagerStore, GroupRows, GroupStore, KeyValue, PlacedStore, PutBatch,
-};
+use star_group::{DeferredStore, EagerStore, GroupRows, GroupStore, KeyValue, PlacedStore};
 use star_interval::Interval;
 use star_program::{Aggregates, GroupDecl, GroupKey, GroupKeys};
 use star_schema::{Aggregate, ColumnId, Shape};
 use std::alloc::{AllocError, Global};
 use std::test::Fail;
 
-const LEAST: i64 = i64::MIN;
+pub(crate) const LEAST: i64 = i64::MIN;
 
 const MOST: i64 = i64::MAX;
 
 // What is put, in turn: the ends of 64 bits, and a number that leads beyond them.
-const NUMBERS: [i64; 3] = [LEAST, MOST, -1];
+pub(crate) const NUMBERS: [i64; 3] = [LEAST, MOST, -1];
 
 // Each shape, with how many rows it has of four values of either key, each with each.
 const SHAPES: [(Shape, usize); 3] = [(Shape::Plain, 16), (Shape::Rollup, 21), (Shape::Cube, 25)];
 
-const NUMBER: GroupKey = GroupKey::Number;
+pub(crate) const NUMBER: GroupKey = GroupKey::Number;
 
 const TEXT: GroupKey = GroupKey::Text(ColumnId::LoShipmode);
 
@@ -96,7 +91,7 @@ fn empty<S: GroupStore>(
     S::with_ranges(alloc, &declared, &ranges)
 }
 
-fn range(ends: (i64, i64)) -> Interval {
+pub(crate) fn range(ends: (i64, i64)) -> Interval {
     Interval {
         low: ends.0,
         high: ends.1.max(ends.0),
@@ -104,7 +99,11 @@ fn range(ends: (i64, i64)) -> Interval {
 }
 
 // A group of two keys, with an aggregate of each kind.
-fn declared(alloc: Global, shape: Shape, keys: [GroupKey; 2]) -> Result<GroupDecl, AllocError>
+pub(crate) fn declared(
+    alloc: Global,
+    shape: Shape,
+    keys: [GroupKey; 2],
+) -> Result<GroupDecl, AllocError>
     ensures keys { IfOk result (λ d. d.keys ≡ keys) }
     ensures aggregates { IfOk result (λ d. d.aggregates ≡ Sum ∷ Count ∷ Min ∷ Max ∷ []) }
 {
@@ -130,7 +129,7 @@ fn key(kind: GroupKey, word: i64) -> KeyValue {
 }
 
 // One more put behind a few.
-fn put_one<S: GroupStore>(
+pub(crate) fn put_one<S: GroupStore>(
     store: &mut S,
     made: usize,
     keys: [KeyValue; 2],
@@ -204,7 +203,7 @@ fn are_same(rows: &GroupRows, others: &GroupRows) -> bool {
 }
 
 // How many rows both stores have, where these and the totals are the same.
-fn rows_of_both<S: GroupStore, T: GroupStore>(
+pub(crate) fn rows_of_both<S: GroupStore, T: GroupStore>(
     store: S,
     other: T,
 ) -> Result<Option<usize>, AllocError>
