@@ -29,4 +29,10 @@ impl Draws {
         let place = self.below(words.len() as u64) as usize;
         words.get(place).copied().unwrap_or("")
     }
+
+    /// One of some pairs of words; two empty ones where there is none.
+    pub(crate) fn pair_of<'a>(&mut self, pairs: &[(&'a str, &'a str)]) -> (&'a str, &'a str) {
+        let place = self.below(pairs.len() as u64) as usize;
+        pairs.get(place).copied().unwrap_or(("", ""))
+    }
 }

@@ -5,6 +5,8 @@
 #[cfg(test)]
 mod agreement;
 #[cfg(test)]
+mod batches;
+#[cfg(test)]
 mod comparisons;
 #[cfg(test)]
 mod draws;

@@ -2,7 +2,7 @@
 
 use crate::agreement::query_agrees;
 use crate::draws::Draws;
-use crate::tables::{Rows, generated};
+use crate::tables::{MANY, Rows, generated};
 use std::alloc::{AllocError, Global};
 use std::fmt::Write;
 use std::test::Fail;
@@ -156,11 +156,21 @@ fn drawn_query(alloc: Global, draws: &mut Draws) -> Result<String, AllocError> {
     }
     push_condition(&mut condition, draws, OWN)?;
     let aggregate = draws.one_of(AGGREGATES);
-    let place = draws.below(GROUPS.len() as u64) as usize;
-    let (columns, behind) = GROUPS.get(place).copied().unwrap_or(("", ""));
+    let (columns, behind) = draws.pair_of(GROUPS);
     format!(in alloc;
         "select {columns}{aggregate} as s, count(*) as n from {tables} where {condition}{behind}"
     )
+}
+
+// So many queries of a seed, over tables of one.
+fn queries_agree(alloc: Global, seed: u64, rows: Rows, count: u32) -> Result<(), Fail> {
+    let catalogue = generated(alloc, seed, rows)?;
+    let mut draws = Draws(46);
+    for _ in 0..count {
+        let query = drawn_query(alloc, &mut draws)?;
+        query_agrees(alloc, &catalogue, query.as_str())?;
+    }
+    Ok(())
 }
 
 #[test]
@@ -172,11 +182,11 @@ fn two_hundred_queries(rt: HostRuntime) -> Result<(), Fail> {
         part: 160,
         lineorder: 400,
     };
-    let catalogue = generated(rt.alloc(), 2_026, rows)?;
-    let mut draws = Draws(46);
-    for _ in 0..200 {
-        let query = drawn_query(rt.alloc(), &mut draws)?;
-        query_agrees(rt.alloc(), &catalogue, query.as_str())?;
-    }
-    Ok(())
+    queries_agree(rt.alloc(), 2_026, rows, 200)
+}
+
+// The first sixty of them by batches, in which the rows of each group stand by their places.
+#[test]
+fn sixty_queries_over_batches(rt: HostRuntime) -> Result<(), Fail> {
+    queries_agree(rt.alloc(), 2_027, MANY, 60)
 }

@@ -159,3 +159,9 @@ pub(crate) const ORDINARY: Rows = Rows {
     part: 60,
     lineorder: 700,
 };
+
+/// The same with as many lines as two batches and a half.
+pub(crate) const MANY: Rows = Rows {
+    lineorder: 2_600,
+    ..ORDINARY
+};

@@ -1,1 +1,3 @@
+pub mod FewPuts
+pub mod BatchPuts
 pub mod SmallPuts

@@ -1,0 +1,37 @@
+-- Few puts of numbers of 64 bits, and more of them.
+use Rattle.std.proofs.Common.{◌≡◌, ◌<◌, ◌+◌, ◌^◌, ℕ, ℤ, pos, true, List, [], ◌∷◌, refl, arith, FitsSigned, w64}
+use Rattle.std.specs.List.{All}
+use Rattle.std.proofs.lemmas.List.Elements.{All-cons, All-nil}
+use Rattle.star_interval.specs.Range.{is_i64}
+use Rattle.star_interval.proofs.Ranges.{is_i64_fits}
+use Rattle.star_group.specs.Stores.{Group, HasRoom, Put}
+use Rattle.star_group.proofs.SmallNumbers.{few_room}
+use Rattle.star_group_tests.specs.Few.{AreFew}
+
+abbrev Narrow : ℤ → Type 0
+Narrow z = is_i64 z ≡ true
+
+abbrev IsNarrow : Put → Type 0
+IsNarrow put = All Narrow put.values
+
+-- the numbers of a put: one number, and a 1 for the count
+pub of_one : (z : ℤ) → is_i64 z ≡ true → All (λ z. is_i64 z ≡ true) (z ∷ pos 1 ∷ z ∷ z ∷ [])
+unfolding is_i64
+of_one z here =
+    let one : All Narrow (z ∷ []) = All-cons Narrow z [] here (All-nil Narrow) in
+    let two : All Narrow (z ∷ z ∷ []) = All-cons Narrow z (z ∷ []) here one in
+    let three : All Narrow (pos 1 ∷ z ∷ z ∷ []) = All-cons Narrow (pos 1) (z ∷ z ∷ []) refl two in
+    All-cons Narrow z (pos 1 ∷ z ∷ z ∷ []) here three
+
+pub four_narrow : (z : ℤ) → FitsSigned w64 z → All (λ z. is_i64 z ≡ true) (z ∷ pos 1 ∷ z ∷ z ∷ [])
+four_narrow z fits = of_one z ((is_i64_fits z).1 fits)
+
+pub one_more : (count : ℕ) (puts : List Put) (put : Put) → AreFew count puts → All (λ z. is_i64 z ≡ true) put.values → AreFew (count + 1) (put ∷ puts)
+one_more count puts put few narrow = record {
+  many = omega (arith, few.many);
+  small = All-cons IsNarrow put puts narrow few.small;
+}
+
+pub has_room : (d : Group) (count : ℕ) (puts : List Put) (put : Put) → count < 2 ^ 32 → AreFew count puts → All (λ z. is_i64 z ≡ true) put.values → HasRoom d (put ∷ puts)
+has_room d count puts put less few narrow =
+    few_room d (put ∷ puts) (All-cons IsNarrow put puts narrow few.small) (omega (arith, less, few.many))

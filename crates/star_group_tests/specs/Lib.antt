@@ -1,0 +1,2 @@
+-- What the tests of stores cite.
+pub mod Few
