@@ -84,18 +84,3 @@ fn keeps_many_different_texts_as_they_come(rt: HostRuntime) -> Result<(), Fail> 
     assert_eq!(rt; kept.len(), 40_000);
     Ok(())
 }
-
-// The different texts in order, and each text's place among them.
-#[test]
-fn codes_texts(rt: HostRuntime) -> Result<(), Fail> {
-    let mut texts = FlatTexts::new(rt.alloc());
-    for text in ["TRUCK", "MAIL", "", "TRUCK", "MAILBOXES", "MAIL"] {
-        texts.push(text.as_bytes())?;
-    }
-    let (different, codes) = texts.coded(rt.alloc())?;
-    assert_eq!(rt; codes.as_slice(), &[3, 1, 0, 3, 2, 1][..]);
-    for (place, text) in [(0, ""), (1, "MAIL"), (2, "MAILBOXES"), (3, "TRUCK")] {
-        assert!(rt; stands_at(&different, place, text), "{text:?} at {place}");
-    }
-    Ok(())
-}
