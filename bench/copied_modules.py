@@ -16,7 +16,7 @@ NAME = re.compile(r"\bRattle\.(star_\w+\.(?:specs|proofs)(?:\.[\w'+-]+)*)")
 SAID = re.compile(r"^\./proofs/(\w+?)\.antt:(\d+):\d+: error(.*)$", re.M)
 CRATE = "star_planted"
 # The crate that has nothing but rows.
-ROWS = "star_worked"
+ROWS = "star_examples"
 # The function of a crate with copies whose proof names them: a check of it alone reads them, and proves nothing else.
 ANCHOR = "planted"
 

@@ -5,7 +5,7 @@ from pathlib import Path
 
 HERE = Path(__file__).resolve().parent
 CRATES = HERE.parent / "crates"
-DATA = CRATES / "star_trial" / "data"
+DATA = CRATES / "star_sample" / "data"
 TABLES = ["date", "customer", "supplier", "part", "lineorder"]
 # What the program prints with no words: the listing of the sample, and then the reports of the benchmark.
 PRINTED = (CRATES / "star" / "stdout").read_bytes()

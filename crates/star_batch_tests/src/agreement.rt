@@ -2,7 +2,6 @@
 
 use star_catalogue::Catalogue;
 use star_compile::compile;
-use star_fixtures::programs::read;
 use star_machine::{Outcome, TrialFault, trial};
 use star_plan::{PlanFault, plan};
 use star_program::Program;
@@ -10,6 +9,7 @@ use star_query::{Query, QueryFault};
 use star_report::report_text;
 use star_run::run;
 use star_schema::{Limits, MOST_VISITS};
+use star_test_support::programs::read;
 use star_verify::{Refusal, Refused, Verified, verify};
 use std::alloc::{AllocError, Global};
 use std::test::Fail;

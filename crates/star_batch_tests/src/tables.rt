@@ -2,7 +2,7 @@
 
 use crate::draws::Draws;
 use star_catalogue::{Catalogue, Texts};
-use star_fixtures::samples::loaded;
+use star_test_support::samples::loaded;
 use std::alloc::{AllocError, Global};
 use std::fmt::Write;
 use std::test::Fail;

@@ -2,8 +2,8 @@
 
 use star_cli::{StandardInput, command};
 use star_engine::sample;
-use star_fixtures::programs::ABOVE_AVERAGE;
-use star_fixtures::samples::orders_of;
+use star_test_support::programs::ABOVE_AVERAGE;
+use star_test_support::samples::orders_of;
 use std::alloc::{AllocError, Global};
 use std::io::Read;
 use std::process::Abort;

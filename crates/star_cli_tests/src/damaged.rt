@@ -2,7 +2,7 @@
 
 use crate::commands::{Ran, assert_fault, run, text, write_sample};
 use star_engine::sample;
-use star_fixtures::texts::repeated;
+use star_test_support::texts::repeated;
 use std::alloc::{AllocError, Global};
 use std::fs;
 use std::process::Abort;

@@ -2,7 +2,7 @@
 
 use crate::parts::{THREE, TWO};
 use star_engine::sample;
-use star_fixtures::streams::Choppy;
+use star_test_support::streams::Choppy;
 use std::alloc::{Allocator, Global};
 use std::fs::{Files, Metadata, OpenFile, OpenOptions};
 use std::io;

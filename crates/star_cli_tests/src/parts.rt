@@ -2,7 +2,7 @@
 
 use crate::commands::{assert_fault, run, text, write_sample};
 use star_engine::sample;
-use star_fixtures::samples::orders_of;
+use star_test_support::samples::orders_of;
 use std::process::Abort;
 use std::rt::Files;
 use std::test::Fail;

@@ -5,7 +5,7 @@ use crate::folders::Folder;
 use crate::parts::{THREE, TWO};
 use star_cli::{Progress, TableFile, Watch, command};
 use star_engine::sample;
-use star_fixtures::streams::Short;
+use star_test_support::streams::Short;
 use std::alloc::{AllocError, Global};
 use std::cell::Cell;
 use std::io;

@@ -7,9 +7,9 @@ use crate::commands::{
 use crate::surroundings::run_short;
 use star_cli::command;
 use star_engine::sample;
-use star_fixtures::programs::ABOVE_AVERAGE;
-use star_fixtures::samples::{orders_of, replaced};
-use star_fixtures::streams::Short;
+use star_test_support::programs::ABOVE_AVERAGE;
+use star_test_support::samples::{orders_of, replaced};
+use star_test_support::streams::Short;
 use std::alloc::{AllocError, Global};
 use std::process::Abort;
 use std::rt::Files;

@@ -3,8 +3,8 @@
 use crate::commands::{Ran, assert_fault, owned, piped, run, run_over, text, write_sample};
 use star_cli::{StandardInput, command};
 use star_engine::sample;
-use star_fixtures::samples::{orders_of, replaced};
-use star_fixtures::streams::{Short, Zeros};
+use star_test_support::samples::{orders_of, replaced};
+use star_test_support::streams::{Short, Zeros};
 use std::alloc::{AllocError, Global};
 use std::fs;
 use std::process::Abort;

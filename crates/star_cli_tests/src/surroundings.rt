@@ -3,8 +3,8 @@
 
 use crate::commands::{Case, assert_fault, assert_runs, owned, piped, run, text, write_sample};
 use star_cli::command;
-use star_fixtures::programs::ABOVE_AVERAGE;
-use star_fixtures::streams::Short;
+use star_test_support::programs::ABOVE_AVERAGE;
+use star_test_support::streams::Short;
 use std::alloc::{AllocError, Global};
 use std::fmt::Write;
 use std::fs;

@@ -18,7 +18,7 @@ use Rattle.star_program.specs.CodeOfSteps as step
 use Rattle.star_program.specs.Faults.{target_of}
 use Rattle.star_program.specs.declared.body.Step.{Step}
 use Rattle.star_program.specs.declared.body.Step.TheVariants.{Act}
-use Rattle.star_compiled.specs.Compiled.{Env, Rest, Rests, writes_one, register_count, column_code, expression_code, condition_code, conjunct_code, keys_code, values_code, before, binary_code, write, one_more}
+use Rattle.star_compile_laws.specs.Compiled.{Env, Rest, Rests, writes_one, register_count, column_code, expression_code, condition_code, conjunct_code, keys_code, values_code, before, binary_code, write, one_more}
 use Rattle.star_compile.specs.declared.emitter.Emitter.{Emitter}
 use Rattle.star_compile.specs.Private.Emitted.{Whole, steps_then, env_of, whole, Wrote, Writes, HasRoom, keys_after, value_after, values_after}
 

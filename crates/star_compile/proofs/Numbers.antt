@@ -3,7 +3,7 @@ use Rattle.std.proofs.Common.{◌≡◌, true, refl, arith, FitsSigned, w64, to_
 use Rattle.std.specs.Prelude.{ℤ, pos, negsuc, ◌+ℤ◌}
 use Rattle.star_query.specs.Spelled.{is_number}
 use Rattle.star_program.specs.Text.Spellable.{IsConstant}
-use Rattle.star_compiled.proofs.Sayable.{constant_said, next_said}
+use Rattle.star_compile_laws.proofs.Sayable.{constant_said, next_said}
 
 constant_fits : (z : ℤ) → IsConstant z → FitsSigned w64 z
 constant_fits (pos n) h = omega (arith, h)

@@ -6,7 +6,7 @@ use Rattle.star_program.specs.declared.body.Step.TheVariants.{Act}
 use Rattle.star_program.specs.declared.op.Op.TheVariants.{Put}
 use Rattle.star_program.specs.Code.{Code, Stop}
 use Rattle.star_program.specs.CodeOfSteps.{before, code_of_steps}
-use Rattle.star_compiled.specs.Compiled.{Env, env_first, register_count, conjuncts_code, keys_code, values_code, put_code, turn_code}
+use Rattle.star_compile_laws.specs.Compiled.{Env, env_first, register_count, conjuncts_code, keys_code, values_code, put_code, turn_code}
 use Rattle.star_compile.specs.declared.emitter.Emitter.{Emitter}
 use Rattle.star_compile.specs.Private.Emitted.{Whole, steps_then, env_of, whole, Wrote, Writes, HasRoom}
 use Rattle.star_compile.proofs.Emits.{act, made, room_where}

@@ -3,8 +3,8 @@
 ghost use Rattle.std.specs.Prelude.{◌≡◌, IfOk};
 ghost use Rattle.star_schema.specs.Schema as schema;
 ghost use Rattle.star_schema.specs.declared.table.TableId.TheVariants.{Lineorder};
-ghost use Rattle.star_compiled.specs.Compiled as spec;
-ghost use Rattle.star_compiled.specs.Compiled.{found_in, foreign_of, loaded_in, register_in};
+ghost use Rattle.star_compile_laws.specs.Compiled as spec;
+ghost use Rattle.star_compile_laws.specs.Compiled.{found_in, foreign_of, loaded_in, register_in};
 ghost use Rattle.star_compile.specs.Private.Emitted.{HasRoom, Writes};
 
 use crate::emitter::Emitter;

@@ -5,7 +5,7 @@ ghost use Rattle.star_plan.specs.Shown.{literal_shown};
 ghost use Rattle.star_plan.specs.Spelled.{value_is_spelled};
 ghost use Rattle.star_program.specs.declared.op.Operation.TheVariants.{Binary};
 ghost use Rattle.star_query.specs.declared.token.Relation.TheVariants as sign;
-ghost use Rattle.star_compiled.specs.Compiled as spec;
+ghost use Rattle.star_compile_laws.specs.Compiled as spec;
 ghost use Rattle.star_compile.specs.Private.Emitted.{HasRoom, Writes};
 
 use crate::emitter::Emitter;

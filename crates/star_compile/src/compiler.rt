@@ -9,7 +9,7 @@ ghost use Rattle.star_plan.specs.Sound.{IsSoundPlan};
 ghost use Rattle.star_plan.specs.Spelled.{IsSpelledPlan, condition_is_spelled};
 ghost use Rattle.star_program.specs.Code.{Each, Stop};
 ghost use Rattle.star_program.specs.CodeOfSteps.{code_of_steps};
-ghost use Rattle.star_compiled.specs.Compiled.{compiled, register_count, turn_code};
+ghost use Rattle.star_compile_laws.specs.Compiled.{compiled, register_count, turn_code};
 
 use crate::declarations::{group, shows};
 use crate::emitter::Emitter;

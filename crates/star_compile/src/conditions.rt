@@ -5,8 +5,8 @@ ghost use Rattle.std.specs.List.{list_all};
 ghost use Rattle.star_query.specs.Tree.{test};
 ghost use Rattle.star_plan.specs.Shown.{comparison_shown, condition_shown};
 ghost use Rattle.star_plan.specs.Spelled.{condition_is_spelled};
-ghost use Rattle.star_compiled.specs.Compiled as spec;
-ghost use Rattle.star_compiled.specs.Compiled.{condition_code};
+ghost use Rattle.star_compile_laws.specs.Compiled as spec;
+ghost use Rattle.star_compile_laws.specs.Compiled.{condition_code};
 ghost use Rattle.star_compile.specs.Private.Emitted.{HasRoom, Writes, Wrote};
 
 use crate::emitter::Emitter;

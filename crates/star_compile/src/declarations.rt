@@ -5,8 +5,8 @@ ghost use Rattle.std.specs.List.{list_all};
 ghost use Rattle.star_plan.specs.Meaning.{aggregate_of};
 ghost use Rattle.star_plan.specs.Shown.{measure_shown, measures_shown, shown};
 ghost use Rattle.star_plan.specs.Sound.{is_group_column};
-ghost use Rattle.star_compiled.specs.Compiled as spec;
-ghost use Rattle.star_answers.specs.Answers.{shown_name};
+ghost use Rattle.star_compile_laws.specs.Compiled as spec;
+ghost use Rattle.star_query_meaning.specs.Answers.{shown_name};
 
 use star_plan::PlanTree;
 use star_program::{GroupDecl, GroupKey, Items, Show};

@@ -3,7 +3,7 @@
 ghost use Rattle.std.specs.Prelude.{◌≡◌, ◌+◌, ◌<◌, ◌++◌, ◌∷◌, [], IfOk};
 ghost use Rattle.star_program.specs.declared.body.Step.TheVariants.{Act};
 ghost use Rattle.star_program.specs.declared.op.Op.TheVariants.{Assign, Keep, Put};
-ghost use Rattle.star_compiled.specs.Compiled as spec;
+ghost use Rattle.star_compile_laws.specs.Compiled as spec;
 ghost use Rattle.star_compile.specs.Private.Emitted.{HasRoom, Writes};
 
 use star_program::{Items, Op, Operation, Step};

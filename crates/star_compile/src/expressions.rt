@@ -2,8 +2,8 @@
 
 ghost use Rattle.std.specs.Prelude.{IfOk};
 ghost use Rattle.star_plan.specs.Shown.{expression_shown};
-ghost use Rattle.star_compiled.specs.Compiled as spec;
-ghost use Rattle.star_compiled.specs.Compiled.{expression_code};
+ghost use Rattle.star_compile_laws.specs.Compiled as spec;
+ghost use Rattle.star_compile_laws.specs.Compiled.{expression_code};
 ghost use Rattle.star_compile.specs.Private.Emitted.{HasRoom, Writes};
 
 use crate::emitter::Emitter;

@@ -1,8 +1,8 @@
 //! The program of a plan, made.
 //!
-//! What it is stands in star_compiled's `specs/Compiled.antt`. Its instructions are written in
+//! What it is stands in star_compile_laws's `specs/Compiled.antt`. Its instructions are written in
 //! their order by an emitter, which knows which columns are loaded and which rows are found. That
-//! there is always room for the next register is the law of star_compiled that compiled plans are
+//! there is always room for the next register is the law of star_compile_laws that compiled plans are
 //! within the limits of programs.
 #![tactic(auto)]
 

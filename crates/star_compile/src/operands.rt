@@ -4,7 +4,7 @@ ghost use Rattle.std.specs.Prelude.{◌≡◌, true, IfOk};
 ghost use Rattle.star_plan.specs.Shown.{literal_shown};
 ghost use Rattle.star_plan.specs.Spelled.{value_is_spelled};
 ghost use Rattle.star_program.specs.declared.op.Operation.TheVariants as operation;
-ghost use Rattle.star_compiled.specs.Compiled as spec;
+ghost use Rattle.star_compile_laws.specs.Compiled as spec;
 
 use star_program::{Edge, Items, Operation};
 use star_query::Literal;

@@ -2,7 +2,7 @@
 
 ghost use Rattle.std.specs.Prelude.{IfOk};
 ghost use Rattle.star_plan.specs.Shown.{measure_shown, measures_shown};
-ghost use Rattle.star_compiled.specs.Compiled.{keys_code, values_code};
+ghost use Rattle.star_compile_laws.specs.Compiled.{keys_code, values_code};
 ghost use Rattle.star_compile.specs.Private.Emitted.{HasRoom, Writes, value_after};
 
 use crate::emitter::Emitter;

@@ -6,7 +6,7 @@ use Rattle.std.specs.List.{AllByRecursion}
 use Rattle.std.proofs.lemmas.List.{length-append}
 use Rattle.star_schema.specs.Database.{Database}
 use Rattle.star_plan.specs.Meaning.{Plan}
-use Rattle.star_compiled.specs.Compiled.{compiled}
+use Rattle.star_compile_laws.specs.Compiled.{compiled}
 use Rattle.star_engine.specs.declared.benchmark.Prepared.{Prepared}
 use Rattle.star_engine.specs.declared.fault.EngineFault.{EngineFault}
 use Rattle.star_engine.specs.declared.fault.EngineFault.TheVariants as engine

@@ -6,9 +6,9 @@ use Rattle.star_schema.specs.Database.{Database, TableTexts}
 use Rattle.star_schema.specs.Loadable.{IsLoadable, database_of}
 use Rattle.star_program.specs.declared.outcome.Outcome.{Outcome}
 use Rattle.star_program.specs.declared.program.Parts.{Parts}
-use Rattle.star_admission.specs.Admissible as admissible
-use Rattle.star_admission.specs.Admissible.{first_refusal}
-use Rattle.star_admission.specs.Admissible.{IsAdmissible}
+use Rattle.star_safety.specs.Admissible as admissible
+use Rattle.star_safety.specs.Admissible.{first_refusal}
+use Rattle.star_safety.specs.Admissible.{IsAdmissible}
 use Rattle.star_report.specs.Report.{report_text}
 use Rattle.star_verify.specs.declared.refusal.Refusal.{Refusal}
 use Rattle.star_verify.specs.declared.refusal.Refusal.TheVariants as why

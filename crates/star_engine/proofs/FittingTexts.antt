@@ -4,7 +4,7 @@ use Rattle.star_schema.specs.Database.{Database, rows_in}
 use Rattle.star_query.specs.Tree.{Tree}
 use Rattle.star_query.proofs.Verdicts.{one_meaning}
 use Rattle.star_plan.specs.Meaning.{Plan}
-use Rattle.star_answers.specs.Fitting.{FitsTables, PlanFitsTables}
+use Rattle.star_query_meaning.specs.Fitting.{FitsTables, PlanFitsTables}
 use Rattle.star_engine.specs.Queries.{FitsRows, IsPlanOf}
 
 pub text_fits : (most : ℕ) (database : Database) (query : List ℕ) (p : Plan) (is : IsPlanOf query p)

@@ -18,17 +18,17 @@ use Rattle.star_plan.specs.WellNamed.{IsWellNamed}
 use Rattle.star_plan.proofs.Conditions as names
 use Rattle.star_plan.proofs.OnePlan.{one_plan_of_a_text}
 use Rattle.star_catalogue.specs.declared.fault.LoadFault.{LoadFault}
-use Rattle.star_admission.specs.declared.reason.Reason.{Reason}
-use Rattle.star_admission.specs.Admissible as admissible
-use Rattle.star_admission.specs.Admissible.{Refused}
+use Rattle.star_safety.specs.declared.reason.Reason.{Reason}
+use Rattle.star_safety.specs.Admissible as admissible
+use Rattle.star_safety.specs.Admissible.{Refused}
 use Rattle.star_verify.specs.declared.refusal.Refusal.{Refusal}
 use Rattle.star_verify.specs.declared.refusal.Refusal.TheVariants as refusal
 use Rattle.star_verify.specs.Shown.{refusal_shown}
-use Rattle.star_answers.proofs.OneAnswer.{one_report}
-use Rattle.star_answers.specs.Fitting.{bounds_in}
-use Rattle.star_answers.specs.Rows.{selected}
-use Rattle.star_compiled.specs.Counts.{lookups_of}
-use Rattle.star_compiled.specs.Wide.{turn_wide}
+use Rattle.star_query_meaning.proofs.OneAnswer.{one_report}
+use Rattle.star_query_meaning.specs.Fitting.{bounds_in}
+use Rattle.star_query_meaning.specs.Rows.{selected}
+use Rattle.star_compile_laws.specs.Counts.{lookups_of}
+use Rattle.star_compile_laws.specs.Wide.{turn_wide}
 use Rattle.star_engine.specs.declared.fault.EngineFault.{EngineFault}
 use Rattle.star_engine.specs.declared.fault.EngineFault.TheVariants as engine
 use Rattle.star_engine.specs.Loads.{IsLoadFault}

@@ -8,14 +8,14 @@ use Rattle.star_plan.specs.Meaning.{Plan}
 use Rattle.star_program.specs.declared.program.Parts.{Parts}
 use Rattle.star_program.specs.Effects.{Store}
 use Rattle.star_program.specs.Run.{Ended, run_of}
-use Rattle.star_admission.specs.Admissible.{Refused, TooCostly, first_refusal}
+use Rattle.star_safety.specs.Admissible.{Refused, TooCostly, first_refusal}
 use Rattle.star_world.specs.WorldOf.{world_of}
 use Rattle.star_verify.specs.declared.refusal.Refusal.{Refusal}
-use Rattle.star_answers.specs.Fitting.{bounds_in}
-use Rattle.star_compiled.specs.Compiled.{compiled}
-use Rattle.star_compiled.specs.Counts.{HasCounted}
-use Rattle.star_compiled.specs.Judged.{IsOverflow}
-use Rattle.star_compiled.specs.Wide.{turn_wide}
+use Rattle.star_query_meaning.specs.Fitting.{bounds_in}
+use Rattle.star_compile_laws.specs.Compiled.{compiled}
+use Rattle.star_compile_laws.specs.Counts.{HasCounted}
+use Rattle.star_compile_laws.specs.Judged.{IsOverflow}
+use Rattle.star_compile_laws.specs.Wide.{turn_wide}
 use Rattle.star_engine.specs.declared.fault.EngineFault.{EngineFault}
 use Rattle.star_engine.specs.declared.fault.EngineFault.TheVariants as engine
 use Rattle.star_engine.specs.Answered.{Change}

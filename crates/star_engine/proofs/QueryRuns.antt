@@ -4,7 +4,7 @@ use Rattle.star_schema.specs.Database.{Database}
 use Rattle.star_plan.specs.Meaning.{Plan}
 use Rattle.star_program.specs.Effects.{Store}
 use Rattle.star_program.specs.Run.{End, Ended, Trapped, Limited, EndsWith}
-use Rattle.star_admission.specs.Laws.{EndsWithin}
+use Rattle.star_safety.specs.Laws.{EndsWithin}
 use Rattle.star_engine.specs.Queries.{fact_rows}
 use Rattle.star_engine.specs.QueryRuns.{HasReported, PrintsTheReport}
 

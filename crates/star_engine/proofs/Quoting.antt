@@ -3,7 +3,7 @@ use Rattle.std.proofs.Common.{◌≡◌, ◌∙◌, ℕ, Bool, true, false, List
 use Rattle.star_schema.specs.Database.{Database, TableTexts}
 use Rattle.star_plan.specs.Meaning.{Plan}
 use Rattle.star_program.specs.declared.program.Parts.{Parts}
-use Rattle.star_compiled.specs.Compiled.{compiled}
+use Rattle.star_compile_laws.specs.Compiled.{compiled}
 use Rattle.star_engine.specs.declared.fault.EngineFault.{EngineFault}
 use Rattle.star_engine.specs.declared.fault.EngineFault.TheVariants as engine
 use Rattle.star_engine.specs.Executions.{IsQuote, quote_over}

@@ -5,7 +5,7 @@ use Rattle.std.specs.List.{AllByRecursion}
 use Rattle.star_schema.specs.Database.{Database, TableTexts}
 use Rattle.star_verify.specs.declared.refusal.Refusal.{Refusal}
 use Rattle.star_verify.specs.RefusalTexts.{refusal_text}
-use Rattle.star_answers.specs.Reports.{IsReport}
+use Rattle.star_query_meaning.specs.Reports.{IsReport}
 use Rattle.star_engine.specs.declared.thirteen.BenchmarkQuery.{BenchmarkQuery}
 use Rattle.star_engine.specs.declared.thirteen.TheConstants.{THIRTEEN}
 use Rattle.star_engine.specs.Loads.{HoldsOfRows}

@@ -4,9 +4,9 @@ use Rattle.star_schema.specs.Database.{Database, TableTexts}
 use Rattle.star_program.specs.declared.outcome.Outcome.{Outcome}
 use Rattle.star_program.specs.declared.program.Parts.{Parts}
 use Rattle.star_program.specs.Run.{run_of}
-use Rattle.star_admission.specs.Admissible as admissible
-use Rattle.star_admission.specs.Admissible.{IsAdmissible, first_refusal}
-use Rattle.star_admission.specs.Quote.{quote}
+use Rattle.star_safety.specs.Admissible as admissible
+use Rattle.star_safety.specs.Admissible.{IsAdmissible, first_refusal}
+use Rattle.star_safety.specs.Quote.{quote}
 use Rattle.star_verify.specs.declared.refusal.Refusal.{Refusal}
 use Rattle.star_verify.specs.Shown.{refusal_shown}
 use Rattle.star_machine.specs.Trials.{Yields}

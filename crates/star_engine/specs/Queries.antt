@@ -15,16 +15,16 @@ use Rattle.star_plan.specs.Resolved.{IsResolved}
 use Rattle.star_plan.specs.WellNamed.{IsWellNamed}
 use Rattle.star_program.specs.Text.Spelling.{Spells}
 use Rattle.star_program.specs.Text.Written.{text_of}
-use Rattle.star_admission.specs.Admissible.{Refused, TooCostly}
+use Rattle.star_safety.specs.Admissible.{Refused, TooCostly}
 use Rattle.star_verify.specs.declared.refusal.Refusal.{Refusal}
 use Rattle.star_verify.specs.Shown.{refusal_shown}
-use Rattle.star_answers.specs.Fitting.{FitsTables, bounds_in}
-use Rattle.star_answers.specs.Reports.{IsReport}
-use Rattle.star_answers.specs.Rows.{selected}
-use Rattle.star_compiled.specs.Compiled.{compiled}
-use Rattle.star_compiled.specs.Counts.{lookups_of}
-use Rattle.star_compiled.specs.Judged.{IsOverflow}
-use Rattle.star_compiled.specs.Wide.{turn_wide}
+use Rattle.star_query_meaning.specs.Fitting.{FitsTables, bounds_in}
+use Rattle.star_query_meaning.specs.Reports.{IsReport}
+use Rattle.star_query_meaning.specs.Rows.{selected}
+use Rattle.star_compile_laws.specs.Compiled.{compiled}
+use Rattle.star_compile_laws.specs.Counts.{lookups_of}
+use Rattle.star_compile_laws.specs.Judged.{IsOverflow}
+use Rattle.star_compile_laws.specs.Wide.{turn_wide}
 use Rattle.star_engine.specs.declared.fault.EngineFault.{EngineFault}
 use Rattle.star_engine.specs.declared.fault.EngineFault.TheVariants as engine
 use Rattle.star_engine.specs.Loads.{HoldsOfRows, IsLoadFault}

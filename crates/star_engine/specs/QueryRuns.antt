@@ -7,8 +7,8 @@ use Rattle.star_program.specs.Effects.{Store}
 use Rattle.star_program.specs.Outcome.{IsOutcome}
 use Rattle.star_report.specs.Report.{report_text}
 use Rattle.star_world.specs.WorldOf.{world_of}
-use Rattle.star_answers.specs.Reports.{IsReport}
-use Rattle.star_compiled.specs.Compiled.{compiled}
+use Rattle.star_query_meaning.specs.Reports.{IsReport}
+use Rattle.star_compile_laws.specs.Compiled.{compiled}
 use Rattle.star_engine.specs.Queries.{fact_rows}
 
 -- what is printed of a run that came to its end is the report of the query's text

@@ -2,8 +2,8 @@
 -- before it over the rows of five tables, and its report with its notes.
 use Rattle.std.specs.Prelude.{◌≡◌, ℕ, Bool, true, false, List, string_bytes}
 use Rattle.star_schema.specs.Database.{Database}
-use Rattle.star_admission.specs.MostRows.{most_rows}
-use Rattle.star_compiled.specs.Compiled.{compiled}
+use Rattle.star_safety.specs.MostRows.{most_rows}
+use Rattle.star_compile_laws.specs.Compiled.{compiled}
 use Rattle.star_plan.specs.Meaning.{Plan}
 use Rattle.star_program.specs.declared.program.Parts.{Parts}
 use Rattle.star_engine.specs.declared.fault.EngineFault.{EngineFault}

@@ -5,7 +5,7 @@ ghost use Rattle.star_schema.specs.Database.{TableTexts};
 ghost use Rattle.star_schema.specs.Loadable.{IsLoadable};
 ghost use Rattle.star_catalogue.specs.Load.{text_of};
 ghost use Rattle.star_catalogue.specs.Pieces.{AreRead};
-ghost use Rattle.star_answers.specs.Reports.{IsReport};
+ghost use Rattle.star_query_meaning.specs.Reports.{IsReport};
 ghost use Rattle.star_engine.specs.Answered.{HasWritten, IsBrokenOff, IsRefused, IsUntouched, OrMemory, change};
 ghost use Rattle.star_engine.specs.Bench.{AllFit, IsBenchOver};
 ghost use Rattle.star_engine.specs.Executions.{IsFileReportOver, IsQuoteOver, IsToldOver, IsUntoldOver};

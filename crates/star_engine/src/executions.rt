@@ -13,12 +13,12 @@ ghost use Rattle.star_engine.specs.declared.fault.EngineFault.TheVariants.{Write
 use crate::fault::EngineFault;
 use crate::notes::{counts_note, quote_note};
 use crate::writing::write_text;
-use star_admission::law::admissible_programs_within_the_limit_are_not_refused;
 use star_catalogue::Catalogue;
 use star_machine::Outcome;
 use star_program::Program;
 use star_report::{report_text, write_whole};
 use star_run::run;
+use star_safety::law::admissible_programs_within_the_limit_are_not_refused;
 use star_schema::{Limits, Sink};
 use star_verify::{Refused, Verified, verify};
 use std::alloc::Global;

@@ -10,13 +10,13 @@ ghost use Rattle.star_plan.specs.WellNamed.{IsWellNamed};
 ghost use Rattle.star_program.specs.Effects.{Store};
 ghost use Rattle.star_program.specs.Run.{Ended, EndsWith, run_of};
 ghost use Rattle.star_program.specs.Text.Spellable.{IsSpellable};
-ghost use Rattle.star_admission.specs.Admissible.{Refused, TooCostly, first_refusal};
+ghost use Rattle.star_safety.specs.Admissible.{Refused, TooCostly, first_refusal};
 ghost use Rattle.star_world.specs.WorldOf.{world_of};
-ghost use Rattle.star_answers.specs.Fitting.{bounds_in};
-ghost use Rattle.star_compiled.specs.Compiled.{compiled};
-ghost use Rattle.star_compiled.specs.Counts.{HasCounted};
-ghost use Rattle.star_compiled.specs.Judged.{IsOverflow};
-ghost use Rattle.star_compiled.specs.Wide.{turn_wide};
+ghost use Rattle.star_query_meaning.specs.Fitting.{bounds_in};
+ghost use Rattle.star_compile_laws.specs.Compiled.{compiled};
+ghost use Rattle.star_compile_laws.specs.Counts.{HasCounted};
+ghost use Rattle.star_compile_laws.specs.Judged.{IsOverflow};
+ghost use Rattle.star_compile_laws.specs.Wide.{turn_wide};
 ghost use Rattle.star_engine.specs.Executions.{IsAcceptedWithin, quote_over};
 ghost use Rattle.star_engine.specs.declared.fault.EngineFault.{EngineFault};
 ghost use Rattle.star_engine.specs.declared.thirteen.BenchmarkQuery.{BenchmarkQuery};
@@ -26,15 +26,15 @@ ghost use Rattle.star_engine.specs.Noted.{Telling};
 ghost use Rattle.star_engine.specs.QueryRuns.{HasReported, PrintsTheReport};
 ghost use Rattle.star_engine.specs.Thirteen.{query_text};
 
-use star_admission::law::{
-    admissible_programs_never_trap, admissible_programs_within_the_limit_are_not_refused,
-};
-use star_answers::law::plans_fit_where_their_queries_do;
-use star_compiled::acceptance::compiled_programs_are_accepted_where_they_fit_the_tables;
-use star_compiled::answers::{
+use star_compile_laws::acceptance::compiled_programs_are_accepted_where_they_fit_the_tables;
+use star_compile_laws::answers::{
     compiled_programs_count_the_rows, compiled_programs_report_their_queries,
 };
-use star_compiled::law::{compiled_plans_are_programs, compiled_programs_visit_each_row_once};
+use star_compile_laws::law::{compiled_plans_are_programs, compiled_programs_visit_each_row_once};
+use star_query_meaning::law::plans_fit_where_their_queries_do;
+use star_safety::law::{
+    admissible_programs_never_trap, admissible_programs_within_the_limit_are_not_refused,
+};
 use star_world::law::{sound_rows_are_loaded, sound_rows_have_a_world};
 
 /// Where a query fits the rows that are loaded, nothing refuses its program. Its run comes to its

@@ -3,9 +3,9 @@
 use crate::printed::{Room, answered};
 use crate::tables::with_orders;
 use star_engine::{BenchmarkQuery, Texts, sample};
-use star_fixtures::programs::NO_TEXTS;
-use star_fixtures::samples::{orders_of, replaced};
 use star_schema::Limits;
+use star_test_support::programs::NO_TEXTS;
+use star_test_support::samples::{orders_of, replaced};
 use std::alloc::Global;
 use std::test::Fail;
 

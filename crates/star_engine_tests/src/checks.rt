@@ -1,12 +1,12 @@
 // The worked listing, the fault lines of changed samples, and output that fails.
 
 use star_engine::{EngineFault, Texts, check, sample, trial_program};
-use star_fixtures::programs::{
+use star_schema::{Limits, MOST_VISITS, Out};
+use star_test_support::programs::{
     ABOVE_AVERAGE, ABSENT_KEY, MISPLACED, NESTED, NO_TEXTS, READ_INSIDE, UNSET, counting,
 };
-use star_fixtures::samples::orders_of;
-use star_fixtures::streams::Short;
-use star_schema::{Limits, MOST_VISITS, Out};
+use star_test_support::samples::orders_of;
+use star_test_support::streams::Short;
 use std::alloc::{AllocError, Global};
 use std::test::Fail;
 

@@ -2,10 +2,10 @@
 
 use crate::printed::{AMPLE, AT_ONCE, Printed, benched, quoted, told};
 use star_engine::{Engine, EngineFault, LoadFault, Texts, sample};
-use star_fixtures::programs::ABOVE_AVERAGE;
-use star_fixtures::samples::{orders_of, replaced};
-use star_fixtures::streams::Short;
 use star_schema::{Limits, Out};
+use star_test_support::programs::ABOVE_AVERAGE;
+use star_test_support::samples::{orders_of, replaced};
+use star_test_support::streams::Short;
 use std::alloc::{AllocError, Global};
 use std::test::Fail;
 

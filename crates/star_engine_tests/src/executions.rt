@@ -2,11 +2,11 @@
 // its place, and limits at and one below what is quoted.
 
 use star_engine::{EngineFault, Texts, answer_program, quote_text, sample};
-use star_fixtures::programs::{
+use star_schema::{Limits, MOST_ROWS, MOST_VISITS, Out};
+use star_test_support::programs::{
     ABOVE_AVERAGE, ABSENT_KEY, DISCOUNTED_REVENUE, MISPLACED, NESTED, NO_TEXTS, READ_INSIDE,
     REVENUES, SIX_NUMBERS, UNSET, counting,
 };
-use star_schema::{Limits, MOST_ROWS, MOST_VISITS, Out};
 use std::alloc::{AllocError, Global};
 use std::test::Fail;
 

@@ -1,9 +1,9 @@
 // Files of tables that are read piece by piece, by readers that give few bytes at once, or fail.
 
 use star_engine::{FileFault, Input, TableReader, read_part};
-use star_fixtures::streams::Choppy;
 use star_reader::ReadFault;
 use star_schema::{Limits, TableId};
+use star_test_support::streams::Choppy;
 use std::alloc::{AllocError, Global};
 use std::test::Fail;
 

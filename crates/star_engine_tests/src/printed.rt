@@ -3,8 +3,8 @@
 use star_engine::{
     EngineFault, Texts, answer_program, answer_query, bench, explain_query, quote_text,
 };
-use star_fixtures::streams::Short;
 use star_schema::{Limits, MOST_ROWS, MOST_VISITS, Out};
+use star_test_support::streams::Short;
 use std::alloc::{AllocError, Global};
 use std::test::Fail;
 

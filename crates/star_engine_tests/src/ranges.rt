@@ -4,8 +4,8 @@
 use crate::executions::{Case, all_agree};
 use crate::tables::dear_lines;
 use star_engine::{Texts, sample};
-use star_fixtures::programs::{BELOW_NINE, PRICES_READ, WIDE_SUMS_DOWN, WIDE_SUMS_UP};
 use star_schema::MOST_VISITS;
+use star_test_support::programs::{BELOW_NINE, PRICES_READ, WIDE_SUMS_DOWN, WIDE_SUMS_UP};
 use std::alloc::Global;
 use std::test::Fail;
 

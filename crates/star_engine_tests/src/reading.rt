@@ -1,7 +1,7 @@
 // Readers read whole: what comes, the bound, and reads that fail.
 
 use star_engine::{FileFault, Input, read_expected, read_whole};
-use star_fixtures::streams::Zeros;
+use star_test_support::streams::Zeros;
 use std::alloc::{AllocError, Global};
 use std::test::Fail;
 

@@ -2,9 +2,9 @@
 // bytes are told as sent.
 
 use star_engine::{EngineFault, answer_program, quote_text, sample};
-use star_fixtures::programs::ABOVE_AVERAGE;
-use star_fixtures::streams::Short;
 use star_schema::{Limits, Out};
+use star_test_support::programs::ABOVE_AVERAGE;
+use star_test_support::streams::Short;
 use std::alloc::{AllocError, Global};
 use std::test::Fail;
 

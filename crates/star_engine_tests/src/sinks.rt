@@ -2,8 +2,8 @@
 
 use crate::printed::{AMPLE, Printed, Room, answered, explained, quoted};
 use star_engine::{BenchmarkQuery, sample};
-use star_fixtures::programs::DISCOUNTED_REVENUE;
 use star_schema::Limits;
+use star_test_support::programs::DISCOUNTED_REVENUE;
 use std::alloc::{AllocError, Global};
 use std::test::Fail;
 

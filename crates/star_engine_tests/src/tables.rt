@@ -1,7 +1,7 @@
 // The sample with some of it changed.
 
 use star_engine::{Texts, sample};
-use star_fixtures::samples::{orders_of, replaced};
+use star_test_support::samples::{orders_of, replaced};
 use std::alloc::{AllocError, Global};
 use std::fmt::Write;
 use std::test::Fail;

@@ -3,8 +3,8 @@
 
 use crate::engines::loaded;
 use star_engine::{Engine, EngineFault, Told, check_text, sample};
-use star_fixtures::programs::ABOVE_AVERAGE;
 use star_schema::Limits;
+use star_test_support::programs::ABOVE_AVERAGE;
 use std::alloc::{AllocError, Global};
 use std::test::Fail;
 

@@ -1,7 +1,7 @@
 // What many tests assert: each assert is dear to prove.
 
 use star_catalogue::{LoadFault, Texts};
-use star_fixtures::samples::outcome;
+use star_test_support::samples::outcome;
 use std::alloc::{AllocError, Global};
 use std::fmt::Debug;
 use std::process::Abort;

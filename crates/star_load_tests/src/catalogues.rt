@@ -5,8 +5,8 @@ ghost use Rattle.star_schema.specs.Schema.{kind_of};
 
 use crate::asserts::{check_load, check_same};
 use star_catalogue::{Catalogue, LoadFault, Texts, sample};
-use star_fixtures::samples::{loaded, orders_of, outcome_within, replaced};
 use star_schema::{ColumnId, Kind, Sizes, TableId, table_of};
+use star_test_support::samples::{loaded, orders_of, outcome_within, replaced};
 use std::alloc::{AllocError, Global};
 use std::process::Abort;
 use std::test::Fail;

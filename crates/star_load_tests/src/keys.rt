@@ -5,8 +5,8 @@ ghost use Rattle.star_schema.specs.Schema.{references};
 
 use crate::asserts::{check_load, check_same};
 use star_catalogue::{Catalogue, LoadFault, Texts, sample};
-use star_fixtures::samples::{loaded, replaced};
 use star_schema::{ColumnId, TableId, table_of};
+use star_test_support::samples::{loaded, replaced};
 use std::alloc::{AllocError, Global};
 use std::fmt::Write;
 use std::process::Abort;

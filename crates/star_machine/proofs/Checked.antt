@@ -12,7 +12,7 @@ use Rattle.star_program.specs.Private.Doing.{does}
 use Rattle.star_program.specs.Faults.{fault_of, operands_fault, place_fault, target_fault, target_of}
 use Rattle.star_program.specs.Values.{kind_of_value}
 use Rattle.star_program.specs.World.{World}
-use Rattle.star_check.specs.Kinds.{kinds_of}
+use Rattle.star_kinds.specs.Kinds.{kinds_of}
 use Rattle.star_common.proofs.Firsts.{or_none}
 use Rattle.star_machine.specs.Private.Shown.{held}
 

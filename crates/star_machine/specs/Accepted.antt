@@ -5,8 +5,8 @@ use Rattle.star_schema.specs.Loadable.{IsSound}
 use Rattle.star_program.specs.declared.program.Parts.{Parts}
 use Rattle.star_program.specs.Limits.{IsWithinLimits}
 use Rattle.star_world.specs.WorldOf.{world_of}
-use Rattle.star_admission.specs.Admissible.{IsAdmissible}
-use Rattle.star_admission.specs.Quote.{quote}
+use Rattle.star_safety.specs.Admissible.{IsAdmissible}
+use Rattle.star_safety.specs.Quote.{quote}
 
 -- the rows are sound, and the program is admissible over them, with no more visits quoted than any run
 -- may make

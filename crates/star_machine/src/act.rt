@@ -32,8 +32,8 @@ use crate::puts::put;
 use crate::value::Register;
 use crate::work::Work;
 use star_catalogue::Catalogue;
-use star_check::check;
 use star_group::EagerStore;
+use star_kinds::check;
 use star_program::{Op, Operation, Parts, RegisterList, TrapKind, Value};
 use star_schema::TableId;
 

@@ -5,19 +5,19 @@ ghost use Rattle.star_schema.specs.Database.{Database};
 ghost use Rattle.star_schema.specs.Loadable.{IsSound};
 ghost use Rattle.star_program.specs.declared.outcome.Outcome.{Outcome};
 ghost use Rattle.star_program.specs.declared.program.Parts.{Parts};
-ghost use Rattle.star_admission.specs.Admissible.{IsAdmissible};
+ghost use Rattle.star_safety.specs.Admissible.{IsAdmissible};
 ghost use Rattle.star_program.specs.Limits.{IsWithinLimits};
 ghost use Rattle.star_program.specs.Run.{EndsWith, run_of};
-ghost use Rattle.star_admission.specs.Laws.{EndsWithin, TotalsLie};
-ghost use Rattle.star_admission.specs.Moments.{AtEveryMoment};
-ghost use Rattle.star_admission.specs.Quote.{quote};
+ghost use Rattle.star_safety.specs.Laws.{EndsWithin, TotalsLie};
+ghost use Rattle.star_safety.specs.Moments.{AtEveryMoment};
+ghost use Rattle.star_safety.specs.Quote.{quote};
 ghost use Rattle.star_machine.specs.declared.fault.TrialFault.{TrialFault};
 ghost use Rattle.star_machine.specs.declared.fault.TrialFault.TheVariants.{OutOfMemory};
 ghost use Rattle.star_machine.specs.Accepted.{IsAcceptedOver};
 ghost use Rattle.star_machine.specs.Trials.{IsTrial};
 ghost use Rattle.star_world.specs.WorldOf.{world_of};
 
-use star_admission::law::admissible_programs_never_trap;
+use star_safety::law::admissible_programs_never_trap;
 use star_world::law::sound_rows_are_loaded;
 
 /// Over sound rows an admissible program, whose quote is within the limit on visits of any run, comes

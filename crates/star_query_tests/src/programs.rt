@@ -1,9 +1,9 @@
 // The programs of queries, as their texts.
 
 use star_compile::compile;
-use star_fixtures::programs::DISCOUNTED_REVENUE;
 use star_plan::plan;
 use star_query::Query;
+use star_test_support::programs::DISCOUNTED_REVENUE;
 use std::alloc::Global;
 use std::test::Fail;
 

@@ -2,8 +2,8 @@
 // it.
 
 use crate::places::places_of;
-use star_fixtures::texts::repeated;
 use star_query::{Query, QueryFault};
+use star_test_support::texts::repeated;
 use std::alloc::{AllocError, Global};
 use std::test::Fail;
 

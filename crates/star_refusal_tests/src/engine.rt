@@ -8,9 +8,9 @@ use star_engine::{
     BenchmarkQuery, Engine, EngineFault, FileFault, Input, answer_program, answer_query, bench,
     check, explain_query, quote_text, read_expected, read_whole, sample, trial_program,
 };
-use star_fixtures::programs::{ABOVE_AVERAGE, ABSENT_KEY, DISCOUNTED_REVENUE, counting};
-use star_fixtures::streams::Short;
 use star_schema::{ColumnId, Limits, MOST_VISITS, Out, TABLES, TableId, table_of};
+use star_test_support::programs::{ABOVE_AVERAGE, ABSENT_KEY, DISCOUNTED_REVENUE, counting};
+use star_test_support::streams::Short;
 use std::alloc::{AllocError, Global};
 use std::fmt::Write;
 use std::test::Fail;

@@ -5,10 +5,10 @@ use crate::cells::check_cells;
 use crate::lookups::check_lookups;
 use star_catalogue::{Catalogue, LoadFault, Texts, sample};
 use star_column::{ColumnData, NumberColumn, PackedColumn, TextColumn};
-use star_fixtures::samples::orders_of;
 use star_flat::{FlatNumbers, RepeatedTexts};
 use star_reader::{RawTable, ReadFault, read_parts, read_table};
 use star_schema::{ColumnId, Limits, TableId};
+use star_test_support::samples::orders_of;
 use std::alloc::{AllocError, Global};
 use std::test::Fail;
 

@@ -3,8 +3,8 @@
 use crate::asked::expect;
 use crate::cells::check_cells;
 use star_catalogue::{Catalogue, sample};
-use star_fixtures::samples::orders_of;
 use star_schema::{ColumnId, Kind, Sizes, TableId, kind_of, references, table_of};
+use star_test_support::samples::orders_of;
 use std::test::Fail;
 
 // A column of numbers, its bounds, and how many bits the word of a number has.

@@ -2,10 +2,10 @@
 
 use crate::asked::{ask, expect};
 use star_compile::compile;
-use star_fixtures::programs::{DISCOUNTED_REVENUE, read};
 use star_plan::{Plan, PlanFault, plan};
 use star_program::{Program, TextFault};
 use star_query::{Query, QueryFault};
+use star_test_support::programs::{DISCOUNTED_REVENUE, read};
 use std::alloc::{AllocError, Global};
 use std::test::Fail;
 

@@ -3,10 +3,10 @@
 use crate::asked::{expect, tell_refused};
 use crate::lookups::check_lookups;
 use star_catalogue::{Catalogue, sample};
-use star_fixtures::programs::{ABOVE_AVERAGE, REVENUES};
-use star_fixtures::samples::loaded;
 use star_program::{Program, TextFault};
 use star_schema::{Limits, MOST_ROWS};
+use star_test_support::programs::{ABOVE_AVERAGE, REVENUES};
+use star_test_support::samples::loaded;
 use star_verify::{Refusal, Refused, Verified, verify};
 use std::alloc::{AllocError, Global};
 use std::test::Fail;

@@ -1,6 +1,6 @@
 -- What is timed: the run of a query's own program, to its report.
 use Rattle.std.specs.Prelude.{◌≡◌, ℕ, List}
-use Rattle.star_compiled.specs.Compiled.{compiled}
+use Rattle.star_compile_laws.specs.Compiled.{compiled}
 use Rattle.star_engine.specs.Queries.{IsPlanOf}
 use Rattle.star_engine.specs.Thirteen.{query_text}
 use Rattle.star_engine.specs.declared.thirteen.BenchmarkQuery.{BenchmarkQuery}

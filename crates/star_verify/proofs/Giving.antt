@@ -2,9 +2,9 @@
 use Rattle.std.proofs.Common.{◌≡◌, ◌+◌, ◌<◌, ◌≤◌, ◌⊎◌, ◌∷◌, ℕ, zero, suc, List, Option, None, inl, ⊎_elim, arith, sym, subst}
 use Rattle.std.proofs.lemmas.Bool.Decides.{eqb_tells}
 use Rattle.std.specs.Prelude.{slice_index_or}
-use Rattle.star_admission.specs.Contexts.{known_share}
-use Rattle.star_admission.specs.Ranges as ranges
-use Rattle.star_admission.specs.Tallies.{Share}
+use Rattle.star_safety.specs.Contexts.{known_share}
+use Rattle.star_safety.specs.Ranges as ranges
+use Rattle.star_safety.specs.Tallies.{Share}
 use Rattle.star_verify.specs.declared.tally.Tally.{Tally}
 use Rattle.star_verify.specs.Private.Bounded.{IsBounded}
 use Rattle.star_verify.specs.Private.Kept.{IsGrown}

@@ -13,11 +13,11 @@ use Rattle.star_program.specs.declared.program.Parts.{Parts}
 use Rattle.star_program.specs.Faults.{group_at}
 use Rattle.star_program.specs.Limits.{IsSmall}
 use Rattle.star_program.specs.World.{World}
-use Rattle.star_admission.specs.Contexts.{Context, after_op, key_share, known_share, put_share}
-use Rattle.star_admission.specs.Ranges as ranges
-use Rattle.star_admission.specs.declared.reason.Reason.{Reason}
-use Rattle.star_admission.specs.Standing.{at_place}
-use Rattle.star_admission.specs.Tallies.{Share}
+use Rattle.star_safety.specs.Contexts.{Context, after_op, key_share, known_share, put_share}
+use Rattle.star_safety.specs.Ranges as ranges
+use Rattle.star_safety.specs.declared.reason.Reason.{Reason}
+use Rattle.star_safety.specs.Standing.{at_place}
+use Rattle.star_safety.specs.Tallies.{Share}
 use Rattle.star_verify.specs.declared.tally.Tally.{Tally}
 use Rattle.star_verify.specs.Private.Kept.{HasKeyShares, HasShares, numbers_known}
 use Rattle.star_verify.specs.Private.Made.{IsTallyAt}

@@ -3,8 +3,8 @@ use Rattle.std.proofs.Common.{◌≡◌, Some, None, Result, Ok, Err, subst, ◌
 use Rattle.std.specs.Prelude.{IfOk, MatchResult}
 use Rattle.star_interval.specs.Range.{Range}
 use Rattle.star_program.specs.World.{World}
-use Rattle.star_admission.specs.Ranges as ranges
-use Rattle.star_admission.specs.Refusals.{overflow, overflow_of}
+use Rattle.star_safety.specs.Ranges as ranges
+use Rattle.star_safety.specs.Refusals.{overflow, overflow_of}
 use Rattle.star_verify.specs.declared.known.Beyond.{Beyond}
 use Rattle.star_verify.specs.declared.known.Known.{Known}
 use Rattle.star_verify.specs.Private.Made.{IsMade, beyond_shown}

@@ -4,9 +4,9 @@ use Rattle.std.specs.Prelude.{ℤ, MatchResult, not}
 use Rattle.star_interval.specs.Range.{Range, FitsI64, corner_range, fits_i64}
 use Rattle.star_interval.proofs.Ranges.{fits_i64_fits}
 use Rattle.star_program.specs.World.{World}
-use Rattle.star_admission.specs.Ranges as ranges
-use Rattle.star_admission.specs.declared.reason.Reason.TheVariants.{Overflow}
-use Rattle.star_admission.specs.Refusals.{overflow_of, reached, refuses}
+use Rattle.star_safety.specs.Ranges as ranges
+use Rattle.star_safety.specs.declared.reason.Reason.TheVariants.{Overflow}
+use Rattle.star_safety.specs.Refusals.{overflow_of, reached, refuses}
 use Rattle.star_verify.specs.declared.known.Beyond.{Beyond}
 use Rattle.star_verify.specs.declared.known.Known.{Known}
 use Rattle.star_verify.specs.Private.Shown.{reach_shown}

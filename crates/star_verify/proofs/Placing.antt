@@ -7,7 +7,7 @@ use Rattle.star_program.proofs.Unless.{unless_none}
 use Rattle.star_program.specs.declared.fault.Fault.{Fault}
 use Rattle.star_program.specs.declared.fault.Fault.TheVariants.{BadRegister}
 use Rattle.star_program.specs.Faults.{target_fault}
-use Rattle.star_admission.specs.declared.reason.Reason.TheVariants.{Faulty}
+use Rattle.star_safety.specs.declared.reason.Reason.TheVariants.{Faulty}
 use Rattle.star_verify.proofs.Marks.{or_none as none_or}
 
 pub is_declared : (n t : ℕ) → target_fault n (Some t) ≡ None → t < n

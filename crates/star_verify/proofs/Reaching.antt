@@ -6,8 +6,8 @@ use Rattle.star_interval.specs.Range.{Range}
 use Rattle.star_schema.specs.declared.column.ColumnId.{ColumnId}
 use Rattle.star_schema.specs.Schema.{index_of}
 use Rattle.star_program.specs.World.{World}
-use Rattle.star_admission.specs.declared.reason.Reached.{Reached}
-use Rattle.star_admission.specs.Refusals.{with_bounds}
+use Rattle.star_safety.specs.declared.reason.Reached.{Reached}
+use Rattle.star_safety.specs.Refusals.{with_bounds}
 use Rattle.star_verify.specs.declared.facts.Facts.{Facts}
 use Rattle.star_verify.specs.Private.Facts.{AreFacts}
 

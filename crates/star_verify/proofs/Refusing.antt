@@ -8,14 +8,14 @@ use Rattle.star_schema.specs.Sizes.{size_of}
 use Rattle.star_program.specs.declared.program.Parts.{Parts}
 use Rattle.star_program.specs.Shown.{shown_fault}
 use Rattle.star_program.specs.World.{World}
-use Rattle.star_admission.specs.Admissible as admissible
-use Rattle.star_admission.specs.Admissible.{cost_refusal, first_refusal}
-use Rattle.star_admission.specs.Contexts.{at_first}
-use Rattle.star_admission.specs.Private.Forward.{first_reason, none_open}
-use Rattle.star_admission.specs.Quote.{quote}
-use Rattle.star_admission.specs.declared.reason.Reason.{Reason}
-use Rattle.star_admission.specs.Standing.{instructions_of, reason_of}
-use Rattle.star_admission.proofs.Forward.{first_standing}
+use Rattle.star_safety.specs.Admissible as admissible
+use Rattle.star_safety.specs.Admissible.{cost_refusal, first_refusal}
+use Rattle.star_safety.specs.Contexts.{at_first}
+use Rattle.star_safety.specs.Private.Forward.{first_reason, none_open}
+use Rattle.star_safety.specs.Quote.{quote}
+use Rattle.star_safety.specs.declared.reason.Reason.{Reason}
+use Rattle.star_safety.specs.Standing.{instructions_of, reason_of}
+use Rattle.star_safety.proofs.Forward.{first_standing}
 use Rattle.star_verify.specs.declared.facts.Facts.{Facts}
 use Rattle.star_verify.specs.declared.refusal.Refusal.{Refusal}
 use Rattle.star_verify.specs.declared.refusal.Refusal.TheVariants as told

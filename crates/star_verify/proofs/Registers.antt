@@ -3,9 +3,9 @@ use Rattle.std.proofs.Common.{◌≡◌, ℕ, ◌<◌, List, [], ◌∷◌, zero
 use Rattle.std.proofs.lemmas.Bool.Decides.{eqb_tells}
 use Rattle.std.proofs.lemmas.List.{get_or-set_same, get_or-set_other}
 use Rattle.std.specs.Prelude.{slice_set, if◌then◌else◌}
-use Rattle.star_check.specs.Kinds.{kinds_of}
+use Rattle.star_kinds.specs.Kinds.{kinds_of}
 use Rattle.star_program.specs.Values.{with_entry}
-use Rattle.star_admission.specs.Ranges.{kinds_known}
+use Rattle.star_safety.specs.Ranges.{kinds_known}
 use Rattle.star_verify.specs.declared.known.Known.{Known}
 use Rattle.star_verify.specs.declared.register.Register.{Register}
 use Rattle.star_verify.specs.Private.Shown.{kind_known, known_in, known_of, known_shown, nothing_known}

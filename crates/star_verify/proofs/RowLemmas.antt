@@ -15,8 +15,8 @@ use Rattle.star_program.specs.declared.program.Parts.{Parts}
 use Rattle.star_program.specs.Faults.{group_at}
 use Rattle.star_program.specs.Puts.{masks}
 use Rattle.star_program.specs.World.{World}
-use Rattle.star_admission.specs.MostRows.{all_key_shares, each_values, lists_of, most_rows, numbers_to, rows_of_grouping, rows_of_groupings, width}
-use Rattle.star_admission.specs.Tallies.{most_of}
+use Rattle.star_safety.specs.MostRows.{all_key_shares, each_values, lists_of, most_rows, numbers_to, rows_of_grouping, rows_of_groupings, width}
+use Rattle.star_safety.specs.Tallies.{most_of}
 use Rattle.star_verify.specs.Private.Rows.{AgreeUpTo, MayHide, goes_on, groupings, lesser, may_hide, may_show, rows_behind, rows_of_rest}
 
 -- ---- the width of a range

@@ -7,7 +7,7 @@ use Rattle.std.proofs.lemmas.List.Elements.{All-get_or}
 use Rattle.star_program.specs.Faults.{group_at}
 use Rattle.star_program.specs.Limits.{IsSmall, IsWithinLimits}
 use Rattle.star_program.specs.declared.program.Parts.{Parts}
-use Rattle.star_admission.specs.Contexts.{at_first}
+use Rattle.star_safety.specs.Contexts.{at_first}
 use Rattle.star_verify.specs.declared.tally.Tally.{Tally}
 use Rattle.star_verify.specs.Private.Kept.{HasKeyShares, HasShares, flag_at}
 use Rattle.star_verify.specs.Private.Shown.{IsTally, known_in, known_of, nothing_known}

@@ -2,8 +2,8 @@
 use Rattle.std.proofs.Common.{◌≡◌, ◌<◌, ◌≤◌, ◌+◌, ◌*◌, ◌^◌, ℕ, arith, ap, subst, sym, ◌∙◌}
 use Rattle.star_schema.specs.declared.table.TableId.{TableId}
 use Rattle.star_program.specs.Code.{Code, Each, scan_depth}
-use Rattle.star_admission.specs.Quote.{turns_met}
-use Rattle.star_admission.proofs.Nested.{body_nested, rest_nested, met_within}
+use Rattle.star_safety.specs.Quote.{turns_met}
+use Rattle.star_safety.proofs.Nested.{body_nested, rest_nested, met_within}
 
 pub inner : (times size : ℕ) (table : TableId) (r : ℕ) (body rest left : Code)
     → left ≡ Each table r body rest → size < 2 ^ 32

@@ -11,12 +11,12 @@ use Rattle.star_program.specs.declared.program.Parts.{Parts}
 use Rattle.star_program.specs.Code.{Code, Each, Stop, code_size}
 use Rattle.star_program.specs.CodeOfSteps.{before, code_of_steps}
 use Rattle.star_program.specs.World.{World}
-use Rattle.star_admission.specs.Contexts.{Context, after_op, after_scan, at_end, in_scan}
-use Rattle.star_admission.specs.Private.Forward.{code_puts_to, first_reason, open_with}
-use Rattle.star_admission.specs.Quote.{turns_met}
-use Rattle.star_admission.specs.declared.reason.Reason.{Reason}
-use Rattle.star_admission.specs.Refusals.{op_reason, scan_reason}
-use Rattle.star_admission.specs.Standing.{at_place}
+use Rattle.star_safety.specs.Contexts.{Context, after_op, after_scan, at_end, in_scan}
+use Rattle.star_safety.specs.Private.Forward.{code_puts_to, first_reason, open_with}
+use Rattle.star_safety.specs.Quote.{turns_met}
+use Rattle.star_safety.specs.declared.reason.Reason.{Reason}
+use Rattle.star_safety.specs.Refusals.{op_reason, scan_reason}
+use Rattle.star_safety.specs.Standing.{at_place}
 use Rattle.star_verify.specs.declared.instructions.Noted.{Noted}
 use Rattle.star_verify.specs.declared.instructions.Place.{Place}
 use Rattle.star_verify.specs.declared.refusal.Refusal.{Refusal}

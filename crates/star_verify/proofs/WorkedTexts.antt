@@ -5,10 +5,10 @@ use Rattle.std.specs.Prelude.{pos, neg_ℤ, codes}
 use Rattle.star_schema.specs.Schema.{column_of}
 use Rattle.star_schema.specs.declared.column.ColumnId.TheVariants.{LoExtendedprice, LoTax}
 use Rattle.star_program.specs.declared.fault.Fault.TheVariants.{WrittenTwice}
-use Rattle.star_admission.specs.declared.reason.Reason.TheVariants.{Faulty, NotAForeignKey, Overflow}
+use Rattle.star_safety.specs.declared.reason.Reason.TheVariants.{Faulty, NotAForeignKey, Overflow}
 use Rattle.star_verify.specs.declared.refusal.Refusal.TheVariants.{TooCostly, Refused, BadShow}
 use Rattle.star_program.specs.TrapTexts.{wrong_text}
-use Rattle.star_admission.specs.ReasonTexts.{reason_text}
+use Rattle.star_safety.specs.ReasonTexts.{reason_text}
 use Rattle.star_verify.specs.RefusalTexts.{refusal_text}
 
 by_name : refusal_text (Refused 3 NotAForeignKey) ≡ codes "refused 65 NotAForeignKey at 3"

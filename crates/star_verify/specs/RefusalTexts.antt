@@ -1,6 +1,6 @@
 -- The words of refusals.
 use Rattle.std.specs.Prelude.{◌++◌, ℕ, List, codes, decimal}
-use Rattle.star_admission.specs.ReasonTexts.{bounds_text, reason_text}
+use Rattle.star_safety.specs.ReasonTexts.{bounds_text, reason_text}
 use Rattle.star_verify.specs.declared.refusal.Refusal.{Refusal}
 use Rattle.star_verify.specs.declared.refusal.Refusal.TheVariants.{OutOfMemory, TooCostly, Refused, BadShow}
 

@@ -1,7 +1,7 @@
 -- What a refusal says, in the words of the definitions.
 use Rattle.std.specs.Prelude.{◌≡◌, Option, Some, None, Result, MatchResult}
-use Rattle.star_admission.specs.Admissible as admissible
-use Rattle.star_admission.specs.declared.reason.Reason.{Reason}
+use Rattle.star_safety.specs.Admissible as admissible
+use Rattle.star_safety.specs.declared.reason.Reason.{Reason}
 use Rattle.star_verify.specs.declared.refusal.Refusal.{Refusal}
 use Rattle.star_verify.specs.declared.refusal.Refusal.TheVariants as told
 

@@ -4,9 +4,9 @@ ghost use Rattle.std.specs.Prelude.{◌≡◌, ◌≤◌, ◌^◌, IfOk, MatchRe
 ghost use Rattle.star_schema.specs.Sizes.{size_of};
 ghost use Rattle.star_program.specs.Limits.{IsWithinLimits};
 ghost use Rattle.star_program.specs.World.{World};
-ghost use Rattle.star_admission.specs.Contexts.{at_end, at_first};
-ghost use Rattle.star_admission.specs.Private.Forward.{first_reason, none_open};
-ghost use Rattle.star_admission.specs.Quote as spec;
+ghost use Rattle.star_safety.specs.Contexts.{at_end, at_first};
+ghost use Rattle.star_safety.specs.Private.Forward.{first_reason, none_open};
+ghost use Rattle.star_safety.specs.Quote as spec;
 ghost use Rattle.star_verify.specs.Private.Facts.{AreFacts};
 ghost use Rattle.star_verify.specs.Private.Judged.{AreFewAt, AreNoted, IsChecked, IsFirst};
 ghost use Rattle.star_verify.specs.Private.Kept.{HasKeyShares};

@@ -7,16 +7,16 @@ ghost use Rattle.star_interval.specs.Interval.{range_of};
 ghost use Rattle.star_world.specs.WorldOf.{world_of};
 ghost use Rattle.star_program.specs.World as world;
 ghost use Rattle.star_program.specs.World.{World};
-ghost use Rattle.star_admission.specs.Ranges as ranges;
-ghost use Rattle.star_admission.specs.Refusals as refusals;
+ghost use Rattle.star_safety.specs.Ranges as ranges;
+ghost use Rattle.star_safety.specs.Refusals as refusals;
 ghost use Rattle.star_verify.specs.Private.Facts.{AreFacts};
 ghost use Rattle.star_verify.specs.Private.Shown.{known_shown, reach_shown};
 
 use crate::known::Known;
 use crate::reach::Reach;
-use star_admission::{Reached, ReachedColumns};
 use star_catalogue::Catalogue;
 use star_interval::Interval;
+use star_safety::{Reached, ReachedColumns};
 use star_schema::{COLUMNS, ColumnId, Sizes, TableId, is_table, is_text, references};
 use std::alloc::{AllocError, Global};
 

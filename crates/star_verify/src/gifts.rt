@@ -4,8 +4,8 @@ ghost use Rattle.std.specs.Prelude.{◌≡◌, ◌+◌, ◌<◌, ◌≤◌, ◌�
 ghost use Rattle.std.specs.Option.{option_map};
 ghost use Rattle.star_schema.specs.declared.group.Aggregate.{Aggregate as Kind};
 ghost use Rattle.star_program.specs.Faults.{value_count};
-ghost use Rattle.star_admission.specs.Contexts.{known_share};
-ghost use Rattle.star_admission.specs.Tallies.{Share};
+ghost use Rattle.star_safety.specs.Contexts.{known_share};
+ghost use Rattle.star_safety.specs.Tallies.{Share};
 ghost use Rattle.star_verify.specs.Private.Bounded.{IsBounded};
 ghost use Rattle.star_verify.specs.Private.Kept.{HasRoom, IsGrown, numbers_known};
 ghost use Rattle.star_verify.specs.Private.Made.{IsTallyAt};

@@ -8,11 +8,11 @@ ghost use Rattle.star_program.specs.declared.op.Op.TheVariants as op;
 ghost use Rattle.star_program.specs.Faults.{fault_of, group_at, place_fault, target_of, value_count};
 ghost use Rattle.star_program.specs.Limits.{IsWithinLimits};
 ghost use Rattle.star_program.specs.World.{World};
-ghost use Rattle.star_admission.specs.Contexts.{Context, after_op};
-ghost use Rattle.star_admission.specs.Private.Forward.{open_with};
-ghost use Rattle.star_admission.specs.Ranges.{kinds_known};
-ghost use Rattle.star_admission.specs.declared.reason.Reason.TheVariants.{Faulty};
-ghost use Rattle.star_admission.specs.Refusals.{op_reason, range_reason, source_reason, target_again};
+ghost use Rattle.star_safety.specs.Contexts.{Context, after_op};
+ghost use Rattle.star_safety.specs.Private.Forward.{open_with};
+ghost use Rattle.star_safety.specs.Ranges.{kinds_known};
+ghost use Rattle.star_safety.specs.declared.reason.Reason.TheVariants.{Faulty};
+ghost use Rattle.star_safety.specs.Refusals.{op_reason, range_reason, source_reason, target_again};
 ghost use Rattle.star_verify.specs.Private.Facts.{AreFacts};
 ghost use Rattle.star_verify.specs.Private.Judged.{AreFewAt, InEachContext, IsFirst, IsJudged, IsReady, IsSized, Keeps};
 ghost use Rattle.star_verify.specs.Private.Kept.{AreFew, HasKeyShares, HasShares, flag_at};
@@ -27,8 +27,8 @@ use crate::refusal::Refusal;
 use crate::register::{Register, check_kinds, learn};
 use crate::subject::Subject;
 use crate::tally::Tally;
-use star_admission::Reason;
 use star_program::{Fault, Op, Operation, Parts, RegisterList, Step};
+use star_safety::Reason;
 
 // Which registers earlier instructions write, and what they give the aggregates and the keys of each
 // group.

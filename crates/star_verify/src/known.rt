@@ -5,9 +5,9 @@ ghost use Rattle.std.specs.Option.{option_map};
 ghost use Rattle.star_interval.specs.Interval.{bounds_of, range_of};
 ghost use Rattle.star_interval.specs.Range.{FitsI64};
 ghost use Rattle.star_program.specs.World.{World};
-ghost use Rattle.star_admission.specs.Ranges as ranges;
-ghost use Rattle.star_admission.specs.Refusals as refusals;
-ghost use Rattle.star_admission.specs.declared.reason.Reason.TheVariants as reason;
+ghost use Rattle.star_safety.specs.Ranges as ranges;
+ghost use Rattle.star_safety.specs.Refusals as refusals;
+ghost use Rattle.star_safety.specs.declared.reason.Reason.TheVariants as reason;
 ghost use Rattle.star_verify.specs.Private.Shown.{known_shown, reach_shown};
 
 use crate::reach::Reach;

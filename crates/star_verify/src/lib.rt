@@ -21,6 +21,6 @@ mod visits;
 mod walk;
 
 pub use refusal::Refusal;
-pub use star_admission::{Reached, ReachedColumns, Reason};
+pub use star_safety::{Reached, ReachedColumns, Reason};
 pub use verified::{Refused, Verified, verify};
 pub use visits::quote;

@@ -2,7 +2,7 @@
 
 ghost use Rattle.std.specs.Prelude.{◌≡◌};
 ghost use Rattle.star_program.specs.World.{is_column};
-ghost use Rattle.star_admission.specs.Ranges.{joined_reach, no_reach};
+ghost use Rattle.star_safety.specs.Ranges.{joined_reach, no_reach};
 ghost use Rattle.star_verify.specs.Private.Shown.{reach_shown};
 
 use star_schema::ColumnId;

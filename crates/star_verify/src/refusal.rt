@@ -5,7 +5,7 @@ ghost use Rattle.star_common.specs.Memory.{TellsMemory};
 ghost use Rattle.star_verify.specs.declared.refusal.Refusal.TheVariants.{OutOfMemory};
 ghost use Rattle.star_verify.specs.RefusalTexts.{refusal_text};
 
-use star_admission::Reason;
+use star_safety::Reason;
 use std::alloc::AllocError;
 use std::fmt;
 

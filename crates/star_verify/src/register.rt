@@ -1,14 +1,14 @@
 // Registers, by what is known of them.
 
 ghost use Rattle.std.specs.Prelude.{◌≡◌, ◌<◌, length};
-ghost use Rattle.star_check.specs.Kinds.{Answers};
+ghost use Rattle.star_kinds.specs.Kinds.{Answers};
 ghost use Rattle.star_program.specs.Faults.{fault_of};
 ghost use Rattle.star_program.specs.Values.{with_entry};
-ghost use Rattle.star_admission.specs.Ranges.{kinds_known, known_kind};
+ghost use Rattle.star_safety.specs.Ranges.{kinds_known, known_kind};
 ghost use Rattle.star_verify.specs.Private.Shown.{kind_known, known_in, known_of, known_shown};
 
 use crate::known::Known;
-use star_check::{Kinded, check};
+use star_kinds::{Kinded, check};
 use star_program::{Fault, Kind, Op, Parts};
 
 // What is known of a register, where something in scope writes it.

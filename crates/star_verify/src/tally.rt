@@ -3,7 +3,7 @@
 ghost use Rattle.std.specs.Prelude.{◌≡◌, ◌≤◌, ◌+◌, ◌^◌, ◌∷◌, [], List, ◌+ℤ◌, ◌≤ℤ◌, pos};
 ghost use Rattle.std.specs.Option.{option_map};
 ghost use Rattle.star_interval.specs.Interval.{range_of};
-ghost use Rattle.star_admission.specs.Tallies.{Share, hull_with};
+ghost use Rattle.star_safety.specs.Tallies.{Share, hull_with};
 ghost use Rattle.star_verify.specs.Private.Bounded.{IsBounded};
 ghost use Rattle.star_verify.specs.Private.Shown.{IsTally, reach_shown};
 

@@ -5,9 +5,9 @@ ghost use Rattle.std.specs.Option.{option_map};
 ghost use Rattle.star_interval.specs.Interval.{wide_range_of};
 ghost use Rattle.star_interval.specs.Range.{only};
 ghost use Rattle.star_program.specs.World.{World};
-ghost use Rattle.star_admission.specs.Ranges as ranges;
-ghost use Rattle.star_admission.specs.Refusals as refusals;
-ghost use Rattle.star_admission.specs.Tallies.{Share, aggregate_range, hull_with, reach_of, read_range};
+ghost use Rattle.star_safety.specs.Ranges as ranges;
+ghost use Rattle.star_safety.specs.Refusals as refusals;
+ghost use Rattle.star_safety.specs.Tallies.{Share, aggregate_range, hull_with, reach_of, read_range};
 ghost use Rattle.star_verify.specs.Private.Made.{IsMade};
 ghost use Rattle.star_verify.specs.Private.Shown.{IsTally};
 

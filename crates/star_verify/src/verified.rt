@@ -3,9 +3,9 @@
 ghost use Rattle.std.specs.Prelude.{◌≡◌, None, IfErr, IfOk, OnOk};
 ghost use Rattle.star_common.specs.Memory.{UnlessMemory};
 ghost use Rattle.star_world.specs.WorldOf.{world_of};
-ghost use Rattle.star_admission.specs.Admissible.{first_refusal};
-ghost use Rattle.star_admission.specs.MostRows as bound;
-ghost use Rattle.star_admission.specs.Quote as spec;
+ghost use Rattle.star_safety.specs.Admissible.{first_refusal};
+ghost use Rattle.star_safety.specs.MostRows as bound;
+ghost use Rattle.star_safety.specs.Quote as spec;
 ghost use Rattle.star_program.specs.Limits.{IsWithinLimits};
 ghost use Rattle.star_verify.specs.declared.refusal.Refusal.TheVariants.{OutOfMemory};
 ghost use Rattle.star_verify.specs.Checked.{IsVerified};
@@ -16,10 +16,10 @@ use crate::facts::Facts;
 use crate::refusal::Refusal;
 use crate::rows::most_rows;
 use crate::tally::Tally;
-use star_admission::law::admissible_programs_within_the_limit_are_not_refused;
 use star_catalogue::Catalogue;
 use star_interval::Interval;
 use star_program::Program;
+use star_safety::law::admissible_programs_within_the_limit_are_not_refused;
 use star_schema::Limits;
 use std::alloc::Global;
 use std::marker::Model;
@@ -37,8 +37,8 @@ pub struct Verified<'c> {
 
 impl<'c> Model for Verified<'c> {
     ghost use Rattle.std.specs.Prelude.{◌≡◌};
-    ghost use Rattle.star_admission.specs.MostRows as bound;
-    ghost use Rattle.star_admission.specs.Quote as spec;
+    ghost use Rattle.star_safety.specs.MostRows as bound;
+    ghost use Rattle.star_safety.specs.Quote as spec;
     ghost use Rattle.star_world.specs.WorldOf.{world_of};
     ghost use Rattle.std.specs.Coded.{codes};
     ghost use Rattle.star_program.specs.contracts.program.Parts.{the_row};

@@ -3,7 +3,7 @@
 ghost use Rattle.std.specs.Prelude.{◌≡◌, ◌≤◌, ◌*◌, ◌^◌};
 ghost use Rattle.star_schema.specs.Sizes.{size_of};
 ghost use Rattle.star_program.specs.Code.{code_size, scan_depth};
-ghost use Rattle.star_admission.specs.Quote as spec;
+ghost use Rattle.star_safety.specs.Quote as spec;
 
 use star_program::{Body, Program, Step};
 use star_schema::Sizes;

@@ -4,10 +4,10 @@ ghost use Rattle.std.specs.Prelude.{◌≡◌, ◌*◌, ◌+◌, ◌<◌, ◌≤
 ghost use Rattle.star_schema.specs.Sizes.{size_of};
 ghost use Rattle.star_program.specs.Code.{code_size};
 ghost use Rattle.star_program.specs.CodeOfSteps.{before, code_of_steps};
-ghost use Rattle.star_admission.specs.Contexts.{Context, at_end, in_scan};
-ghost use Rattle.star_admission.specs.Private.Forward.{first_reason};
-ghost use Rattle.star_admission.specs.Quote.{turns_met};
-ghost use Rattle.star_admission.specs.Refusals.{scan_reason};
+ghost use Rattle.star_safety.specs.Contexts.{Context, at_end, in_scan};
+ghost use Rattle.star_safety.specs.Private.Forward.{first_reason};
+ghost use Rattle.star_safety.specs.Quote.{turns_met};
+ghost use Rattle.star_safety.specs.Refusals.{scan_reason};
 ghost use Rattle.star_verify.specs.Private.Judged.{AreFewAt, AreNoted, InEachContext, IsReady, IsSized, IsWalked, Keeps, scan_first};
 ghost use Rattle.star_verify.specs.Private.Kept.{flag_at};
 ghost use Rattle.star_verify.specs.Private.Walked.{after_step, step_first, step_size};
@@ -19,8 +19,8 @@ use crate::open_groups::mark_puts;
 use crate::refusal::Refusal;
 use crate::register::{Register, learn};
 use crate::subject::Subject;
-use star_admission::Reason;
 use star_program::{Body, Fault, Parts, Step};
+use star_safety::Reason;
 use star_schema::TableId;
 use std::alloc::{AllocError, Global};
 

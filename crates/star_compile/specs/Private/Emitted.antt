@@ -6,7 +6,7 @@ use Rattle.star_query.specs.Tree.{Measure, count, fold}
 use Rattle.star_program.specs.Code.{Code}
 use Rattle.star_program.specs.CodeOfSteps as step
 use Rattle.star_program.specs.declared.body.Step.{Step}
-use Rattle.star_compiled.specs.Compiled.{Env, Rests, column_code, expression_code, register_count}
+use Rattle.star_compile_laws.specs.Compiled.{Env, Rests, column_code, expression_code, register_count}
 use Rattle.star_compile.specs.declared.emitter.Emitter.{Emitter}
 
 -- some steps, and the code after them

@@ -6,13 +6,13 @@ use Rattle.star_schema.specs.declared.table.TableId.{TableId}
 use Rattle.star_program.specs.declared.program.Parts.{Parts}
 use Rattle.star_program.specs.Code.{Code}
 use Rattle.star_program.specs.World.{World}
-use Rattle.star_admission.specs.Contexts.{Context, at_end, at_first, in_scan}
-use Rattle.star_admission.specs.Admissible.{first_refusal}
-use Rattle.star_admission.specs.Private.Forward.{first_reason}
-use Rattle.star_admission.specs.Quote.{quote}
-use Rattle.star_admission.specs.declared.reason.Reason.{Reason}
-use Rattle.star_admission.specs.Refusals.{scan_reason}
-use Rattle.star_admission.specs.Standing.{at_place}
+use Rattle.star_safety.specs.Contexts.{Context, at_end, at_first, in_scan}
+use Rattle.star_safety.specs.Admissible.{first_refusal}
+use Rattle.star_safety.specs.Private.Forward.{first_reason}
+use Rattle.star_safety.specs.Quote.{quote}
+use Rattle.star_safety.specs.declared.reason.Reason.{Reason}
+use Rattle.star_safety.specs.Refusals.{scan_reason}
+use Rattle.star_safety.specs.Standing.{at_place}
 use Rattle.star_verify.specs.declared.check.Accepted.{Accepted}
 use Rattle.star_verify.specs.declared.instructions.Noted.{Noted}
 use Rattle.star_verify.specs.declared.instructions.Place.{Place}

@@ -5,8 +5,8 @@ use Rattle.star_interval.specs.Range.{only}
 use Rattle.star_program.specs.declared.program.Parts.{Parts}
 use Rattle.star_program.specs.Faults.{group_at}
 use Rattle.star_program.specs.Puts.{aligned}
-use Rattle.star_admission.specs.Contexts.{Context}
-use Rattle.star_admission.specs.Ranges as ranges
+use Rattle.star_safety.specs.Contexts.{Context}
+use Rattle.star_safety.specs.Ranges as ranges
 use Rattle.star_verify.specs.declared.tally.Tally.{Tally}
 use Rattle.star_verify.specs.Private.Bounded.{IsBounded}
 use Rattle.star_verify.specs.Private.Made.{AreTallies, IsTallyAt}

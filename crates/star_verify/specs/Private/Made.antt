@@ -2,11 +2,11 @@
 use Rattle.std.specs.Prelude.{◌≡◌, ◌+◌, ◌<◌, ℕ, List, length, slice_index_or, Option, Some, None, Result, MatchResult}
 use Rattle.star_schema.specs.declared.group.Aggregate.{Aggregate}
 use Rattle.star_program.specs.World.{World}
-use Rattle.star_admission.specs.Ranges as ranges
-use Rattle.star_admission.specs.declared.reason.Reason.{Reason}
-use Rattle.star_admission.specs.declared.reason.Reason.TheVariants.{Overflow}
-use Rattle.star_admission.specs.Refusals.{reached}
-use Rattle.star_admission.specs.Tallies.{Share}
+use Rattle.star_safety.specs.Ranges as ranges
+use Rattle.star_safety.specs.declared.reason.Reason.{Reason}
+use Rattle.star_safety.specs.declared.reason.Reason.TheVariants.{Overflow}
+use Rattle.star_safety.specs.Refusals.{reached}
+use Rattle.star_safety.specs.Tallies.{Share}
 use Rattle.star_verify.specs.declared.known.Beyond.{Beyond}
 use Rattle.star_verify.specs.declared.known.Known.{Known}
 use Rattle.star_verify.specs.declared.tally.Tally.{Tally}

@@ -6,7 +6,7 @@ use Rattle.star_schema.specs.declared.group.Shape.{Shape}
 use Rattle.star_schema.specs.declared.group.Shape.TheVariants.{Plain, Cube}
 use Rattle.star_schema.specs.Groups.{is_grouping}
 use Rattle.star_program.specs.Puts.{masks}
-use Rattle.star_admission.specs.MostRows.{lists_of}
+use Rattle.star_safety.specs.MostRows.{lists_of}
 
 -- two numbers are one, or both are past all counts of updates
 abbrev pub AgreeUpTo : ℕ → ℕ → Type 0

@@ -5,8 +5,8 @@ use Rattle.std.specs.Int.{bit_at}
 use Rattle.star_schema.specs.Schema.{index_of}
 use Rattle.star_interval.specs.Interval.{range_of, wide_range_of}
 use Rattle.star_program.specs.declared.value.Kind.{Kind}
-use Rattle.star_admission.specs.Ranges as ranges
-use Rattle.star_admission.specs.Tallies.{Share, sum_range, most_of, hull_of, reach_of}
+use Rattle.star_safety.specs.Ranges as ranges
+use Rattle.star_safety.specs.Tallies.{Share, sum_range, most_of, hull_of, reach_of}
 use Rattle.star_verify.specs.declared.reach.Reach.{Reach}
 use Rattle.star_verify.specs.declared.register.Register.{Register}
 use Rattle.star_verify.specs.declared.tally.Tally.{Tally}

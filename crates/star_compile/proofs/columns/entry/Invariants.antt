@@ -1,5 +1,5 @@
 use Rattle.std.proofs.Common.{◌≡◌, drop}
-use Rattle.star_compiled.specs.Compiled.{register_in}
+use Rattle.star_compile_laws.specs.Compiled.{register_in}
 use Rattle.star_compile.proofs.columns.entry.Given as goal
 
 abbrev pub invariant-loop-entry : goal.invariant-loop-entry

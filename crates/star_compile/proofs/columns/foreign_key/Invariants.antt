@@ -1,5 +1,5 @@
 use Rattle.std.proofs.Common.{◌≡◌, drop}
-use Rattle.star_compiled.specs.Compiled.{foreign_of}
+use Rattle.star_compile_laws.specs.Compiled.{foreign_of}
 use Rattle.star_compile.proofs.columns.foreign_key.Given as goal
 
 abbrev pub invariant-loop-join : goal.invariant-loop-join

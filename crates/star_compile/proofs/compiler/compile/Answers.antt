@@ -1,7 +1,7 @@
 use Rattle.std.proofs.Common.{sym, subst}
 use Rattle.star_plan.specs.Shown.{shown}
 use Rattle.star_program.specs.Limits.{IsWithinLimits}
-use Rattle.star_compiled.proofs.Programs.{is_within_limits}
+use Rattle.star_compile_laws.proofs.Programs.{is_within_limits}
 use Rattle.star_compile.proofs.compiler.compile.Goals as goal
 
 pub unwrap-requires : goal.unwrap-requires

@@ -1,6 +1,6 @@
 use Rattle.std.proofs.Common.{rules, arith}
 use Rattle.star_plan.specs.Shown.{shown}
-use Rattle.star_compiled.proofs.Programs.{is_within_limits}
+use Rattle.star_compile_laws.proofs.Programs.{is_within_limits}
 use Rattle.star_compile.proofs.compiler.parts.Goals as goal
 
 pub turn-requires-clause-room : goal.turn-requires-clause-room

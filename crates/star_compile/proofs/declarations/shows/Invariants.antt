@@ -1,7 +1,7 @@
 -- The shows so far are those of the items so far.
 use Rattle.std.proofs.Common.{◌≡◌, map, take}
 use Rattle.star_plan.specs.Shown.{shown}
-use Rattle.star_compiled.specs.Compiled.{show_of}
+use Rattle.star_compile_laws.specs.Compiled.{show_of}
 use Rattle.star_compile.proofs.declarations.shows.Given as goal
 
 abbrev pub invariant-loop-column : goal.invariant-loop-column

@@ -3,7 +3,7 @@ use Rattle.star_plan.specs.Shown.{literal_shown}
 use Rattle.star_plan.specs.Spelled.{value_is_spelled}
 use Rattle.star_program.specs.declared.op.Operation.TheVariants.{Const}
 use Rattle.star_query.specs.Spelled.{is_number}
-use Rattle.star_compiled.specs.Compiled.{end_of}
+use Rattle.star_compile_laws.specs.Compiled.{end_of}
 use Rattle.star_compile.proofs.Numbers.{next_fits, next_is}
 use Rattle.star_compile.proofs.operands.end_of.Goals as goal
 

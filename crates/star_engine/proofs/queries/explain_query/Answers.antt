@@ -1,5 +1,5 @@
 use Rattle.std.proofs.Common.{◌∙◌}
-use Rattle.star_compiled.specs.Compiled.{compiled}
+use Rattle.star_compile_laws.specs.Compiled.{compiled}
 use Rattle.star_engine.proofs.ProgramTexts.{program_text_some}
 use Rattle.star_engine.proofs.queries.explain_query.Goals as goal
 

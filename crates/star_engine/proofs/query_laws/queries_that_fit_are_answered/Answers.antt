@@ -1,10 +1,10 @@
 -- From the laws of compiled programs and of admission, for the plans of texts.
 use Rattle.std.proofs.Common.{◌≡◌, true, arith}
 use Rattle.star_schema.specs.Database.{rows_in}
-use Rattle.star_admission.specs.Laws.{IsAccepted}
-use Rattle.star_admission.specs.Quote.{quote}
+use Rattle.star_safety.specs.Laws.{IsAccepted}
+use Rattle.star_safety.specs.Quote.{quote}
 use Rattle.star_world.specs.WorldOf.{world_of}
-use Rattle.star_compiled.specs.Compiled.{compiled}
+use Rattle.star_compile_laws.specs.Compiled.{compiled}
 use Rattle.star_engine.specs.Queries.{fact_rows}
 use Rattle.star_engine.proofs.FittingTexts.{text_fits}
 use Rattle.star_engine.proofs.PlansOfQueries.{plan_sound, plan_spelled, plan_within}

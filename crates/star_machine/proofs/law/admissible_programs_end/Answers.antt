@@ -3,8 +3,8 @@ use Rattle.std.proofs.Common.{◌≡◌, ◌≤◌, ℕ, arith, refl, subst}
 use Rattle.std.specs.Prelude.{MatchResult, Result, Ok, Err}
 use Rattle.star_program.specs.declared.outcome.Outcome.{Outcome}
 use Rattle.star_program.specs.declared.program.Parts.{Parts}
-use Rattle.star_admission.specs.Laws.{EndsWithin}
-use Rattle.star_admission.specs.Quote.{quote}
+use Rattle.star_safety.specs.Laws.{EndsWithin}
+use Rattle.star_safety.specs.Quote.{quote}
 use Rattle.star_program.specs.Run.{bounded_run_of}
 use Rattle.star_program.specs.World.{World}
 use Rattle.star_machine.specs.declared.fault.TrialFault.{TrialFault}

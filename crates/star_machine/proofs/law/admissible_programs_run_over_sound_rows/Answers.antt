@@ -3,7 +3,7 @@ use Rattle.star_schema.specs.Database.{Database}
 use Rattle.star_program.specs.declared.program.Parts.{Parts}
 use Rattle.star_program.specs.World.{IsLoaded}
 use Rattle.star_world.specs.WorldOf.{world_of}
-use Rattle.star_admission.specs.Laws.{IsAccepted}
+use Rattle.star_safety.specs.Laws.{IsAccepted}
 use Rattle.star_machine.specs.Accepted.{IsAcceptedOver}
 use Rattle.star_machine.proofs.law.admissible_programs_run_over_sound_rows.Goals as goal
 

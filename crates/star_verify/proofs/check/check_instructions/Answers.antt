@@ -1,6 +1,6 @@
 use Rattle.std.proofs.Common.{◌≡◌, None, rules, subst}
-use Rattle.star_admission.specs.Contexts.{at_end, at_first}
-use Rattle.star_admission.specs.Private.Forward.{first_reason, none_open}
+use Rattle.star_safety.specs.Contexts.{at_end, at_first}
+use Rattle.star_safety.specs.Private.Forward.{first_reason, none_open}
 use Rattle.star_verify.specs.Private.Kept.{HasKeyShares}
 use Rattle.star_verify.proofs.check.check_instructions.Goals as goal
 

@@ -1,6 +1,6 @@
 use Rattle.std.proofs.Common.{◌≡◌, ap, false, rules, subst, sym, ◌∙◌}
 use Rattle.std.specs.Prelude.{replicate}
-use Rattle.star_admission.specs.Contexts.{at_first}
+use Rattle.star_safety.specs.Contexts.{at_first}
 use Rattle.star_verify.specs.Private.Kept.{HasKeyShares, HasShares, flag_at}
 use Rattle.star_verify.proofs.Starting.{no_flags, no_key_shares, no_shares}
 use Rattle.star_verify.proofs.check.nothing_noted.Goals as goal

@@ -2,8 +2,8 @@ use Rattle.std.proofs.Common.{◌+◌, ◌-◌, ◌<◌, [], ◌∷◌, List, Op
 use Rattle.std.specs.Prelude.{slice_index_or}
 use Rattle.star_schema.specs.declared.group.Aggregate.TheVariants.{Sum}
 use Rattle.star_program.specs.Faults.{value_count}
-use Rattle.star_admission.specs.Contexts.{known_share}
-use Rattle.star_admission.specs.Ranges as ranges
+use Rattle.star_safety.specs.Contexts.{known_share}
+use Rattle.star_safety.specs.Ranges as ranges
 use Rattle.star_verify.specs.Private.Kept.{numbers_known}
 use Rattle.star_verify.specs.Private.Shown.{IsTally, known_in}
 use Rattle.star_verify.proofs.Firsts.{first_and_others}

@@ -4,7 +4,7 @@ use Rattle.std.specs.Prelude.{◌||◌, nat_eq}
 use Rattle.star_program.specs.Values.{with_entry}
 use Rattle.star_verify.specs.Private.Judged.{IsFirst}
 use Rattle.star_verify.specs.Private.Kept.{HasShares, flag_at}
-use Rattle.star_admission.proofs.Instructions.{both_none}
+use Rattle.star_safety.proofs.Instructions.{both_none}
 use Rattle.star_verify.proofs.Judging.{first_found, second_found}
 use Rattle.star_verify.proofs.instructions.assign.Goals as goal
 

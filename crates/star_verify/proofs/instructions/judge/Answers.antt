@@ -1,5 +1,5 @@
 use Rattle.star_program.specs.Faults.{target_of}
-use Rattle.star_admission.specs.Refusals.{target_again}
+use Rattle.star_safety.specs.Refusals.{target_again}
 use Rattle.star_verify.specs.Private.Kept.{flag_at}
 use Rattle.star_verify.proofs.Placing.{no_fault}
 use Rattle.star_verify.proofs.instructions.judge.Goals as goal

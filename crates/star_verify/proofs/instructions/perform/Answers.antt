@@ -5,9 +5,9 @@ use Rattle.std.specs.Vec.{with_items}
 use Rattle.star_program.specs.CodeOfSteps.{code_of_steps}
 use Rattle.star_program.specs.declared.op.Op.{Op}
 use Rattle.star_program.specs.declared.op.Op.TheVariants.{Put}
-use Rattle.star_admission.specs.Contexts.{after_op}
-use Rattle.star_admission.specs.Private.Forward.{open_with}
-use Rattle.star_admission.specs.Refusals.{range_reason, source_reason}
+use Rattle.star_safety.specs.Contexts.{after_op}
+use Rattle.star_safety.specs.Private.Forward.{open_with}
+use Rattle.star_safety.specs.Refusals.{range_reason, source_reason}
 use Rattle.star_verify.specs.declared.instructions.Noted.{Noted}
 use Rattle.star_verify.specs.Private.Judged.{IsJudged, Keeps}
 use Rattle.star_verify.specs.Private.Kept.{HasKeyShares, HasShares}

@@ -2,7 +2,7 @@ use Rattle.std.proofs.Common.{ap, sym, ◌∙◌}
 use Rattle.std.specs.Prelude.{◌+ℤ◌, ◌-ℤ◌, ◌*ℤ◌}
 use Rattle.std.specs.Option.{option_map}
 use Rattle.star_interval.specs.Interval.{bounds_of, range_of}
-use Rattle.star_admission.specs.Ranges.{answer_known}
+use Rattle.star_safety.specs.Ranges.{answer_known}
 use Rattle.star_verify.specs.Private.Shown.{known_shown, reach_shown}
 use Rattle.star_verify.proofs.Overflows.{computed_is, overflow_as}
 use Rattle.star_verify.proofs.known.answer.Goals as goal

@@ -3,8 +3,8 @@ use Rattle.std.specs.Prelude.{IsOk, Result}
 use Rattle.star_interval.specs.declared.Interval.{Interval}
 use Rattle.star_interval.specs.declared.Wide.{Wide}
 use Rattle.star_interval.specs.Interval.{bounds_of}
-use Rattle.star_admission.specs.declared.reason.Reason.TheVariants.{Overflow}
-use Rattle.star_admission.specs.Refusals.{reached}
+use Rattle.star_safety.specs.declared.reason.Reason.TheVariants.{Overflow}
+use Rattle.star_safety.specs.Refusals.{reached}
 use Rattle.star_verify.specs.Private.Shown.{reach_shown}
 use Rattle.star_verify.proofs.Overflows.{fitting, leaving}
 use Rattle.star_verify.proofs.known.computed.Goals as goal

@@ -3,7 +3,7 @@ use Rattle.std.proofs.Common.{◌≡◌, ◌≤◌, ◌<◌, ℕ, false, length,
 use Rattle.std.specs.Prelude.{◌||◌}
 use Rattle.star_program.specs.Code.{code_size}
 use Rattle.star_program.specs.CodeOfSteps.{code_of_steps}
-use Rattle.star_admission.specs.Private.Forward.{code_puts_to}
+use Rattle.star_safety.specs.Private.Forward.{code_puts_to}
 use Rattle.star_verify.proofs.open_groups.+mark_puts.Given as goal
 
 abbrev pub decreases-mark_puts : goal.decreases-mark_puts

@@ -4,10 +4,10 @@ use Rattle.star_interval.specs.Range.{only}
 use Rattle.star_program.specs.declared.op.Op.TheVariants.{Assign}
 use Rattle.star_program.specs.declared.op.Operation.{Operation}
 use Rattle.star_program.specs.Faults.{group_at}
-use Rattle.star_admission.specs.Contexts.{aggregate_at, operation_known}
-use Rattle.star_admission.specs.Ranges as ranges
-use Rattle.star_admission.specs.Refusals.{range_reason}
-use Rattle.star_admission.specs.Tallies.{reach_of, read_range}
+use Rattle.star_safety.specs.Contexts.{aggregate_at, operation_known}
+use Rattle.star_safety.specs.Ranges as ranges
+use Rattle.star_safety.specs.Refusals.{range_reason}
+use Rattle.star_safety.specs.Tallies.{reach_of, read_range}
 use Rattle.star_verify.specs.Private.Made.{IsMade}
 use Rattle.star_verify.specs.Private.Shown.{known_shown}
 use Rattle.star_verify.proofs.Made.{made_as, read_as}

@@ -3,8 +3,8 @@ use Rattle.std.proofs.lemmas.List.{get_or_past}
 use Rattle.star_schema.specs.declared.group.Shape.TheVariants.{Plain}
 use Rattle.std.specs.Prelude.{slice_index_or}
 use Rattle.star_world.specs.WorldOf.{world_of}
-use Rattle.star_admission.specs.MostRows.{all_key_shares, each_values, rows_of_groupings}
-use Rattle.star_admission.specs.Tallies.{most_of}
+use Rattle.star_safety.specs.MostRows.{all_key_shares, each_values, rows_of_groupings}
+use Rattle.star_safety.specs.Tallies.{most_of}
 use Rattle.star_verify.specs.Private.Made.{IsTallyAt}
 use Rattle.star_verify.specs.Private.Shown.{IsTally}
 use Rattle.star_verify.proofs.RowLemmas.{all_rows, empty_list, one_row}

@@ -3,8 +3,8 @@ use Rattle.std.proofs.Common.{◌≡◌, FitsSigned, refl, subst, sym, w64, to_z
 use Rattle.std.proofs.lemmas.Bool.{false≢true}
 use Rattle.star_interval.specs.Interval.{wide_range_of}
 use Rattle.star_interval.specs.Range.{FitsI64, only}
-use Rattle.star_admission.specs.Refusals.{overflow}
-use Rattle.star_admission.specs.Tallies.{hull_with, reach_of, read_range}
+use Rattle.star_safety.specs.Refusals.{overflow}
+use Rattle.star_safety.specs.Tallies.{hull_with, reach_of, read_range}
 use Rattle.star_verify.specs.Private.Shown.{reach_shown}
 use Rattle.star_verify.proofs.Overflows.{fitting, leaving}
 use Rattle.star_verify.proofs.totals.read.Goals as goal

@@ -1,7 +1,7 @@
 use Rattle.std.proofs.Common.{◌≡◌, arith, subst, sym}
 use Rattle.star_world.specs.WorldOf.{world_of}
-use Rattle.star_admission.specs.Contexts.{at_end, at_first}
-use Rattle.star_admission.specs.MostRows.{most_rows}
+use Rattle.star_safety.specs.Contexts.{at_end, at_first}
+use Rattle.star_safety.specs.MostRows.{most_rows}
 use Rattle.star_verify.specs.Private.Kept.{HasKeyShares}
 use Rattle.star_verify.proofs.verified.verify.Goals as goal
 

@@ -2,7 +2,7 @@ use Rattle.std.proofs.Common.{◌≡◌, ◌≤◌, ◌<◌, ◌+◌, ◌*◌, �
 use Rattle.star_schema.specs.Sizes.{size_of}
 use Rattle.star_program.specs.Code.{code_size, scan_depth}
 use Rattle.star_program.specs.CodeOfSteps.{code_of_steps}
-use Rattle.star_admission.specs.Quote.{turns_met}
+use Rattle.star_safety.specs.Quote.{turns_met}
 use Rattle.star_program.proofs.Steps.{next_act, next_scan}
 use Rattle.star_verify.proofs.Turns.{inner, outer, often, scan_turns, scan_sum, scan_bound}
 use Rattle.star_verify.proofs.visits.+turns_met.Goals as goal

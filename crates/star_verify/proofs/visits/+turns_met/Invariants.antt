@@ -3,7 +3,7 @@ use Rattle.std.proofs.Common.{◌≡◌, ◌≤◌, ◌+◌, ◌*◌, ◌^◌, d
 use Rattle.star_schema.specs.Sizes.{size_of}
 use Rattle.star_program.specs.Code.{code_size, scan_depth}
 use Rattle.star_program.specs.CodeOfSteps.{code_of_steps}
-use Rattle.star_admission.specs.Quote.{turns_met}
+use Rattle.star_safety.specs.Quote.{turns_met}
 use Rattle.star_verify.proofs.visits.+turns_met.Given as goal
 
 abbrev pub decreases-turns_met : goal.decreases-turns_met

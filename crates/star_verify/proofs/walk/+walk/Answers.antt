@@ -6,11 +6,11 @@ use Rattle.star_schema.specs.Sizes.{size_of}
 use Rattle.star_program.specs.Code.{Each, code_size}
 use Rattle.star_program.specs.CodeOfSteps.{before, code_of_steps}
 use Rattle.star_program.specs.Values.{with_entry}
-use Rattle.star_admission.specs.Contexts.{at_end, in_scan}
-use Rattle.star_admission.specs.Private.Forward.{first_reason, open_with}
-use Rattle.star_admission.specs.Quote.{turns_met}
-use Rattle.star_admission.specs.Ranges.{KnownRow}
-use Rattle.star_admission.specs.Refusals.{scan_reason}
+use Rattle.star_safety.specs.Contexts.{at_end, in_scan}
+use Rattle.star_safety.specs.Private.Forward.{first_reason, open_with}
+use Rattle.star_safety.specs.Quote.{turns_met}
+use Rattle.star_safety.specs.Ranges.{KnownRow}
+use Rattle.star_safety.specs.Refusals.{scan_reason}
 use Rattle.star_verify.specs.Private.Judged.{AreNoted, IsWalked}
 use Rattle.star_verify.specs.Private.Kept.{flag_at}
 use Rattle.star_verify.specs.Private.Shown.{known_in}

@@ -1,6 +1,6 @@
 use Rattle.std.proofs.Common.{arith, rules}
 use Rattle.star_plan.specs.Shown.{condition_shown}
-use Rattle.star_compiled.specs.Compiled.{condition_code}
+use Rattle.star_compile_laws.specs.Compiled.{condition_code}
 use Rattle.star_compile.proofs.Emits.{some_comparison, room_for_right}
 use Rattle.star_compile.proofs.emitter.Emitter.+condition.Goals as goal
 

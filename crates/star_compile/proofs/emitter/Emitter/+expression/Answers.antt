@@ -1,6 +1,6 @@
 use Rattle.std.proofs.Common.{arith, rules}
 use Rattle.star_plan.specs.Shown.{expression_shown}
-use Rattle.star_compiled.specs.Compiled.{expression_code}
+use Rattle.star_compile_laws.specs.Compiled.{expression_code}
 use Rattle.star_compile.proofs.Emits.{some_operand, room_for_right}
 use Rattle.star_compile.proofs.emitter.Emitter.+expression.Goals as goal
 

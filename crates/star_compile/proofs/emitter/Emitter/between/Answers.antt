@@ -1,6 +1,6 @@
 use Rattle.star_plan.specs.Shown.{literal_shown}
 use Rattle.star_program.specs.declared.op.Operation.TheVariants.{Within}
-use Rattle.star_compiled.specs.Compiled.{beside, end_of, write}
+use Rattle.star_compile_laws.specs.Compiled.{beside, end_of, write}
 use Rattle.star_compile.proofs.Emits.{room_for_first, room_for_second, then_if_ok}
 use Rattle.star_compile.proofs.emitter.Emitter.between.Goals as goal
 

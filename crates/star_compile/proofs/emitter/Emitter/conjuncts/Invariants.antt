@@ -3,7 +3,7 @@ use Rattle.std.proofs.Common.{◌≡◌, drop, map, true}
 use Rattle.std.specs.List.{list_all}
 use Rattle.star_plan.specs.Shown.{condition_shown}
 use Rattle.star_plan.specs.Spelled.{condition_is_spelled}
-use Rattle.star_compiled.specs.Compiled.{conjuncts_code}
+use Rattle.star_compile_laws.specs.Compiled.{conjuncts_code}
 use Rattle.star_compile.proofs.Emits.{Follows}
 use Rattle.star_compile.proofs.emitter.Emitter.conjuncts.Given as goal
 

@@ -2,7 +2,7 @@ use Rattle.std.proofs.Common.{arith, drop, refl, drop_of_length-le}
 use Rattle.std.proofs.lemmas.Grind.{common_steps}
 use Rattle.std.proofs.lemmas.List.{drop_more}
 use Rattle.star_schema.specs.declared.column.ColumnId.TheVariants.{DDatekey}
-use Rattle.star_compiled.specs.Compiled.{keys_code}
+use Rattle.star_compile_laws.specs.Compiled.{keys_code}
 use Rattle.star_compile.specs.Private.Emitted.{keys_after}
 use Rattle.star_compile.proofs.Emits.{keys_behind, room_for_key, all_written}
 use Rattle.star_compile.proofs.emitter.Emitter.keys.Goals as goal

@@ -1,5 +1,5 @@
 use Rattle.star_program.specs.declared.op.Operation.TheVariants.{Binary}
-use Rattle.star_compiled.specs.Compiled.{write}
+use Rattle.star_compile_laws.specs.Compiled.{write}
 use Rattle.star_compile.proofs.Emits.{room_for_second, then_if_ok}
 use Rattle.star_compile.proofs.emitter.Emitter.value_first.Goals as goal
 

@@ -1,4 +1,4 @@
-use Rattle.star_answers.specs.Reports.{IsReport}
+use Rattle.star_query_meaning.specs.Reports.{IsReport}
 use Rattle.star_engine.specs.Queries.{IsQueryQuoteOver, IsQueryToldOver, IsUnansweredOver}
 use Rattle.star_engine.specs.Answered.{change}
 use Rattle.star_engine.proofs.ByClauses.{has_reported, has_told, is_telling_broken_off, is_telling_refused, is_telling_untold}

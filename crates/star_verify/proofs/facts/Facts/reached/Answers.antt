@@ -3,8 +3,8 @@ use Rattle.std.proofs.lemmas.List.{append-nil, append_assoc, drop_all}
 use Rattle.std.specs.List.{filter}
 use Rattle.star_schema.specs.declared.column.ColumnId.{ColumnId}
 use Rattle.star_schema.specs.declared.column.TheConstants.{COLUMNS}
-use Rattle.star_admission.specs.declared.reason.Reached.{Reached}
-use Rattle.star_admission.specs.Refusals.{reached, with_bounds}
+use Rattle.star_safety.specs.declared.reason.Reached.{Reached}
+use Rattle.star_safety.specs.Refusals.{reached, with_bounds}
 use Rattle.star_verify.specs.Private.Shown.{reach_shown}
 use Rattle.star_verify.proofs.Chosen.{picked, left_out}
 use Rattle.star_verify.proofs.facts.Facts.reached.Goals as goal

@@ -2,7 +2,7 @@
 use Rattle.std.proofs.Common.{◌≡◌, ◌++◌, drop, map}
 use Rattle.std.specs.List.{filter}
 use Rattle.star_program.specs.World.{World}
-use Rattle.star_admission.specs.Refusals.{with_bounds}
+use Rattle.star_safety.specs.Refusals.{with_bounds}
 use Rattle.star_verify.specs.Private.Facts.{AreFacts}
 use Rattle.star_verify.specs.Private.Shown.{reach_shown}
 use Rattle.star_verify.proofs.facts.Facts.reached.Given as goal

@@ -2,7 +2,7 @@ use Rattle.std.proofs.Common.{◌≡◌, ◌∙◌, ◌+◌, ◌-◌, ◌*◌, �
 use Rattle.std.specs.Prelude.{if◌then◌else◌}
 use Rattle.star_program.specs.declared.group.GroupKey.TheVariants.{Number}
 use Rattle.star_world.specs.WorldOf.{world_of}
-use Rattle.star_admission.specs.MostRows.{each_values, values_of}
+use Rattle.star_safety.specs.MostRows.{each_values, values_of}
 use Rattle.star_verify.specs.Private.Made.{IsTallyAt}
 use Rattle.star_verify.specs.Private.Shown.{IsTally}
 use Rattle.star_verify.specs.Private.Rows as spec

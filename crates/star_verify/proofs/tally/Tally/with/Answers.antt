@@ -3,8 +3,8 @@ use Rattle.std.specs.Prelude.{◌≤ℤ◌}
 use Rattle.std.proofs.lemmas.Int.{ints}
 use Rattle.star_interval.specs.Interval.{range_of, wide_range_of}
 use Rattle.star_interval.specs.Range.{corner_range, hull, multiple_range, only}
-use Rattle.star_admission.specs.Ranges.{joined_reach}
-use Rattle.star_admission.specs.Tallies.{hull_with}
+use Rattle.star_safety.specs.Ranges.{joined_reach}
+use Rattle.star_safety.specs.Tallies.{hull_with}
 use Rattle.star_verify.specs.Private.Shown.{reach_shown}
 use Rattle.star_interval.proofs.Ranges.{range_same}
 use Rattle.star_interval.proofs.Sums.{sum_ends}

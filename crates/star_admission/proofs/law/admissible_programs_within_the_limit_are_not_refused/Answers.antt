@@ -1,6 +1,0 @@
--- Both directions are lemmas.
-use Rattle.star_admission.proofs.Refused.{not_refused, is_admissible}
-use Rattle.star_admission.proofs.law.admissible_programs_within_the_limit_are_not_refused.Goals as goal
-
-pub returns : goal.returns
-returns c = λ w most parts. (is_admissible w most parts, not_refused w most parts)

@@ -1,5 +1,0 @@
-use Rattle.star_admission.proofs.MomentPlaces.{stands_in}
-use Rattle.star_admission.proofs.law.moments_stand_in_their_contexts.Goals as goal
-
-pub returns : goal.returns
-returns c = stands_in

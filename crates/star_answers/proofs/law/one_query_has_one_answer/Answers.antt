@@ -1,5 +1,0 @@
-use Rattle.star_answers.proofs.OneAnswer.{one_answer}
-use Rattle.star_answers.proofs.law.one_query_has_one_answer.Goals as goal
-
-pub returns : goal.returns
-returns c = one_answer

@@ -1,8 +1,0 @@
-use Rattle.star_answers.proofs.OwnWords.{selected_in_order, selected_reordered}
-use Rattle.star_answers.proofs.law.plans_select_the_rows_of_their_queries.Goals as goal
-
-pub returns-clause-rows : goal.returns-clause-rows
-returns-clause-rows c = selected_reordered
-
-pub returns-clause-order : goal.returns-clause-order
-returns-clause-order c = selected_in_order

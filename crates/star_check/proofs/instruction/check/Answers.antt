@@ -1,5 +1,0 @@
-use Rattle.std.proofs.Common.{rules}
-use Rattle.star_check.proofs.instruction.check.Goals as goal
-
-pub returns-in_err-refuse : goal.returns-in_err-refuse
-returns-in_err-refuse c = search rules

@@ -1,0 +1,97 @@
+-- What is known of a key, a column or a table, after one more entry.
+use Rattle.std.proofs.Common.{◌≡◌, ◌⊎◌, inl, inr, ℕ, ◌+◌, ◌≤◌, ◌<◌, Bool, true, false, List, [], ◌∷◌, ◌++◌, Option, Some, None, refl, sym, ap, subst, ◌∙◌, arith}
+use Rattle.std.specs.Prelude.{nat_eq, if◌then◌else◌}
+use Rattle.std.specs.Option.{option_or}
+use Rattle.std.proofs.lemmas.Bool.{cond-true, cond-false, eq-eqb, ne_eqb}
+use Rattle.std.proofs.lemmas.Option.{same_Some}
+use Rattle.star_program.specs.Values.{with_entry}
+use Rattle.star_compile_laws.specs.Compiled.{register_in}
+use Rattle.star_compile_laws.specs.Looks.{one_if}
+
+-- ---- registers
+
+-- a new entry is found, and hides none of a register below it
+pub entry_same : {V : Type 0} (entries : ℕ → Option V) (r : ℕ) (v : V)
+    → with_entry entries r v r ≡ Some v
+entry_same entries r v = cond-true (nat_eq r r) (Some v) (entries r) (eq-eqb r r refl)
+
+pub entry_other : {V : Type 0} (entries : ℕ → Option V) (r q : ℕ) (v : V) → q < r
+    → with_entry entries r v q ≡ entries q
+entry_other entries r q v h =
+    cond-false (nat_eq q r) (Some v) (entries q) (ne_eqb q r (omega arith))
+
+-- ---- keys
+
+-- what it was before, or else the new one
+pub entry_after : {K : Type 0} (same : K → K → Bool) (es : List (K × ℕ)) (k : K) (n : ℕ) (q : K)
+    → register_in same (es ++ (k, n) ∷ []) q
+    ≡ option_or (register_in same es q) (if same q k then Some n else None)
+entry_after same [] k n q = refl
+entry_after same (x ∷ es) k n q =
+    by (same q x.0) (register_in same es q) (register_in same (es ++ (k, n) ∷ []) q)
+    (if same q k then Some n else None) (entry_after same es k n q)
+  where
+    by : (b : Bool) (o p r : Option ℕ) → p ≡ option_or o r
+        → (if b then Some x.1 else p) ≡ option_or (if b then Some x.1 else o) r
+    by true o p r e = refl
+    by false o p r e = e
+
+-- a key that has a register had it before, or is the one that got the last
+old_or_new : (o : Option ℕ) (b : Bool) (n r : ℕ)
+    → option_or o (if b then Some n else None) ≡ Some r → (o ≡ Some r) ⊎ ((b ≡ true) × (n ≡ r))
+old_or_new None true n r e = inr (refl, same_Some n r e)
+old_or_new None false n r e = absurd (cc)
+old_or_new (Some q) b n r e = inl e
+
+pub entry_split : {K : Type 0} (same : K → K → Bool) (es : List (K × ℕ)) (k : K) (n : ℕ) (q : K)
+    (r : ℕ) → register_in same (es ++ (k, n) ∷ []) q ≡ Some r
+    → (register_in same es q ≡ Some r) ⊎ ((same q k ≡ true) × (n ≡ r))
+entry_split same es k n q r e =
+    old_or_new (register_in same es q) (same q k) n r (sym (entry_after same es k n q) ∙ e)
+
+-- registers that say something of each key's value do so with the new key's value in the next one
+pub entry_known : {K V : Type 0} (same : K → K → Bool) (is : (q k : K) → same q k ≡ true → q ≡ k)
+    (Says : K → Option V → Type 0) (es : List (K × ℕ)) (values : ℕ → Option V) (n : ℕ) (k : K)
+    (v : V) → Says k (Some v) → (q : K) (r : ℕ)
+    → (register_in same es q ≡ Some r → (r < n) × Says q (values r))
+    → register_in same (es ++ (k, n) ∷ []) q ≡ Some r
+    → (r < n + 1) × Says q (with_entry values n v r)
+entry_known same is Says es values n k v new q r old e = by (entry_split same es k n q r e)
+  where
+    by : (register_in same es q ≡ Some r) ⊎ ((same q k ≡ true) × (n ≡ r))
+        → (r < n + 1) × Says q (with_entry values n v r)
+    by (inl e) =
+        let h = old e in
+        (omega (arith, h.0), subst (Says q) (sym (entry_other values n r v h.0)) h.1)
+    by (inr e) =
+        let here : n ≡ r = e.1 in (
+          omega arith,
+          subst (λ x. Says q (with_entry values n v x)) here
+              (subst (Says q) (sym (entry_same values n v))
+              (subst (λ x. Says x (Some v)) (sym (is q k e.0)) new)),
+        )
+
+-- ---- how often something may still be looked for
+
+unfoldable pub missing : Option ℕ → ℕ
+missing None = 1
+missing (Some r) = 0
+
+falls : (b : Bool) (n : ℕ) (o : Option ℕ) → (b ≡ true → o ≡ None)
+    → one_if b + missing (option_or o (if b then Some n else None)) ≤ missing o
+unfolding missing
+falls true n None h = omega arith
+falls true n (Some r) h = let e = h refl in absurd (cc)
+falls false n None h = omega arith
+falls false n (Some r) h = omega arith
+
+-- once less after a first time, and no more often otherwise
+pub entry_falls : {K : Type 0} (same : K → K → Bool) (is : (q k : K) → same q k ≡ true → q ≡ k)
+    (es : List (K × ℕ)) (k : K) (n : ℕ) → register_in same es k ≡ None → (q : K)
+    → one_if (same q k) + missing (register_in same (es ++ (k, n) ∷ []) q)
+    ≤ missing (register_in same es q)
+entry_falls same is es k n none q =
+    let after = ap missing (entry_after same es k n q) in
+    let less =
+    falls (same q k) n (register_in same es q) (λ e. ap (register_in same es) (is q k e) ∙ none) in
+    omega arith

@@ -1,0 +1,39 @@
+-- The foreign keys of a plan's joins, and what columns hold by their kinds.
+use Rattle.std.proofs.Common.{◌≡◌, Bool, true, false, Some, refl, ap}
+use Rattle.std.proofs.lemmas.Bool.{and_parts}
+use Rattle.star_query_meaning.proofs.Choices.{refers_to}
+use Rattle.star_schema.specs.declared.column.ColumnId.{ColumnId}
+use Rattle.star_schema.specs.declared.column.Kind.{Kind}
+use Rattle.star_schema.specs.declared.column.Kind.TheVariants as kind
+use Rattle.star_schema.specs.Schema.{key_of, kind_of, references, table_of}
+use Rattle.star_plan.specs.declared.tree.Join.{Join}
+use Rattle.star_plan.specs.Joins.{is_foreign, is_lone_key, refers}
+use Rattle.star_plan.specs.Names.{same_kind}
+use Rattle.star_program.specs.World.{is_text}
+
+-- ---- kinds
+
+kind_same : (k l : Kind) → same_kind k l ≡ true → k ≡ l
+kind_same kind.Number kind.Number e = refl
+kind_same kind.Text kind.Text e = refl
+kind_same kind.Number kind.Text e = absurd (cc)
+kind_same kind.Text kind.Number e = absurd (cc)
+
+abbrev pub of_text : Kind → Bool
+of_text kind.Number = false
+of_text kind.Text = true
+
+pub holds_numbers : (c : ColumnId) → same_kind (kind_of c) kind.Number ≡ true → is_text c ≡ false
+holds_numbers c e = ap of_text (kind_same (kind_of c) kind.Number e)
+
+pub holds_texts : (c : ColumnId) → same_kind (kind_of c) kind.Text ≡ true → is_text c ≡ true
+holds_texts c e = ap of_text (kind_same (kind_of c) kind.Text e)
+
+-- ---- joins
+
+pub foreign_refers : (j : Join) → is_foreign j.foreign j.key ≡ true
+    → references j.foreign ≡ Some (table_of j.key)
+foreign_refers j e =
+    refers_to (references j.foreign) (table_of j.key)
+    (and_parts (refers (references j.foreign) (table_of j.key))
+    (is_lone_key j.key (key_of (table_of j.key))) e).0

@@ -1,0 +1,41 @@
+//! Laws of compiled programs: functions with no body, whose clauses are the laws.
+
+ghost use Rattle.std.specs.Prelude.{◌≡◌, ◌≤◌, ℕ, None};
+ghost use Rattle.star_schema.specs.declared.column.ColumnId.{ColumnId};
+ghost use Rattle.star_schema.specs.declared.table.TableId.{TableId};
+ghost use Rattle.star_schema.specs.declared.table.TableId.TheVariants.{Lineorder};
+ghost use Rattle.star_plan.specs.Limits.{IsPlanWithinLimits};
+ghost use Rattle.star_plan.specs.Meaning.{Plan};
+ghost use Rattle.star_plan.specs.Sound.{IsSoundPlan};
+ghost use Rattle.star_plan.specs.Spelled.{IsSpelledPlan};
+ghost use Rattle.star_program.specs.Code.{code_size};
+ghost use Rattle.star_program.specs.Limits.{IsWithinLimits};
+ghost use Rattle.star_program.specs.Shown.{shown_fault};
+ghost use Rattle.star_program.specs.Text.Spellable.{IsSpellable};
+ghost use Rattle.star_safety.specs.Quote.{quote};
+ghost use Rattle.star_compile_laws.specs.Compiled.{compiled};
+ghost use Rattle.star_compile_laws.specs.Looks.{finds, loads, times};
+
+/// A compiled plan is a program: within the limits, of a report that names what is there, and
+/// spelled by some text. It has far fewer instructions than a program may have.
+pub fn compiled_plans_are_programs()
+    ensures limits { (p : Plan) → IsPlanWithinLimits p → IsWithinLimits (compiled p) }
+    ensures size { (p : Plan) → IsPlanWithinLimits p → code_size (compiled p).body ≤ 2578 }
+    ensures report { (p : Plan) → IsSoundPlan p → shown_fault (compiled p) ≡ None }
+    ensures spellable { (p : Plan)
+        → IsPlanWithinLimits p → IsSoundPlan p → IsSpelledPlan p → IsSpellable (compiled p) }
+{}
+
+/// A compiled program visits each row of the fact once: lineorder's row count is its quote.
+pub fn compiled_programs_visit_each_row_once()
+    ensures { (rows : TableId → ℕ) (p : Plan) → quote rows (compiled p) ≡ rows Lineorder }
+{}
+
+/// A compiled program looks once at most: it loads each column once, and finds a row of each
+/// dimension once.
+pub fn compiled_programs_look_once()
+    ensures columns { (p : Plan) (c : ColumnId)
+        → IsSoundPlan p → times (loads c) (compiled p).body ≤ 1 }
+    ensures rows { (p : Plan) (t : TableId)
+        → IsSoundPlan p → times (finds t) (compiled p).body ≤ 1 }
+{}

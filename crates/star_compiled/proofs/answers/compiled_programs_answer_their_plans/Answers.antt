@@ -1,6 +1,0 @@
-use Rattle.star_compiled.proofs.Answered.{answers_the_plan}
-use Rattle.star_compiled.proofs.SeenRows.{sees}
-use Rattle.star_compiled.proofs.answers.compiled_programs_answer_their_plans.Goals as goal
-
-pub returns : goal.returns
-returns c = λ database w p rows world sound. answers_the_plan _ w (sees database w rows world) p sound

@@ -1,0 +1,79 @@
+// What is wrong with an instruction, in its order.
+
+ghost use Rattle.std.specs.Prelude.{◌≡◌, ◌<◌, Bool, None, length};
+ghost use Rattle.std.specs.Option.{option_or};
+ghost use Rattle.star_program.specs.Faults as faults;
+ghost use Rattle.star_program.specs.Faults.{fault_of};
+ghost use Rattle.star_kinds.specs.Kinds.{Answers, kinds_of};
+
+use crate::operands::{Wanted, check_keys, check_numbers, check_operand, check_operation};
+use crate::place::{check_place, check_target};
+use crate::register::Kinded;
+use star_program::{Fault, Op, Parts};
+
+fn check_put<R: Kinded>(
+    parts: &Parts,
+    registers: &[R],
+    group: u16,
+    keys: &[u16],
+    values: &[u16],
+) -> Result<(), Fault>
+    requires there { group < length parts.now.groups }
+    requires keys { length keys.now ≡ length (faults.group_at parts.now group).keys }
+    ensures { Answers result (option_or
+        (faults.keys_fault (length registers.now) (kinds_of R.kind registers.now)
+        (faults.group_at parts.now group).keys keys.now)
+        (faults.numbers_fault (length registers.now) (kinds_of R.kind registers.now)
+        values.now)) }
+{
+    check_keys(registers, parts.group_at(group).keys.as_slice(), keys)?;
+    check_numbers(registers, values)
+}
+
+// The operands of an instruction whose group is as it should be.
+fn check_operands<R: Kinded>(parts: &Parts, registers: &[R], op: &Op) -> Result<(), Fault>
+    requires wide { length registers.now ≡ parts.now.registers }
+    requires placed { (inside : Bool) × (faults.place_fault parts.now inside op.now ≡ None) }
+    ensures { Answers result
+        (faults.operands_fault parts.now (kinds_of R.kind registers.now) op.now) }
+{
+    match op {
+        Op::Assign { operation, .. } => check_operation(registers, operation),
+        Op::Keep { flag } => check_operand(registers, Wanted::Flag, *flag),
+        Op::Put {
+            group,
+            keys,
+            values,
+        } => check_put(parts, registers, *group, keys.as_slice(), values.as_slice()),
+    }
+}
+
+fn refuse(fault: Option<Fault>) -> Result<(), Fault>
+    ensures { Answers result fault }
+{
+    match fault {
+        Some(fault) => Err(fault),
+        None => Ok(()),
+    }
+}
+
+/// Answers `Ok` where nothing is wrong with an instruction, inside scans or not, or the first that
+/// is: of its group or its place; of its target, that it isn't declared, and then what else the
+/// caller knows to be wrong with it; of its operands from the left, and then of its columns. Takes
+/// no memory.
+pub fn check<R: Kinded>(
+    parts: &Parts,
+    inside: bool,
+    target_fault: Option<Fault>,
+    registers: &[R],
+    op: &Op,
+) -> Result<(), Fault>
+    requires wide { length registers.now ≡ parts.now.registers }
+    ensures { Answers result
+        (fault_of parts.now inside target_fault (kinds_of R.kind registers.now) op.now) }
+{
+    check_place(parts, inside, op)?;
+    check_target(parts, op)?;
+    refuse(target_fault)?;
+    check_operands(parts, registers, op)
+}

@@ -1,0 +1,37 @@
+-- Which queries fit over five tables: by the bounds of their columns and the number of lineorder's
+-- rows alone.
+use Rattle.std.specs.Prelude.{◌≡◌, ◌≤◌, ℕ, true, length, pos}
+use Rattle.std.specs.List.{list_all}
+use Rattle.std.specs.Option.{option_map_or}
+use Rattle.star_schema.specs.declared.column.ColumnId.{ColumnId}
+use Rattle.star_schema.specs.declared.table.TableId.TheVariants.{Lineorder}
+use Rattle.star_schema.specs.Bounds.{greatest, least, numbers_of}
+use Rattle.star_schema.specs.Schema.{table_of}
+use Rattle.star_interval.specs.Range.{Range, only}
+use Rattle.star_query.specs.Tree.{Name, Tree}
+use Rattle.star_plan.specs.Fits.{Fits, measure_fits}
+use Rattle.star_plan.specs.Meaning.{Plan, Tables}
+use Rattle.star_plan.specs.Names.{column_at}
+use Rattle.star_query_meaning.specs.Rows.{measures_of}
+
+-- the bounds of each column of numbers: its least and its greatest number
+abbrev pub bounds_in : Tables → ColumnId → Range
+bounds_in ts c =
+    record {
+      low = least (numbers_of c (ts (table_of c)));
+      high = greatest (numbers_of c (ts (table_of c)));
+    }
+
+-- those of the column with this name; no other name stands in a well named query
+abbrev pub range_named : Tables → Name → Range
+range_named ts n = option_map_or (bounds_in ts) (column_at n) (only (pos 0))
+
+-- a query fits tables: lineorder has no more rows than may be visited, and of each aggregate each
+-- node has its range in 64 bits
+pub record FitsTables (most : ℕ) (ts : Tables) (q : Tree) : Type 0 where
+  pub visits : length (ts Lineorder) ≤ most
+  pub nodes : list_all (measure_fits (range_named ts)) (measures_of q.items) ≡ true
+
+-- the same of a plan
+abbrev pub PlanFitsTables : (most : ℕ) → Tables → Plan → Type 0
+PlanFitsTables most ts p = Fits (length (ts Lineorder)) most (bounds_in ts) p

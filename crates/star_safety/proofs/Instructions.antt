@@ -1,0 +1,358 @@
+-- One instruction of an admissible program.
+use Rattle.std.proofs.Common.{◌≡◌, ℕ, zero, suc, ◌<◌, Bool, true, false, List, [], ◌∷◌, Option, Some, None, refl, sym, ap, subst}
+use Rattle.std.proofs.lemmas.Bool.{eq-eqb}
+use Rattle.std.specs.Prelude.{ℤ, pos, ◌+ℤ◌, ◌-ℤ◌, ◌*ℤ◌, map, nat_eq, not, if◌then◌else◌, unwrap_or, slice_index_or}
+use Rattle.std.specs.Option.{option_map, option_or}
+use Rattle.star_schema.specs.declared.table.TableId.{TableId}
+use Rattle.star_schema.specs.declared.column.ColumnId.{ColumnId}
+use Rattle.star_schema.specs.declared.group.Aggregate.{Aggregate}
+use Rattle.star_schema.specs.declared.group.Aggregate.TheVariants.{Count}
+use Rattle.star_schema.specs.Schema.{table_of, references}
+use Rattle.star_schema.specs.Groups.{numbers_for}
+use Rattle.star_interval.specs.Range.{Holds, only, corner_range, is_i64, fits_i64}
+use Rattle.star_interval.specs.Laws.{KeepsValues}
+use Rattle.star_interval.proofs.Sums.{sums_held, differences_held}
+use Rattle.star_interval.proofs.Products.{products_held}
+use Rattle.star_program.specs.declared.group.GroupDecl.{GroupDecl}
+use Rattle.star_program.specs.declared.op.Op.{Op}
+use Rattle.star_program.specs.declared.op.Op.TheVariants.{Assign, Keep, Put}
+use Rattle.star_program.specs.declared.op.Operation.TheVariants.{Const, Edge, Load, Find, Binary, Within, Not, Read}
+use Rattle.star_program.specs.declared.op.Operator.{Operator}
+use Rattle.star_program.specs.declared.op.Operator.TheVariants.{Add, Sub, Mul, Less}
+use Rattle.star_program.specs.declared.program.Parts.{Parts}
+use Rattle.star_program.specs.World.{World, IsLoaded, IsRowOf, edge_of, is_text}
+use Rattle.star_program.specs.declared.value.Value.{Value}
+use Rattle.star_program.specs.declared.value.Value.TheVariants.{Number, Text, Place, Row, Flag}
+use Rattle.star_program.specs.Values.{kind_of_value, Registers, with_entry, number_in, flag_in, row_in}
+use Rattle.star_program.specs.declared.fault.Fault.{Fault}
+use Rattle.star_program.specs.Faults.{unless, kind_fault, operand_fault, is_number, is_row, is_row_of, both_fault, binary_fault, numbers_fault, keys_fault, place_fault, target_fault, target_of, operands_fault, group_at, fault_of}
+use Rattle.star_program.specs.Puts.{Update, aligned, overflows, own_groups, total}
+use Rattle.star_program.specs.Effects.{Store, Effect, GoesOn, EndsTurn, Traps, answer_of, loaded, update_of, result_trap, effect_of, unless_trap, kinds_in, act}
+use Rattle.star_program.specs.Private.Doing.{sets, sets_answer, sets_found, keeps, puts, puts_update, does}
+use Rattle.star_program.specs.declared.fault.TrapKind.{TrapKind}
+use Rattle.star_program.specs.declared.fault.TrapKind.TheVariants.{Wrong, Overflow}
+use Rattle.star_common.proofs.Firsts.{or_none}
+use Rattle.star_program.proofs.Unless.{unless_none}
+use Rattle.star_schema.proofs.Same.{table_same}
+use Rattle.star_safety.specs.Ranges.{Known, KnownNumber, KnownText, KnownPlace, KnownRow, KnownFlag, known_kind, Table, range_at, origin_at, given, loaded_known, computed, answer_known, kinds_known}
+use Rattle.star_safety.specs.Tallies.{Share, read_range}
+use Rattle.star_safety.proofs.Tally.{Tally, no_tally, plus, Tallies, no_tallies, plus_all, tally_of}
+use Rattle.star_safety.specs.Fitting.{FromColumn, FitsValue, FitsAt, Agrees}
+use Rattle.star_safety.specs.Contexts.{Context, put_known, after_op}
+use Rattle.star_safety.proofs.Gains.{put_tally, op_gain}
+use Rattle.star_safety.specs.declared.reason.Reason.{Reason}
+use Rattle.star_safety.specs.declared.reason.Reason.TheVariants.{Faulty}
+use Rattle.star_safety.specs.Refusals.{refuses, is_some_table, refers_to, overflow_of, target_again, kind_reason, source_reason, range_reason, op_reason}
+use Rattle.star_safety.proofs.Numbers.{holds_itself, fits_held}
+use Rattle.star_safety.proofs.TallyOrder.{AtMost, at_most_plus}
+use Rattle.star_safety.proofs.Tallied.{IsTallied, tallied_more, tallied_put, no_overflow, read_holds, tallies_fit, tallies_fit_less}
+
+-- ---- no fault, and no reason
+
+pub both_none : {A : Type 0} (a b : Option A) → a ≡ None → b ≡ None → option_or a b ≡ None
+both_none None b p q = q
+both_none (Some x) b p q = absurd (cc)
+
+pub unmapped_none : {A B : Type 0} (f : A → B) (o : Option A) → option_map f o ≡ None → o ≡ None
+unmapped_none f None e = refl
+unmapped_none f (Some x) e = absurd (cc)
+
+pub refuses_none : (b : Bool) (x : Reason) → refuses b x ≡ None → b ≡ false
+refuses_none true x e = absurd (cc)
+refuses_none false x e = refl
+
+pub not_refuses_none : (b : Bool) (x : Reason) → refuses (not b) x ≡ None → b ≡ true
+not_refuses_none true x e = refl
+not_refuses_none false x e = absurd (cc)
+
+-- ---- what is known fits what is there
+
+same_kind : (w : World) (k : Option Known) (v : Option Value) → FitsAt w k v
+    → option_map known_kind k ≡ option_map kind_of_value v
+same_kind w None None h = refl
+same_kind w (Some (KnownNumber r reach origin)) (Some (Number z)) h = refl
+same_kind w (Some (KnownText c)) (Some (Text d n)) h =
+    ap (λ x. Some (known_kind (KnownText x))) h.0
+same_kind w (Some (KnownPlace c)) (Some (Place d n)) h =
+    ap (λ x. Some (known_kind (KnownPlace x))) h.0
+same_kind w (Some (KnownRow t)) (Some (Row s n)) h = ap (λ x. Some (known_kind (KnownRow x))) h.0
+same_kind w (Some KnownFlag) (Some (Flag b)) h = refl
+same_kind w _ _ h = absurd h
+
+kinds_same : (w : World) (known : Table) (regs : Registers) → Agrees w known regs
+    → kinds_known known ≡ kinds_in regs
+kinds_same w known regs h = λ i r. same_kind w (known r) (regs r) (h r) i
+
+same_fault : (w : World) (parts : Parts) (inside : Bool) (twice : Option Fault) (known : Table)
+    (regs : Registers) (op : Op) → Agrees w known regs
+    → fault_of parts inside twice (kinds_known known) op ≡ None
+    → fault_of parts inside None (kinds_in regs) op ≡ None
+same_fault w parts inside twice known regs op h e =
+    let p = or_none (place_fault parts inside op) _ e in
+    let q = or_none (target_fault parts.registers (target_of op)) _ p.1 in
+    let r = or_none twice (operands_fault parts (kinds_known known) op) q.1 in
+    both_none (place_fault parts inside op) _ p.0
+    (both_none (target_fault parts.registers (target_of op)) _ q.0
+    (subst (λ kinds. operands_fault parts kinds op ≡ None) (kinds_same w known regs h) r.1))
+
+fits_entry : (w : World) (b : Bool) (k : Known) (v : Value) (k' : Option Known) (v' : Option Value)
+    → FitsValue w k v → FitsAt w k' v'
+    → FitsAt w (if b then Some k else k') (if b then Some v else v')
+fits_entry w true k v k' v' p q = p
+fits_entry w false k v k' v' p q = q
+
+pub agrees_entry : (w : World) (known : Table) (regs : Registers) (t : ℕ) (k : Known) (v : Value)
+    → Agrees w known regs → FitsValue w k v → Agrees w (with_entry known t k) (with_entry regs t v)
+agrees_entry w known regs t k v h p = λ r. fits_entry w (nat_eq r t) k v (known r) (regs r) p (h r)
+
+-- ---- operands
+
+number_fits : (w : World) (k : Option Known) (v : Option Value)
+    → kind_fault is_number (option_map known_kind k) ≡ None → FitsAt w k v
+    → Holds (range_at k) (number_in v) × FromColumn w (origin_at k) (number_in v)
+number_fits w None v e h = absurd (cc)
+number_fits w (Some (KnownNumber r reach origin)) (Some (Number z)) e h = h
+number_fits w (Some (KnownNumber r reach origin)) _ e h = absurd h
+number_fits w (Some _) v e h = absurd (cc)
+
+number_at : (w : World) (count r : ℕ) (known : Table) (regs : Registers)
+    → operand_fault count (kinds_known known) is_number r ≡ None → Agrees w known regs
+    → Holds (range_at (known r)) (number_in (regs r))
+    × FromColumn w (origin_at (known r)) (number_in (regs r))
+number_at w count r known regs e h = number_fits w (known r) (regs r) (or_none _ _ e).1 (h r)
+
+row_fits : (w : World) (t : TableId) (k : Option Known) (v : Option Value)
+    → is_row_of t (option_map known_kind k) ≡ true → FitsAt w k v → row_in v < w.size t
+row_fits w t (Some (KnownRow s)) (Some (Row q n)) e h =
+    subst (λ x. n < w.size x) (table_same s t e) h.1
+row_fits w t (Some (KnownRow s)) _ e h = absurd h
+row_fits w t None v e h = absurd (cc)
+row_fits w t (Some _) v e h = absurd (cc)
+
+-- ---- the numbers of a put
+
+abbrev AllHold : List (Option Known) → List ℤ → Type 0
+AllHold [] [] = Unit {0}
+AllHold (k ∷ ks) (v ∷ vs) = Holds (range_at k) v × AllHold ks vs
+AllHold _ _ = ⊥
+
+put_numbers : (w : World) (count : ℕ) (known : Table) (regs : Registers) (vs : List ℕ)
+    → numbers_fault count (kinds_known known) vs ≡ None → Agrees w known regs
+    → AllHold (map known vs) (map (λ r. number_in (regs r)) vs)
+put_numbers w count known regs [] e h = tt
+put_numbers w count known regs (r ∷ rs) e h =
+    let p = or_none (operand_fault count (kinds_known known) is_number r)
+    (numbers_fault count (kinds_known known) rs) e in
+    ((number_at w count r known regs p.0 h).0, put_numbers w count known regs rs p.1 h)
+
+all_aligned : (gs : List Aggregate) (ks : List (Option Known)) (vs : List ℤ) → AllHold ks vs
+    → AllHold (aligned (Some (given (only (pos 1)))) gs ks) (aligned (pos 1) gs vs)
+all_aligned [] ks vs h = tt
+all_aligned (Count ∷ gs) ks vs h = (holds_itself (pos 1), all_aligned gs ks vs h)
+all_aligned (_ ∷ gs) [] [] h = tt
+all_aligned (_ ∷ gs) (k ∷ ks) (v ∷ vs) h = (h.0, all_aligned gs ks vs h.1)
+all_aligned (_ ∷ gs) [] (v ∷ vs) h = absurd h
+all_aligned (_ ∷ gs) (k ∷ ks) [] h = absurd h
+
+held_at : (ks : List (Option Known)) (vs : List ℤ) (a : ℕ) → AllHold ks vs
+    → Holds (range_at (slice_index_or ks a None)) (slice_index_or vs a (pos 0))
+held_at [] [] a h = holds_itself (pos 0)
+held_at (k ∷ ks) (v ∷ vs) zero h = h.0
+held_at (k ∷ ks) (v ∷ vs) (suc a) h = held_at ks vs a h.1
+held_at [] (v ∷ vs) a h = absurd h
+held_at (k ∷ ks) [] a h = absurd h
+
+-- ---- one instruction
+
+abbrev pub AreTallied : Tallies → Store → Type 0
+AreTallied y s = (g a : ℕ) → IsTallied (y g a) (numbers_for a (s.updates_of g))
+
+-- what an instruction may lead to: what is known then fits, and it has begun no turn
+abbrev pub IsGood : World → Table → Tallies → ℕ → Effect → Type 0
+IsGood w known y visits (GoesOn regs s) = Agrees w known regs × AreTallied y s × (s.visits ≡ visits)
+IsGood w known y visits (EndsTurn s) = AreTallied y s × (s.visits ≡ visits)
+IsGood w known y visits (Traps trap) = ⊥
+
+good_unless : (w : World) (known : Table) (y : Tallies) (visits : ℕ) (o : Option Fault)
+    (own : Option TrapKind) (e : Effect)
+    → o ≡ None → IsGood w known y visits (unless_trap own e)
+    → IsGood w known y visits (unless_trap (option_or (option_map Wrong o) own) e)
+good_unless w known y visits None own e p h = h
+good_unless w known y visits (Some fault) own e p h = absurd (cc)
+
+module _ (w : World) (catalogue : IsLoaded w) (parts : Parts) (x : Context) (y : Tallies)
+    (regs : Registers) (s : Store) (agrees : Agrees w x.known regs) (tallied : AreTallied y s) where
+  still : AreTallied (plus_all y no_tallies) s
+  still g a = tallied_more (y g a) (plus (y g a) no_tally) (numbers_for a (s.updates_of g))
+      (at_most_plus (y g a) no_tally) (tallied g a)
+
+  good_sets : (t : ℕ) (k : Known) (v : Value) → FitsValue w k v
+      → IsGood w (with_entry x.known t k) (plus_all y no_tallies) s.visits (sets regs s t v)
+  good_sets t k v p = (agrees_entry w x.known regs t k v agrees p, still, refl)
+
+  good_number : (b : Bool) (t : ℕ) (k : Known) (z : ℤ) → b ≡ true → FitsValue w k (Number z)
+      → IsGood w (with_entry x.known t k) (plus_all y no_tallies) s.visits (unless_trap (unless b Overflow) (sets regs s t (Number z)))
+  good_number true t k z e p = good_sets t k (Number z) p
+  good_number false t k z e p = absurd (cc)
+
+  -- arithmetic
+  good_result : (operation : ℤ → ℤ → ℤ) → KeepsValues operation (corner_range operation) → (t a b : ℕ)
+      → both_fault parts.registers (kinds_known x.known) is_number a b ≡ None → overflow_of w (computed operation (x.known a) (x.known b)) ≡ None
+      → IsGood w (with_entry x.known t (computed operation (x.known a) (x.known b))) (plus_all y no_tallies) s.visits (sets_answer regs s t (Number (operation (number_in (regs a)) (number_in (regs b)))))
+  good_result operation keeps t a b p e =
+      let q = or_none (operand_fault parts.registers (kinds_known x.known) is_number a) (operand_fault parts.registers (kinds_known x.known) is_number b) p in
+      let held = keeps (range_at (x.known a)) (range_at (x.known b)) (number_in (regs a)) (number_in (regs b)) (number_at w parts.registers a x.known regs q.0 agrees).0 (number_at w parts.registers b x.known regs q.1 agrees).0 in
+      let z = operation (number_in (regs a)) (number_in (regs b)) in
+      let r = corner_range operation (range_at (x.known a)) (range_at (x.known b)) in
+      good_number (is_i64 z) t (computed operation (x.known a) (x.known b)) z
+      (fits_held r z (not_refuses_none (fits_i64 r) _ e) held) (held, tt)
+
+  good_answer : (o : Operator) (t a b : ℕ) → binary_fault parts.registers (kinds_known x.known) o a b ≡ None → overflow_of w (answer_known o (x.known a) (x.known b)) ≡ None
+      → IsGood w (with_entry x.known t (answer_known o (x.known a) (x.known b))) (plus_all y no_tallies) s.visits (sets_answer regs s t (answer_of o (regs a) (regs b)))
+  good_answer Add t a b e r = good_result ◌+ℤ◌ sums_held t a b e r
+  good_answer Sub t a b e r = good_result ◌-ℤ◌ differences_held t a b e r
+  good_answer Mul t a b e r = good_result ◌*ℤ◌ products_held t a b e r
+  good_answer Less t a b e r = good_sets t KnownFlag (Flag _) tt
+  good_answer _ t a b e r = good_sets t KnownFlag (Flag _) tt
+
+  good_loaded : (b : Bool) (t : ℕ) (c : ColumnId) (n : ℕ) → is_text c ≡ b → n < w.size (table_of c) → IsGood w (with_entry x.known t (loaded_known w c b)) (plus_all y no_tallies) s.visits (sets regs s t (loaded w c n b))
+  good_loaded true t c n e h =
+      good_sets t (loaded_known w c true) (Text c (w.code c n)) (refl, catalogue.coded c n e h)
+  good_loaded false t c n e h =
+      good_sets t (loaded_known w c false) (Number (w.number c n))
+      (catalogue.held c n h, (n, h, refl))
+
+  good_found : (t : ℕ) (table : TableId) (o : Option ℕ) → IsRowOf w table o
+      → IsGood w (with_entry x.known t (KnownRow table)) (plus_all y no_tallies) s.visits
+      (sets_found regs s t table o)
+  good_found t table None h = absurd h
+  good_found t table (Some n) h =
+      (agrees_entry w x.known regs t (KnownRow table) (Row table n) agrees (refl, h), still, refl)
+
+  is_found : (table : TableId) (o : Option ColumnId) (z : ℤ) → refers_to table o ≡ true
+      → FromColumn w o z → IsRowOf w table (w.find table z)
+  is_found table None z e h = absurd (cc)
+  is_found table (Some c) z e h =
+      subst (λ q. IsRowOf w table (w.find table q)) (sym h.2)
+      (catalogue.found c table h.0 (is_reference table (references c) e) h.1)
+    where
+      is_reference : (table : TableId) (o : Option TableId) → is_some_table table o ≡ true
+          → o ≡ Some table
+      is_reference table None e = absurd (cc)
+      is_reference table (Some q) e = ap Some (sym (table_same table q e))
+
+  good_keeps : (b : Bool) → IsGood w x.known (plus_all y no_tallies) s.visits (keeps regs s b)
+  good_keeps true = (agrees, still, refl)
+  good_keeps false = (still, refl)
+
+  good_put : (g : ℕ) (ks vs : List ℕ) (m : ℕ → Tally)
+      → numbers_fault parts.registers (kinds_known x.known) vs ≡ None
+      → ((a : ℕ) → AtMost (plus (y g a) (put_tally (group_at parts g) x.known vs a)) (m a))
+      → tallies_fit (group_at parts g).aggregates 0 m ≡ true
+      → IsGood w x.known (plus_all y (op_gain parts x (Put g ks vs))) s.visits
+      (puts_update (group_at parts g) regs s g (update_of (group_at parts g) regs ks vs))
+  good_put g ks vs m e room fit = go (overflows d (s.updates_of g) u) quiet
+    where
+      d : GroupDecl
+      d = group_at parts g
+
+      u : Update
+      u = update_of (group_at parts g) regs ks vs
+
+      held : (a : ℕ)
+          → Holds (range_at (slice_index_or (put_known (group_at parts g) x.known vs) a None))
+          (slice_index_or (update_of (group_at parts g) regs ks vs).values a (pos 0))
+      held a = held_at _ _ a
+          (all_aligned (group_at parts g).aggregates (map x.known vs)
+          (map (λ r. number_in (regs r)) vs)
+          (put_numbers w parts.registers x.known regs vs e agrees))
+
+      put_entry : (b : Bool) (h a : ℕ)
+          → IsTallied (plus (y h a)
+          (if b then put_tally (group_at parts g) x.known vs a else no_tally))
+          (numbers_for a
+          (if b then update_of (group_at parts g) regs ks vs ∷ s.updates_of h else s.updates_of h))
+      put_entry true h a =
+          tallied_put (y h a) _ _ (numbers_for a (s.updates_of h)) (tallied h a) (held a)
+      put_entry false h a = still h a
+
+      quiet : overflows (group_at parts g) (s.updates_of g)
+          (update_of (group_at parts g) regs ks vs) ≡ false
+      quiet = no_overflow (group_at parts g).aggregates
+          (λ a. plus (y g a) (put_tally (group_at parts g) x.known vs a))
+          (update_of (group_at parts g) regs ks vs ∷ s.updates_of g)
+          (own_groups (group_at parts g).shape (update_of (group_at parts g) regs ks vs).keys)
+          (λ a. put_entry true g a)
+          (tallies_fit_less (group_at parts g).aggregates 0
+          (λ a. plus (y g a) (put_tally (group_at parts g) x.known vs a)) m room fit)
+
+      go : (b : Bool) → b ≡ false
+          → IsGood w x.known (plus_all y (op_gain parts x (Put g ks vs))) s.visits
+          (puts regs s g (update_of (group_at parts g) regs ks vs) b)
+      go true p = absurd (cc)
+      go false p = (agrees, (λ h a. put_entry (nat_eq h g) h a), refl)
+
+  good_read : (t g i : ℕ) (so_far : List Share) (d : GroupDecl) (n : ℤ)
+      → AtMost (y g i) (tally_of so_far)
+      → fits_i64 (read_range (slice_index_or d.aggregates i Count) so_far (only n)) ≡ true
+      → IsGood w (with_entry x.known t
+      (given (read_range (slice_index_or d.aggregates i Count) so_far (only n))))
+      (plus_all y no_tallies) s.visits
+      (sets_answer regs s t (Number (unwrap_or (total d i (s.updates_of g)) n)))
+  good_read t g i so_far d n h fits =
+      let r = read_range (slice_index_or d.aggregates i Count) so_far (only n) in
+      let z = unwrap_or (total d i (s.updates_of g)) n in
+      let held = read_holds (slice_index_or d.aggregates i Count) so_far n
+      (numbers_for i (s.updates_of g))
+      (tallied_more (y g i) (tally_of so_far) (numbers_for i (s.updates_of g)) h (tallied g i)) in
+      good_number (is_i64 z) t (given r) z (fits_held r z fits held) (held, tt)
+
+  does_good : (pending : ℕ → Bool) (op : Op) (m : Tallies)
+      → operands_fault parts (kinds_known x.known) op ≡ None
+      → source_reason pending x op ≡ None
+      → range_reason w parts x op ≡ None
+      → ((g a : ℕ) → pending g ≡ false → AtMost (y g a) (tally_of (x.so_far g a)))
+      → ((g a : ℕ) → AtMost (plus (y g a) (op_gain parts x op g a)) (m g a))
+      → ((g : ℕ) → tallies_fit (group_at parts g).aggregates 0 (m g) ≡ true)
+      → IsGood w (after_op w parts x op).known (plus_all y (op_gain parts x op)) s.visits (does w parts regs s op)
+  does_good pending (Assign t (Const z)) m e from r closed room fit = good_sets t (given (only z)) (Number z) (holds_itself z, tt)
+  does_good pending (Assign t (Edge g c b)) m e from r closed room fit = good_sets t (KnownPlace c) (Place c (edge_of w g c b)) (refl, catalogue.counted g c b)
+  does_good pending (Assign t (Load c q)) m e from r closed room fit =
+      good_loaded (is_text c) t c (row_in (regs q)) refl
+      (row_fits w (table_of c) (x.known q) (regs q) (unless_none _ _ (or_none (operand_fault parts.registers (kinds_known x.known) is_row q) _ e).1) (agrees q))
+  does_good pending (Assign t (Find table k)) m e from r closed room fit =
+      good_found t table (w.find table (number_in (regs k)))
+      (is_found table (origin_at (x.known k)) (number_in (regs k)) (not_refuses_none _ _ from) (number_at w parts.registers k x.known regs e agrees).1)
+  does_good pending (Assign t (Binary o a b)) m e from r closed room fit = good_answer o t a b e r
+  does_good pending (Assign t (Within q a b)) m e from r closed room fit = good_sets t KnownFlag (Flag _) tt
+  does_good pending (Assign t (Not a)) m e from r closed room fit = good_sets t KnownFlag (Flag _) tt
+  does_good pending (Assign t (Read g i d)) m e from r closed room fit =
+      good_read t g i (x.so_far g i) (group_at parts g) d (closed g i (refuses_none (pending g) _ from)) (not_refuses_none _ _ r)
+  does_good pending (Keep k) m e from r closed room fit = good_keeps (flag_in (regs k))
+  does_good pending (Put g ks vs) m e from r closed room fit =
+      good_put g ks vs (m g) (or_none (keys_fault parts.registers (kinds_known x.known) (group_at parts g).keys ks) _ e).1
+      (λ a. subst (λ b. AtMost (plus (y g a) (if b then put_tally (group_at parts g) x.known vs a else no_tally)) (m g a)) (eq-eqb g g refl) (room g a)) (fit g)
+
+-- one instruction of an admissible program
+pub act_good : (w : World) → IsLoaded w
+    → (parts : Parts) (x : Context) (y : Tallies) (regs : Registers) (s : Store)
+    → Agrees w x.known regs → AreTallied y s
+    → (pending : ℕ → Bool) (op : Op) (m : Tallies)
+    → op_reason w parts pending x op ≡ None
+    → ((g a : ℕ) → pending g ≡ false → AtMost (y g a) (tally_of (x.so_far g a)))
+    → ((g a : ℕ) → AtMost (plus (y g a) (op_gain parts x op g a)) (m g a))
+    → ((g : ℕ) → tallies_fit (group_at parts g).aggregates 0 (m g) ≡ true)
+    → IsGood w (after_op w parts x op).known (plus_all y (op_gain parts x op)) s.visits
+    (act w parts x.inside regs s op)
+act_good w catalogue parts x y regs s agrees tallied pending op m e closed room fit =
+    let again = target_again x.written (target_of op) in
+    let p = or_none (kind_reason parts x op) _ e in
+    let known = or_none (source_reason pending x op) (range_reason w parts x op) p.1 in
+    let q = unmapped_none Faulty (fault_of parts x.inside again (kinds_known x.known) op) p.0 in
+    let a = or_none (place_fault parts x.inside op) _ q in
+    let b = or_none (target_fault parts.registers (target_of op)) _ a.1 in
+    let c = or_none again (operands_fault parts (kinds_known x.known) op) b.1 in
+    good_unless w (after_op w parts x op).known (plus_all y (op_gain parts x op)) s.visits
+    (fault_of parts x.inside None (kinds_in regs) op) (result_trap w parts regs s op) (effect_of w parts regs s op)
+    (same_fault w parts x.inside again x.known regs op agrees q)
+    (does_good w catalogue parts x y regs s agrees tallied pending op m c.1 known.0 known.1 closed room fit)

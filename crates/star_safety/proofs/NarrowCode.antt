@@ -1,0 +1,56 @@
+-- Where nothing refuses some code, what is known at its end lies within 2 ^ 63 of zero, and so does
+-- each number that it puts.
+use Rattle.std.proofs.Common.{◌≡◌, ℕ, ◌+◌, Bool, None}
+use Rattle.star_schema.specs.declared.table.TableId.{TableId}
+use Rattle.star_program.specs.declared.op.Op.{Op}
+use Rattle.star_program.specs.declared.program.Parts.{Parts}
+use Rattle.star_program.specs.Code.{Code, Stop, Then, Each, code_size}
+use Rattle.star_program.specs.World.{World}
+use Rattle.star_common.proofs.Firsts.{or_none}
+use Rattle.star_safety.specs.Contexts.{Context, at_first, after_op, in_scan, after_scan, at_end}
+use Rattle.star_safety.specs.Private.Forward.{open_with, first_reason}
+use Rattle.star_safety.specs.Ranges.{KnownRow}
+use Rattle.star_safety.specs.Refusals.{kind_reason, source_reason, range_reason, op_reason, scan_reason}
+use Rattle.star_safety.specs.Standing.{at_place}
+use Rattle.star_safety.proofs.Sound.{at_place_none}
+use Rattle.star_safety.proofs.NarrowRanges.{Fits, zero_narrow, entry_narrow, after_narrow}
+
+-- at the first instruction
+pub first_fits : (parts : Parts) → Fits parts at_first
+first_fits parts =
+    record { known = λ r. zero_narrow; each = λ g a. tt }
+
+pub op_fits : (w : World) (parts : Parts) (pending : ℕ → Bool) (x : Context) (op : Op) → Fits parts x
+    → op_reason w parts pending x op ≡ None → Fits parts (after_op w parts x op)
+op_fits w parts pending x op fits e =
+    after_narrow w parts x op fits
+    (or_none (source_reason pending x op) (range_reason w parts x op)
+    (or_none (kind_reason parts x op) _ e).1).1
+
+pub in_fits : (w : World) (parts : Parts) (x : Context) (table : TableId) (r : ℕ)
+    → Fits parts x → Fits parts (in_scan w x table r)
+in_fits w parts x table r fits = record {
+  known = entry_narrow x.known r (KnownRow table) tt fits.known;
+  each = fits.each;
+}
+
+pub past_fits : (parts : Parts) (x end : Context) → Fits parts x → Fits parts end
+    → Fits parts (after_scan x end)
+past_fits parts x end fits ended =
+    record { known = fits.known; each = ended.each }
+
+pub end_fits : (w : World) (parts : Parts) (c : Code) (pending : ℕ → Bool) (at : ℕ) (x : Context) → Fits parts x
+    → first_reason w parts pending x at c ≡ None → Fits parts (at_end w parts x c)
+end_fits w parts Stop pending at x fits e = fits
+end_fits w parts (Then op rest) pending at x fits e =
+    let p = or_none (at_place at (op_reason w parts (open_with pending rest) x op)) _ e in
+    end_fits w parts rest pending (at + 1) (after_op w parts x op)
+    (op_fits w parts (open_with pending rest) x op fits (at_place_none at _ p.0)) p.1
+end_fits w parts (Each table r body rest) pending at x fits e =
+    let inner = in_scan w x table r in
+    let p = or_none (at_place at (scan_reason parts x r)) _ e in
+    let within = open_with pending (Each table r body rest) in
+    let q = or_none (first_reason w parts within inner (at + 1) body) _ p.1 in
+    end_fits w parts rest pending (at + 1 + code_size body) (after_scan x (at_end w parts inner body))
+    (past_fits parts x (at_end w parts inner body) fits
+    (end_fits w parts body within (at + 1) inner (in_fits w parts x table r fits) q.0)) q.1

@@ -1,0 +1,23 @@
+-- What can add up to a SUM of an accepted program fits 128 bits, and to a COUNT 64.
+use Rattle.std.proofs.Common.{ℕ, ◌^◌, ◌<◌, sym, subst}
+use Rattle.star_program.specs.declared.program.Parts.{Parts}
+use Rattle.star_program.specs.World.{World}
+use Rattle.star_safety.specs.Laws.{IsAccepted, SumsFit}
+use Rattle.star_safety.specs.Moments.{all_shares}
+use Rattle.star_safety.specs.Tallies.{most_of}
+use Rattle.star_safety.proofs.NarrowRanges.{sum_fits}
+use Rattle.star_safety.proofs.Runs.{all_narrow, few_puts}
+use Rattle.star_safety.proofs.Tally.{most_is}
+
+few_shares : (w : World) (parts : Parts) → IsAccepted w parts → (g place : ℕ)
+    → most_of (all_shares w parts g place) < 2 ^ 63
+few_shares w parts accepted g place =
+    subst (λ n. n < 2 ^ 63) (sym (most_is (all_shares w parts g place)))
+    (few_puts w parts accepted g place)
+
+pub sums_fit : (w : World) (parts : Parts) → IsAccepted w parts → SumsFit w parts
+sums_fit w parts accepted = record {
+  sums = λ g place h same. sum_fits (all_shares w parts g place)
+      (all_narrow w parts accepted g place) (few_shares w parts accepted g place);
+  counts = few_shares w parts accepted;
+}

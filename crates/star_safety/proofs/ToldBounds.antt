@@ -1,0 +1,245 @@
+-- Every bound that a refusal tells fits 128 bits.
+use Rattle.std.proofs.Common.{◌≡◌, ℕ, ◌+◌, ◌*◌, ◌^◌, ◌≤◌, Bool, true, false, List, [], ◌∷◌, ◌++◌, Option, Some, None, refl, ap, subst, ◌∙◌, arith, lit<, ◌⊎◌, inl, inr, ⊎_elim}
+use Rattle.std.specs.Prelude.{pos, nat_eq, nat_le, not, if◌then◌else◌}
+use Rattle.std.specs.Option.{option_map, option_or}
+use Rattle.std.proofs.lemmas.Bool.{leb-true}
+use Rattle.std.proofs.Math.Nat.{mul-le-mul_right}
+use Rattle.star_schema.specs.declared.column.ColumnId.{ColumnId}
+use Rattle.star_interval.specs.Range.{Range, FitsI64, FitsI128, fits_i64, only}
+use Rattle.star_program.specs.declared.op.Op.{Op}
+use Rattle.star_program.specs.declared.op.Op.TheVariants.{Assign, Keep, Put}
+use Rattle.star_program.specs.declared.op.Operation.TheVariants.{Const, Edge, Load, Find, Binary, Within, Not, Read}
+use Rattle.star_program.specs.declared.program.Parts.{Parts}
+use Rattle.star_program.specs.Code.{Code, Stop, Then, Each, code_size}
+use Rattle.star_program.specs.declared.fault.Fault.{Fault}
+use Rattle.star_program.specs.World.{World, is_text}
+use Rattle.star_safety.specs.Bounds.{NamesI64, AllNameI64, AreI64}
+use Rattle.star_common.specs.First.{first_answer}
+use Rattle.star_program.specs.Limits.{IsWithinLimits}
+use Rattle.star_program.specs.Shown.{shown_fault}
+use Rattle.star_safety.specs.Admissible.{Refusal, Refused, BadShow, cost_refusal, first_refusal}
+use Rattle.star_safety.specs.Contexts.{Context, at_first, put_share, result_known, after_op, in_scan, after_scan, at_end}
+use Rattle.star_safety.specs.Quote.{turns_met, quote}
+use Rattle.star_safety.specs.Ranges.{Known, KnownNumber, KnownText, KnownPlace, KnownRow, KnownFlag}
+use Rattle.star_safety.specs.declared.reason.Reached.{Reached}
+use Rattle.star_safety.specs.declared.reason.Reason.{Reason}
+use Rattle.star_safety.specs.declared.reason.Reason.TheVariants.{Faulty, NotAForeignKey, OpenGroup, Overflow}
+use Rattle.star_safety.specs.Refusals.{refuses, overflow_of, kind_reason, source_reason, range_reason, op_reason, scan_reason}
+use Rattle.star_safety.specs.Private.Forward.{open_with, none_open, first_reason}
+use Rattle.star_safety.specs.Standing.{instructions_of, at_place, reason_of}
+use Rattle.star_safety.specs.Tallies.{most_of}
+use Rattle.star_safety.proofs.Sound.{at_place_none}
+use Rattle.star_safety.proofs.Forward.{first_standing}
+use Rattle.star_safety.proofs.Sizes.{small_fits}
+use Rattle.star_safety.proofs.NarrowRanges.{Fits, Wide, IsWide, Counts, result_wide}
+use Rattle.star_safety.proofs.NarrowCode.{op_fits, in_fits, past_fits, end_fits, first_fits}
+
+-- ---- the range that a reason tells
+
+abbrev range_in : Reason → Range
+range_in (Overflow low high columns) = record { low = low; high = high }
+range_in _ = only (pos 0)
+
+refused_as : (b : Bool) (reason told : Reason) → refuses b reason ≡ Some told → reason ≡ told
+refused_as true reason told e = some_same e
+  where
+    some_same : Some reason ≡ Some told → reason ≡ told
+    some_same h = cc
+refused_as false reason told e = absurd (cc)
+
+overflow_told : (w : World) (k : Known) (r : Range) (columns : List Reached) → IsWide k
+    → overflow_of w k ≡ Some (Overflow r.low r.high columns) → Wide r
+overflow_told w (KnownNumber s reach origin) r columns p e =
+    subst Wide (ap range_in (refused_as (not (fits_i64 s)) _ _ e)) p
+overflow_told w (KnownText c) r columns p e = absurd (cc)
+overflow_told w (KnownPlace c) r columns p e = absurd (cc)
+overflow_told w (KnownRow t) r columns p e = absurd (cc)
+overflow_told w KnownFlag r columns p e = absurd (cc)
+
+either_first : {A : Type 0} (a b : Option A) (v : A) → option_or a b ≡ Some v
+    → (a ≡ Some v) ⊎ ((a ≡ None) × (b ≡ Some v))
+either_first None b v e = inr (refl, e)
+either_first (Some x) b v e = inl e
+
+range_told : (w : World) (parts : Parts) (x : Context) (op : Op) (r : Range)
+    (columns : List Reached) → Fits parts x → Counts x → NamesI64 op
+    → ((c : ColumnId) → is_text c ≡ false → FitsI64 (w.bounds c))
+    → range_reason w parts x op ≡ Some (Overflow r.low r.high columns) → Wide r
+range_told w parts x (Put g ks vs) r columns fits counts named bounds e = absurd (cc)
+range_told w parts x (Assign t (Read g a n)) r columns fits counts named bounds e =
+    subst Wide (ap range_in (refused_as _ _ _ e))
+    (result_wide w parts x t (Read g a n) fits counts named bounds)
+range_told w parts x (Assign t o) r columns fits counts named bounds e =
+    overflow_told w (result_known w parts x (Assign t o)) r columns
+    (result_wide w parts x t o fits counts named bounds) e
+range_told w parts x (Keep f) r columns fits counts named bounds e = absurd (cc)
+
+faulty_no_range : (o : Option Fault) (r : Range) (columns : List Reached)
+    → option_map Faulty o ≡ Some (Overflow r.low r.high columns) → ⊥
+faulty_no_range None r columns e = absurd (cc)
+faulty_no_range (Some fault) r columns e = absurd (cc)
+
+source_no_range : (pending : ℕ → Bool) (x : Context) (op : Op) (r : Range) (columns : List Reached)
+    → source_reason pending x op ≡ Some (Overflow r.low r.high columns) → ⊥
+source_no_range pending x (Assign t (Find table k)) r columns e = refused_other _ e
+  where
+    refused_other : (b : Bool) → refuses b NotAForeignKey ≡ Some (Overflow r.low r.high columns) → ⊥
+    refused_other true h = absurd (cc)
+    refused_other false h = absurd (cc)
+source_no_range pending x (Assign t (Read g a n)) r columns e = refused_other _ e
+  where
+    refused_other : (b : Bool) → refuses b OpenGroup ≡ Some (Overflow r.low r.high columns) → ⊥
+    refused_other true h = absurd (cc)
+    refused_other false h = absurd (cc)
+source_no_range pending x (Assign t (Const n)) r columns e = absurd (cc)
+source_no_range pending x (Assign t (Edge g c text)) r columns e = absurd (cc)
+source_no_range pending x (Assign t (Load c q)) r columns e = absurd (cc)
+source_no_range pending x (Assign t (Binary o a b)) r columns e = absurd (cc)
+source_no_range pending x (Assign t (Within q a b)) r columns e = absurd (cc)
+source_no_range pending x (Assign t (Not f)) r columns e = absurd (cc)
+source_no_range pending x (Keep f) r columns e = absurd (cc)
+source_no_range pending x (Put g ks vs) r columns e = absurd (cc)
+
+op_told : (w : World) (parts : Parts) (pending : ℕ → Bool) (x : Context) (op : Op) (r : Range)
+    (columns : List Reached) → Fits parts x → Counts x → NamesI64 op
+    → ((c : ColumnId) → is_text c ≡ false → FitsI64 (w.bounds c))
+    → op_reason w parts pending x op ≡ Some (Overflow r.low r.high columns) → Wide r
+op_told w parts pending x op r columns fits counts named bounds e =
+    ⊎_elim (λ h. absurd (faulty_no_range _ r columns h))
+    (λ h. ⊎_elim (λ k. absurd (source_no_range pending x op r columns k))
+    (λ k. range_told w parts x op r columns fits counts named bounds k.1)
+    (either_first (source_reason pending x op) (range_reason w parts x op) (Overflow r.low r.high columns) h.1))
+    (either_first (kind_reason parts x op)
+    (option_or (source_reason pending x op) (range_reason w parts x op)) (Overflow r.low r.high columns) e)
+
+-- ---- how many numbers are put
+
+one_put : (w : World) (parts : Parts) (x : Context) (op : Op) (g a : ℕ)
+    → most_of ((after_op w parts x op).so_far g a) ≤ most_of (x.so_far g a) + x.met
+one_put w parts x (Assign t o) g a = omega arith
+one_put w parts x (Keep f) g a = omega arith
+one_put w parts x (Put h ks vs) g a = go (nat_eq g h)
+  where
+    go : (b : Bool)
+        → most_of ((if b then put_share parts x h vs a ∷ [] else []) ++ x.so_far g a)
+        ≤ most_of (x.so_far g a) + x.met
+    go true = omega arith
+    go false = omega arith
+
+-- so many more where each is met so often
+end_count : (w : World) (parts : Parts) (c : Code) (x : Context)
+    → x.met + turns_met w.size x.met c ≤ 1 + 10 ^ 15 → (g a : ℕ)
+    → most_of ((at_end w parts x c).so_far g a)
+    ≤ most_of (x.so_far g a) + code_size c * (1 + 10 ^ 15)
+end_count w parts Stop x h g a = omega arith
+end_count w parts (Then op rest) x h g a =
+    let one = one_put w parts x op g a in
+    let more = end_count w parts rest (after_op w parts x op) h g a in
+    omega (arith, one, more, h)
+end_count w parts (Each table r body rest) x h g a =
+    let inner = in_scan w x table r in
+    let room : x.met + (x.met * w.size table + turns_met w.size (x.met * w.size table) body
+    + turns_met w.size x.met rest) ≤ 1 + 10 ^ 15 = h in
+    let inside = end_count w parts body inner (omega (arith, room)) g a in
+    let more = end_count w parts rest (after_scan x (at_end w parts inner body))
+    (omega (arith, room)) g a in
+    omega (arith, inside, more)
+
+-- ---- a whole program
+
+placed : {A : Type 0} (n m : ℕ) (o : Option A) (v : A) → at_place n o ≡ Some (m, v) → o ≡ Some v
+placed n m None v e = absurd (cc)
+placed n m (Some u) v e = ap (option_map (λ p. p.1)) e
+
+module _ (w : World) (parts : Parts)
+    (bounds : (c : ColumnId) → is_text c ≡ false → FitsI64 (w.bounds c)) where
+  told : (c : Code) (pending : ℕ → Bool) (at : ℕ) (x : Context) → Fits parts x → AllNameI64 c
+      → x.met + turns_met w.size x.met c ≤ 1 + 10 ^ 15
+      → ((g a : ℕ) → most_of (x.so_far g a) + code_size c * (1 + 10 ^ 15) ≤ 4096 * (1 + 10 ^ 15))
+      → (n : ℕ) (r : Range) (columns : List Reached)
+      → first_reason w parts pending x at c ≡ Some (n, Overflow r.low r.high columns) → Wide r
+  told Stop pending at x fits named met many n r columns e = absurd (cc)
+  told (Then op rest) pending at x fits named met many n r columns e =
+      let here = op_reason w parts (open_with pending rest) x op in
+      let counts : Counts x = record {
+        met = omega (arith, met);
+        many = λ g a. let h = many g a in omega (arith, h);
+      } in
+      ⊎_elim
+      (λ h. op_told w parts (open_with pending rest) x op r columns fits counts named.0 bounds
+      (placed at n here (Overflow r.low r.high columns) h))
+      (λ h. told rest pending (at + 1) (after_op w parts x op)
+      (op_fits w parts (open_with pending rest) x op fits (at_place_none at _ h.0))
+      named.1 met
+      (λ g a. let one = one_put w parts x op g a in
+      let room = many g a in omega (arith, one, room, met)) n r columns h.1)
+      (either_first (at_place at here) _ (n, Overflow r.low r.high columns) e)
+  told (Each table q body rest) pending at x fits named met many n r columns e =
+      let inner = in_scan w x table q in
+      let within = open_with pending (Each table q body rest) in
+      let room : x.met + (x.met * w.size table + turns_met w.size (x.met * w.size table) body
+      + turns_met w.size x.met rest) ≤ 1 + 10 ^ 15 = met in
+      ⊎_elim
+      (λ h. absurd (faulty_no_range _ r columns
+      (placed at n (scan_reason parts x q) (Overflow r.low r.high columns) h)))
+      (λ h. ⊎_elim
+      (λ k. told body within (at + 1) inner (in_fits w parts x table q fits) named.0
+      (omega (arith, room))
+      (λ g a. let b = many g a in omega (arith, b)) n r columns k)
+      (λ k. told rest pending (at + 1 + code_size body) (after_scan x (at_end w parts inner body))
+      (past_fits parts x (at_end w parts inner body) fits
+      (end_fits w parts body within (at + 1) inner (in_fits w parts x table q fits) k.0))
+      named.1 (omega (arith, room))
+      (λ g a. let b = many g a in
+      let inside = end_count w parts body inner (omega (arith, room)) g a in
+      omega (arith, b, inside)) n r columns k.1)
+      (either_first (first_reason w parts within inner (at + 1) body) _ (n, Overflow r.low r.high columns) h.1))
+      (either_first (at_place at (scan_reason parts x q)) _ (n, Overflow r.low r.high columns) e)
+
+pub refused_instruction : (w : World) (most : ℕ) (parts : Parts) (refused : ℕ × Reason)
+    → first_refusal w most parts ≡ Some (Refused refused)
+    → (quote w.size parts ≤ most)
+    × (first_answer (reason_of w parts) (instructions_of w parts) ≡ Some refused)
+refused_instruction w most parts refused e =
+    ⊎_elim (λ h. absurd (costs _ h))
+    (λ h. (
+      leb-true (quote w.size parts) most (cheap _ h.0),
+      ⊎_elim (λ k. unwrapped _ k) (λ k. absurd (shows (shown_fault parts) k.1))
+          (either_first (option_map Refused
+          (first_answer (reason_of w parts) (instructions_of w parts))) _ (Refused refused) h.1),
+    ))
+    (either_first (cost_refusal (quote w.size parts) (nat_le (quote w.size parts) most)) _
+    (Refused refused) e)
+  where
+    costs : (b : Bool) → cost_refusal (quote w.size parts) b ≡ Some (Refused refused) → ⊥
+    costs true h = absurd (cc)
+    costs false h = absurd (cc)
+
+    cheap : (b : Bool) → cost_refusal (quote w.size parts) b ≡ None → b ≡ true
+    cheap true h = refl
+    cheap false h = absurd (cc)
+
+    shows : (o : Option ℕ) → option_map BadShow o ≡ Some (Refused refused) → ⊥
+    shows None h = absurd (cc)
+    shows (Some place) h = absurd (cc)
+
+    instruction : Refusal → ℕ × Reason
+    instruction (Refused i) = i
+    instruction _ = refused
+
+    unwrapped : (o : Option (ℕ × Reason)) → option_map Refused o ≡ Some (Refused refused)
+        → o ≡ Some refused
+    unwrapped None h = absurd (cc)
+    unwrapped (Some i) h = ap (option_map instruction) h
+
+pub told_bounds_fit : (w : World) (most : ℕ) (parts : Parts) (at : ℕ) (r : Range)
+    (columns : List Reached) → IsWithinLimits parts → most ≤ 10 ^ 15 → AreI64 w parts
+    → first_refusal w most parts ≡ Some (Refused (at, Overflow r.low r.high columns)) → FitsI128 r
+told_bounds_fit w most parts at r columns limits few are e =
+    let p = refused_instruction w most parts (at, Overflow r.low r.high columns) e in
+    let size : code_size parts.body * (1 + 10 ^ 15) ≤ 4096 * (1 + 10 ^ 15) =
+    mul-le-mul_right (1 + 10 ^ 15) limits.instructions in
+    small_fits (2 ^ 126) r (lit< tt)
+    (told w parts are.bounds parts.body none_open 1 at_first (first_fits parts) are.named
+    (omega (arith, p.0, few)) (λ g a. omega (arith, size)) at r columns
+    (first_standing w parts ∙ p.1))

@@ -1,0 +1,282 @@
+-- The bounds of each column that a refusal tells fit 64 bits.
+use Rattle.std.proofs.Common.{◌≡◌, ℕ, zero, suc, ◌+◌, Bool, true, false, List, [], ◌∷◌, ◌++◌, Option, Some, None, refl, sym, ap, subst, ◌∙◌}
+use Rattle.std.specs.Prelude.{◌||◌, ℤ, All, IfSome, cond, filter, map, nat_eq, not, slice_index_or, if◌then◌else◌}
+use Rattle.std.specs.List.{AllByRecursion}
+use Rattle.std.specs.Option.{option_map, option_or}
+use Rattle.std.proofs.lemmas.List.Elements.{All-cons, All-nil}
+use Rattle.star_schema.specs.declared.table.TableId.{TableId}
+use Rattle.star_schema.specs.declared.column.ColumnId.{ColumnId}
+use Rattle.star_schema.specs.declared.column.TheConstants.{COLUMNS}
+use Rattle.star_schema.specs.declared.group.Aggregate.{Aggregate}
+use Rattle.star_schema.specs.declared.group.Aggregate.TheVariants.{Count}
+use Rattle.star_schema.proofs.Same.{column_same}
+use Rattle.star_interval.specs.Range.{FitsI64, fits_i64}
+use Rattle.star_program.specs.declared.fault.Fault.{Fault}
+use Rattle.star_program.specs.declared.op.Op.{Op}
+use Rattle.star_program.specs.declared.op.Op.TheVariants.{Assign, Keep, Put}
+use Rattle.star_program.specs.declared.op.Operation.TheVariants.{Const, Edge, Load, Find, Binary, Within, Not, Read}
+use Rattle.star_program.specs.declared.op.Operator.{Operator}
+use Rattle.star_program.specs.declared.op.Operator.TheVariants.{Add, Sub, Mul, Less, LessOrEqual, Equal, And, Or}
+use Rattle.star_program.specs.declared.program.Parts.{Parts}
+use Rattle.star_program.specs.Code.{Code, Stop, Then, Each, code_size}
+use Rattle.star_program.specs.Faults.{group_at}
+use Rattle.star_program.specs.Puts.{aligned}
+use Rattle.star_program.specs.Values.{with_entry}
+use Rattle.star_program.specs.World.{World, is_text}
+use Rattle.star_safety.specs.Admissible.{Refused, first_refusal}
+use Rattle.star_safety.specs.Bounds.{AreI64}
+use Rattle.star_safety.specs.Contexts.{Context, at_first, put_known, put_share, result_known, after_op, in_scan, after_scan, at_end}
+use Rattle.star_safety.specs.Private.Forward.{open_with, none_open, first_reason}
+use Rattle.star_safety.specs.Ranges.{Known, KnownNumber, KnownText, KnownPlace, KnownRow, KnownFlag, Reach, Table, answer_known, joined_reach, loaded_known, no_reach, reach_at}
+use Rattle.star_safety.specs.declared.reason.Reached.{Reached}
+use Rattle.star_safety.specs.declared.reason.Reason.{Reason}
+use Rattle.star_safety.specs.declared.reason.Reason.TheVariants.{Faulty, NotAForeignKey, OpenGroup, Overflow}
+use Rattle.star_safety.specs.Refusals.{with_bounds, refuses, reached, overflow_of, kind_reason, source_reason, range_reason, op_reason, scan_reason}
+use Rattle.star_safety.specs.Standing.{at_place}
+use Rattle.star_safety.specs.Tallies.{reach_of}
+use Rattle.star_safety.proofs.Forward.{first_standing}
+use Rattle.star_safety.proofs.ToldBounds.{refused_instruction}
+
+-- ---- what numbers are computed from
+
+-- columns of numbers alone
+abbrev AreNumbers : Reach → Type 0
+AreNumbers reach = (c : ColumnId) → reach c ≡ true → is_text c ≡ false
+
+record Reaches (x : Context) : Type 0 where
+  known : (r : ℕ) → AreNumbers (reach_at (x.known r))
+  puts : (g a : ℕ) → AreNumbers (reach_of (x.so_far g a))
+
+none_numbers : AreNumbers no_reach
+none_numbers c e = absurd (cc)
+
+joined_numbers : (a b : Reach) → AreNumbers a → AreNumbers b → AreNumbers (joined_reach a b)
+joined_numbers a b p q c e = go (a c) refl
+  where
+    go : (first : Bool) → a c ≡ first → is_text c ≡ false
+    go true f = p c f
+    go false f = q c (sym (ap (λ first. first || b c) f) ∙ e)
+
+loaded_numbers : (w : World) (c : ColumnId) (b : Bool) → is_text c ≡ b
+    → AreNumbers (reach_at (Some (loaded_known w c b)))
+loaded_numbers w c true e d reaches = none_numbers d reaches
+loaded_numbers w c false e d reaches = ap is_text (sym (column_same c d reaches)) ∙ e
+
+answer_numbers : (o : Operator) (l r : Option Known) → AreNumbers (reach_at l)
+    → AreNumbers (reach_at r) → AreNumbers (reach_at (Some (answer_known o l r)))
+answer_numbers Add l r p q = joined_numbers (reach_at l) (reach_at r) p q
+answer_numbers Sub l r p q = joined_numbers (reach_at l) (reach_at r) p q
+answer_numbers Mul l r p q = joined_numbers (reach_at l) (reach_at r) p q
+answer_numbers Less l r p q = none_numbers
+answer_numbers LessOrEqual l r p q = none_numbers
+answer_numbers Equal l r p q = none_numbers
+answer_numbers And l r p q = none_numbers
+answer_numbers Or l r p q = none_numbers
+
+result_numbers : (w : World) (parts : Parts) (x : Context) (op : Op) → Reaches x
+    → AreNumbers (reach_at (Some (result_known w parts x op)))
+result_numbers w parts x (Assign t (Load c r)) h = loaded_numbers w c (is_text c) refl
+result_numbers w parts x (Assign t (Binary o l r)) h =
+    answer_numbers o (x.known l) (x.known r) (h.known l) (h.known r)
+result_numbers w parts x (Assign t (Const n)) h = none_numbers
+result_numbers w parts x (Assign t (Edge g d text)) h = none_numbers
+result_numbers w parts x (Assign t (Find table k)) h = none_numbers
+result_numbers w parts x (Assign t (Within q a b)) h = none_numbers
+result_numbers w parts x (Assign t (Not f)) h = none_numbers
+result_numbers w parts x (Assign t (Read g a n)) h = none_numbers
+result_numbers w parts x (Keep f) h = none_numbers
+result_numbers w parts x (Put g ks vs) h = none_numbers
+
+-- ---- what is put
+
+mapped_numbers : (known : Table) (vs : List ℕ) → ((r : ℕ) → AreNumbers (reach_at (known r)))
+    → AllByRecursion (λ k. AreNumbers (reach_at k)) (map known vs)
+mapped_numbers known [] all = tt
+mapped_numbers known (v ∷ vs) all = (all v, mapped_numbers known vs all)
+
+aligned_numbers : (gs : List Aggregate) (one : Option Known) (ks : List (Option Known))
+    → AreNumbers (reach_at one) → AllByRecursion (λ k. AreNumbers (reach_at k)) ks
+    → AllByRecursion (λ k. AreNumbers (reach_at k)) (aligned one gs ks)
+aligned_numbers [] one ks first all = tt
+aligned_numbers (Count ∷ gs) one ks first all = (first, aligned_numbers gs one ks first all)
+aligned_numbers (_ ∷ gs) one (k ∷ ks) first all = (all.0, aligned_numbers gs one ks first all.1)
+aligned_numbers (_ ∷ gs) one [] first all = tt
+
+at_numbers : (ks : List (Option Known)) (a : ℕ) → AllByRecursion (λ k. AreNumbers (reach_at k)) ks
+    → AreNumbers (reach_at (slice_index_or ks a None))
+at_numbers [] a all = none_numbers
+at_numbers (k ∷ ks) zero all = all.0
+at_numbers (k ∷ ks) (suc a) all = at_numbers ks a all.1
+
+share_numbers : (parts : Parts) (x : Context) (g : ℕ) (vs : List ℕ) (a : ℕ) → Reaches x
+    → AreNumbers (put_share parts x g vs a).reach
+share_numbers parts x g vs a h =
+    at_numbers (put_known (group_at parts g) x.known vs) a
+    (aligned_numbers (group_at parts g).aggregates _ (map x.known vs) none_numbers
+    (mapped_numbers x.known vs h.known))
+
+-- ---- from instruction to instruction
+
+entry_numbers : (known : Table) (t : ℕ) (k : Known) → AreNumbers (reach_at (Some k))
+    → ((r : ℕ) → AreNumbers (reach_at (known r)))
+    → (r : ℕ) → AreNumbers (reach_at (with_entry known t k r))
+entry_numbers known t k here all r = go (nat_eq r t)
+  where
+    go : (b : Bool) → AreNumbers (reach_at (if b then Some k else known r))
+    go true = here
+    go false = all r
+
+after_reaches : (w : World) (parts : Parts) (x : Context) (op : Op) → Reaches x
+    → Reaches (after_op w parts x op)
+after_reaches w parts x (Assign t o) h = record {
+  known = entry_numbers x.known t (result_known w parts x (Assign t o))
+      (result_numbers w parts x (Assign t o) h) h.known;
+  puts = h.puts;
+}
+after_reaches w parts x (Keep f) h = record { known = h.known; puts = h.puts }
+after_reaches w parts x (Put g ks vs) h =
+    record { known = h.known; puts = λ q a. go q a (nat_eq q g) }
+  where
+    go : (q a : ℕ) (b : Bool)
+        → AreNumbers (reach_of ((if b then put_share parts x g vs a ∷ [] else []) ++ x.so_far q a))
+    go q a true = joined_numbers (reach_of (x.so_far q a)) (put_share parts x g vs a).reach
+        (h.puts q a) (share_numbers parts x g vs a h)
+    go q a false = h.puts q a
+
+inside_reaches : (w : World) (x : Context) (table : TableId) (r : ℕ) → Reaches x
+    → Reaches (in_scan w x table r)
+inside_reaches w x table r h = record {
+  known = entry_numbers x.known r (KnownRow table) none_numbers h.known;
+  puts = h.puts;
+}
+
+end_reaches : (w : World) (parts : Parts) (c : Code) (x : Context) → Reaches x
+    → Reaches (at_end w parts x c)
+end_reaches w parts Stop x h = h
+end_reaches w parts (Then op rest) x h =
+    end_reaches w parts rest (after_op w parts x op) (after_reaches w parts x op h)
+end_reaches w parts (Each table r body rest) x h =
+    let inner = in_scan w x table r in
+    let ended = end_reaches w parts body inner (inside_reaches w x table r h) in
+    end_reaches w parts rest (after_scan x (at_end w parts inner body))
+    (record { known = h.known; puts = ended.puts })
+
+-- ---- what a reason tells
+
+abbrev Fit : List Reached → Type 0
+Fit columns = All (λ column. FitsI64 (record { low = column.low; high = column.high })) columns
+
+abbrev Tells : Reason → Type 0
+Tells (Overflow low high columns) = Fit columns
+Tells _ = Unit {0}
+
+-- where a reason is found, it does so
+abbrev Found : Option Reason → Type 0
+Found reason = IfSome reason Tells
+
+either_of : {A : Type 0} (P : A → Type 0) (a b : Option A) → IfSome a P → IfSome b P
+    → IfSome (option_or a b) P
+either_of P None b p q = q
+either_of P (Some v) b p q = p
+
+refused_found : (b : Bool) (reason : Reason) → Tells reason → Found (refuses b reason)
+refused_found true reason tells = tells
+refused_found false reason tells = tt
+
+faulty_found : (fault : Option Fault) → Found (option_map Faulty fault)
+faulty_found None = tt
+faulty_found (Some fault) = tt
+
+source_found : (pending : ℕ → Bool) (x : Context) (op : Op) → Found (source_reason pending x op)
+source_found pending x (Assign t (Find table k)) = refused_found _ NotAForeignKey tt
+source_found pending x (Assign t (Read g a n)) = refused_found (pending g) OpenGroup tt
+source_found pending x (Assign t (Const n)) = tt
+source_found pending x (Assign t (Edge g c text)) = tt
+source_found pending x (Assign t (Load c q)) = tt
+source_found pending x (Assign t (Binary o a b)) = tt
+source_found pending x (Assign t (Within q a b)) = tt
+source_found pending x (Assign t (Not f)) = tt
+source_found pending x (Keep f) = tt
+source_found pending x (Put g ks vs) = tt
+
+placed_found : (at : ℕ) (reason : Option Reason) → Found reason
+    → IfSome (at_place at reason) (λ refused. Tells refused.1)
+placed_found at None h = tt
+placed_found at (Some reason) h = h
+
+module _ (w : World) (parts : Parts)
+    (bounds : (c : ColumnId) → is_text c ≡ false → FitsI64 (w.bounds c)) where
+  some_fit : (reach : Reach) (cs : List ColumnId) → AreNumbers reach
+      → Fit (map (with_bounds w) (filter reach cs))
+  some_fit reach [] h =
+      All-nil (λ (column : Reached). FitsI64 (record { low = column.low; high = column.high }))
+  some_fit reach (c ∷ cs) h = go (reach c) refl (some_fit reach cs h)
+    where
+      others : List ColumnId
+      others = filter reach cs
+
+      go : (b : Bool) → reach c ≡ b → Fit (map (with_bounds w) others)
+          → Fit (map (with_bounds w) (cond b (c ∷ others) others))
+      go true e fit =
+          All-cons (λ (column : Reached). FitsI64 (record { low = column.low; high = column.high }))
+          (with_bounds w c) (map (with_bounds w) others) (bounds c (h c e)) fit
+      go false e fit = fit
+
+  reached_fit : (reach : Reach) → AreNumbers reach → Fit (reached w reach)
+  unfolding reached
+  reached_fit reach h = some_fit reach COLUMNS h
+
+  overflow_found : (k : Known) → AreNumbers (reach_at (Some k)) → Found (overflow_of w k)
+  overflow_found (KnownNumber r reach origin) h =
+      refused_found (not (fits_i64 r)) (Overflow r.low r.high (reached w reach)) (reached_fit reach h)
+  overflow_found (KnownText c) h = tt
+  overflow_found (KnownPlace c) h = tt
+  overflow_found (KnownRow t) h = tt
+  overflow_found KnownFlag h = tt
+
+  range_found : (x : Context) (op : Op) → Reaches x → Found (range_reason w parts x op)
+  range_found x (Put g ks vs) h = tt
+  range_found x (Assign t (Read g a n)) h =
+      refused_found _ (Overflow _ _ (reached w (reach_of (x.so_far g a))))
+      (reached_fit (reach_of (x.so_far g a)) (h.puts g a))
+  range_found x (Assign t o) h =
+      overflow_found (result_known w parts x (Assign t o)) (result_numbers w parts x (Assign t o) h)
+  range_found x (Keep f) h = tt
+
+  op_found : (pending : ℕ → Bool) (x : Context) (op : Op) → Reaches x
+      → Found (op_reason w parts pending x op)
+  op_found pending x op h =
+      either_of Tells (kind_reason parts x op)
+      (option_or (source_reason pending x op) (range_reason w parts x op)) (faulty_found _)
+      (either_of Tells (source_reason pending x op) (range_reason w parts x op)
+      (source_found pending x op) (range_found x op h))
+
+  first_found : (c : Code) (pending : ℕ → Bool) (at : ℕ) (x : Context) → Reaches x
+      → IfSome (first_reason w parts pending x at c) (λ refused. Tells refused.1)
+  first_found Stop pending at x h = tt
+  first_found (Then op rest) pending at x h =
+      either_of (λ refused. Tells refused.1) (at_place at (op_reason w parts (open_with pending rest) x op))
+      (first_reason w parts pending (after_op w parts x op) (at + 1) rest)
+      (placed_found at _ (op_found (open_with pending rest) x op h))
+      (first_found rest pending (at + 1) (after_op w parts x op) (after_reaches w parts x op h))
+  first_found (Each table r body rest) pending at x h =
+      let inner = in_scan w x table r in
+      let inside = open_with pending (Each table r body rest) in
+      let later = after_scan x (at_end w parts inner body) in
+      let within = inside_reaches w x table r h in
+      either_of (λ refused. Tells refused.1) (at_place at (scan_reason parts x r)) _
+      (placed_found at (scan_reason parts x r) (faulty_found _))
+      (either_of (λ refused. Tells refused.1) (first_reason w parts inside inner (at + 1) body)
+      (first_reason w parts pending later (at + 1 + code_size body) rest)
+      (first_found body inside (at + 1) inner within)
+      (first_found rest pending (at + 1 + code_size body) later
+      (record { known = h.known; puts = (end_reaches w parts body inner within).puts })))
+
+pub told_columns_fit : (w : World) (most : ℕ) (parts : Parts) (at : ℕ) (low high : ℤ)
+    (columns : List Reached) → AreI64 w parts
+    → first_refusal w most parts ≡ Some (Refused (at, Overflow low high columns)) → Fit columns
+told_columns_fit w most parts at low high columns are e =
+    subst (λ o. IfSome o (λ refused. Tells refused.1))
+    (first_standing w parts ∙ (refused_instruction w most parts (at, Overflow low high columns) e).1)
+    (first_found w parts are.bounds parts.body none_open 1 at_first
+    (record { known = λ q. none_numbers; puts = λ g a. none_numbers }))

@@ -1,0 +1,35 @@
+-- Which programs are admissible, and what refuses the others.
+use Rattle.std.specs.Prelude.{◌≡◌, ℕ, nat_le, Bool, true, false, All, Option, Some, None}
+use Rattle.std.specs.Option.{option_map, option_or}
+use Rattle.star_common.specs.First.{first_answer}
+use Rattle.star_program.specs.declared.program.Parts.{Parts}
+use Rattle.star_program.specs.World.{World}
+use Rattle.star_program.specs.Shown.{shown_fault}
+use Rattle.star_safety.specs.Quote.{quote}
+use Rattle.star_safety.specs.declared.reason.Reason.{Reason}
+use Rattle.star_safety.specs.Standing.{instructions_of, reason_of}
+
+-- no instruction in its context has a reason to refuse it, and the report names what is there
+pub record IsAdmissible (w : World) (parts : Parts) : Type 0 where
+  pub instructions : All (λ i. reason_of w parts i ≡ None) (instructions_of w parts)
+  pub report : shown_fault parts ≡ None
+
+pub data Refusal : Type 0 where
+  -- more visits are quoted than are allowed
+  TooCostly : ℕ → Refusal
+  -- an instruction, by its number
+  Refused : ℕ × Reason → Refusal
+  -- a line of the report: 0 for its group or where it shows nothing, else its number among the show
+  -- and then the sort lines
+  BadShow : ℕ → Refusal
+
+abbrev pub cost_refusal : ℕ → Bool → Option Refusal
+cost_refusal visits true = None
+cost_refusal visits false = Some (TooCostly visits)
+
+-- the first refusal of a program where so many visits are allowed
+abbrev pub first_refusal : World → ℕ → Parts → Option Refusal
+first_refusal w most parts =
+    option_or (cost_refusal (quote w.size parts) (nat_le (quote w.size parts) most))
+    (option_or (option_map Refused (first_answer (reason_of w parts) (instructions_of w parts)))
+    (option_map BadShow (shown_fault parts)))

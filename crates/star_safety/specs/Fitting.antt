@@ -1,0 +1,34 @@
+-- Registers that hold what is known of them before a run.
+use Rattle.std.specs.Prelude.{◌≡◌, ℕ, ◌≤◌, ◌<◌, ℤ, Option, Some, None}
+use Rattle.star_schema.specs.declared.column.ColumnId.{ColumnId}
+use Rattle.star_schema.specs.Schema.{table_of}
+use Rattle.star_interval.specs.Range.{Holds}
+use Rattle.star_program.specs.World.{World}
+use Rattle.star_program.specs.declared.value.Value.{Value}
+use Rattle.star_program.specs.declared.value.Value.TheVariants.{Number, Text, Place, Row, Flag}
+use Rattle.star_program.specs.Values.{Registers}
+use Rattle.star_safety.specs.Ranges.{Known, KnownNumber, KnownText, KnownPlace, KnownRow, KnownFlag, Table}
+
+-- the column's number in some row, where the number was loaded from a column
+abbrev pub FromColumn : World → Option ColumnId → ℤ → Type 0
+FromColumn w None z = Unit {0}
+FromColumn w (Some c) z = (row : ℕ) × (row < w.size (table_of c)) × (z ≡ w.number c row)
+
+-- the value is of the known kind: a number in its range, the code of a text of its column, a place
+-- among them, a row of its table
+abbrev pub FitsValue : World → Known → Value → Type 0
+FitsValue w (KnownNumber r reach origin) (Number z) = Holds r z × FromColumn w origin z
+FitsValue w (KnownText c) (Text d n) = (c ≡ d) × (n < w.entries c)
+FitsValue w (KnownPlace c) (Place d n) = (c ≡ d) × (n ≤ w.entries c)
+FitsValue w (KnownRow t) (Row s n) = (t ≡ s) × (n < w.size t)
+FitsValue w KnownFlag (Flag b) = Unit {0}
+FitsValue w _ _ = ⊥
+
+-- where nothing is known of a register, nothing stands in it
+abbrev pub FitsAt : World → Option Known → Option Value → Type 0
+FitsAt w None None = Unit {0}
+FitsAt w (Some k) (Some v) = FitsValue w k v
+FitsAt w _ _ = ⊥
+
+abbrev pub Agrees : World → Table → Registers → Type 0
+Agrees w known regs = (r : ℕ) → FitsAt w (known r) (regs r)

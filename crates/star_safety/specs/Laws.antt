@@ -1,0 +1,50 @@
+-- What a verifier's yes is worth.
+use Rattle.std.specs.Prelude.{◌≡◌, ℕ, ◌^◌, ◌≤◌, ◌<◌, ℤ, List, length, Option, Some, None, slice_index_or}
+use Rattle.star_schema.specs.declared.group.Aggregate.TheVariants.{Sum, Count}
+use Rattle.star_schema.specs.Groups.{members, aggregate, numbers_for}
+use Rattle.star_interval.specs.Range.{Range, Holds, FitsI128}
+use Rattle.star_program.specs.declared.key.KeyValue.{KeyValue}
+use Rattle.star_program.specs.declared.program.Parts.{Parts}
+use Rattle.star_program.specs.Limits.{IsWithinLimits}
+use Rattle.star_program.specs.World.{World, IsLoaded}
+use Rattle.star_program.specs.Keys.{key_value_cmp}
+use Rattle.star_program.specs.Faults.{group_at}
+use Rattle.star_program.specs.Effects.{Store}
+use Rattle.star_program.specs.Run.{End, EndsWith}
+use Rattle.star_safety.specs.Tallies.{sum_range, most_of, aggregate_range}
+use Rattle.star_safety.specs.Quote.{quote}
+use Rattle.star_safety.specs.Admissible.{IsAdmissible}
+use Rattle.star_safety.specs.Moments.{all_shares}
+
+-- a program is admissible over a loaded catalogue, and no more visits are quoted than any run may
+-- make
+pub record IsAccepted (w : World) (parts : Parts) : Type 0 where
+  pub loaded : IsLoaded w
+  pub limits : IsWithinLimits parts
+  pub admissible : IsAdmissible w parts
+  pub cheap : quote w.size parts ≤ 10 ^ 15
+
+-- with no trap, and with no more visits than these
+abbrev pub EndsWithin : ℕ → End → Type 0
+EndsWithin visits end = EndsWith end (λ s. s.visits ≤ visits)
+
+-- a number that isn't NULL lies in a range
+abbrev pub TotalLies : Option Range → Option ℤ → Type 0
+TotalLies o None = Unit {0}
+TotalLies None (Some z) = ⊥
+TotalLies (Some r) (Some z) = Holds r z
+
+-- each aggregate of each group of updates lies in its range
+abbrev pub TotalsLie : World → Parts → Store → Type 0
+TotalsLie w parts s = (g place : ℕ) (keys : List (Option KeyValue))
+    → TotalLies (aggregate_range (slice_index_or (group_at parts g).aggregates place Count)
+    (all_shares w parts g place))
+    (aggregate (slice_index_or (group_at parts g).aggregates place Count)
+    (numbers_for place (members key_value_cmp keys (s.updates_of g))))
+
+-- what can add up to the SUMs of all groups fits 128 bits, and to the COUNTs 64
+pub record SumsFit (w : World) (parts : Parts) : Type 0 where
+  pub sums : (g place : ℕ) → place < length (group_at parts g).aggregates
+      → slice_index_or (group_at parts g).aggregates place Count ≡ Sum
+      → FitsI128 (sum_range (all_shares w parts g place))
+  pub counts : (g place : ℕ) → most_of (all_shares w parts g place) < 2 ^ 63

@@ -1,0 +1,76 @@
+-- How many rows the report of a program can have at most, by what is known before a run (Gray et al.
+-- 1997, section 3: the groupings of CUBE and ROLLUP).
+use Rattle.std.specs.Prelude.{ℕ, suc, ◌*◌, ℤ, pos, negsuc, ◌-ℤ◌, nat_le, List, [], ◌∷◌, filter, Option, Some, None, if◌then◌else◌}
+use Rattle.std.specs.List.{list_all, sum_by}
+use Rattle.std.specs.Option.{is_none}
+use Rattle.star_schema.specs.declared.group.Shape.{Shape}
+use Rattle.star_schema.specs.Groups.{is_grouping}
+use Rattle.star_interval.specs.Range.{Range}
+use Rattle.star_program.specs.declared.group.GroupKey.{GroupKey}
+use Rattle.star_program.specs.declared.group.GroupKey.TheVariants.{Number, Text}
+use Rattle.star_program.specs.declared.program.Parts.{Parts}
+use Rattle.star_program.specs.Faults.{group_at}
+use Rattle.star_program.specs.Puts.{masks}
+use Rattle.star_program.specs.World.{World, is_text}
+use Rattle.star_safety.specs.Tallies.{Share, Shares, most_of, hull_of}
+use Rattle.star_safety.specs.Contexts.{at_first, at_end}
+
+-- ---- the values of a key
+
+-- how many whole numbers there are from 0 to this one
+abbrev pub numbers_to : ℤ → ℕ
+numbers_to (pos n) = suc n
+numbers_to (negsuc n) = 0
+
+-- how many whole numbers a range holds
+unfoldable pub width : Range → ℕ
+width r = numbers_to (r.high -ℤ r.low)
+
+abbrev pub width_of : Option Range → ℕ
+width_of None = 0
+width_of (Some r) = width r
+
+-- what all puts give the keys of groups, by their places
+abbrev pub all_key_shares : World → Parts → Shares
+all_key_shares w parts = (at_end w parts at_first parts.body).keys_so_far
+
+-- a text is one of its column's, and no column of numbers has any; a number lies in the least range
+-- that holds all that are put
+abbrev pub values_of : World → List Share → GroupKey → ℕ
+values_of w shares (Text c) = if is_text c then w.entries c else 0
+values_of w shares Number = width_of (hull_of shares)
+
+-- of each key, from the one at a place on
+abbrev pub each_values : World → (ℕ → List Share) → ℕ → List GroupKey → List ℕ
+each_values w shares place [] = []
+each_values w shares place (key ∷ keys) =
+    values_of w (shares place) key ∷ each_values w shares (suc place) keys
+
+-- ---- the rows of a grouping
+
+-- how many lists there are of a value of each key that is shown, by how many values each has
+abbrev pub lists_of : List (Option ℕ) → ℕ
+lists_of [] = 1
+lists_of (None ∷ counts) = lists_of counts
+lists_of (Some count ∷ counts) = count * lists_of counts
+
+-- the grouping that shows no key has one row; another no more than there are updates, each of which
+-- is in one row of it, and than there are lists of values, none of which is in two rows
+unfoldable pub rows_of_grouping : ℕ → List (Option ℕ) → ℕ
+rows_of_grouping updates counts =
+    if list_all is_none counts then 1
+    else (if nat_le updates (lists_of counts) then updates else lists_of counts)
+
+-- over all groupings of a shape, of keys that have so many values each
+abbrev pub rows_of_groupings : Shape → ℕ → List ℕ → ℕ
+rows_of_groupings s updates counts =
+    sum_by (rows_of_grouping updates) (filter (is_grouping s) (masks counts))
+
+-- ---- of a program
+
+-- the rows of the group that it reports
+abbrev pub most_rows : World → Parts → ℕ
+most_rows w parts =
+    rows_of_groupings (group_at parts parts.report).shape
+    (most_of (all_key_shares w parts parts.report 0))
+    (each_values w (all_key_shares w parts parts.report) 0 (group_at parts parts.report).keys)

@@ -1,0 +1,111 @@
+-- What tells the context of an instruction: the scans round it, and the instructions before it.
+use Rattle.std.specs.Prelude.{◌≡◌, ℕ, ◌+◌, ◌*◌, Bool, true, false, ◌&&◌, nat_lt, List, [], ◌∷◌, ◌++◌, length, filter, fold, Option, Some, None}
+use Rattle.std.specs.List.{last_or, list_all, list_any}
+use Rattle.std.specs.Option.{option_map}
+use Rattle.star_program.specs.declared.program.Parts.{Parts}
+use Rattle.star_program.specs.World.{World}
+use Rattle.star_program.specs.Faults.{target_of}
+use Rattle.star_safety.specs.Ranges.{Known, KnownRow, KnownFlag}
+use Rattle.star_safety.specs.Tallies.{Shares, no_shares}
+use Rattle.star_safety.specs.Contexts.{Context, op_shares, op_key_shares, result_known, is_target}
+use Rattle.star_safety.specs.Standing.{Item, Scan, Act, End, Enclosing, Standing, instructions_of, has_scan}
+
+-- ---- each instruction
+
+abbrev item_is_instruction : Item → Bool
+item_is_instruction End = false
+item_is_instruction _ = true
+
+abbrev pub is_instruction : Standing → Bool
+is_instruction i = item_is_instruction i.item
+
+abbrev item_target : Item → Option ℕ
+item_target (Act op) = target_of op
+item_target (Scan table r) = Some r
+item_target End = None
+
+-- it writes a register
+abbrev pub writes_to : ℕ → Standing → Bool
+writes_to r i = is_target (item_target i.item) r
+
+abbrev item_result : World → Parts → Context → Item → Known
+item_result w parts x (Act op) = result_known w parts x op
+item_result w parts x (Scan table r) = KnownRow table
+item_result w parts x End = KnownFlag
+
+-- what is then known of that register
+abbrev pub result_of : World → Parts → Standing → Known
+result_of w parts i = item_result w parts i.context i.item
+
+abbrev item_shares : Parts → Context → Item → Shares
+item_shares parts x (Act op) = op_shares parts x op
+item_shares parts x _ = no_shares
+
+-- what it gives the groups
+abbrev pub shares_of : Parts → Standing → Shares
+shares_of parts i = item_shares parts i.context i.item
+
+abbrev pub item_key_shares : Context → Item → Shares
+item_key_shares x (Act op) = op_key_shares x op
+item_key_shares x _ = no_shares
+
+-- what some instructions give a key of a group together
+abbrev pub key_shares_together : List Standing → Shares
+key_shares_together is g place =
+    fold (λ so_far i. item_key_shares i.context i.item g place ++ so_far) [] is
+
+-- what some instructions give an aggregate of a group together
+abbrev pub shares_together : Parts → List Standing → Shares
+shares_together parts is g a = fold (λ so_far i. shares_of parts i g a ++ so_far) [] is
+
+-- ---- scans
+
+-- the product of the row counts of the tables of some scans
+abbrev pub rows_together : World → List Enclosing → ℕ
+rows_together w [] = 1
+rows_together w (s ∷ ss) = rows_together w ss * w.size s.table
+
+abbrev item_turns : World → List Enclosing → Item → ℕ
+item_turns w round (Scan table r) = rows_together w round * w.size table
+item_turns w round _ = 0
+
+-- how many turns a scan may begin: one for each row of its table, each time that it is met
+abbrev pub turns_of : World → Standing → ℕ
+turns_of w i = item_turns w i.round i.item
+
+abbrev pub item_scope : ℕ → List Enclosing → Item → List Enclosing
+item_scope at round (Scan table r) = record { number = at; table = table } ∷ round
+item_scope at round _ = round
+
+-- the scans in which the register that it writes is in scope: those round it, and a scan itself
+abbrev pub scope_of : Standing → List Enclosing
+scope_of i = item_scope i.number i.round i.item
+
+-- what it writes is in scope where these scans stand round
+abbrev pub in_scope : List Enclosing → Standing → Bool
+in_scope scans i = list_all (λ s. has_scan scans s.number) (scope_of i)
+
+-- ---- the context, as the scans round an instruction and the instructions before it tell it
+
+-- the last of some instructions that writes the register, where that is in scope
+abbrev pub last_writer : List Enclosing → ℕ → List Standing → Option Standing
+last_writer scans r is = last_or None (filter (λ j. writes_to r j && in_scope scans j) is)
+
+pub record IsTold (w : World) (parts : Parts) (earlier : List Standing) (i : Standing) : Type 0
+  where
+    pub number : i.number ≡ length (filter is_instruction earlier) + 1
+    pub inside : i.context.inside ≡ nat_lt 0 (length i.round)
+    pub met : i.context.met ≡ rows_together w i.round
+    -- in scope or not
+    pub written : (r : ℕ) → i.context.written r ≡ list_any (writes_to r) earlier
+    pub known : (r : ℕ) → i.context.known r
+        ≡ option_map (result_of w parts) (last_writer i.round r earlier)
+    pub so_far : (g place : ℕ) → i.context.so_far g place ≡ shares_together parts earlier g place
+    pub keys_so_far : (g place : ℕ)
+        → i.context.keys_so_far g place ≡ key_shares_together earlier g place
+
+-- each instruction is told so, and each end
+abbrev pub AreTold : World → Parts → Type 0
+AreTold w parts =
+    (earlier later : List Standing) (i : Standing) → instructions_of w parts ≡ earlier ++ i ∷ later
+    → IsTold w parts earlier i

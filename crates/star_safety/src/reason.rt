@@ -1,0 +1,123 @@
+// Why an instruction is refused, and how that prints.
+
+ghost use Rattle.std.specs.Prelude.{◌≡◌, Some};
+ghost use Rattle.std.specs.Fmt.{DisplaysOnOk};
+ghost use Rattle.star_safety.specs.ReasonTexts.{bounds_text, columns_text, fault_number, others_text, reached_text, reason_text};
+
+use star_common::Items;
+use star_program::Fault;
+use star_schema::ColumnId;
+use std::fmt;
+
+/// A column that a number is computed from, with the least and the greatest number that it has.
+#[derive(Clone, Copy, Debug, PartialEq, Eq)]
+pub struct Reached {
+    pub column: ColumnId,
+    pub low: i64,
+    pub high: i64,
+}
+
+/// Columns that a number is computed from, in the order of all columns, each once.
+pub type ReachedColumns = Items<Reached>;
+
+// The bounds of an overflow are two plain numbers: an interval carries that its low end is at most
+// its high one, which a range that is only known doesn't.
+/// Why an instruction is refused.
+#[derive(Drop)]
+pub enum Reason {
+    /// By its place, its registers or their kinds.
+    Faulty(Fault),
+    /// A find by a number that is not loaded from a foreign key to its table.
+    NotAForeignKey,
+    /// A read of a group that a later instruction puts to, or one in a scan round the read.
+    OpenGroup,
+    /// Numbers that may leave 64 bits: a result of arithmetic, or what a read may give.
+    Overflow {
+        /// The least that they may be.
+        low: i128,
+        /// The greatest.
+        high: i128,
+        /// What they are computed from.
+        columns: ReachedColumns,
+    },
+}
+
+impl fmt::Display for Reached {
+    ghost output = { λ reached. Some (reached_text reached) };
+
+    fn fmt<W: fmt::Write>(&self, f: &mut fmt::Formatter<W>) -> fmt::Result {
+        let Reached { column, low, high } = *self;
+        write!(f, "{column} {low}..{high}")
+    }
+}
+
+// Columns behind others.
+fn write_others<W: fmt::Write>(others: &[Reached], f: &mut fmt::Formatter<W>) -> fmt::Result
+    ensures { DisplaysOnOk W.write_str_gives f.old result (Some (others_text others.now)) f.new }
+{
+    for reached in others {
+        write!(f, ", {reached}")?;
+    }
+    Ok(())
+}
+
+// What numbers are computed from, where there is a column.
+fn write_columns<W: fmt::Write>(columns: &[Reached], f: &mut fmt::Formatter<W>) -> fmt::Result
+    ensures { DisplaysOnOk W.write_str_gives f.old result (Some (columns_text columns.now)) f.new }
+{
+    match columns {
+        [] => Ok(()),
+        [first, others @ ..] => {
+            write!(f, " from {first}")?;
+            write_others(others, f)
+        }
+    }
+}
+
+fn number_of(fault: Fault) -> u8
+    ensures { result ≡ fault_number fault }
+{
+    match fault {
+        Fault::BadRegister => 60,
+        Fault::WrittenTwice => 61,
+        Fault::Unset => 62,
+        Fault::WrongKind => 63,
+        Fault::BadColumn => 64,
+        Fault::BadGroup => 66,
+        Fault::Misplaced => 68,
+    }
+}
+
+/// Prints its number and its name.
+impl fmt::Display for Reason {
+    ghost output = { λ reason. Some (reason_text reason) };
+
+    #[tactic(auto, unfolding(crate::specs::ReasonTexts::reason_text))]
+    fn fmt<W: fmt::Write>(&self, f: &mut fmt::Formatter<W>) -> fmt::Result {
+        match self {
+            Reason::Faulty(fault) => {
+                let number = number_of(*fault);
+                write!(f, "{number} {fault}")
+            }
+            Reason::NotAForeignKey => write!(f, "65 NotAForeignKey"),
+            Reason::OpenGroup => write!(f, "67 OpenGroup"),
+            Reason::Overflow { .. } => write!(f, "69 Overflow"),
+        }
+    }
+}
+
+impl Reason {
+    /// Writes what stands behind the number of the instruction: the least and the greatest that its
+    /// numbers may be, and the columns that they are computed from, where the reason tells them.
+    pub fn write_bounds<W: fmt::Write>(&self, f: &mut fmt::Formatter<W>) -> fmt::Result
+        ensures { DisplaysOnOk W.write_str_gives f.old result (Some (bounds_text self.now)) f.new }
+    {
+        match self {
+            Reason::Overflow { low, high, columns } => {
+                write!(f, ": {low}..{high}")?;
+                write_columns(columns.as_slice(), f)
+            }
+            _ => Ok(()),
+        }
+    }
+}
