@@ -19,8 +19,8 @@ use Rattle.star_schema.specs.Database.{Database}
 use Rattle.star_program.proofs.Steps.{next_act, next_scan}
 use Rattle.star_safety.proofs.Nested.{deeper_left, deeper_right}
 use Rattle.star_outcome.proofs.Turns.{turn_limited, turn_trapped}
-use Rattle.star_trial.specs.declared.act.Flow.{Flow}
-use Rattle.star_trial.specs.declared.act.Flow.TheVariants as flow
+use Rattle.star_outcome.specs.declared.flow.Flow.{Flow}
+use Rattle.star_outcome.specs.declared.flow.Flow.TheVariants as flow
 use Rattle.star_trial.specs.declared.fault.Stop.{Stop}
 use Rattle.star_trial.specs.declared.fault.Stop.TheVariants as stop
 use Rattle.star_trial.specs.declared.fault.TrialFault.{TrialFault}

@@ -2,5 +2,6 @@
 pub mod Shown
 pub mod Stops
 pub mod Runs
+pub mod Puts
 pub mod Acts
 pub mod Walks

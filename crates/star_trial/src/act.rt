@@ -1,55 +1,37 @@
 // One instruction.
 
-ghost use Rattle.std.specs.Prelude.{◌≡◌, ◌≤◌, ◌<◌, ◌+◌, ◌^◌, ℕ, All, Bool, None, Ok, Err, OnOk, MatchBool, MatchOption, Some, length, slice_get, true, unwrap_or};
-ghost use Rattle.star_schema.specs.Database.{Database};
-ghost use Rattle.star_program.specs.declared.op.Op.TheVariants as op;
-ghost use Rattle.star_program.specs.declared.op.Operation.TheVariants as operation;
-ghost use Rattle.star_program.specs.World.{World};
-ghost use Rattle.star_trial.specs.declared.act.Flow.TheVariants as Flow;
-ghost use Rattle.star_trial.specs.declared.fault.Stop.TheVariants as Stop;
-ghost use Rattle.star_program.specs.declared.fault.TrapKind.TheVariants as TrapKind;
-ghost use Rattle.star_program.specs.declared.value.Value.TheVariants as Value;
-ghost use Rattle.star_program.specs.Effects.{Store, kinds_in};
-ghost use Rattle.star_program.specs.Private.Doing.{assigns, does, fitting};
-ghost use Rattle.star_program.specs.Effects as effects;
-ghost use Rattle.star_program.specs.Faults as faults;
-ghost use Rattle.star_program.specs.Limits.{IsSmall};
-ghost use Rattle.star_trial.specs.Private.Acts.{IsAnswer, IsMade};
+ghost use Rattle.std.specs.Prelude.{◌≡◌, ◌<◌, ◌^◌, ℕ, Bool, List, None, Ok, Err, MatchOption, Some, length, slice_get, unwrap_or};
 ghost use Rattle.star_group.specs.declared.eager.EagerStore.{EagerStore};
 ghost use Rattle.star_group.specs.Eager.{group_of};
+ghost use Rattle.star_outcome.specs.Private.Placed.{IsPlaced};
+ghost use Rattle.star_program.specs.declared.fault.TrapKind.TheVariants as TrapKind;
+ghost use Rattle.star_program.specs.declared.op.Op.TheVariants as op;
+ghost use Rattle.star_program.specs.declared.op.Operation.TheVariants as operation;
+ghost use Rattle.star_program.specs.declared.program.Parts.{Parts};
+ghost use Rattle.star_program.specs.declared.value.Value.TheVariants as Value;
+ghost use Rattle.star_program.specs.Effects as effects;
+ghost use Rattle.star_program.specs.Effects.{kinds_in};
+ghost use Rattle.star_program.specs.Faults as faults;
+ghost use Rattle.star_program.specs.Private.Doing.{fitting};
 ghost use Rattle.star_program.specs.Puts as puts;
 ghost use Rattle.star_program.specs.Puts.{Update};
-ghost use Rattle.star_trial.specs.Private.Runs.{AreStores, HasDone};
-ghost use Rattle.star_outcome.specs.Private.Placed.{IsPlaced};
-ghost use Rattle.std.specs.Prelude.{List};
+ghost use Rattle.star_trial.specs.declared.fault.Stop.TheVariants as Stop;
+ghost use Rattle.star_trial.specs.Private.Acts.{CanAct, HasActed, HasWorkedOnce, Makes, does_op};
+ghost use Rattle.star_trial.specs.Private.Runs.{AreStores};
 ghost use Rattle.star_trial.specs.Private.Shown.{held};
-ghost use Rattle.star_outcome.specs.Sound.{AreSound};
 ghost use Rattle.star_world.specs.WorldOf.{world_of};
 
 use crate::compute::{answer, flag, is_within, number, row, set};
 use crate::fault::Stop;
-use star_outcome::lookups::{find, load, place};
+use crate::machine::Machine;
 use crate::puts::put;
 use crate::value::Register;
-use star_outcome::Work;
-use star_catalogue::Catalogue;
 use star_group::EagerStore;
 use star_kinds::check;
-use star_program::{Op, Operation, Parts, RegisterList, TrapKind, Value};
+use star_outcome::lookups::{find, load, place};
+use star_outcome::{Flow, Work};
+use star_program::{Op, Operation, RegisterList, TrapKind, Value};
 use star_schema::TableId;
-
-// What follows an instruction.
-#[derive(Clone, Copy)]
-pub(crate) enum Flow {
-    GoesOn,
-    EndsTurn,
-}
-
-fn keeps(flag: bool) -> Flow
-    ensures { MatchBool flag (result ≡ Flow.GoesOn) (result ≡ Flow.EndsTurn) }
-{
-    if flag { Flow::GoesOn } else { Flow::EndsTurn }
-}
 
 // An operator's answer, or what a read gives, unless it leaves 64 bits.
 fn answered(answer: Option<Value>) -> Result<Value, Stop>
@@ -64,21 +46,18 @@ fn answered(answer: Option<Value>) -> Result<Value, Stop>
 
 // Finds the row of a table with a key.
 fn look_up(
-    catalogue: &Catalogue,
+    machine: &Machine<'_>,
     registers: &[Register],
     run: &mut Work<EagerStore>,
     table: TableId,
     key: u16,
 ) -> Result<Value, Stop>
     requires { run.old.lookups < 2 ^ 63 }
-    ensures does { (parts : Parts) (s : Store) (target : ℕ) → HasDone catalogue.now parts run.old s
-        → IsMade catalogue.now parts (held registers.now) run.new target
-        (assigns (world_of catalogue.now) parts (held registers.now) s target
-        (operation.Find table key)) result }
-    ensures work { run.new.lookups + run.new.updates ≤ run.old.lookups + run.old.updates + 1 }
-    ensures visits { run.new.visits ≡ run.old.visits }
+    ensures does { Makes machine.now registers.now run.old run.new (operation.Find table key)
+        result }
+    ensures work { HasWorkedOnce run.old run.new }
 {
-    match find(catalogue, table, number(registers, key)) {
+    match find(machine.catalogue, table, number(registers, key)) {
         Some(row) => {
             run.lookups += 1;
             Ok(Value::Row(table, row))
@@ -89,28 +68,28 @@ fn look_up(
 
 // Makes one more update of a group.
 fn update(
-    parts: &Parts,
+    machine: &Machine<'_>,
     registers: &[Register],
     run: &mut Work<EagerStore>,
     group: u16,
     keys: &RegisterList,
     values: &RegisterList,
 ) -> Result<Flow, Stop>
-    requires few { run.old.updates < 2 ^ 63 }
-    requires small { IsSmall (faults.group_at parts.now group) }
-    requires placed { IsPlaced parts.now group keys.now values.now }
+    requires ready { CanAct machine.now registers.now run.old }
+    requires placed { IsPlaced machine.now.parts.now group keys.now values.now }
     requires keys { faults.keys_fault (length registers.now) (kinds_in (held registers.now))
-        (faults.group_at parts.now group).keys keys.now ≡ None }
-    requires stores { (updates_of : ℕ → List Update)
-        × AreStores parts.now run.old.stores.items updates_of }
-    ensures does { (w : World) (database : Database) (s : Store)
-        → AreSound database (held registers.now) → HasDone database parts.now run.old s
-        → IsAnswer database parts.now (held registers.now) run.new
-        (does w parts.now (held registers.now) s (op.Put group keys.now values.now)) result }
-    ensures work { run.new.lookups + run.new.updates ≤ run.old.lookups + run.old.updates + 1 }
-    ensures visits { run.new.visits ≡ run.old.visits }
+        (faults.group_at machine.now.parts.now group).keys keys.now ≡ None }
+    ensures { HasActed machine.now registers.now registers.now run.old run.new
+        (does_op machine.now (op.Put group keys.now values.now)) result }
 {
-    match put(run, parts, registers, group, keys, values) {
+    match put(
+        &mut run.stores,
+        machine.parts.group_at(group),
+        registers,
+        group as usize,
+        keys.as_slice(),
+        values.as_slice(),
+    ) {
         Ok(()) => {
             run.updates += 1;
             Ok(Flow::GoesOn)
@@ -146,30 +125,25 @@ fn read(run: &Work<EagerStore>, group: u16, aggregate: u16, default: i64) -> Opt
 
 // What an operation makes in which nothing is wrong.
 fn operate(
-    catalogue: &Catalogue,
+    machine: &Machine<'_>,
     registers: &[Register],
     run: &mut Work<EagerStore>,
     operation: &Operation,
 ) -> Result<Value, Stop>
-    requires few { run.old.lookups < 2 ^ 63 }
-    requires placed { (parts : Parts) × (inside : Bool) × (target : ℕ) × (s : Store)
-        × HasDone catalogue.now parts run.old s
-        × (faults.place_fault parts inside (op.Assign target operation.now) ≡ None) }
+    requires ready { CanAct machine.now registers.now run.old }
+    requires placed { (inside : Bool) × (target : ℕ)
+        × (faults.place_fault machine.now.parts.now inside (op.Assign target operation.now) ≡ None) }
     requires operands { faults.operation_fault (length registers.now)
         (kinds_in (held registers.now)) operation.now ≡ None }
-    requires sound { AreSound catalogue.now (held registers.now) }
-    ensures does { (parts : Parts) (s : Store) (target : ℕ) → HasDone catalogue.now parts run.old s
-        → IsMade catalogue.now parts (held registers.now) run.new target
-        (assigns (world_of catalogue.now) parts
-        (held registers.now) s target operation.now) result }
-    ensures work { run.new.lookups + run.new.updates ≤ run.old.lookups + run.old.updates + 1 }
-    ensures visits { run.new.visits ≡ run.old.visits }
+    ensures does { Makes machine.now registers.now run.old run.new operation.now result }
+    ensures work { HasWorkedOnce run.old run.new }
 {
+    let catalogue = machine.catalogue;
     match operation {
         Operation::Const { number } => Ok(Value::Number(*number)),
         Operation::Edge { edge, column, text } => Ok(place(catalogue, *edge, *column, text)),
         Operation::Load { column, row: at } => Ok(load(catalogue, *column, row(registers, *at))),
-        Operation::Find { table, key } => look_up(catalogue, registers, run, *table, *key),
+        Operation::Find { table, key } => look_up(machine, registers, run, *table, *key),
         Operation::Binary {
             operator,
             left,
@@ -189,93 +163,66 @@ fn operate(
 
 // Writes what an operation makes into a register.
 fn assign(
-    catalogue: &Catalogue,
+    machine: &Machine<'_>,
     registers: &mut [Register],
     run: &mut Work<EagerStore>,
     target: u16,
     operation: &Operation,
 ) -> Result<Flow, Stop>
-    requires few { run.old.lookups < 2 ^ 63 }
-    requires placed { (parts : Parts) × (inside : Bool) × (s : Store)
-        × HasDone catalogue.now parts run.old s
-        × (faults.place_fault parts inside (op.Assign target operation.now) ≡ None) }
+    requires ready { CanAct machine.now registers.old run.old }
+    requires placed { (inside : Bool)
+        × (faults.place_fault machine.now.parts.now inside (op.Assign target operation.now) ≡ None) }
     requires declared { target < length registers.old }
     requires operands { faults.operation_fault (length registers.old)
         (kinds_in (held registers.old)) operation.now ≡ None }
-    requires sound { AreSound catalogue.now (held registers.old) }
-    ensures does { (parts : Parts) (s : Store) → HasDone catalogue.now parts run.old s
-        → IsAnswer catalogue.now parts (held registers.new) run.new
-        (assigns (world_of catalogue.now) parts
-        (held registers.old) s target operation.now) result }
-    ensures sound { OnOk result (AreSound catalogue.now (held registers.new)) }
-    ensures len { length registers.new ≡ length registers.old }
-    ensures work { run.new.lookups + run.new.updates ≤ run.old.lookups + run.old.updates + 1 }
-    ensures visits { run.new.visits ≡ run.old.visits }
+    ensures { HasActed machine.now registers.old registers.new run.old run.new
+        (does_op machine.now (op.Assign target operation.now)) result }
 {
-    let value = operate(catalogue, registers, run, operation)?;
+    let value = operate(machine, registers, run, operation)?;
     set(registers, target, value);
     Ok(Flow::GoesOn)
 }
 
 // What an instruction does in which nothing is wrong.
 fn perform(
-    catalogue: &Catalogue,
-    parts: &Parts,
+    machine: &Machine<'_>,
     registers: &mut [Register],
     run: &mut Work<EagerStore>,
     op: &Op,
 ) -> Result<Flow, Stop>
-    requires few { run.old.lookups + run.old.updates < 2 ^ 63 }
-    requires small { All IsSmall parts.now.groups }
-    requires wide { length registers.old ≡ parts.now.registers }
-    requires placed { (inside : Bool) × (faults.place_fault parts.now inside op.now ≡ None) }
+    requires ready { CanAct machine.now registers.old run.old }
+    requires placed { (inside : Bool)
+        × (faults.place_fault machine.now.parts.now inside op.now ≡ None) }
     requires target { faults.target_fault (length registers.old) (faults.target_of op.now) ≡ None }
-    requires operands { faults.operands_fault parts.now (kinds_in (held registers.old)) op.now
-        ≡ None }
-    requires sound { AreSound catalogue.now (held registers.old) }
-    requires done { (s : Store) × HasDone catalogue.now parts.now run.old s }
-    ensures does { (s : Store) → HasDone catalogue.now parts.now run.old s
-        → IsAnswer catalogue.now parts.now (held registers.new) run.new
-        (does (world_of catalogue.now) parts.now (held registers.old) s op.now) result }
-    ensures sound { OnOk result (AreSound catalogue.now (held registers.new)) }
-    ensures len { length registers.new ≡ length registers.old }
-    ensures work { run.new.lookups + run.new.updates ≤ run.old.lookups + run.old.updates + 1 }
-    ensures visits { run.new.visits ≡ run.old.visits }
+    requires operands { faults.operands_fault machine.now.parts.now (kinds_in (held registers.old))
+        op.now ≡ None }
+    ensures { HasActed machine.now registers.old registers.new run.old run.new
+        (does_op machine.now op.now) result }
 {
     match op {
-        Op::Assign { target, operation } => assign(catalogue, registers, run, *target, operation),
-        Op::Keep { flag: at } => Ok(keeps(flag(registers, *at))),
+        Op::Assign { target, operation } => assign(machine, registers, run, *target, operation),
+        Op::Keep { flag: at } => Ok(Flow::of(flag(registers, *at))),
         Op::Put {
             group,
             keys,
             values,
-        } => update(parts, registers, run, *group, keys, values),
+        } => update(machine, registers, run, *group, keys, values),
     }
 }
 
 // One instruction, inside scans or not.
 pub(crate) fn act(
-    catalogue: &Catalogue,
-    parts: &Parts,
+    machine: &Machine<'_>,
     inside: bool,
     registers: &mut [Register],
     run: &mut Work<EagerStore>,
     op: &Op,
 ) -> Result<Flow, Stop>
-    requires few { run.old.lookups + run.old.updates < 2 ^ 63 }
-    requires small { All IsSmall parts.now.groups }
-    requires wide { length registers.old ≡ parts.now.registers }
-    requires sound { AreSound catalogue.now (held registers.old) }
-    requires done { (s : Store) × HasDone catalogue.now parts.now run.old s }
-    ensures does { (s : Store) → HasDone catalogue.now parts.now run.old s
-        → IsAnswer catalogue.now parts.now (held registers.new) run.new
-        (effects.act (world_of catalogue.now) parts.now inside
-        (held registers.old) s op.now) result }
-    ensures sound { OnOk result (AreSound catalogue.now (held registers.new)) }
-    ensures len { length registers.new ≡ length registers.old }
-    ensures work { run.new.lookups + run.new.updates ≤ run.old.lookups + run.old.updates + 1 }
-    ensures visits { run.new.visits ≡ run.old.visits }
+    requires ready { CanAct machine.now registers.old run.old }
+    ensures { HasActed machine.now registers.old registers.new run.old run.new
+        (λ registers s. effects.act (world_of machine.now.catalogue.now) machine.now.parts.now
+        inside registers s op.now) result }
 {
-    check(parts, inside, None, registers, op)?;
-    perform(catalogue, parts, registers, run, op)
+    check(machine.parts, inside, None, registers, op)?;
+    perform(machine, registers, run, op)
 }

@@ -12,9 +12,9 @@ use crate::machine::Machine;
 use crate::report::names_what_is_there;
 use crate::start::empty_registers;
 use crate::walk::walk;
-use star_outcome::Work;
 use star_catalogue::Catalogue;
 use star_group::EagerStore;
+use star_outcome::Work;
 use star_program::{Fault, MOST_SCANS, Outcome, Parts, Program, TrapKind};
 use std::alloc::Global;
 

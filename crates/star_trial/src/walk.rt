@@ -6,13 +6,13 @@ ghost use Rattle.star_trial.specs.Private.Shown.{held};
 ghost use Rattle.star_outcome.specs.Sound.{IsSoundValue};
 ghost use Rattle.star_trial.specs.Private.Walks.{Does, HasWorked, IsReady, fault_at, means, means_scan, means_turn, means_turns};
 
-use crate::act::{Flow, act};
+use crate::act::act;
 use crate::compute::set;
 use crate::fault::{Stop, TrialFault};
 use crate::machine::{Machine, Scanned};
 use crate::value::Register;
-use star_outcome::Work;
 use star_group::EagerStore;
+use star_outcome::{Flow, Work};
 use star_program::{Body, Fault, Step, TrapKind, Value};
 
 // How many instructions a body has.
@@ -153,7 +153,7 @@ pub(crate) fn walk(
     for step in body.as_slice() {
         match step {
             Step::Act(op) => {
-                match act(machine.catalogue, machine.parts, inside, registers, run, op) {
+                match act(machine, inside, registers, run, op) {
                     Ok(Flow::GoesOn) => place += 1,
                     Ok(Flow::EndsTurn) => return Ok(()),
                     Err(stop) => return Err(stopped(stop, place)),

@@ -138,7 +138,7 @@ walk-loop-step-preserved t c =
                 );
             sound = subst (λ xs. AreSound c.args.machine.now.catalogue.now (held xs)) (sym w.registers-is) w.in-Ok-GoesOn.ensures.sound;
             worked = subst (λ r. HasWorked c.args.machine.now.most c.args.run.now r (c.match-step.place - c.args.at)) (sym w.run-is)
-                (worked_act c.loop-step.invariant.worked w.act.ensures.visits w.act.ensures.work (omega (arith, w.place-is, c.loop-step.invariant.after)));
+                (worked_act c.loop-step.invariant.worked w.act.ensures.work.visits w.act.ensures.work.work (omega (arith, w.place-is, c.loop-step.invariant.after)));
             placed = omega (arith, left, c.loop-step.invariant.placed, w.place-is);
             after = omega (arith, c.loop-step.invariant.after, w.place-is);
             deep = subst (λ l. scan_depth (code_of_steps (drop (c.loop-step.step-index + 1) c.as_slice-step-items.result.now)) * c.args.machine.now.parts.now.registers ≤ l) (sym c.match-step.auto.frames)
