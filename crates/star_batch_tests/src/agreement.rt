@@ -2,12 +2,11 @@
 
 use star_catalogue::Catalogue;
 use star_compile::compile;
-use star_machine::{Outcome, TrialFault, trial};
+use star_machine::{TrialFault, run, trial};
 use star_plan::{PlanFault, plan};
-use star_program::Program;
+use star_program::{Outcome, Program};
 use star_query::{Query, QueryFault};
 use star_report::report_text;
-use star_run::run;
 use star_schema::{Limits, MOST_VISITS};
 use star_test_support::programs::read;
 use star_verify::{Refusal, Refused, Verified, verify};

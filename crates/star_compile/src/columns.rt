@@ -39,7 +39,8 @@ fn row_of(found: &[(TableId, u16)], table: TableId) -> Option<u16>
     entry(found, table)
 }
 
-// The foreign key by which a table is joined.
+// The foreign key by which a table is joined. A plan joins the table of each of its columns, so that
+// one is found; the last line is what the definition says of a table that is not joined.
 fn foreign_key(joins: &[Join], table: TableId) -> ColumnId
     ensures { result ≡ foreign_of joins.now table }
 {

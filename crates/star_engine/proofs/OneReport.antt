@@ -10,7 +10,7 @@ use Rattle.star_program.specs.World.{World}
 use Rattle.star_program.proofs.Text.OneProgram.{one_program}
 use Rattle.star_report.specs.Report.{report_text}
 use Rattle.star_report.proofs.OneOrder.{one_outcome}
-use Rattle.star_machine.specs.Trials.{Yields}
+use Rattle.star_outcome.specs.Yields.{Yields}
 use Rattle.star_world.specs.WorldOf.{world_of}
 use Rattle.star_program.specs.Text.FirstFaults.{FirstFault}
 use Rattle.star_program.specs.declared.spelling.fault.TextFault.{TextFault}

@@ -8,9 +8,9 @@ use Rattle.star_program.specs.declared.outcome.Cell.{Cell}
 use Rattle.star_program.specs.declared.program.Parts.{Parts}
 use Rattle.star_program.specs.Run.{bounded_run_of}
 use Rattle.star_report.specs.Report.{line_text, report_text, row_text}
-use Rattle.star_machine.specs.declared.fault.TrialFault.{TrialFault}
-use Rattle.star_machine.specs.declared.fault.TrialFault.TheVariants as trial
-use Rattle.star_machine.specs.Trials.{IsFaultOf}
+use Rattle.star_trial.specs.declared.fault.TrialFault.{TrialFault}
+use Rattle.star_trial.specs.declared.fault.TrialFault.TheVariants as trial
+use Rattle.star_trial.specs.Trials.{IsFaultOf}
 use Rattle.star_world.specs.WorldOf.{world_of}
 use Rattle.star_engine.specs.declared.fault.EngineFault.{EngineFault}
 use Rattle.star_engine.specs.declared.fault.EngineFault.TheVariants as engine

@@ -10,14 +10,14 @@ use Rattle.star_program.specs.TrapTexts.{kind_text}
 use Rattle.star_program.specs.Text.FaultTexts as of_text
 use Rattle.star_program.specs.declared.fault.TrapKind.TheVariants.{AbsentKey}
 use Rattle.star_program.specs.declared.spelling.fault.TextFault.TheVariants.{BadLine}
-use Rattle.star_machine.specs.FaultTexts as of_trial
+use Rattle.star_trial.specs.FaultTexts as of_trial
 use Rattle.star_query.specs.FaultTexts.{query_fault_text}
 use Rattle.star_query.specs.declared.fault.QueryFault.TheVariants.{Unexpected}
 use Rattle.star_plan.specs.FaultTexts.{plan_fault_text}
 use Rattle.star_plan.specs.declared.fault.PlanFault.TheVariants.{JoinMissing}
 use Rattle.star_verify.specs.RefusalTexts.{refusal_text}
 use Rattle.star_verify.specs.declared.refusal.Refusal.TheVariants.{BadShow, TooCostly}
-use Rattle.star_machine.specs.declared.fault.TrialFault.TheVariants.{Trap, Limit}
+use Rattle.star_trial.specs.declared.fault.TrialFault.TheVariants.{Trap, Limit}
 use Rattle.star_engine.specs.declared.fault.EngineFault.TheVariants.{OutOfMemory, Query, Plan, Program, Load, Refused, Trial, Write}
 use Rattle.star_engine.specs.FaultTexts.{engine_fault_text}
 

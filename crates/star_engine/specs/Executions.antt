@@ -9,7 +9,7 @@ use Rattle.star_safety.specs.Admissible.{IsAdmissible, first_refusal}
 use Rattle.star_safety.specs.Quote.{quote}
 use Rattle.star_verify.specs.declared.refusal.Refusal.{Refusal}
 use Rattle.star_verify.specs.Shown.{refusal_shown}
-use Rattle.star_machine.specs.Trials.{Yields}
+use Rattle.star_outcome.specs.Yields.{Yields}
 use Rattle.star_report.specs.Report.{report_text}
 use Rattle.star_world.specs.WorldOf.{world_of}
 use Rattle.star_engine.specs.declared.fault.EngineFault.{EngineFault}

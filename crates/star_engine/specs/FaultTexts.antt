@@ -5,7 +5,7 @@ use Rattle.star_plan.specs.FaultTexts.{plan_fault_text}
 use Rattle.star_program.specs.Text.FaultTexts as program
 use Rattle.star_catalogue.specs.FaultTexts as load
 use Rattle.star_verify.specs.RefusalTexts.{refusal_text}
-use Rattle.star_machine.specs.FaultTexts as trial
+use Rattle.star_trial.specs.FaultTexts as trial
 use Rattle.star_engine.specs.declared.fault.EngineFault.{EngineFault}
 use Rattle.star_engine.specs.declared.fault.EngineFault.TheVariants.{OutOfMemory, Query, Plan, Program, Load, Refused, Trial, Write}
 

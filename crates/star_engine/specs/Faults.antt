@@ -5,8 +5,8 @@ use Rattle.star_plan.specs.declared.fault.PlanFault.{PlanFault}
 use Rattle.star_plan.specs.declared.fault.PlanFault.TheVariants as plan
 use Rattle.star_catalogue.specs.declared.fault.LoadFault.{LoadFault}
 use Rattle.star_catalogue.specs.declared.fault.LoadFault.TheVariants as load
-use Rattle.star_machine.specs.declared.fault.TrialFault.{TrialFault}
-use Rattle.star_machine.specs.declared.fault.TrialFault.TheVariants as trial
+use Rattle.star_trial.specs.declared.fault.TrialFault.{TrialFault}
+use Rattle.star_trial.specs.declared.fault.TrialFault.TheVariants as trial
 use Rattle.star_program.specs.declared.spelling.fault.TextFault.{TextFault}
 use Rattle.star_program.specs.declared.spelling.fault.TextFault.TheVariants as text
 use Rattle.star_verify.specs.declared.refusal.Refusal.{Refusal}

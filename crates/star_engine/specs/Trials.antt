@@ -5,9 +5,10 @@ use Rattle.star_program.specs.declared.outcome.Outcome.{Outcome}
 use Rattle.star_program.specs.declared.program.Parts.{Parts}
 use Rattle.star_program.specs.Run.{End, bounded_run_of}
 use Rattle.star_report.specs.Report.{report_text}
-use Rattle.star_machine.specs.declared.fault.TrialFault.{TrialFault}
-use Rattle.star_machine.specs.declared.fault.TrialFault.TheVariants as trial
-use Rattle.star_machine.specs.Trials.{IsFaultOf, Yields}
+use Rattle.star_trial.specs.declared.fault.TrialFault.{TrialFault}
+use Rattle.star_trial.specs.declared.fault.TrialFault.TheVariants as trial
+use Rattle.star_outcome.specs.Yields.{Yields}
+use Rattle.star_trial.specs.Trials.{IsFaultOf}
 use Rattle.star_world.specs.WorldOf.{world_of}
 use Rattle.star_engine.specs.declared.fault.EngineFault.{EngineFault}
 use Rattle.star_engine.specs.declared.fault.EngineFault.TheVariants.{Trial}

@@ -90,7 +90,8 @@ fn find(
             let text = line.into_bytes();
             Ok(Finding { text, fits: false })
         }
-        Err(_) => Err(AllocError),
+        Err(EngineFault::OutOfMemory) => Err(AllocError),
+        Err(_) => unreachable!(),
     }
 }
 

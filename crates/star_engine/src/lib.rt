@@ -36,9 +36,9 @@ pub use read_calls::{
 };
 pub use reading::{FileFault, read_expected, read_whole};
 pub use star_catalogue::{LoadFault, ReadTables, Texts, sample};
-pub use star_machine::{Fault, TrapKind, TrialFault};
+pub use star_machine::TrialFault;
 pub use star_plan::PlanFault;
-pub use star_program::TextFault;
+pub use star_program::{Fault, TextFault, TrapKind};
 pub use star_query::QueryFault;
 pub use star_reader::TableReader;
 pub use star_verify::{Reached, ReachedColumns, Reason, Refusal};

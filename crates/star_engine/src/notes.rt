@@ -6,8 +6,7 @@ ghost use Rattle.star_engine.specs.Notes.{counts_line, forecast_line, quote_line
 ghost use Rattle.star_engine.specs.Tellings.{most_rows_over};
 
 use star_catalogue::Catalogue;
-use star_machine::Outcome;
-use star_program::Program;
+use star_program::{Outcome, Program};
 use star_verify::{Verified, quote};
 use std::alloc::{AllocError, Global};
 

@@ -10,7 +10,7 @@ use Rattle.star_program.specs.declared.spelling.fault.TextFault.TheVariants.{Bad
 use Rattle.star_query.specs.declared.fault.QueryFault.TheVariants.{Unexpected}
 use Rattle.star_plan.specs.declared.fault.PlanFault.TheVariants.{JoinMissing}
 use Rattle.star_verify.specs.declared.refusal.Refusal.TheVariants.{TooCostly}
-use Rattle.star_machine.specs.declared.fault.TrialFault.TheVariants.{Limit}
+use Rattle.star_trial.specs.declared.fault.TrialFault.TheVariants.{Limit}
 use Rattle.star_engine.specs.declared.fault.EngineFault.{EngineFault}
 use Rattle.star_engine.specs.declared.fault.EngineFault.TheVariants.{OutOfMemory, Query, Plan, Program, Load, Refused, Trial, Write}
 use Rattle.star_engine.specs.Answered.{Change, HasGained, HasGainedPart}

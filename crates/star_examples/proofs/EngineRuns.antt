@@ -11,9 +11,10 @@ use Rattle.star_catalogue.specs.declared.fault.LoadFault.{LoadFault}
 use Rattle.star_safety.specs.Admissible.{IsAdmissible}
 use Rattle.star_world.specs.WorldOf.{world_of}
 use Rattle.star_verify.specs.declared.refusal.Refusal.{Refusal}
-use Rattle.star_machine.specs.declared.fault.TrialFault.{TrialFault}
-use Rattle.star_machine.specs.declared.fault.TrialFault.TheVariants as trial
-use Rattle.star_machine.specs.Trials.{IsFaultOf, Yields}
+use Rattle.star_trial.specs.declared.fault.TrialFault.{TrialFault}
+use Rattle.star_trial.specs.declared.fault.TrialFault.TheVariants as trial
+use Rattle.star_outcome.specs.Yields.{Yields}
+use Rattle.star_trial.specs.Trials.{IsFaultOf}
 use Rattle.star_report.specs.Report.{report_text}
 use Rattle.star_engine.specs.declared.fault.EngineFault.TheVariants.{Load, Program, Refused, Trial}
 use Rattle.star_engine.specs.Executions.{IsAcceptedWithin, IsProgramTold, IsRefusalOver, IsUntold, IsUntoldOver, quote_over}

@@ -12,10 +12,10 @@ use Rattle.star_program.specs.declared.group.GroupKey.TheVariants as declared
 use Rattle.star_program.specs.declared.key.KeyValue.TheVariants as key
 use Rattle.star_program.specs.declared.value.Value.TheVariants.{Row, Text}
 use Rattle.star_program.specs.Run.{Limited, Trapped}
-use Rattle.star_machine.specs.declared.fault.TrialFault.TheVariants as fault
-use Rattle.star_machine.specs.Sound.{IsSoundValue}
-use Rattle.star_machine.specs.SoundKeys.{AreSoundKeys, IsSoundKey}
-use Rattle.star_machine.specs.Trials.{IsFaultOf}
+use Rattle.star_trial.specs.declared.fault.TrialFault.TheVariants as fault
+use Rattle.star_outcome.specs.Sound.{IsSoundValue}
+use Rattle.star_outcome.specs.SoundKeys.{AreSoundKeys, IsSoundKey}
+use Rattle.star_trial.specs.Trials.{IsFaultOf}
 use Rattle.star_world.specs.WorldOf.{column_dictionary}
 
 not_below : (n : ℕ) → n < n → ⊥

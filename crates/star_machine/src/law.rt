@@ -11,10 +11,10 @@ ghost use Rattle.star_program.specs.Run.{EndsWith, run_of};
 ghost use Rattle.star_safety.specs.Laws.{EndsWithin, TotalsLie};
 ghost use Rattle.star_safety.specs.Moments.{AtEveryMoment};
 ghost use Rattle.star_safety.specs.Quote.{quote};
-ghost use Rattle.star_machine.specs.declared.fault.TrialFault.{TrialFault};
-ghost use Rattle.star_machine.specs.declared.fault.TrialFault.TheVariants.{OutOfMemory};
+ghost use Rattle.star_trial.specs.declared.fault.TrialFault.{TrialFault};
+ghost use Rattle.star_trial.specs.declared.fault.TrialFault.TheVariants.{OutOfMemory};
 ghost use Rattle.star_machine.specs.Accepted.{IsAcceptedOver};
-ghost use Rattle.star_machine.specs.Trials.{IsTrial};
+ghost use Rattle.star_trial.specs.Trials.{IsTrial};
 ghost use Rattle.star_world.specs.WorldOf.{world_of};
 
 use star_safety::law::admissible_programs_never_trap;

@@ -1,7 +1,8 @@
 // Programs with worked answers, each kind of trap, and bounds at and one below what is needed.
 
 use star_catalogue::{Catalogue, Texts, sample};
-use star_machine::{CellView, Outcome, TrialFault, trial};
+use star_machine::{TrialFault, trial};
+use star_program::{CellView, Outcome};
 use star_schema::MOST_VISITS;
 use star_test_support::programs::{
     ABOVE_AVERAGE, ABSENT_KEY, BELOW_NINE, DISCOUNTED_REVENUE, MISPLACED, NESTED, NO_TEXTS,

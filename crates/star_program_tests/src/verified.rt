@@ -1,8 +1,8 @@
 // Programs that are verified and run by the library's own calls, or handed back.
 
 use star_catalogue::{Catalogue, sample};
+use star_machine::run;
 use star_program::{Program, TextFault};
-use star_run::run;
 use star_schema::{Limits, MOST_ROWS, Sizes};
 use star_test_support::programs::{
     ABOVE_AVERAGE, ABSENT_KEY, DISCOUNTED_REVENUE, MISPLACED, NESTED, READ_INSIDE, counting,

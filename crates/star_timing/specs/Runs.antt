@@ -4,7 +4,7 @@ use Rattle.star_compile_laws.specs.Compiled.{compiled}
 use Rattle.star_engine.specs.Queries.{IsPlanOf}
 use Rattle.star_engine.specs.Thirteen.{query_text}
 use Rattle.star_engine.specs.declared.thirteen.BenchmarkQuery.{BenchmarkQuery}
-use Rattle.star_machine.specs.Trials.{Yields}
+use Rattle.star_outcome.specs.Yields.{Yields}
 use Rattle.star_plan.specs.Meaning.{Plan}
 use Rattle.star_program.specs.Run.{run_of}
 use Rattle.star_program.specs.declared.outcome.Outcome.{Outcome}

@@ -18,10 +18,10 @@ use crate::refusal::Refusal;
 use crate::register::Register;
 use crate::report::misnamed_line;
 use crate::subject::Subject;
-use crate::tally::Tally;
+use crate::tally::{TALLIES, Tally};
 use crate::visits::quote;
 use crate::walk::walk;
-use star_program::{Parts, Program};
+use star_program::{MOST_GROUPS, Parts, Program};
 use star_schema::Limits;
 use std::alloc::{AllocError, Global};
 
@@ -45,8 +45,8 @@ fn nothing_noted(alloc: Global, parts: &Parts) -> Result<Noted, AllocError>
 {
     Ok(Noted {
         written: vec![in alloc; false; parts.registers as usize]?,
-        tallies: vec![in alloc; Tally::none(); 64]?,
-        keys: vec![in alloc; Tally::none(); 64]?,
+        tallies: vec![in alloc; Tally::none(); TALLIES]?,
+        keys: vec![in alloc; Tally::none(); TALLIES]?,
     })
 }
 
@@ -64,7 +64,7 @@ fn check_instructions(alloc: Global, parts: &Parts, facts: &Facts) -> Result<Vec
 {
     let mut noted = nothing_noted(alloc, parts)?;
     let mut registers = unknown_registers(alloc, parts.registers)?;
-    let pending = [false; 8];
+    let pending = [false; MOST_GROUPS];
     let first = Place {
         at: 1,
         inside: false,

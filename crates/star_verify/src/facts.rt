@@ -20,11 +20,14 @@ use star_safety::{Reached, ReachedColumns};
 use star_schema::{COLUMNS, ColumnId, Sizes, TableId, is_table, is_text, references};
 use std::alloc::{AllocError, Global};
 
+// How many columns all tables have.
+const COLUMN_COUNT: usize = 58;
+
 // The bounds go by the order of all columns, and are 0 and 0 for columns of texts.
 #[derive(Clone, Copy)]
 pub(crate) struct Facts {
     pub(crate) sizes: Sizes,
-    pub(crate) bounds: [Interval; 58],
+    pub(crate) bounds: [Interval; COLUMN_COUNT],
 }
 
 // The least and the greatest number of a column, of a column of texts 0 and 0.
@@ -44,7 +47,7 @@ impl Facts {
     pub(crate) fn of(catalogue: &Catalogue) -> Facts
         ensures { AreFacts (world_of catalogue.now) result }
     {
-        let mut bounds = [Interval::point(0); 58];
+        let mut bounds = [Interval::point(0); COLUMN_COUNT];
         for column in &COLUMNS {
             bounds[*column as usize] = column_bounds(catalogue, *column);
         }

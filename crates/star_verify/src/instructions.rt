@@ -27,7 +27,7 @@ use crate::refusal::Refusal;
 use crate::register::{Register, check_kinds, learn};
 use crate::subject::Subject;
 use crate::tally::Tally;
-use star_program::{Fault, Op, Operation, Parts, RegisterList, Step};
+use star_program::{Fault, MOST_AGGREGATES, MOST_GROUPS, Op, Operation, Parts, RegisterList, Step};
 use star_safety::Reason;
 
 // Which registers earlier instructions write, and what they give the aggregates and the keys of each
@@ -46,7 +46,7 @@ pub(crate) struct Place {
     pub(crate) at: u16,
     pub(crate) inside: bool,
     pub(crate) met: u64,
-    pub(crate) pending: [bool; 8],
+    pub(crate) pending: [bool; MOST_GROUPS],
 }
 
 // The refusal by numbers that leave 64 bits.
@@ -184,16 +184,15 @@ fn put(
     ensures few { AreFew tallies.new ((place.at + 1) * 10 ^ 15) }
     ensures len { length tallies.new ≡ length tallies.old }
 {
-    if let Some(declared) = subject.parts.group(group) {
-        give(
-            tallies,
-            8 * group as usize,
-            registers,
-            declared.aggregates.as_slice(),
-            values.as_slice(),
-            place.met,
-        );
-    }
+    let declared = subject.parts.group_at(group);
+    give(
+        tallies,
+        MOST_AGGREGATES * group as usize,
+        registers,
+        declared.aggregates.as_slice(),
+        values.as_slice(),
+        place.met,
+    );
 }
 
 // Notes what a put gives the keys of its group.
@@ -220,7 +219,7 @@ fn put_keys(
     ensures few { AreFew tallies.new ((place.at + 1) * 10 ^ 15) }
     ensures len { length tallies.new ≡ length tallies.old }
 {
-    let first = 8 * group as usize;
+    let first = MOST_AGGREGATES * group as usize;
     give_keys(tallies, first, registers, keys.as_slice(), place.met);
 }
 

@@ -25,21 +25,17 @@ use crate::register::{Register, known_at};
 use crate::tally::Tally;
 use crate::totals::{read, tally_at};
 use star_interval::Interval;
-use star_program::{Operation, Parts, Step};
+use star_program::{MOST_AGGREGATES, MOST_GROUPS, Operation, Parts, Step};
 use star_safety::Reason;
 use star_schema::Aggregate;
 
 // An aggregate of a group, by their numbers.
 fn aggregate_at(parts: &Parts, group: u16, aggregate: u16) -> Aggregate
+    requires group { group < length parts.now.groups }
+    requires aggregate { aggregate < length (group_at parts.now group).aggregates }
     ensures { result ≡ contexts.aggregate_at parts.now group aggregate }
 {
-    match parts.group(group) {
-        Some(declared) => match declared.aggregates.as_slice().get(aggregate as usize) {
-            Some(kind) => *kind,
-            None => Aggregate::Count,
-        },
-        None => Aggregate::Count,
-    }
+    parts.group_at(group).aggregates.as_slice()[aggregate as usize]
 }
 
 // What is known of a read of a declared aggregate.
@@ -60,7 +56,7 @@ fn read_total(
         (overflow w (read_range (contexts.aggregate_at parts.now group aggregate)
         (x.so_far group aggregate) (only default)) (reach_of (x.so_far group aggregate))) }
 {
-    let place = 8 * group as usize + aggregate as usize;
+    let place = MOST_AGGREGATES * group as usize + aggregate as usize;
     read(
         aggregate_at(parts, group, aggregate),
         tally_at(tallies, place),
@@ -109,7 +105,7 @@ pub(crate) fn make(
 }
 
 // Whether a group is put to by these steps, or was open already.
-fn is_open(pending: [bool; 8], steps: &[Step], group: u16) -> bool
+fn is_open(pending: [bool; MOST_GROUPS], steps: &[Step], group: u16) -> bool
     requires { group < 8 }
     ensures { (pending_now : ℕ → Bool) → flag_at pending group ≡ pending_now group
         → result ≡ open_with pending_now (code_of_steps steps.now) group }
@@ -124,7 +120,7 @@ fn is_open(pending: [bool; 8], steps: &[Step], group: u16) -> bool
 pub(crate) fn check_source(
     parts: &Parts,
     registers: &[Register],
-    pending: [bool; 8],
+    pending: [bool; MOST_GROUPS],
     rest: &[Step],
     operation: &Operation,
 ) -> Result<(), Reason>

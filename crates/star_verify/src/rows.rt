@@ -19,7 +19,7 @@ use crate::tally::Tally;
 use crate::totals::tally_at;
 use star_catalogue::Catalogue;
 use star_interval::Interval;
-use star_program::{GroupKey, Parts};
+use star_program::{GroupKey, MOST_AGGREGATES, Parts};
 use star_schema::{Shape, is_text};
 
 // How many whole numbers lie in a range; none where there is no range.
@@ -200,7 +200,7 @@ pub(crate) fn most_rows(catalogue: &Catalogue, parts: &Parts, keys: &[Tally]) ->
     let Some(declared) = parts.group(parts.report) else {
         return 1;
     };
-    let first = 8 * parts.report as usize;
+    let first = MOST_AGGREGATES * parts.report as usize;
     match declared.keys.as_slice() {
         [] => 1,
         shown => {

@@ -9,6 +9,11 @@ ghost use Rattle.star_verify.specs.Private.Shown.{IsTally, reach_shown};
 
 use crate::reach::Reach;
 use star_interval::{Interval, Wide};
+use star_program::{MOST_AGGREGATES, MOST_GROUPS};
+
+// How many tallies a check keeps: for each group as many as it can have aggregates, and it can have
+// no more keys than these.
+pub(crate) const TALLIES: usize = MOST_GROUPS * MOST_AGGREGATES;
 
 // Of the numbers that puts give an aggregate: between what their sum lies, how many there can be,
 // the least range that holds each, and the columns that they are computed from.

@@ -18,7 +18,7 @@ use crate::rows::most_rows;
 use crate::tally::Tally;
 use star_catalogue::Catalogue;
 use star_interval::Interval;
-use star_program::Program;
+use star_program::{MOST_AGGREGATES, MOST_GROUPS, MOST_KEYS, Program};
 use star_safety::law::admissible_programs_within_the_limit_are_not_refused;
 use star_schema::Limits;
 use std::alloc::Global;
@@ -108,8 +108,8 @@ impl<'c> Verified<'c> {
     /// by what is known before a run; `None` where no number is known. No clause tells it: it may
     /// make a run faster and changes no answer.
     pub fn expected(&self, group: usize, place: usize) -> Option<Interval> {
-        if place < 8 && group < 8 {
-            self.keys.get(8 * group + place)?.each
+        if place < MOST_KEYS && group < MOST_GROUPS {
+            self.keys.get(MOST_AGGREGATES * group + place)?.each
         } else {
             None
         }

@@ -1,6 +1,6 @@
 -- The faults of the steps before anything is written.
 use Rattle.std.specs.Prelude.{◌≡◌, ◌≤◌, ◌⊎◌, ℕ, List, Result, Ok, Err, length}
-use Rattle.star_machine.specs.Trials.{Yields}
+use Rattle.star_outcome.specs.Yields.{Yields}
 use Rattle.star_program.specs.declared.outcome.Outcome.{Outcome}
 use Rattle.star_program.specs.declared.program.Parts.{Parts}
 use Rattle.star_program.specs.Run.{run_of}

@@ -7,9 +7,9 @@ use Rattle.star_safety.specs.Laws.{EndsWithin}
 use Rattle.star_safety.specs.Quote.{quote}
 use Rattle.star_program.specs.Run.{bounded_run_of}
 use Rattle.star_program.specs.World.{World}
-use Rattle.star_machine.specs.declared.fault.TrialFault.{TrialFault}
-use Rattle.star_machine.specs.declared.fault.TrialFault.TheVariants as fault
-use Rattle.star_machine.specs.Trials.{IsTrial}
+use Rattle.star_trial.specs.declared.fault.TrialFault.{TrialFault}
+use Rattle.star_trial.specs.declared.fault.TrialFault.TheVariants as fault
+use Rattle.star_trial.specs.Trials.{IsTrial}
 use Rattle.star_world.specs.WorldOf.{world_of}
 use Rattle.star_machine.proofs.law.admissible_programs_end.Goals as goal
 

@@ -1,5 +1,0 @@
-use Rattle.std.proofs.Common.{rules}
-use Rattle.star_machine.proofs.act.keeps.Goals as goal
-
-pub returns-else-flag : goal.returns-else-flag
-returns-else-flag c = search rules

@@ -1,7 +1,0 @@
-use Rattle.std.proofs.Common.{rules}
-use Rattle.star_machine.specs.FaultTexts.{trial_fault_text}
-use Rattle.star_machine.proofs.fault.TrialFaultDisplay.fmt.Goals as goal
-
-pub returns-in-Limit-clause-writes : goal.returns-in-Limit-clause-writes
-unfolding trial_fault_text
-returns-in-Limit-clause-writes c = search rules

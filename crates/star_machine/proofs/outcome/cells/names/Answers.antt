@@ -1,6 +1,0 @@
-use Rattle.std.proofs.Common.{arith}
-use Rattle.std.proofs.lemmas.Grind.{common_steps}
-use Rattle.star_machine.proofs.outcome.cells.names.Goals as goal
-
-pub loop-show-preserved : goal.loop-show-preserved
-loop-show-preserved c = grind (arith, common_steps)

@@ -1,5 +1,0 @@
-use Rattle.std.proofs.Common.{◌≡◌, map, take}
-use Rattle.star_machine.proofs.outcome.cells.names.Given as goal
-
-abbrev pub invariant-loop-show : goal.invariant-loop-show
-invariant-loop-show l = l.names.items ≡ map (λ show. show.name) (take l.show-index l.shows)

@@ -1,0 +1,13 @@
+pub mod Registers
+pub mod Found
+pub mod Stored
+pub mod Fine
+pub mod Turns
+pub mod Started
+pub mod RowOrders
+pub mod SortedRows
+pub mod LedRows
+pub mod GroupRows
+pub mod DecodedRows
+pub mod Shows
+pub mod Reported

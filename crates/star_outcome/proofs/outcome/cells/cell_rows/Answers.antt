@@ -1,0 +1,26 @@
+use Rattle.std.proofs.Common.{length, ap, ◌∙◌}
+use Rattle.std.proofs.lemmas.List.{length-map}
+use Rattle.star_program.specs.Outcome.{cell_of, decoded_row}
+use Rattle.star_program.specs.Rows.{cut}
+use Rattle.star_program.proofs.Rows.{cut_rows, length-rows}
+use Rattle.star_group.specs.Shown.{row_at, row_shown}
+use Rattle.star_outcome.specs.Private.Decoded.{row_cells}
+use Rattle.star_world.specs.WorldOf.{world_of}
+use Rattle.star_outcome.proofs.outcome.cells.cell_rows.Goals as goal
+
+pub from_cells-requires : goal.from_cells-requires
+from_cells-requires c =
+    let w = world_of c.args.catalogue.now in
+    let d = c.args.declared.now in
+    let shows = c.args.shows.now in
+    ap length c.in_ok-cells.ensures
+    ∙ length-rows (length shows) (λ number. row_cells w d shows (row_at c.args.rows.now number)) (λ number. length-map shows (λ show. cell_of (decoded_row w d (row_shown (row_at c.args.rows.now number))) show.column)) c.args.numbers.now
+
+pub returns : goal.returns
+returns c =
+    let w = world_of c.args.catalogue.now in
+    let d = c.args.declared.now in
+    let shows = c.args.shows.now in
+    c.from_cells.ensures
+    ∙ ap (cut (length shows) (length c.args.numbers.now)) c.in_ok-cells.ensures
+    ∙ cut_rows (length shows) (λ number. row_cells w d shows (row_at c.args.rows.now number)) (λ number. length-map shows (λ show. cell_of (decoded_row w d (row_shown (row_at c.args.rows.now number))) show.column)) c.args.numbers.now

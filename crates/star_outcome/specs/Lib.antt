@@ -1,0 +1,5 @@
+pub mod Sound
+pub mod SoundKeys
+pub mod Done
+pub mod Yields
+pub mod Private

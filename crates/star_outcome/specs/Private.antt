@@ -1,0 +1,6 @@
+-- What the contracts of functions that are not public cite.
+pub mod Placed
+pub mod LeftRows
+pub mod RowOrder
+pub mod Leads
+pub mod Decoded

@@ -1,0 +1,40 @@
+-- Rows whose keys can be told in texts, and their cells.
+use Rattle.std.specs.Prelude.{List, [], ◌∷◌, Option, Some, None, map}
+use Rattle.star_schema.specs.Database.{Database}
+use Rattle.star_schema.specs.declared.group.SortKey.{SortKey}
+use Rattle.star_schema.specs.Groups.{AreGroups}
+use Rattle.star_schema.specs.Order.{AreInOrder}
+use Rattle.star_program.specs.declared.group.GroupDecl.{GroupDecl}
+use Rattle.star_program.specs.declared.group.GroupKey.{GroupKey}
+use Rattle.star_program.specs.declared.key.KeyValue.{KeyValue}
+use Rattle.star_program.specs.declared.outcome.Cell.{Cell}
+use Rattle.star_program.specs.declared.program.Show.{Show}
+use Rattle.star_program.specs.Keys.{key_value_cmp}
+use Rattle.star_program.specs.Outcome.{cell_of, decoded_row}
+use Rattle.star_program.specs.Puts.{Update}
+use Rattle.star_program.specs.World.{World}
+use Rattle.star_group.specs.declared.group_row.GroupRow.{GroupRow}
+use Rattle.star_group.specs.Shown.{row_shown}
+use Rattle.star_group.specs.Stores.{Group}
+use Rattle.star_outcome.specs.SoundKeys.{IsSoundKey}
+
+-- a key of a row: ALL, or as declared
+abbrev pub IsDecodable : Database → GroupKey → Option KeyValue → Type 0
+IsDecodable database declared None = Unit {0}
+IsDecodable database declared (Some k) = IsSoundKey database declared k
+
+abbrev pub AreDecodable : Database → List GroupKey → List (Option KeyValue) → Type 0
+AreDecodable database [] [] = Unit {0}
+AreDecodable database (declared ∷ rest) (k ∷ ks) =
+    IsDecodable database declared k × AreDecodable database rest ks
+AreDecodable database _ _ = ⊥
+
+-- the cells of a row, one for each show line
+abbrev pub row_cells : World → GroupDecl → List Show → GroupRow → List Cell
+row_cells w d shows row = map (λ show. cell_of (decoded_row w d (row_shown row)) show.column) shows
+
+-- the groups of some updates as a report has them, but with codes for texts
+pub record AreSortedGroups (d : Group) (sorts : List SortKey) (updates : List Update)
+    (rows : List GroupRow) : Type 0 where
+  pub groups : AreGroups key_value_cmp d.shape d.count d.aggregates updates (map row_shown rows)
+  pub in_order : AreInOrder key_value_cmp sorts (map row_shown rows)

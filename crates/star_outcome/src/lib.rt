@@ -1,0 +1,10 @@
+//! What a run over a loaded catalogue looks up, what it has done so far, and its outcome.
+#![tactic(auto)]
+
+mod flow;
+pub mod lookups;
+mod outcome;
+mod work;
+
+pub use flow::Flow;
+pub use work::Work;

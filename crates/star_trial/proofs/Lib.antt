@@ -1,0 +1,6 @@
+pub mod Registers
+pub mod EagerStores
+pub mod Checked
+pub mod Performed
+pub mod Turned
+pub mod NamedColumns

@@ -1,0 +1,3 @@
+pub mod Trials
+pub mod FaultTexts
+pub mod Private

@@ -1,0 +1,94 @@
+-- What one instruction did.
+use Rattle.std.specs.Prelude.{◌≡◌, ◌≤◌, ◌<◌, ◌+◌, ◌^◌, ℕ, List, Option, length, Result, MatchResult, OnOk}
+use Rattle.star_schema.specs.Database.{Database}
+use Rattle.star_program.specs.declared.program.Parts.{Parts}
+use Rattle.star_program.specs.Effects.{Store, Effect, GoesOn, EndsTurn, Traps}
+use Rattle.star_program.specs.Values.{Registers, with_entry}
+use Rattle.star_outcome.specs.declared.flow.Flow.{Flow}
+use Rattle.star_outcome.specs.declared.flow.Flow.TheVariants as flow
+use Rattle.star_trial.specs.declared.fault.Stop.{Stop}
+use Rattle.star_trial.specs.declared.fault.Stop.TheVariants as stop
+use Rattle.star_program.specs.declared.op.Op.{Op}
+use Rattle.star_program.specs.declared.op.Operation.{Operation}
+use Rattle.star_program.specs.declared.value.Value.{Value}
+use Rattle.star_program.specs.Private.Doing.{assigns, does}
+use Rattle.star_trial.specs.declared.machine.Machine.{Machine}
+use Rattle.star_trial.specs.Private.Runs.{HasDone, Run}
+use Rattle.star_trial.specs.Private.Shown.{held}
+use Rattle.star_outcome.specs.Sound.{AreSound, IsSoundValue}
+use Rattle.star_world.specs.WorldOf.{world_of}
+
+-- an effect that sets a register
+pub record Sets (database : Database) (parts : Parts) (registers : Registers) (run : Run)
+    (target : ℕ) (effect : Effect) (value : Value) : Type 0 where
+  pub s : Store
+  pub does : effect ≡ GoesOn (with_entry registers target value) s
+  pub done : HasDone database parts run s
+  pub sound : IsSoundValue database value
+
+pub record Goes (database : Database) (parts : Parts) (registers : Registers) (run : Run)
+    (effect : Effect) : Type 0 where
+  pub s : Store
+  pub does : effect ≡ GoesOn registers s
+  pub done : HasDone database parts run s
+
+pub record Ends (database : Database) (parts : Parts) (run : Run) (effect : Effect) : Type 0 where
+  pub s : Store
+  pub does : effect ≡ EndsTurn s
+  pub done : HasDone database parts run s
+
+abbrev pub IsFlow : Database → Parts → Registers → Run → Effect → Flow → Type 0
+IsFlow database parts registers run effect flow.GoesOn = Goes database parts registers run effect
+IsFlow database parts registers run effect flow.EndsTurn = Ends database parts run effect
+
+-- memory was refused, or the effect is the trap
+abbrev pub IsStop : Effect → Stop → Type 0
+IsStop effect stop.OutOfMemory = Unit {0}
+IsStop effect (stop.Trap kind) = effect ≡ Traps kind
+
+-- what was made of an operation with this effect
+abbrev pub IsMade : Database → Parts → Registers → Run → ℕ → Effect → Result Value Stop → Type 0
+IsMade database parts registers run target effect result =
+    MatchResult result (Sets database parts registers run target effect) (IsStop effect)
+
+-- what was done of an instruction with this effect
+abbrev pub IsAnswer : Database → Parts → Registers → Run → Effect → Result Flow Stop → Type 0
+IsAnswer database parts registers run effect result =
+    MatchResult result (IsFlow database parts registers run effect) (IsStop effect)
+
+-- ---- an operation, and an instruction, of a machine
+
+-- before it: registers as declared that hold what is sound, and a run that has done something, and
+-- not too much
+pub record CanAct (m : Machine) (registers : List (Option Value)) (run : Run) : Type 0 where
+  pub few : run.lookups + run.updates < 2 ^ 63
+  pub wide : length registers ≡ m.parts.now.registers
+  pub sound : AreSound m.catalogue.now (held registers)
+  pub done : (s : Store) × HasDone m.catalogue.now m.parts.now run s
+
+-- no turn was begun, and one look-up made at most, or one update
+pub record HasWorkedOnce (old new : Run) : Type 0 where
+  pub work : new.lookups + new.updates ≤ old.lookups + old.updates + 1
+  pub visits : new.visits ≡ old.visits
+
+-- what an operation makes is the value of its effect, whatever its target
+abbrev pub Makes : Machine → List (Option Value) → Run → Run → Operation → Result Value Stop
+    → Type 0
+Makes m registers old new operation result =
+    (s : Store) (target : ℕ) → HasDone m.catalogue.now m.parts.now old s
+    → IsMade m.catalogue.now m.parts.now (held registers) new target
+    (assigns (world_of m.catalogue.now) m.parts.now (held registers) s target operation) result
+
+-- what an instruction does in which nothing is wrong
+abbrev pub does_op : Machine → Op → Registers → Store → Effect
+does_op m op registers s = does (world_of m.catalogue.now) m.parts.now registers s op
+
+-- after an instruction that means this
+pub record HasActed (m : Machine) (registers new_registers : List (Option Value)) (run new : Run)
+    (meant : Registers → Store → Effect) (result : Result Flow Stop) : Type 0 where
+  pub does : (s : Store) → HasDone m.catalogue.now m.parts.now run s
+      → IsAnswer m.catalogue.now m.parts.now (held new_registers) new (meant (held registers) s)
+      result
+  pub sound : OnOk result (AreSound m.catalogue.now (held new_registers))
+  pub len : length new_registers ≡ length registers
+  pub work : HasWorkedOnce run new

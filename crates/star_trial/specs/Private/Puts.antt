@@ -1,0 +1,22 @@
+-- What a put into the stores of groups answers.
+use Rattle.std.specs.Prelude.{◌≡◌, ℕ, true, false, List, Result, MatchResult}
+use Rattle.star_common.specs.Memory.{UnlessMemory}
+use Rattle.star_group.specs.declared.eager.EagerStore.{EagerStore}
+use Rattle.star_group.specs.declared.rows.PutFault.{PutFault}
+use Rattle.star_group.specs.declared.rows.PutFault.TheVariants.{OutOfMemory}
+use Rattle.star_program.specs.declared.program.Parts.{Parts}
+use Rattle.star_program.specs.Effects.{with_update}
+use Rattle.star_program.specs.Faults.{group_at}
+use Rattle.star_program.specs.Puts.{Update, overflows}
+use Rattle.star_trial.specs.Private.Runs.{AreStores}
+
+-- one more update of a group; or memory was refused, or the update would overflow
+abbrev pub HasPut : List EagerStore → List EagerStore → ℕ → Update → Result (Unit {0}) PutFault
+    → Type 0
+HasPut stores new g update result =
+    (parts : Parts) (updates_of : ℕ → List Update) → AreStores parts stores updates_of
+    → MatchResult result
+    (λ _. AreStores parts new (with_update updates_of g update)
+    × (overflows (group_at parts g) (updates_of g) update ≡ false))
+    (λ fault. UnlessMemory OutOfMemory fault
+    (overflows (group_at parts g) (updates_of g) update ≡ true))

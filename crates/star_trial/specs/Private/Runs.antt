@@ -1,0 +1,19 @@
+-- A run over eager stores, beside what the definitions say that it has done.
+use Rattle.std.specs.Prelude.{ℕ, List}
+use Rattle.star_schema.specs.Database.{Database}
+use Rattle.star_group.specs.declared.eager.EagerStore.{EagerStore}
+use Rattle.star_group.specs.Eager.{group_of, Has}
+use Rattle.star_program.specs.declared.program.Parts.{Parts}
+use Rattle.star_program.specs.Effects.{Store}
+use Rattle.star_program.specs.Puts.{Update}
+use Rattle.star_outcome.specs.declared.work.Work.{Work}
+use Rattle.star_outcome.specs.Done as done
+
+abbrev pub Run : Type 0
+Run = Work EagerStore
+
+abbrev pub AreStores : Parts → List EagerStore → (ℕ → List Update) → Type 0
+AreStores parts stores updates_of = done.AreStores group_of Has parts stores updates_of
+
+abbrev pub HasDone : Database → Parts → Run → Store → Type 0
+HasDone database parts run s = done.HasDone group_of Has database parts run s

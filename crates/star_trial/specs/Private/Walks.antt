@@ -1,0 +1,94 @@
+-- How a walk ends, in the words of the definitions.
+use Rattle.std.specs.Prelude.{◌≡◌, ◌≤◌, ◌+◌, ◌*◌, ℕ, Bool, true, List, Option, length, nat_lt, Result, MatchResult}
+use Rattle.star_schema.specs.Database.{Database, rows_in}
+use Rattle.star_program.specs.declared.program.Parts.{Parts}
+use Rattle.star_program.specs.Code.{Code}
+use Rattle.star_program.specs.Effects.{Store}
+use Rattle.star_program.specs.Run.{End, Ended, begin, meaning, scans, turns}
+use Rattle.star_program.specs.Values.{Registers, with_entry}
+use Rattle.star_program.specs.declared.value.Value.TheVariants.{Row}
+use Rattle.star_program.specs.declared.value.Value.{Value}
+use Rattle.star_trial.specs.declared.fault.Stop.{Stop}
+use Rattle.star_trial.specs.declared.fault.Stop.TheVariants as stop
+use Rattle.star_trial.specs.declared.fault.TrialFault.{TrialFault}
+use Rattle.star_trial.specs.declared.fault.TrialFault.TheVariants as fault
+use Rattle.star_trial.specs.declared.machine.Machine.{Machine}
+use Rattle.star_trial.specs.declared.machine.Scanned.{Scanned}
+use Rattle.star_trial.specs.Private.Runs.{HasDone, Run}
+use Rattle.star_trial.specs.Private.Shown.{held}
+use Rattle.star_outcome.specs.Sound.{AreSound}
+use Rattle.star_trial.specs.Trials.{IsFaultOf}
+use Rattle.star_world.specs.WorldOf.{world_of}
+
+pub record Finishes (database : Database) (parts : Parts) (run : Run) (end : End) : Type 0 where
+  pub s : Store
+  pub is : end ≡ Ended s
+  pub done : HasDone database parts run s
+
+-- Ok with what was done where the run comes to its end, else the trap or the limit
+abbrev pub IsEnd : Database → Parts → Run → End → Result (Unit {0}) TrialFault → Type 0
+IsEnd database parts run end result =
+    MatchResult result (λ _. Finishes database parts run end) (IsFaultOf end)
+
+-- what is left of a body, from an instruction on
+abbrev pub means : Machine → Code → ℕ → Bool → Registers → Store → End
+means m code at inside registers s =
+    meaning (world_of m.catalogue.now) m.parts.now (λ visits. nat_lt visits m.most) code at
+    inside registers s
+
+-- the body of a scan at a row, with the registers before the scan
+abbrev pub means_at : Machine → Scanned → Registers → Value → Store → End
+means_at m scan before row s =
+    means m scan.body.now (scan.at + 1) true (with_entry before scan.target row) s
+
+abbrev pub means_turn : Machine → Scanned → Registers → Value → Store → End
+means_turn m scan before row s = begin (nat_lt s.visits m.most) s (means_at m scan before row)
+
+abbrev pub means_turns : Machine → Scanned → Registers → Store → End
+means_turns m scan before s =
+    turns (λ visits. nat_lt visits m.most) (length (rows_in m.catalogue.now scan.table)) 0
+    (λ row. means_at m scan before (Row scan.table row)) s
+
+abbrev pub means_scan : Machine → Scanned → Registers → Store → End
+means_scan m scan before s =
+    scans scan.at (nat_lt scan.target m.parts.now.registers) (λ _. means_turns m scan before s)
+
+-- a run has done something
+abbrev pub HasRun : Machine → Run → Type 0
+HasRun m run = (s : Store) × HasDone m.catalogue.now m.parts.now run s
+
+-- what was done before, and then what this means
+abbrev pub Does : Machine → Run → Run → (Store → End) → Result (Unit {0}) TrialFault → Type 0
+Does m old new meant result =
+    (s : Store) → HasDone m.catalogue.now m.parts.now old s
+    → IsEnd m.catalogue.now m.parts.now new (meant s) result
+
+abbrev pub fault_at : ℕ → Stop → TrialFault
+fault_at at stop.OutOfMemory = fault.OutOfMemory
+fault_at at (stop.Trap kind) = fault.Trap at kind
+
+-- ---- how much work there can be: a turn has at most 4,096 instructions
+
+abbrev pub work : Run → ℕ
+work run = run.lookups + run.updates
+
+-- what was done, and so many instructions more, is no more than 4,096 a visit and 4,096 outside scans
+pub record IsFew (most : ℕ) (run : Run) (instructions : ℕ) : Type 0 where
+  pub visits : run.visits ≤ most
+  pub work : work run + instructions ≤ 4096 * run.visits + 4096
+
+-- a walk over so many instructions more, with scans so deep, may go on from here: these registers
+-- hold what is sound, the frames have room, and the run has done something, and not too much
+pub record IsReady (m : Machine) (registers frames : List (Option Value)) (run : Run)
+    (depth instructions : ℕ) : Type 0 where
+  pub wide : length registers ≡ m.parts.now.registers
+  pub deep : depth * m.parts.now.registers ≤ length frames
+  pub few : IsFew m.most run instructions
+  pub sound : AreSound m.catalogue.now (held registers)
+  pub done : HasRun m run
+
+-- what was done by so many instructions and by the turns of the scans among them
+pub record HasWorked (most : ℕ) (old new : Run) (instructions : ℕ) : Type 0 where
+  pub visits : new.visits ≤ most
+  pub more : old.visits ≤ new.visits
+  pub work : work new + 4096 * old.visits ≤ work old + instructions + 4096 * new.visits

@@ -1,0 +1,16 @@
+//! The trial: a run that checks each instruction, of any program over a loaded catalogue.
+#![tactic(auto)]
+
+mod act;
+mod compute;
+mod fault;
+mod machine;
+mod puts;
+mod report;
+mod start;
+mod trials;
+mod value;
+mod walk;
+
+pub use fault::TrialFault;
+pub use trials::trial;
