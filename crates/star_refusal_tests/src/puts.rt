@@ -5,6 +5,7 @@ ghost use Rattle.star_refusal_tests.specs.Few.{HasFew, IsOfTests};
 
 use crate::asked::{expect, tell_refused};
 use star_group::{GroupRows, GroupStore, KeyValue};
+use star_interval::Interval;
 use star_program::{Aggregates, GroupDecl, GroupKey, GroupKeys};
 use star_schema::{Aggregate, Shape};
 use std::alloc::{AllocError, Global};
@@ -33,6 +34,10 @@ const PUTS: [([KeyValue; 2], i64); 6] = [
 
 /// How many puts there are.
 pub(crate) const MOST: usize = 6;
+
+// Where the keys are expected: a store that keeps rows by place has places for those of the first,
+// third and fourth put, and takes memory for the others alone.
+const EXPECTED: [Interval; 2] = [Interval { low: 1, high: 2 }, Interval { low: 2, high: 2 }];
 
 // A sum, a count, the least and the greatest number.
 type Row = &'static [Option<i128>];
@@ -201,7 +206,7 @@ pub(crate) fn empty_store<S: GroupStore>(alloc: Global, shape: Shape) -> Result<
         keys: GroupKeys::from_vec(vec![in alloc; GroupKey::Number, GroupKey::Number]?),
         aggregates: Aggregates::from_vec(aggregates),
     };
-    S::new(alloc, &declared)
+    S::with_ranges(alloc, &declared, &EXPECTED)
 }
 
 // One more put behind a few.

@@ -1,4 +1,4 @@
-// Both stores of groups in each shape: puts that are refused memory, and those that are repeated.
+// All stores of groups in each shape: puts that are refused memory, and those that are repeated.
 
 ghost use Rattle.std.specs.Prelude.{IfOk};
 ghost use Rattle.star_group.specs.Eager.{Has, group_of};
@@ -6,7 +6,7 @@ ghost use Rattle.star_refusal_tests.specs.Few.{HasFew, IsOfTests};
 
 use crate::asked::tell_refused;
 use crate::puts::{MOST, check_rows, check_totals, empty_store, put_all, put_until_refused};
-use star_group::{DeferredStore, EagerStore, GroupRows, GroupStore, KeyValue, TryPut};
+use star_group::{DeferredStore, EagerStore, GroupRows, GroupStore, KeyValue, PlacedStore, TryPut};
 use star_program::GroupDecl;
 use star_schema::Shape;
 use std::alloc::{AllocError, Global};
@@ -81,6 +81,11 @@ fn deferred_store_new(rt: HostRuntime) -> Result<(), Fail> {
     is_made_again::<DeferredStore>(&rt, rt.alloc())
 }
 
+#[test]
+fn placed_store_new(rt: HostRuntime) -> Result<(), Fail> {
+    is_made_again::<PlacedStore>(&rt, rt.alloc())
+}
+
 // In each shape a store has, up to the first put that is refused memory, the rows and totals of
 // those before it.
 fn has_rows_before<S: GroupStore>(rt: &impl Print, alloc: Global) -> Result<(), Fail> {
@@ -108,6 +113,11 @@ fn deferred_store_put_leaves_the_rows(rt: HostRuntime) -> Result<(), Fail> {
     has_rows_before::<DeferredStore>(&rt, rt.alloc())
 }
 
+#[test]
+fn placed_store_put_leaves_the_rows(rt: HostRuntime) -> Result<(), Fail> {
+    has_rows_before::<PlacedStore>(&rt, rt.alloc())
+}
+
 // In each shape a store has the rows and totals of all puts, each repeated where it is refused.
 fn has_rows_of_all<S: GroupStore>(rt: &impl Print, alloc: Global) -> Result<(), Fail> {
     for shape in SHAPES {
@@ -132,6 +142,11 @@ fn eager_store_try_put_is_repeated(rt: HostRuntime) -> Result<(), Fail> {
 #[test]
 fn deferred_store_put_is_repeated(rt: HostRuntime) -> Result<(), Fail> {
     has_rows_of_all::<DeferredStore>(&rt, rt.alloc())
+}
+
+#[test]
+fn placed_store_put_is_repeated(rt: HostRuntime) -> Result<(), Fail> {
+    has_rows_of_all::<PlacedStore>(&rt, rt.alloc())
 }
 
 // The rows of all puts.
@@ -175,4 +190,9 @@ fn eager_store_into_rows(rt: HostRuntime) -> Result<(), Fail> {
 #[test]
 fn deferred_store_into_rows(rt: HostRuntime) -> Result<(), Fail> {
     gives_rows_again::<DeferredStore>(&rt, rt.alloc())
+}
+
+#[test]
+fn placed_store_into_rows(rt: HostRuntime) -> Result<(), Fail> {
+    gives_rows_again::<PlacedStore>(&rt, rt.alloc())
 }
