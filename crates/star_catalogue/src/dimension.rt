@@ -1,20 +1,19 @@
 // The keys of a dimension, each with its row.
 
-ghost use Rattle.std.specs.Prelude.{◌≡◌, ◌<◌, ◌^◌, ◌-ℤ◌, ◌≤ℤ◌, All, IfOk, IfSome, MatchResult, Some, length, position};
+ghost use Rattle.std.specs.Prelude.{◌≡◌, ◌<◌, ◌^◌, ◌-ℤ◌, ◌≤ℤ◌, All, IfSome, MatchResult, Some, length};
 ghost use Rattle.std.specs.List.{IsDistinct};
 ghost use Rattle.std.specs.Int.RustNames.{unsigned_abs};
 ghost use Rattle.std.specs.Option.{option_map};
 ghost use Rattle.std.specs.Ordering.{int_eq};
 ghost use Rattle.star_common.specs.Memory.{UnlessMemory};
+ghost use Rattle.star_catalogue.specs.Private.Indexed.{row_at};
 ghost use Rattle.star_catalogue.specs.Private.Places.{ArePlaces, dense_at, row_of};
 ghost use Rattle.star_catalogue.specs.Load.{first_repeat};
 
+use crate::far_keys::FarKeys;
 use crate::fault::LoadFault;
-use crate::seeded::Seeded;
-use indexmap::IndexSet;
 use star_schema::TableId;
-use std::alloc::{AllocError, Global};
-use std::marker::Model;
+use std::alloc::Global;
 
 /// What stands where no row has the key: one more than any row's place.
 const NO_ROW: u32 = u32::MAX;
@@ -56,18 +55,34 @@ fn dense_range(keys: &[i64]) -> Option<(i64, usize)>
     }
 }
 
-/// Makes, for each of the `span` numbers from the least key on, its place among the keys, which all
-/// differ.
-fn rows_from(alloc: Global, keys: &[i64], least: i64, span: usize) -> Result<Vec<u32>, AllocError>
+/// Makes, for each of the `span` numbers from the least key on, its place among the keys, or answers
+/// the first record whose key an earlier one has.
+fn rows_from(
+    alloc: Global,
+    table: TableId,
+    keys: &[i64],
+    least: i64,
+    span: usize,
+) -> Result<Vec<u32>, LoadFault>
     requires few { length keys.now < 2 ^ 32 }
-    requires distinct { IsDistinct int_eq keys.now }
     requires least { All (λ key. least ≤ℤ key) keys.now }
     requires within { All (λ key. unsigned_abs (key -ℤ least) < span) keys.now }
-    ensures { IfOk result (λ rows. ArePlaces int_eq (dense_at least rows.items) keys.now) }
+    ensures { MatchResult result
+        (λ rows. ArePlaces int_eq (dense_at least rows.items) keys.now
+        × IsDistinct int_eq keys.now)
+        (λ fault. UnlessMemory LoadFault.OutOfMemory fault
+        (option_map (LoadFault.DuplicateKey table) (first_repeat int_eq keys.now) ≡ Some fault)) }
 {
     let mut rows = vec![in alloc; NO_ROW; span]?;
     for (place, key) in keys.iter().enumerate() {
-        rows[key.abs_diff(least) as usize] = place as u32;
+        let slot = key.abs_diff(least) as usize;
+        if rows[slot] != NO_ROW {
+            return Err(LoadFault::DuplicateKey {
+                table,
+                at_row: place as u32 + 1,
+            });
+        }
+        rows[slot] = place as u32;
     }
     Ok(rows)
 }
@@ -101,64 +116,12 @@ pub struct NearKeys {
     rows: Vec<u32>,
 }
 
-impl NearKeys {
-    /// Builds the short way to these keys, which all differ, if they lie close together.
-    fn build(alloc: Global, keys: &[i64]) -> Result<Option<NearKeys>, AllocError>
-        requires few { length keys.now < 2 ^ 32 }
-        requires distinct { IsDistinct int_eq keys.now }
-        ensures { IfOk result (λ near. IfSome near
-            (λ near. ArePlaces int_eq (dense_at near.least near.rows.items) keys.now)) }
-    {
-        match dense_range(keys) {
-            Some((least, span)) => {
-                let rows = rows_from(alloc, keys, least, span)?;
-                Ok(Some(NearKeys { least, rows }))
-            }
-            None => Ok(None),
-        }
-    }
-}
-
-/// Indexes the keys of a dimension, each in the place of its row, or answers the first record whose
-/// key an earlier one has.
-fn indexed(alloc: Global, table: TableId, keys: &[i64]) -> Result<IndexSet<i64, Seeded>, LoadFault>
-    requires { length keys.now < 2 ^ 32 }
-    ensures { MatchResult result
-        (λ rows. (rows.keys ≡ keys.now) × IsDistinct int_eq keys.now)
-        (λ fault. UnlessMemory LoadFault.OutOfMemory fault
-        (option_map (LoadFault.DuplicateKey table) (first_repeat int_eq keys.now) ≡ Some fault)) }
-{
-    let mut rows = IndexSet::with_capacity_and_hasher(alloc, keys.len(), Seeded::of_keys(keys))?;
-    for (place, key) in keys.iter().enumerate() {
-        let (_, is_new) = rows.insert_full(*key)?;
-        if !is_new {
-            return Err(LoadFault::DuplicateKey {
-                table,
-                at_row: place as u32 + 1,
-            });
-        }
-    }
-    Ok(rows)
-}
-
-/// The rows of a dimension by their keys, which all differ. A contract sees the keys in the order
-/// of their rows.
+/// The rows of a dimension by their keys, which all differ. Keys that lie close together need no
+/// hash, which would take more memory than the rest of a table of short texts.
 #[derive(Drop)]
-pub struct DimensionKeys {
-    rows: IndexSet<i64, Seeded>,
-    near: Option<NearKeys>,
-}
-
-impl Model for DimensionKeys {
-    ghost use Rattle.std.specs.Prelude.{List, ℤ};
-
-    ghost Value = { List ℤ };
-
-    ghost use Rattle.star_catalogue.specs.Private.Indexed.{AreIndexed, keys_kept};
-
-    ghost view = { keys_kept };
-
-    ghost invariant = { AreIndexed };
+pub enum DimensionKeys {
+    Near(NearKeys),
+    Far(FarKeys),
 }
 
 impl DimensionKeys {
@@ -171,34 +134,32 @@ impl DimensionKeys {
     ) -> Result<DimensionKeys, LoadFault>
         requires { length keys.now < 2 ^ 32 }
         ensures { MatchResult result
-            (λ index. (index ≡ keys.now) × IsDistinct int_eq keys.now)
+            (λ index. ArePlaces int_eq (row_at index) keys.now × IsDistinct int_eq keys.now)
             (λ fault. UnlessMemory LoadFault.OutOfMemory fault
             (option_map (LoadFault.DuplicateKey table) (first_repeat int_eq keys.now)
             ≡ Some fault)) }
     {
-        let rows = indexed(alloc, table, keys)?;
-        let near = NearKeys::build(alloc, keys)?;
-        Ok(DimensionKeys { rows, near })
-    }
-
-    /// Finds the row with a key, if there is one, by the index.
-    #[inline(never)]
-    fn find_indexed(&self, key: i64) -> Option<u32>
-        ensures { result ≡ position (int_eq key) self.now }
-    {
-        let row = self.rows.get_index_of(&key)?;
-        Some(row as u32)
+        match dense_range(keys) {
+            Some((least, span)) => {
+                let rows = rows_from(alloc, table, keys, least, span)?;
+                Ok(DimensionKeys::Near(NearKeys { least, rows }))
+            }
+            None => {
+                let far = FarKeys::build(alloc, table, keys)?;
+                Ok(DimensionKeys::Far(far))
+            }
+        }
     }
 
     /// Finds the row with a key, if there is one. The short way is inlined into the loops over
     /// foreign keys, and the index's is not.
     #[inline(always)]
     pub(crate) fn find(&self, key: i64) -> Option<u32>
-        ensures { result ≡ position (int_eq key) self.now }
+        ensures { result ≡ row_at self.now key }
     {
-        match &self.near {
-            Some(near) => find_from(near.least, near.rows.as_slice(), key),
-            None => self.find_indexed(key),
+        match self {
+            DimensionKeys::Near(near) => find_from(near.least, near.rows.as_slice(), key),
+            DimensionKeys::Far(far) => far.find(key),
         }
     }
 }

@@ -5,6 +5,7 @@
 mod catalogue;
 mod columns;
 mod dimension;
+mod far_keys;
 mod fault;
 mod keys;
 pub mod law;

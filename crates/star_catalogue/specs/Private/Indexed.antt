@@ -1,15 +1,11 @@
 -- What is kept of the keys of a dimension.
-use Rattle.std.specs.Prelude.{◌<◌, ◌^◌, IfSome, List, ℤ, length}
-use Rattle.std.specs.List.{IsDistinct}
+use Rattle.std.specs.Prelude.{ℕ, ℤ, Option, position}
 use Rattle.std.specs.Ordering.{int_eq}
-use Rattle.star_catalogue.specs.declared.dimension.DimensionKeys.TheInside.{Inside}
-use Rattle.star_catalogue.specs.Private.Places.{ArePlaces, dense_at}
+use Rattle.star_catalogue.specs.declared.dimension.DimensionKeys.{DimensionKeys}
+use Rattle.star_catalogue.specs.declared.dimension.DimensionKeys.TheVariants.{Far, Near}
+use Rattle.star_catalogue.specs.Private.Places.{dense_at}
 
-abbrev pub keys_kept : Inside → List ℤ
-keys_kept kept = kept.rows.keys
-
--- the keys differ, and the short way, if there is one, leads to where they stand
-pub record AreIndexed (kept : Inside) : Type 0 where
-  pub few : length kept.rows.keys < 2 ^ 32
-  pub distinct : IsDistinct int_eq kept.rows.keys
-  pub near : IfSome kept.near (λ near. ArePlaces int_eq (dense_at near.least near.rows.items) kept.rows.keys)
+-- the row that a key leads to, if there is one
+abbrev pub row_at : DimensionKeys → ℤ → Option ℕ
+row_at (Near near) key = dense_at near.least near.rows.items key
+row_at (Far far) key = position (int_eq key) far.rows.keys

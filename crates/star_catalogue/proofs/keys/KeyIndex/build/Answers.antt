@@ -1,4 +1,4 @@
-use Rattle.std.proofs.Common.{◌≡◌, ◌∙◌, ℤ, List, ap, length, position, subst, sym}
+use Rattle.std.proofs.Common.{◌≡◌, ◌∙◌, ap, length, sym}
 use Rattle.std.specs.Ordering.{int_eq}
 use Rattle.star_schema.specs.declared.table.Key.TheVariants.{One, Two}
 use Rattle.star_schema.specs.Bounds.{numbers_at}
@@ -9,9 +9,9 @@ use Rattle.star_reader.proofs.RowPlaces.{length-numbers_at}
 use Rattle.star_reader.proofs.PassedOn.{passed_on}
 use Rattle.star_catalogue.proofs.Apart.{numbers_apart}
 use Rattle.star_catalogue.proofs.KeyLists.{apart_of_one, apart_of_two, fault_of_one, fault_of_two, keys_of_one, length_of_two}
+use Rattle.star_catalogue.specs.Private.Indexed.{row_at}
 use Rattle.star_catalogue.specs.Private.Places.{ArePlaces}
 use Rattle.star_catalogue.proofs.Found.{kept_one, none_among_two}
-use Rattle.star_catalogue.proofs.Positions.{positions_are_places}
 use Rattle.star_catalogue.proofs.keys.KeyIndex.build.Goals as goal
 use Rattle.star_catalogue.proofs.keys.KeyIndex.build.Goals.{After-as_slice}
 
@@ -53,13 +53,9 @@ returns-in_ok-index-in-One c =
     let numbers = numbers_at (place_of c.in-One.column) rows in
     let index = c.in_ok-index-in-One.index in
     let are = keys_are (goal.at.returns-in_ok-index-in-One c).After-as_slice in
-    let is : index ≡ numbers = c.in_ok-index-in-One.ensures.0 ∙ are in
     let apart = numbers_apart numbers (rw are at c.in_ok-index-in-One.ensures.1) in
-    let places : ArePlaces int_eq (λ n. position (int_eq n) index) numbers =
-    subst (λ (ks : List ℤ). ArePlaces int_eq (λ n. position (int_eq n) ks) numbers) (sym is)
-    (positions_are_places numbers apart) in (
-      kept_one (λ n. position (int_eq n) index) numbers _ places
-          (keys_of_one table c.in-One.column rows key),
+    let places : ArePlaces int_eq (row_at index) numbers = rw are at c.in_ok-index-in-One.ensures.0 in (
+      kept_one (row_at index) numbers _ places (keys_of_one table c.in-One.column rows key),
       apart_of_one table c.in-One.column rows key apart,
     )
 

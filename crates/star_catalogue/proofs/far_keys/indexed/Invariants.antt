@@ -1,7 +1,7 @@
 use Rattle.std.proofs.Common.{◌≡◌, take}
 use Rattle.std.specs.Ordering.{int_eq}
 use Rattle.star_catalogue.proofs.Repeats.{NoneRepeats}
-use Rattle.star_catalogue.proofs.dimension.indexed.Given as goal
+use Rattle.star_catalogue.proofs.far_keys.indexed.Given as goal
 
 abbrev pub invariant-loop-place : goal.invariant-loop-place
 invariant-loop-place l = record {

@@ -8,7 +8,7 @@ use Rattle.std.proofs.lemmas.Option.{slice_get-get_or}
 use Rattle.star_catalogue.specs.declared.fault.LoadFault.TheVariants.{DuplicateKey}
 use Rattle.star_catalogue.proofs.Copies.{copied_more}
 use Rattle.star_catalogue.proofs.Repeats.{new_more, none_yet_repeats, repeats_first, NoneRepeats}
-use Rattle.star_catalogue.proofs.dimension.indexed.Goals as goal
+use Rattle.star_catalogue.proofs.far_keys.indexed.Goals as goal
 
 was_there : (b : Bool) → false ≡ not b → b ≡ true
 was_there true e = refl
