@@ -154,9 +154,9 @@ impl Model for DimensionKeys {
 
     ghost Value = { List ℤ };
 
-    ghost use Rattle.star_catalogue.specs.Private.Indexed.{AreIndexed, keys_kept};
+    ghost use Rattle.star_catalogue.specs.Private.Indexed.{AreIndexed, keys_view};
 
-    ghost view = { keys_kept };
+    ghost view = { keys_view };
 
     ghost invariant = { AreIndexed };
 }

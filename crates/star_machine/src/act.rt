@@ -9,19 +9,19 @@ ghost use Rattle.star_machine.specs.declared.act.Flow.TheVariants as Flow;
 ghost use Rattle.star_machine.specs.declared.fault.Stop.TheVariants as Stop;
 ghost use Rattle.star_program.specs.declared.fault.TrapKind.TheVariants as TrapKind;
 ghost use Rattle.star_program.specs.declared.value.Value.TheVariants as Value;
-ghost use Rattle.star_program.specs.Effects.{Store, kinds_in};
+ghost use Rattle.star_program.specs.Effects.{State, kinds_in};
 ghost use Rattle.star_program.specs.Private.Doing.{assigns, does, fitting};
 ghost use Rattle.star_program.specs.Effects as effects;
 ghost use Rattle.star_program.specs.Faults as faults;
 ghost use Rattle.star_program.specs.Limits.{IsSmall};
 ghost use Rattle.star_machine.specs.Private.Acts.{IsAnswer, IsMade};
 ghost use Rattle.star_group.specs.declared.eager.EagerStore.{EagerStore};
-ghost use Rattle.star_group.specs.Eager.{group_of};
+ghost use Rattle.star_group.specs.Eager.{group_view};
 ghost use Rattle.star_program.specs.Puts as puts;
 ghost use Rattle.star_program.specs.Puts.{Update};
 ghost use Rattle.star_machine.specs.Private.Runs.{AreStores, HasDone, IsPlaced};
 ghost use Rattle.std.specs.Prelude.{List};
-ghost use Rattle.star_machine.specs.Private.Shown.{held};
+ghost use Rattle.star_machine.specs.Private.Views.{registers_view};
 ghost use Rattle.star_machine.specs.Sound.{AreSound};
 ghost use Rattle.star_world.specs.WorldOf.{world_of};
 
@@ -70,9 +70,9 @@ fn look_up(
     key: u16,
 ) -> Result<Value, Stop>
     requires { run.old.lookups < 2 ^ 63 }
-    ensures does { (parts : Parts) (s : Store) (target : ℕ) → HasDone catalogue.now parts run.old s
-        → IsMade catalogue.now parts (held registers.now) run.new target
-        (assigns (world_of catalogue.now) parts (held registers.now) s target
+    ensures does { (parts : Parts) (s : State) (target : ℕ) → HasDone catalogue.now parts run.old s
+        → IsMade catalogue.now parts (registers_view registers.now) run.new target
+        (assigns (world_of catalogue.now) parts (registers_view registers.now) s target
         (operation.Find table key)) result }
     ensures work { run.new.lookups + run.new.updates ≤ run.old.lookups + run.old.updates + 1 }
     ensures visits { run.new.visits ≡ run.old.visits }
@@ -98,14 +98,14 @@ fn update(
     requires few { run.old.updates < 2 ^ 63 }
     requires small { IsSmall (faults.group_at parts.now group) }
     requires placed { IsPlaced parts.now group keys.now values.now }
-    requires keys { faults.keys_fault (length registers.now) (kinds_in (held registers.now))
+    requires keys { faults.keys_fault (length registers.now) (kinds_in (registers_view registers.now))
         (faults.group_at parts.now group).keys keys.now ≡ None }
     requires stores { (updates_of : ℕ → List Update)
         × AreStores parts.now run.old.stores.items updates_of }
-    ensures does { (w : World) (database : Database) (s : Store)
-        → AreSound database (held registers.now) → HasDone database parts.now run.old s
-        → IsAnswer database parts.now (held registers.now) run.new
-        (does w parts.now (held registers.now) s (op.Put group keys.now values.now)) result }
+    ensures does { (w : World) (database : Database) (s : State)
+        → AreSound database (registers_view registers.now) → HasDone database parts.now run.old s
+        → IsAnswer database parts.now (registers_view registers.now) run.new
+        (does w parts.now (registers_view registers.now) s (op.Put group keys.now values.now)) result }
     ensures work { run.new.lookups + run.new.updates ≤ run.old.lookups + run.old.updates + 1 }
     ensures visits { run.new.visits ≡ run.old.visits }
 {
@@ -133,11 +133,11 @@ fn narrowed(number: i128) -> Option<Value>
 fn read(run: &Work<EagerStore>, group: u16, aggregate: u16, default: i64) -> Option<Value>
     requires there { group < length run.now.stores.items }
     requires declared { (store : EagerStore) → slice_get run.now.stores.items group ≡ Some store
-        → aggregate < length (group_of store).aggregates }
+        → aggregate < length (group_view store).aggregates }
     ensures { (parts : Parts) (updates_of : ℕ → List Update)
         → AreStores parts run.now.stores.items updates_of
         → result ≡ fitting (Value.Number (unwrap_or
-        (puts.total (faults.group_at parts group) aggregate (updates_of group)) default)) }
+        (puts.total_over (faults.group_at parts group).aggregates aggregate (updates_of group)) default)) }
 {
     let total = run.total(group, aggregate);
     narrowed(total.unwrap_or(i128::from(default)))
@@ -151,16 +151,16 @@ fn operate(
     operation: &Operation,
 ) -> Result<Value, Stop>
     requires few { run.old.lookups < 2 ^ 63 }
-    requires placed { (parts : Parts) × (inside : Bool) × (target : ℕ) × (s : Store)
+    requires placed { (parts : Parts) × (inside : Bool) × (target : ℕ) × (s : State)
         × HasDone catalogue.now parts run.old s
         × (faults.place_fault parts inside (op.Assign target operation.now) ≡ None) }
     requires operands { faults.operation_fault (length registers.now)
-        (kinds_in (held registers.now)) operation.now ≡ None }
-    requires sound { AreSound catalogue.now (held registers.now) }
-    ensures does { (parts : Parts) (s : Store) (target : ℕ) → HasDone catalogue.now parts run.old s
-        → IsMade catalogue.now parts (held registers.now) run.new target
+        (kinds_in (registers_view registers.now)) operation.now ≡ None }
+    requires sound { AreSound catalogue.now (registers_view registers.now) }
+    ensures does { (parts : Parts) (s : State) (target : ℕ) → HasDone catalogue.now parts run.old s
+        → IsMade catalogue.now parts (registers_view registers.now) run.new target
         (assigns (world_of catalogue.now) parts
-        (held registers.now) s target operation.now) result }
+        (registers_view registers.now) s target operation.now) result }
     ensures work { run.new.lookups + run.new.updates ≤ run.old.lookups + run.old.updates + 1 }
     ensures visits { run.new.visits ≡ run.old.visits }
 {
@@ -195,18 +195,18 @@ fn assign(
     operation: &Operation,
 ) -> Result<Flow, Stop>
     requires few { run.old.lookups < 2 ^ 63 }
-    requires placed { (parts : Parts) × (inside : Bool) × (s : Store)
+    requires placed { (parts : Parts) × (inside : Bool) × (s : State)
         × HasDone catalogue.now parts run.old s
         × (faults.place_fault parts inside (op.Assign target operation.now) ≡ None) }
     requires declared { target < length registers.old }
     requires operands { faults.operation_fault (length registers.old)
-        (kinds_in (held registers.old)) operation.now ≡ None }
-    requires sound { AreSound catalogue.now (held registers.old) }
-    ensures does { (parts : Parts) (s : Store) → HasDone catalogue.now parts run.old s
-        → IsAnswer catalogue.now parts (held registers.new) run.new
+        (kinds_in (registers_view registers.old)) operation.now ≡ None }
+    requires sound { AreSound catalogue.now (registers_view registers.old) }
+    ensures does { (parts : Parts) (s : State) → HasDone catalogue.now parts run.old s
+        → IsAnswer catalogue.now parts (registers_view registers.new) run.new
         (assigns (world_of catalogue.now) parts
-        (held registers.old) s target operation.now) result }
-    ensures sound { OnOk result (AreSound catalogue.now (held registers.new)) }
+        (registers_view registers.old) s target operation.now) result }
+    ensures sound { OnOk result (AreSound catalogue.now (registers_view registers.new)) }
     ensures len { length registers.new ≡ length registers.old }
     ensures work { run.new.lookups + run.new.updates ≤ run.old.lookups + run.old.updates + 1 }
     ensures visits { run.new.visits ≡ run.old.visits }
@@ -229,14 +229,14 @@ fn perform(
     requires wide { length registers.old ≡ parts.now.registers }
     requires placed { (inside : Bool) × (faults.place_fault parts.now inside op.now ≡ None) }
     requires target { faults.target_fault (length registers.old) (faults.target_of op.now) ≡ None }
-    requires operands { faults.operands_fault parts.now (kinds_in (held registers.old)) op.now
+    requires operands { faults.operands_fault parts.now (kinds_in (registers_view registers.old)) op.now
         ≡ None }
-    requires sound { AreSound catalogue.now (held registers.old) }
-    requires done { (s : Store) × HasDone catalogue.now parts.now run.old s }
-    ensures does { (s : Store) → HasDone catalogue.now parts.now run.old s
-        → IsAnswer catalogue.now parts.now (held registers.new) run.new
-        (does (world_of catalogue.now) parts.now (held registers.old) s op.now) result }
-    ensures sound { OnOk result (AreSound catalogue.now (held registers.new)) }
+    requires sound { AreSound catalogue.now (registers_view registers.old) }
+    requires done { (s : State) × HasDone catalogue.now parts.now run.old s }
+    ensures does { (s : State) → HasDone catalogue.now parts.now run.old s
+        → IsAnswer catalogue.now parts.now (registers_view registers.new) run.new
+        (does (world_of catalogue.now) parts.now (registers_view registers.old) s op.now) result }
+    ensures sound { OnOk result (AreSound catalogue.now (registers_view registers.new)) }
     ensures len { length registers.new ≡ length registers.old }
     ensures work { run.new.lookups + run.new.updates ≤ run.old.lookups + run.old.updates + 1 }
     ensures visits { run.new.visits ≡ run.old.visits }
@@ -264,13 +264,13 @@ pub(crate) fn act(
     requires few { run.old.lookups + run.old.updates < 2 ^ 63 }
     requires small { All IsSmall parts.now.groups }
     requires wide { length registers.old ≡ parts.now.registers }
-    requires sound { AreSound catalogue.now (held registers.old) }
-    requires done { (s : Store) × HasDone catalogue.now parts.now run.old s }
-    ensures does { (s : Store) → HasDone catalogue.now parts.now run.old s
-        → IsAnswer catalogue.now parts.now (held registers.new) run.new
+    requires sound { AreSound catalogue.now (registers_view registers.old) }
+    requires done { (s : State) × HasDone catalogue.now parts.now run.old s }
+    ensures does { (s : State) → HasDone catalogue.now parts.now run.old s
+        → IsAnswer catalogue.now parts.now (registers_view registers.new) run.new
         (effects.act (world_of catalogue.now) parts.now inside
-        (held registers.old) s op.now) result }
-    ensures sound { OnOk result (AreSound catalogue.now (held registers.new)) }
+        (registers_view registers.old) s op.now) result }
+    ensures sound { OnOk result (AreSound catalogue.now (registers_view registers.new)) }
     ensures len { length registers.new ≡ length registers.old }
     ensures work { run.new.lookups + run.new.updates ≤ run.old.lookups + run.old.updates + 1 }
     ensures visits { run.new.visits ≡ run.old.visits }

@@ -5,8 +5,8 @@ use Rattle.std.specs.Ordering.{int_eq}
 use Rattle.star_catalogue.specs.declared.dimension.DimensionKeys.TheInside.{Inside}
 use Rattle.star_catalogue.specs.Private.Places.{ArePlaces, dense_at}
 
-abbrev pub keys_kept : Inside → List ℤ
-keys_kept kept = kept.rows.keys
+abbrev pub keys_view : Inside → List ℤ
+keys_view kept = kept.rows.keys
 
 -- the keys differ, and the short way, if there is one, leads to where they stand
 pub record AreIndexed (kept : Inside) : Type 0 where

@@ -1,7 +1,7 @@
 use Rattle.std.proofs.Common.{subst}
 use Rattle.std.proofs.lemmas.Result.{err_from_is_err_and}
 use Rattle.star_machine.specs.Private.Acts.{IsAnswer}
-use Rattle.star_machine.specs.Private.Shown.{held}
+use Rattle.star_machine.specs.Private.Views.{registers_view}
 use Rattle.star_world.specs.WorldOf.{world_of}
 use Rattle.star_machine.proofs.Checked.{acts, operands_fine, traps}
 use Rattle.star_machine.proofs.act.act.Goals as goal
@@ -16,6 +16,6 @@ perform-requires-clause-operands c = operands_fine c.args.parts.now c.args.insid
 
 pub returns-clause-does : goal.returns-clause-does
 returns-clause-does c = λ s done.
-    subst (λ effect. IsAnswer c.args.catalogue.now c.args.parts.now (held c.perform.new.registers) c.perform.new.run effect c.perform.result)
+    subst (λ effect. IsAnswer c.args.catalogue.now c.args.parts.now (registers_view c.perform.new.registers) c.perform.new.run effect c.perform.result)
     (acts c.args.parts.now c.args.inside c.args.registers.now c.args.op.now (world_of c.args.catalogue.now) s c.in_ok-check.ensures)
     (c.perform.ensures.does s done)
