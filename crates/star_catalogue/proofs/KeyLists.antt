@@ -13,7 +13,7 @@ use Rattle.star_schema.specs.Loadable.{HasDistinctKeys, key_numbers, keys_of}
 use Rattle.star_schema.specs.Schema.{key_of, place_of}
 use Rattle.star_schema.specs.Tables.{Value}
 use Rattle.star_catalogue.specs.declared.fault.LoadFault.TheVariants.{DuplicateKey}
-use Rattle.star_catalogue.specs.Load.{first_repeat, keys_fault, same_key}
+use Rattle.star_catalogue.specs.Load.{first_repeat, repeated_key_fault, same_key}
 use Rattle.star_catalogue.specs.Private.Keys.{same_pair}
 use Rattle.star_catalogue.proofs.Apart.{apart-map}
 use Rattle.star_catalogue.proofs.Repeats.{apart_no_repeat, first_repeat-map, no_repeat_apart}
@@ -48,7 +48,7 @@ same_two : (p q : ℤ × ℤ) → same_key (two p) (two q) ≡ same_pair p q
 same_two p q = ap (λ b. int_eq p.0 q.0 && b) (and_true (int_eq p.1 q.1))
 
 pub fault_of_one : (t : TableId) (c : ColumnId) (rows : List (List Value)) → key_of t ≡ One c
-    → keys_fault t rows
+    → repeated_key_fault t rows
     ≡ option_map (DuplicateKey t) (first_repeat int_eq (numbers_at (place_of c) rows))
 fault_of_one t c rows e =
     ap (option_map (DuplicateKey t))
@@ -56,7 +56,7 @@ fault_of_one t c rows e =
     ∙ first_repeat-map int_eq same_key one same_one (numbers_at (place_of c) rows))
 
 pub fault_of_two : (t : TableId) (c d : ColumnId) (rows : List (List Value)) → key_of t ≡ Two c d
-    → keys_fault t rows
+    → repeated_key_fault t rows
     ≡ option_map (DuplicateKey t)
     (first_repeat same_pair (zip (numbers_at (place_of c) rows) (numbers_at (place_of d) rows)))
 fault_of_two t c d rows e =
@@ -90,12 +90,12 @@ length_of_two t c d rows e =
 
 -- different keys have no fault
 pub distinct_no_fault : (t : TableId) (rows : List (List Value)) → HasDistinctKeys t rows
-    → keys_fault t rows ≡ None
+    → repeated_key_fault t rows ≡ None
 distinct_no_fault t rows h =
     ap (option_map (DuplicateKey t)) (apart_no_repeat same_key signed_items (keys_of t rows) h)
 
 -- keys without a fault differ
-pub no_fault_distinct : (t : TableId) (rows : List (List Value)) → keys_fault t rows ≡ None
+pub no_fault_distinct : (t : TableId) (rows : List (List Value)) → repeated_key_fault t rows ≡ None
     → HasDistinctKeys t rows
 no_fault_distinct t rows none =
     no_repeat_apart same_key signed_items (keys_of t rows) (unmapped (first_repeat same_key (keys_of t rows)) none)

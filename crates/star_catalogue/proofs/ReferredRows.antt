@@ -13,7 +13,7 @@ use Rattle.star_schema.specs.Loadable.{RefersTo, keys_of}
 use Rattle.star_schema.specs.Schema.{index_of, place_of, references, table_of}
 use Rattle.star_catalogue.specs.declared.referred.Referred.{Referred}
 use Rattle.star_catalogue.specs.ReferredRows.{AreReferredRows}
-use Rattle.star_catalogue.specs.Private.Referred.{AreFound, AreOfFirst, AreReferred, AreRowsOf, rows_kept}
+use Rattle.star_catalogue.specs.Private.Referred.{AreFound, AreOfFirst, AreReferred, AreRowsOf, rows_view}
 use Rattle.star_schema.proofs.Same.{at_index}
 use Rattle.star_flat.proofs.Pushed.{pushed_cases}
 use Rattle.star_reader.proofs.RowPlaces.{length-numbers_at}
@@ -115,11 +115,11 @@ of_one_more {database} {n} {lists} c rows more so_far pushed at are =
 
 -- the rows of one column
 pub of_column : (database : Database) (kept : Referred) (c : ColumnId) → AreReferred database kept
-    → (index_of c < length kept.rows.items) × AreRowsOf database c (rows_kept kept c)
+    → (index_of c < length kept.rows.items) × AreRowsOf database c (rows_view kept c)
 of_column database kept c are =
     let within = rw (← are.all) at (slice_get_within COLUMNS (index_of c) c (at_index c)) in (
       within,
-      are.each (index_of c) c (rows_kept kept c) (at_index c)
+      are.each (index_of c) c (rows_view kept c) (at_index c)
           (slice_get-get_or kept.rows.items (index_of c) [] within),
     )
 
@@ -130,20 +130,20 @@ index_kept database kept c are = (of_column database kept c are).0
 
 -- all rows of a column that refers to a table
 pub are_rows : (database : Database) (kept : Referred) (c : ColumnId) → AreReferred database kept
-    → IsSome (references c) → AreReferredRows database c (rows_kept kept c)
+    → IsSome (references c) → AreReferredRows database c (rows_view kept c)
 are_rows database kept c are some = by (references c) refl
   where
     by : (r : Option TableId) → references c ≡ r
-        → AreReferredRows database c (rows_kept kept c)
+        → AreReferredRows database c (rows_view kept c)
     by None free = let none = rw free at some in let bad : ⊥ = cc in absurd bad
     by (Some t) refers =
         let found = (of_column database kept c are).1 t refers in
         record {
           all = found_count (keys_of t (rows_in database t))
-              (numbers_of c (rows_in database (table_of c))) (rows_kept kept c) found ∙ length-numbers_at (place_of c) (rows_in database (table_of c));
+              (numbers_of c (rows_in database (table_of c))) (rows_view kept c) found ∙ length-numbers_at (place_of c) (rows_in database (table_of c));
           each = λ other row number refers_to at.
               let there = row_there (keys_of other (rows_in database other))
-              (numbers_of c (rows_in database (table_of c))) (rows_kept kept c) row number
+              (numbers_of c (rows_in database (table_of c))) (rows_view kept c) row number
               ((of_column database kept c are).1 other refers_to) at in
-              rw (get_or_from_slice_get (rows_kept kept c) row there.0 0 there.1) there.2;
+              rw (get_or_from_slice_get (rows_view kept c) row there.0 0 there.1) there.2;
         }

@@ -29,7 +29,7 @@ use Rattle.star_common.proofs.Firsts.{all_without_answer, enumerated_at, first_a
 use Rattle.star_schema.proofs.KeyColumns.{foreign_key}
 use Rattle.star_catalogue.specs.declared.fault.LoadFault.{LoadFault}
 use Rattle.star_catalogue.specs.declared.fault.LoadFault.TheVariants.{AbsentKey}
-use Rattle.star_catalogue.specs.Load.{absent_fault, cell_fault, is_found, row_fault, same_key}
+use Rattle.star_catalogue.specs.Load.{absent_fault, foreign_key_fault, is_found, row_fault, same_key}
 
 -- the number of a row in a column
 pub number_of_row : (c : ColumnId) (rows : List (List Value)) (row : ℕ) (n : ℤ) → row < length rows
@@ -48,7 +48,7 @@ key_is a b = (signed_items a b).0
 pub cell_known : (database : Database) (at_row : ℕ) (row : List Value) (c : ColumnId) (t : TableId)
     (n : ℤ) (place : ℕ) → references c ≡ Some t → number_at c row ≡ n
     → slice_get (keys_of t (rows_in database t)) place ≡ Some (n ∷ [])
-    → cell_fault database at_row row c ≡ None
+    → foreign_key_fault database at_row row c ≡ None
 cell_known database at_row row c t n place refers number at =
     let found : list_any (same_key (n ∷ [])) (keys_of t (rows_in database t)) ≡ true =
     any_passes_from_place (same_key (n ∷ [])) (keys_of t (rows_in database t)) place (n ∷ []) at
@@ -61,7 +61,7 @@ cell_known database at_row row c t n place refers number at =
 pub cell_absent : (database : Database) (at_row : ℕ) (row : List Value) (c : ColumnId) (t : TableId)
     (n : ℤ) → references c ≡ Some t → number_at c row ≡ n
     → ((place : ℕ) → slice_get (keys_of t (rows_in database t)) place ≡ Some (n ∷ []) → ⊥)
-    → cell_fault database at_row row c ≡ Some (AbsentKey at_row c)
+    → foreign_key_fault database at_row row c ≡ Some (AbsentKey at_row c)
 cell_absent database at_row row c t n refers number none =
     let absent : list_any (same_key (n ∷ [])) (keys_of t (rows_in database t)) ≡ false =
     elim (cases_Bool (list_any (same_key (n ∷ [])) (keys_of t (rows_in database t)))) [
@@ -78,7 +78,7 @@ cell_absent database at_row row c t n refers number none =
     rw unknown refl
 
 pub cell_free : (database : Database) (at_row : ℕ) (row : List Value) (c : ColumnId)
-    → references c ≡ None → cell_fault database at_row row c ≡ None
+    → references c ≡ None → foreign_key_fault database at_row row c ≡ None
 cell_free database at_row row c free =
     let known : is_found database (references c) (number_at c row) ≡ true = rw free refl in
     rw known refl
@@ -92,21 +92,21 @@ listed_at known columns i are within =
 
 -- the foreign keys of a row, column by column
 pub row_on : (database : Database) (at_row : ℕ) (row : List Value) (i : ℕ) (c : ColumnId)
-    → slice_get foreign_keys i ≡ Some c → cell_fault database at_row row c ≡ None
+    → slice_get foreign_keys i ≡ Some c → foreign_key_fault database at_row row c ≡ None
     → row_fault database at_row row
-    ≡ first_answer (cell_fault database at_row row) (drop i foreign_keys)
+    ≡ first_answer (foreign_key_fault database at_row row) (drop i foreign_keys)
     → row_fault database at_row row
-    ≡ first_answer (cell_fault database at_row row) (drop (i + 1) foreign_keys)
+    ≡ first_answer (foreign_key_fault database at_row row) (drop (i + 1) foreign_keys)
 row_on database at_row row i c at none so_far =
-    so_far ∙ first_answer_on (cell_fault database at_row row) foreign_keys i c at none
+    so_far ∙ first_answer_on (foreign_key_fault database at_row row) foreign_keys i c at none
 
 pub row_here : (database : Database) (at_row : ℕ) (row : List Value) (i : ℕ) (c : ColumnId)
-    (f : LoadFault) → slice_get foreign_keys i ≡ Some c → cell_fault database at_row row c ≡ Some f
+    (f : LoadFault) → slice_get foreign_keys i ≡ Some c → foreign_key_fault database at_row row c ≡ Some f
     → row_fault database at_row row
-    ≡ first_answer (cell_fault database at_row row) (drop i foreign_keys)
+    ≡ first_answer (foreign_key_fault database at_row row) (drop i foreign_keys)
     → row_fault database at_row row ≡ Some f
 row_here database at_row row i c f at some so_far =
-    so_far ∙ first_answer_here (cell_fault database at_row row) foreign_keys i c f at some
+    so_far ∙ first_answer_here (foreign_key_fault database at_row row) foreign_keys i c f at some
 
 -- after the last element there is no answer
 pub after_all : {X A : Type 0} (f : X → Option A) (xs : List X) (n : ℕ) → length xs ≡ n
@@ -160,7 +160,7 @@ absent_end database row all so_far =
 
 -- where no foreign key is absent, each is found
 cell_found : (database : Database) (at_row : ℕ) (row : List Value) (c : ColumnId) (t : TableId)
-    → references c ≡ Some t → cell_fault database at_row row c ≡ None
+    → references c ≡ Some t → foreign_key_fault database at_row row c ≡ None
     → Contains (keys_of t (rows_in database t)) (number_at c row ∷ [])
 cell_found database at_row row c t refers none =
     let known : is_found database (references c) (number_at c row) ≡ true =
@@ -185,9 +185,9 @@ none_absent database none c t refers =
     let row : row_fault database (1 + i) (get_or rows i d) ≡ None =
     rw (get_or-enumerate_from 1 rows i (0, d) within) at
     (each i (0, d) (omega (arith, within, length-enumerate_from 1 rows))) in
-    let cells = all_without_answer (cell_fault database (1 + i) (get_or rows i d)) foreign_keys
+    let cells = all_without_answer (foreign_key_fault database (1 + i) (get_or rows i d)) foreign_keys
     row in
-    let here : cell_fault database (1 + i) (get_or rows i d) c ≡ None =
+    let here : foreign_key_fault database (1 + i) (get_or rows i d) c ≡ None =
     rw key.1.2 at (cells key.1.0 c key.1.1) in
     cell_found database (1 + i) (get_or rows i d) c t refers here))
 
@@ -197,14 +197,14 @@ key_equiv = lists_equiv int_eq_equiv
 
 cell_sound : (database : Database) → IsSound database
     → (at_row i : ℕ) (d : List Value) → i < length (rows_in database Lineorder)
-    → (c : ColumnId) → cell_fault database at_row (get_or (rows_in database Lineorder) i d) c ≡ None
+    → (c : ColumnId) → foreign_key_fault database at_row (get_or (rows_in database Lineorder) i d) c ≡ None
 unfolding numbers_at
 cell_sound database sound at_row i d within c = by (references c) refl
   where
     row : List Value
     row = get_or (rows_in database Lineorder) i d
 
-    by : (r : Option TableId) → references c ≡ r → cell_fault database at_row row c ≡ None
+    by : (r : Option TableId) → references c ≡ r → foreign_key_fault database at_row row c ≡ None
     by None free = cell_free database at_row row c free
     by (Some t) refers =
         let key = foreign_key c t refers in
@@ -228,5 +228,5 @@ sound_none_absent database sound =
     (λ i d within.
     let few : i < length rows = omega (arith, within, length-enumerate_from 1 rows) in
     rw (get_or-enumerate_from 1 rows i d few)
-    (first_answer_none (cell_fault database (1 + i) (get_or rows i d.1)) foreign_keys
+    (first_answer_none (foreign_key_fault database (1 + i) (get_or rows i d.1)) foreign_keys
     (λ k c _. cell_sound database sound (1 + i) i d.1 few (get_or foreign_keys k c))))

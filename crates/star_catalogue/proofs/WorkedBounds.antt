@@ -2,12 +2,12 @@
 use Rattle.std.proofs.Common.{◌≡◌, List, [], ◌∷◌, ℤ, pos, negsuc, refl, sym, true≢false}
 use Rattle.star_schema.specs.declared.column.ColumnId.TheVariants.{CCustkey, PSize}
 use Rattle.star_schema.specs.Bounds.{greatest, least, numbers_at}
-use Rattle.star_schema.specs.Database.{Database}
+use Rattle.star_schema.specs.Columns.{AreBoundsI64, bounds_in}
+use Rattle.star_schema.specs.Database.{Database, rows_in}
 use Rattle.star_schema.specs.Schema.{column_of, place_of}
 use Rattle.star_schema.specs.Tables.{Value, Number}
 use Rattle.star_interval.specs.Range.{FitsI64, is_i64, only}
 use Rattle.star_interval.proofs.Ranges.{fits_i64_fits}
-use Rattle.star_catalogue.specs.ColumnBounds.{HasI64Bounds, bounds_in}
 
 -- customers, as far as their keys
 abbrev customers : List (List Value) → Database
@@ -20,29 +20,29 @@ keyed n = Number n ∷ []
 abbrev few : Database
 few = customers (keyed (pos 7) ∷ keyed (negsuc 8) ∷ keyed (pos 4) ∷ [])
 
-few_bounds : bounds_in few CCustkey ≡ record { low = negsuc 8; high = pos 7 }
+few_bounds : bounds_in (rows_in few) CCustkey ≡ record { low = negsuc 8; high = pos 7 }
 unfolding column_of place_of numbers_at least greatest
 few_bounds = refl
 
-no_rows : bounds_in few PSize ≡ only (pos 0)
+no_rows : bounds_in (rows_in few) PSize ≡ only (pos 0)
 unfolding column_of place_of numbers_at least greatest
 no_rows = refl
 
 -- from -2^63 to 2^63 - 1
 ends_fit : FitsI64
-    (bounds_in (customers (keyed (negsuc 9223372036854775807) ∷ keyed (pos 9223372036854775807) ∷ []))
+    (bounds_in (rows_in (customers (keyed (negsuc 9223372036854775807) ∷ keyed (pos 9223372036854775807) ∷ [])))
     CCustkey)
 unfolding column_of place_of numbers_at least greatest is_i64
 ends_fit =
     (fits_i64_fits (record { low = negsuc 9223372036854775807; high = pos 9223372036854775807 })).0
     refl
 
-one_above : HasI64Bounds (customers (keyed (pos 9223372036854775808) ∷ [])) → ⊥
+one_above : AreBoundsI64 (bounds_in (rows_in (customers (keyed (pos 9223372036854775808) ∷ [])))) → ⊥
 unfolding column_of place_of numbers_at least greatest is_i64
 one_above has =
     true≢false (sym ((fits_i64_fits (only (pos 9223372036854775808))).1 (has CCustkey refl)))
 
-one_below : HasI64Bounds (customers (keyed (negsuc 9223372036854775808) ∷ [])) → ⊥
+one_below : AreBoundsI64 (bounds_in (rows_in (customers (keyed (negsuc 9223372036854775808) ∷ [])))) → ⊥
 unfolding column_of place_of numbers_at least greatest is_i64
 one_below has =
     true≢false (sym ((fits_i64_fits (only (negsuc 9223372036854775808))).1 (has CCustkey refl)))

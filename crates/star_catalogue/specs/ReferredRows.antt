@@ -2,7 +2,7 @@
 use Rattle.std.specs.Prelude.{◌≡◌, ◌∷◌, [], ℕ, ℤ, List, Some, length, slice_get, slice_index_or}
 use Rattle.star_schema.specs.declared.column.ColumnId.{ColumnId}
 use Rattle.star_schema.specs.declared.table.TableId.{TableId}
-use Rattle.star_schema.specs.Bounds.{numbers_of}
+use Rattle.star_schema.specs.Columns.{column_numbers}
 use Rattle.star_schema.specs.Database.{Database, rows_in}
 use Rattle.star_schema.specs.Loadable.{keys_of}
 use Rattle.star_schema.specs.Schema.{references, table_of}
@@ -11,5 +11,5 @@ use Rattle.star_schema.specs.Schema.{references, table_of}
 pub record AreReferredRows (database : Database) (c : ColumnId) (rows : List ℕ) : Type 0 where
   pub all : length rows ≡ length (rows_in database (table_of c))
   pub each : (t : TableId) (row : ℕ) (number : ℤ) → references c ≡ Some t
-      → slice_get (numbers_of c (rows_in database (table_of c))) row ≡ Some number
+      → slice_get (column_numbers database c) row ≡ Some number
       → slice_get (keys_of t (rows_in database t)) (slice_index_or rows row 0) ≡ Some (number ∷ [])

@@ -2,20 +2,19 @@
 
 ghost use Rattle.std.specs.Prelude.{◌≡◌, ◌↔◌, ◌≤◌, ◌<◌, ◌∷◌, [], ℕ, ℤ, All, Some, IfErr, IfOk, IsSome, length, slice_get};
 ghost use Rattle.star_common.specs.Memory.{UnlessMemory};
-ghost use Rattle.star_schema.specs.Bounds.{greatest, least, numbers_of};
+ghost use Rattle.star_schema.specs.Bounds.{greatest, least};
+ghost use Rattle.star_schema.specs.Columns.{AreBoundsI64, bounds_in, column_dictionary, column_numbers, column_texts};
 ghost use Rattle.star_schema.specs.Database.{TableTexts, rows_in};
 ghost use Rattle.star_schema.specs.Loadable.{IsLoadable, IsSound, database_of, keys_of};
 ghost use Rattle.star_schema.specs.Schema.{kind_of, references, table_of};
 ghost use Rattle.star_schema.specs.Sizes.{size_of};
 ghost use Rattle.star_schema.specs.Tables.{IsRowOf};
-ghost use Rattle.star_schema.specs.Texts.{texts_of};
 ghost use Rattle.star_schema.specs.declared.table.TableId.{TableId};
-ghost use Rattle.star_schema.specs.Dictionary.{HasCode, codes_of, dictionary_of, high_in, low_in};
+ghost use Rattle.star_schema.specs.Dictionary.{HasCode, codes_of, high_in, low_in};
 ghost use Rattle.star_column.specs.Masks.{lies, mask_of};
 ghost use Rattle.star_column.specs.Width.{bits_of};
-ghost use Rattle.star_catalogue.specs.ColumnBounds.{HasI64Bounds};
 ghost use Rattle.star_catalogue.specs.ReferredRows.{AreReferredRows};
-ghost use Rattle.star_catalogue.specs.Load.{load_fault, text_of};
+ghost use Rattle.star_catalogue.specs.Load.{load_fault, texts_view};
 ghost use Rattle.star_catalogue.specs.Pieces.{AreRead, AreReadSome};
 
 use crate::fault::LoadFault;
@@ -43,7 +42,7 @@ impl Model for Catalogue {
     ghost use Rattle.star_schema.specs.Loadable.{IsSound};
     ghost use Rattle.star_schema.specs.Tables.{IsRowOf};
     ghost use Rattle.star_schema.specs.declared.table.TableId.{TableId};
-    ghost use Rattle.star_catalogue.specs.ColumnBounds.{HasI64Bounds};
+    ghost use Rattle.star_schema.specs.Columns.{AreBoundsI64, bounds_in};
     ghost use Rattle.star_catalogue.specs.Private.Referred.{AreReferred};
 
     ghost Value = { Database };
@@ -52,7 +51,7 @@ impl Model for Catalogue {
 
     ghost invariant = { λ catalogue. IsSound catalogue.tables.value
         × ((table : TableId) → All (IsRowOf table) (rows_in catalogue.tables.value table))
-        × HasI64Bounds catalogue.tables.value
+        × AreBoundsI64 (bounds_in (rows_in catalogue.tables.value))
         × AreReferred catalogue.tables.value catalogue.referred.value };
 }
 
@@ -60,12 +59,12 @@ impl Catalogue {
     /// The tables that five texts are, or the first fault: of the tables in their order, and then
     /// of the foreign keys by record and then by column.
     pub fn load(alloc: Global, texts: &Texts<'_>, limits: Limits) -> Result<Catalogue, LoadFault>
-        ensures loadable { IfOk result (λ catalogue. IsLoadable limits.rows (text_of texts.now)) }
-        ensures rows { IfOk result (λ catalogue. catalogue ≡ database_of (text_of texts.now)) }
+        ensures loadable { IfOk result (λ catalogue. IsLoadable limits.rows (texts_view texts.now)) }
+        ensures rows { IfOk result (λ catalogue. catalogue ≡ database_of (texts_view texts.now)) }
         ensures refused { IfErr result
             (λ fault. UnlessMemory LoadFault.OutOfMemory fault
-            ((load_fault limits.rows (text_of texts.now) ≡ Some fault)
-            × ¬ IsLoadable limits.rows (text_of texts.now))) }
+            ((load_fault limits.rows (texts_view texts.now) ≡ Some fault)
+            × ¬ IsLoadable limits.rows (texts_view texts.now))) }
     {
         let read = ReadTables::of_texts(alloc, texts, limits)?;
         Catalogue::finish(alloc, read)
@@ -101,7 +100,7 @@ impl Catalogue {
     pub fn law(&self)
         ensures sound { IsSound self.now }
         ensures rows { (table : TableId) → All (IsRowOf table) (rows_in self.now table) }
-        ensures bounds { HasI64Bounds self.now }
+        ensures bounds { AreBoundsI64 (bounds_in (rows_in self.now)) }
     {
         let _tables = &self.tables;
     }
@@ -130,7 +129,7 @@ impl Catalogue {
     pub fn number(&self, column: ColumnId, row: u32) -> i64
         requires kind { kind_of column ≡ Kind.Number }
         requires row { row < length (rows_in self.now (table_of column)) }
-        ensures { slice_get (numbers_of column (rows_in self.now (table_of column))) row
+        ensures { slice_get (column_numbers self.now column) row
             ≡ Some result }
     {
         self.tables.numbers(column).at(row)
@@ -142,10 +141,10 @@ impl Catalogue {
         requires kind { kind_of column ≡ Kind.Text }
         requires row { row < length (rows_in self.now (table_of column)) }
         ensures stands { slice_get
-            (dictionary_of (texts_of column (rows_in self.now (table_of column)))) result
-            ≡ slice_get (texts_of column (rows_in self.now (table_of column))) row }
+            (column_dictionary self.now column) result
+            ≡ slice_get (column_texts self.now column) row }
         ensures within { result
-            < length (dictionary_of (texts_of column (rows_in self.now (table_of column)))) }
+            < length (column_dictionary self.now column) }
     {
         self.tables.texts(column).code_at(row)
     }
@@ -154,8 +153,8 @@ impl Catalogue {
     pub fn text(&self, column: ColumnId, code: u32) -> &[u8]
         requires kind { kind_of column ≡ Kind.Text }
         requires code { code
-            < length (dictionary_of (texts_of column (rows_in self.now (table_of column)))) }
-        ensures { HasCode (texts_of column (rows_in self.now (table_of column))) result.now code }
+            < length (column_dictionary self.now column) }
+        ensures { HasCode (column_texts self.now column) result.now code }
     {
         self.tables.texts(column).text_of(code)
     }
@@ -164,7 +163,7 @@ impl Catalogue {
     pub fn low(&self, column: ColumnId, text: &[u8]) -> u32
         requires { kind_of column ≡ Kind.Text }
         ensures { result
-            ≡ low_in (dictionary_of (texts_of column (rows_in self.now (table_of column))))
+            ≡ low_in (column_dictionary self.now column)
             text.now }
     {
         self.tables.texts(column).low(text)
@@ -174,7 +173,7 @@ impl Catalogue {
     pub fn high(&self, column: ColumnId, text: &[u8]) -> u32
         requires { kind_of column ≡ Kind.Text }
         ensures { result
-            ≡ high_in (dictionary_of (texts_of column (rows_in self.now (table_of column))))
+            ≡ high_in (column_dictionary self.now column)
             text.now }
     {
         self.tables.texts(column).high(text)
@@ -184,7 +183,7 @@ impl Catalogue {
     pub fn entries(&self, column: ColumnId) -> u32
         requires { kind_of column ≡ Kind.Text }
         ensures { result
-            ≡ length (dictionary_of (texts_of column (rows_in self.now (table_of column)))) }
+            ≡ length (column_dictionary self.now column) }
     {
         self.tables.texts(column).entries()
     }
@@ -193,9 +192,9 @@ impl Catalogue {
     /// rows.
     pub fn bounds(&self, column: ColumnId) -> Interval
         requires { kind_of column ≡ Kind.Number }
-        ensures low { result.low ≡ least (numbers_of column (rows_in self.now (table_of column))) }
+        ensures low { result.low ≡ least (column_numbers self.now column) }
         ensures high { result.high
-            ≡ greatest (numbers_of column (rows_in self.now (table_of column))) }
+            ≡ greatest (column_numbers self.now column) }
     {
         self.tables.numbers(column).bounds()
     }
@@ -205,9 +204,9 @@ impl Catalogue {
     /// or codes, fits, and 8 where its table has no rows.
     pub fn bits(&self, column: ColumnId) -> u32
         ensures numbers { kind_of column ≡ Kind.Number
-            → result ≡ bits_of (numbers_of column (rows_in self.now (table_of column))) }
+            → result ≡ bits_of (column_numbers self.now column) }
         ensures texts { kind_of column ≡ Kind.Text
-            → result ≡ bits_of (codes_of (texts_of column (rows_in self.now (table_of column)))) }
+            → result ≡ bits_of (codes_of (column_texts self.now column)) }
     {
         match kind_of(column) {
             Kind::Number => self.tables.numbers(column).bits(),
@@ -218,9 +217,9 @@ impl Catalogue {
     /// A column, to read many rows of: its numbers, or the codes of its texts, row by row.
     pub fn column(&self, column: ColumnId) -> ColumnView<'_>
         ensures numbers { kind_of column ≡ Kind.Number
-            → result ≡ numbers_of column (rows_in self.now (table_of column)) }
+            → result ≡ column_numbers self.now column }
         ensures texts { kind_of column ≡ Kind.Text
-            → result ≡ codes_of (texts_of column (rows_in self.now (table_of column))) }
+            → result ≡ codes_of (column_texts self.now column) }
     {
         match kind_of(column) {
             Kind::Number => self.tables.numbers(column).view(),
@@ -235,12 +234,12 @@ impl Catalogue {
         requires { first ≤ length (rows_in self.now (table_of column)) }
         ensures numbers { kind_of column ≡ Kind.Number
             → result
-            ≡ mask_of (lies low high) (numbers_of column (rows_in self.now (table_of column)))
+            ≡ mask_of (lies low high) (column_numbers self.now column)
             first }
         ensures texts { kind_of column ≡ Kind.Text
             → result
             ≡ mask_of (lies low high)
-            (codes_of (texts_of column (rows_in self.now (table_of column)))) first }
+            (codes_of (column_texts self.now column)) first }
     {
         self.column(column).mask(first, low, high)
     }
@@ -260,7 +259,7 @@ impl Catalogue {
         requires refers { IsSome (references column) }
         requires row { row < length (rows_in self.now (table_of column)) }
         ensures { (table : TableId) (number : ℤ) → references column ≡ Some table
-            → slice_get (numbers_of column (rows_in self.now (table_of column))) row ≡ Some number
+            → slice_get (column_numbers self.now column) row ≡ Some number
             → slice_get (keys_of table (rows_in self.now table)) result ≡ Some (number ∷ []) }
     {
         self.referred_rows(column).row(row)

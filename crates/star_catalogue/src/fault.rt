@@ -109,7 +109,7 @@ impl fmt::Display for LoadFault {
 
     ghost output = { λ fault. Some (load_fault_text fault) };
 
-    #[tactic(auto, unfolding(crate::specs::FaultTexts::cell_text, crate::specs::FaultTexts::record_text, crate::specs::FaultTexts::table_text))]
+    #[tactic(auto, unfolding(crate::specs::FaultTexts::cell_fault_text, crate::specs::FaultTexts::record_fault_text, crate::specs::FaultTexts::table_fault_text))]
     fn fmt<W: fmt::Write>(&self, f: &mut fmt::Formatter<W>) -> fmt::Result {
         match self {
             LoadFault::OutOfMemory => write!(f, "1 OutOfMemory"),

@@ -9,7 +9,7 @@ ghost use Rattle.star_common.specs.Memory.{UnlessMemory};
 ghost use Rattle.star_schema.specs.Loadable.{HasDistinctKeys, keys_of};
 ghost use Rattle.star_catalogue.specs.Private.Keys.{AreKept, pair_cmp, row_in, same_pair};
 ghost use Rattle.star_catalogue.specs.Private.Places.{ArePlaces};
-ghost use Rattle.star_catalogue.specs.Load.{first_repeat, keys_fault};
+ghost use Rattle.star_catalogue.specs.Load.{first_repeat, repeated_key_fault};
 
 use crate::dimension::DimensionKeys;
 use crate::fault::LoadFault;
@@ -62,7 +62,7 @@ impl KeyIndex {
             (λ index. AreKept index (keys_of raw.now.table raw.now.rows)
             × HasDistinctKeys raw.now.table raw.now.rows)
             (λ fault. UnlessMemory LoadFault.OutOfMemory fault
-            (keys_fault raw.now.table raw.now.rows ≡ Some fault)) }
+            (repeated_key_fault raw.now.table raw.now.rows ≡ Some fault)) }
     {
         let table = raw.table();
         match key_of(table) {

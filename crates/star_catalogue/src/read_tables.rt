@@ -2,7 +2,7 @@
 
 ghost use Rattle.std.specs.Prelude.{IfOk, map};
 ghost use Rattle.star_reader.specs.Partway.{HasReadText};
-ghost use Rattle.star_catalogue.specs.Load.{text_of};
+ghost use Rattle.star_catalogue.specs.Load.{texts_view};
 ghost use Rattle.star_catalogue.specs.Pieces.{AreRead};
 
 use crate::texts::Texts;
@@ -41,7 +41,7 @@ impl ReadTables {
         texts: &Texts<'_>,
         limits: Limits,
     ) -> Result<ReadTables, AllocError>
-        ensures { IfOk result (λ read. AreRead read limits.rows (text_of texts.now)) }
+        ensures { IfOk result (λ read. AreRead read limits.rows (texts_view texts.now)) }
     {
         let date = given(alloc, &[texts.date], TableId::Date, limits)?;
         let customer = given(alloc, &[texts.customer], TableId::Customer, limits)?;

@@ -6,7 +6,7 @@ ghost use Rattle.star_schema.specs.Loadable.{RefersTo, foreign_keys};
 ghost use Rattle.star_schema.specs.Schema.{references};
 ghost use Rattle.star_schema.specs.declared.column.ColumnId.{ColumnId};
 ghost use Rattle.star_schema.specs.declared.table.TableId.{TableId};
-ghost use Rattle.star_catalogue.specs.Load.{absent_fault, cell_fault, row_fault};
+ghost use Rattle.star_catalogue.specs.Load.{absent_fault, foreign_key_fault, row_fault};
 
 use crate::fault::LoadFault;
 use crate::tables::Tables;
@@ -35,8 +35,8 @@ fn check_cell(tables: &Tables, row: u32, column: ColumnId) -> Result<(), LoadFau
     requires few { row + 1 < 2 ^ 32 }
     ensures { let values = slice_index_or (rows_in tables.now TableId.Lineorder) row [] in
         MatchResult result
-        (λ _. cell_fault tables.now (row + 1) values column ≡ None)
-        (λ fault. cell_fault tables.now (row + 1) values column ≡ Some fault) }
+        (λ _. foreign_key_fault tables.now (row + 1) values column ≡ None)
+        (λ fault. foreign_key_fault tables.now (row + 1) values column ≡ Some fault) }
 {
     let Some(table) = references(column) else {
         return Ok(());

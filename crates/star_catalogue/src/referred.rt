@@ -5,7 +5,7 @@ ghost use Rattle.star_schema.specs.Loadable.{RefersTo, keys_of};
 ghost use Rattle.star_schema.specs.Schema.{index_of, references};
 ghost use Rattle.star_schema.specs.declared.column.ColumnId.{ColumnId};
 ghost use Rattle.star_schema.specs.declared.table.TableId.{TableId};
-ghost use Rattle.star_catalogue.specs.Private.Referred.{AreFound, AreReferred, AreRowsOf, rows_kept};
+ghost use Rattle.star_catalogue.specs.Private.Referred.{AreFound, AreReferred, AreRowsOf, rows_view};
 
 use crate::table::LoadedTable;
 use crate::tables::Tables;
@@ -193,7 +193,7 @@ impl Referred {
     /// The join index of a column.
     pub(crate) fn rows(&self, column: ColumnId) -> &JoinIndex
         requires { index_of column < length self.now.rows.items }
-        ensures { result.now ≡ rows_kept self.now column }
+        ensures { result.now ≡ rows_view self.now column }
     {
         &self.rows[column as usize]
     }

@@ -10,7 +10,7 @@ ghost use Rattle.star_schema.specs.Tables.{IsTable, rows_of};
 ghost use Rattle.star_schema.specs.Texts.{texts_of};
 ghost use Rattle.star_reader.specs.Faults.{text_fault};
 ghost use Rattle.star_reader.specs.Partway.{HasReadText};
-ghost use Rattle.star_catalogue.specs.Load.{fault_of_read, keys_fault, table_fault};
+ghost use Rattle.star_catalogue.specs.Load.{fault_of_read, repeated_key_fault, table_fault};
 
 use crate::columns::{Column, build_columns};
 use crate::fault::LoadFault;
@@ -36,9 +36,9 @@ impl Model for LoadedTable {
 
     ghost Value = { Table };
 
-    ghost use Rattle.star_catalogue.specs.Private.Kept.{table_kept, IsKept};
+    ghost use Rattle.star_catalogue.specs.Private.Kept.{table_view, IsKept};
 
-    ghost view = { table_kept };
+    ghost view = { table_view };
 
     ghost invariant = { IsKept };
 }
@@ -63,7 +63,7 @@ fn keep(alloc: Global, raw: RawTable) -> Result<LoadedTable, LoadFault>
     ensures { MatchResult result
         (λ loaded. (loaded ≡ raw) × HasDistinctKeys raw.table raw.rows)
         (λ fault. UnlessMemory LoadFault.OutOfMemory fault
-        (keys_fault raw.table raw.rows ≡ Some fault)) }
+        (repeated_key_fault raw.table raw.rows ≡ Some fault)) }
 {
     let table = raw.table();
     let rows = raw.rows();

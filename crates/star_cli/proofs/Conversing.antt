@@ -7,7 +7,7 @@ use Rattle.star_engine.specs.Loads.{Loaded}
 use Rattle.star_statements.specs.Sources.{IsPastCounting}
 use Rattle.star_statements.specs.declared.sources.ReadFault.TheVariants.{Failed as ReadFailed, OutOfMemory as ReadMemory}
 use Rattle.star_statements.proofs.DraftLemmas.{consumed_both}
-use Rattle.star_cli.specs.Sessions.{AreAllAnswered, AreAnswered, IsConversed, IsUnread, IsUnwritten}
+use Rattle.star_cli.specs.Sessions.{AreAllAnswered, AreAnswered, IsConversed, IsStatementUnread, IsUnwritten}
 use Rattle.star_cli.specs.declared.sessions.Stop.{Stop}
 use Rattle.star_cli.specs.declared.sessions.Stop.TheVariants.{Unread, Unwritten}
 use Rattle.star_cli.specs.Private.Turns.{IsAnswered, IsPrompted, IsTurn}
@@ -71,7 +71,7 @@ module _ {S E : Type 0} (loaded : Loaded) (is_terminal : Bool) where
     }
 
     unread : IsPrompted is_terminal (record out { old = told }) (record err { old = noted })
-        → IsUnread loaded is_terminal old out err
+        → IsStatementUnread loaded is_terminal old out err
     unread prompted = record {
       left = mid;
       statements = before.statements;

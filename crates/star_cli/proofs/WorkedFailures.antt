@@ -9,7 +9,7 @@ use Rattle.star_engine.specs.FaultTexts.{engine_fault_text}
 use Rattle.star_engine.specs.declared.fault.EngineFault.TheVariants.{Query}
 use Rattle.star_cli.specs.declared.failure.Failure.TheVariants.{NotText, EmptyFolder, NoCommand, File, Part, Unnamed, NamedTwice, OfFile, Unkept, Unwritten, OutOfMemory}
 use Rattle.star_cli.specs.Failures.{failure_text, status_of}
-use Rattle.star_cli.specs.Names.{shown_name}
+use Rattle.star_cli.specs.Names.{printed_name}
 
 lines : map failure_text (NotText ∷ EmptyFolder ∷ NoCommand ∷ OutOfMemory ∷ [])
     ≡ Some (codes "error: a word is not UTF-8\n") ∷ Some (codes "error: the folder's name is empty\n")
@@ -17,7 +17,7 @@ lines : map failure_text (NotText ∷ EmptyFolder ∷ NoCommand ∷ OutOfMemory 
 unfolding failure_text
 lines = refl
 
-line_of_a_file : (name : Bor (List ℕ)) → shown_name name.now ≡ codes "part.tbl" → failure_text (File name) ≡ Some (codes "file part.tbl\n")
+line_of_a_file : (name : Bor (List ℕ)) → printed_name name.now ≡ codes "part.tbl" → failure_text (File name) ≡ Some (codes "file part.tbl\n")
 unfolding failure_text
 line_of_a_file name shown = ap (λ word. Some (codes "file " ++ (word ++ codes "\n"))) shown
 
@@ -26,7 +26,7 @@ lines_of_parts : map failure_text (Part 2 ∷ Part 1001 ∷ [])
 unfolding failure_text digits
 lines_of_parts = refl
 
-lines_of_reports : (name : Bor (List ℕ)) → shown_name name.now ≡ codes "years"
+lines_of_reports : (name : Bor (List ℕ)) → printed_name name.now ≡ codes "years"
     → map failure_text (Unnamed name ∷ NamedTwice name ∷ OfFile name (Query (Unexpected 20)) ∷ Unkept name 10 ∷ Unwritten 7 ∷ [])
     ≡ Some (codes "error: no name for the report of years\n") ∷ Some (codes "error: two reports are named years\n")
     ∷ Some (codes "years: query 24 Unexpected at 20\n") ∷ Some (codes "years: write 10\n") ∷ Some (codes "write 7\n") ∷ []

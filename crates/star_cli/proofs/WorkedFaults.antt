@@ -9,7 +9,7 @@ use Rattle.star_engine.specs.FaultTexts.{engine_fault_text}
 use Rattle.star_engine.specs.declared.fault.EngineFault.TheVariants.{OutOfMemory, Write}
 use Rattle.star_cli.specs.Failures.{words_status}
 use Rattle.star_cli.specs.Lines.{fault_line}
-use Rattle.star_cli.specs.Names.{shown_letter, shown_name}
+use Rattle.star_cli.specs.Names.{printed_letter, printed_name}
 
 lines : map fault_line (OutOfMemory ∷ Write 65536 ∷ []) ≡ codes "memory\n" ∷ codes "write 65536\n" ∷ []
 unfolding fault_line engine_fault_text digits
@@ -17,13 +17,13 @@ lines = refl
 
 -- of a name in UTF-8 the letters are shown
 by_letters : (letters : List ℕ) → scalars letters ≡ true
-    → shown_name (encode_utf8_all letters) ≡ flat_map shown_letter letters
-unfolding shown_name
-by_letters letters valid = ap (flat_map shown_letter) (chars-encodes letters valid)
+    → printed_name (encode_utf8_all letters) ≡ flat_map printed_letter letters
+unfolding printed_name
+by_letters letters valid = ap (flat_map printed_letter) (chars-encodes letters valid)
 
 -- what would be two lines is one; a zero, a mark of ASCII and one beyond it are escaped; quotes
 -- stay, and so does a letter beyond ASCII
-names : map (flat_map shown_letter) (codes "a\nload 1" ∷ codes "a\\n" ∷ (0 ∷ 27 ∷ 127 ∷ 133 ∷ [])
+names : map (flat_map printed_letter) (codes "a\nload 1" ∷ codes "a\\n" ∷ (0 ∷ 27 ∷ 127 ∷ 133 ∷ [])
     ∷ (39 ∷ 34 ∷ 233 ∷ []) ∷ [])
     ≡ codes "a\\nload 1" ∷ codes "a\\\\n" ∷ codes "\\0\\u{1b}\\u{7f}\\u{85}"
     ∷ (39 ∷ 34 ∷ 195 ∷ 169 ∷ []) ∷ []

@@ -2,7 +2,7 @@
 use Rattle.std.proofs.Common.{◌≡◌, ℕ, List, ap}
 use Rattle.std.specs.Prelude.{◌++◌, codes}
 use Rattle.star_engine.specs.Noted.{Telling}
-use Rattle.star_cli.specs.Names.{shown_name}
+use Rattle.star_cli.specs.Names.{printed_name}
 use Rattle.star_cli.specs.Reports.{named_line, told_line}
 
 abbrev of_above : Telling
@@ -13,11 +13,11 @@ of_above = record {
 }
 
 -- of a report that was kept: both notes on one line
-told : (name : List ℕ) → shown_name name ≡ codes "above"
+told : (name : List ℕ) → printed_name name ≡ codes "above"
     → told_line name of_above ≡ codes "above quote 10 visits 10 lookups 0 updates 7\n"
 told name shown = ap (λ word. word ++ codes " quote 10 visits 10 lookups 0 updates 7\n") shown
 
 -- of a file that was not run
-foretold : (name : List ℕ) → shown_name name ≡ codes "years"
+foretold : (name : List ℕ) → printed_name name ≡ codes "years"
     → named_line name (codes "quote 5 rows 6\n") ≡ codes "years quote 5 rows 6\n"
 foretold name shown = ap (λ word. word ++ codes " quote 5 rows 6\n") shown

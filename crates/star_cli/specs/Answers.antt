@@ -4,7 +4,7 @@ use Rattle.star_schema.specs.declared.limits.Limits.{Limits}
 use Rattle.star_schema.specs.Most.{most_rows, most_visits}
 use Rattle.star_schema.specs.Database.{TableTexts}
 use Rattle.star_schema.specs.Loadable.{database_of}
-use Rattle.star_catalogue.specs.Load.{text_of}
+use Rattle.star_catalogue.specs.Load.{texts_view}
 use Rattle.star_engine.specs.declared.fault.EngineFault.{EngineFault}
 use Rattle.star_engine.specs.Answered.{Change, IsAnswered, IsUntouched}
 use Rattle.star_engine.specs.Bench.{AllFit, IsBench}
@@ -108,7 +108,7 @@ IsGivenOf (Trial folder path limits) texts file out notes result =
 abbrev pub IsGiven : {S N : Type 0} → Task → Bytes → Change S → Change N
     → Result Bool EngineFault → Type 0
 IsGiven task bytes out notes result =
-    IsGivenOf task (text_of bytes.texts) bytes.file.now out notes result
+    IsGivenOf task (texts_view bytes.texts) bytes.file.now out notes result
 
 -- a task over the tables of a folder, under the widest limit on rows
 abbrev pub IsOfFolder : Task → Type 0
@@ -138,4 +138,4 @@ pub record IsExitOf {S E : Type 0} (task : Task) (texts : TableTexts) (file : Li
 -- over the bytes that were read
 abbrev pub IsExit : {S E : Type 0} → Task → Bytes → Change S → Change E → (status : ℕ) → Type 0
 IsExit task bytes out err status =
-    IsExitOf task (text_of bytes.texts) bytes.file.now out err status
+    IsExitOf task (texts_view bytes.texts) bytes.file.now out err status

@@ -11,7 +11,7 @@ use Rattle.star_engine.specs.declared.fault.EngineFault.{EngineFault}
 use Rattle.star_engine.specs.declared.fault.EngineFault.TheVariants as engine
 use Rattle.std.specs.Borrow.{Bor}
 use Rattle.star_cli.specs.Lines.{IsTextTold, fault_status}
-use Rattle.star_cli.specs.Names.{shown_name}
+use Rattle.star_cli.specs.Names.{printed_name}
 use Rattle.star_cli.specs.declared.failure.Failure.{Failure}
 use Rattle.star_cli.specs.declared.reports.Halt.{Halt}
 use Rattle.star_cli.specs.declared.reports.Halt.TheVariants as halts
@@ -42,16 +42,16 @@ failure_text (Words error) = None
 failure_text NotText = Some (codes "error: a word is not UTF-8\n")
 failure_text EmptyFolder = Some (codes "error: the folder's name is empty\n")
 failure_text NoCommand = Some (codes "error: the words are no command\n")
-failure_text (File name) = Some (codes "file " ++ (shown_name name.now ++ codes "\n"))
+failure_text (File name) = Some (codes "file " ++ (printed_name name.now ++ codes "\n"))
 failure_text (Part number) = Some (codes "file lineorder.tbl." ++ (decimal number ++ codes "\n"))
 failure_text (Unnamed path) =
-    Some (codes "error: no name for the report of " ++ (shown_name path.now ++ codes "\n"))
+    Some (codes "error: no name for the report of " ++ (printed_name path.now ++ codes "\n"))
 failure_text (NamedTwice name) =
-    Some (codes "error: two reports are named " ++ (shown_name name.now ++ codes "\n"))
+    Some (codes "error: two reports are named " ++ (printed_name name.now ++ codes "\n"))
 failure_text (OfFile path fault) =
-    Some (shown_name path.now ++ (codes ": " ++ (engine_fault_text fault ++ codes "\n")))
+    Some (printed_name path.now ++ (codes ": " ++ (engine_fault_text fault ++ codes "\n")))
 failure_text (Unkept name sent) =
-    Some (shown_name name.now ++ (codes ": write " ++ (decimal sent ++ codes "\n")))
+    Some (printed_name name.now ++ (codes ": write " ++ (decimal sent ++ codes "\n")))
 failure_text (Unwritten sent) = Some (codes "write " ++ (decimal sent ++ codes "\n"))
 failure_text OutOfMemory = Some (codes "memory\n")
 

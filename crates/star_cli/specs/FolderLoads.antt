@@ -11,13 +11,13 @@ use Rattle.star_cli.specs.Failures.{IsFailureTold}
 use Rattle.star_cli.specs.Lines.{IsFaultTold}
 
 -- the rows of five texts that can be loaded
-abbrev pub AreTables : Database → Type 0
-AreTables database =
+abbrev pub AreLoadableRows : Database → Type 0
+AreLoadableRows database =
     (texts : TableTexts) × IsLoadable most_rows texts × (database ≡ database_of texts)
 
 -- an engine over such rows, under the widest limits
 abbrev pub IsWidest : Loaded → Type 0
-IsWidest loaded = AreTables loaded.database × (loaded.rows ≡ most_rows)
+IsWidest loaded = AreLoadableRows loaded.database × (loaded.rows ≡ most_rows)
     × (loaded.visits ≡ most_visits)
 
 -- a failure to read them, or a fault of theirs, is told with its status

@@ -7,7 +7,7 @@ use Rattle.star_engine.specs.Noted.{Telling}
 use Rattle.star_engine.specs.Tellings.{IsFileToldOver, IsJudgedOver, IsUnjudgedOver}
 use Rattle.star_cli.specs.Failures.{IsFailureTold, failure_of_halt}
 use Rattle.star_cli.specs.Lines.{fault_line}
-use Rattle.star_cli.specs.Names.{shown_name}
+use Rattle.star_cli.specs.Names.{printed_name}
 use Rattle.star_cli.specs.Shelves.{HasFailedAt, HasKept, HasKeptNone, Shelving}
 use Rattle.star_cli.specs.declared.reports.Errand.{Errand}
 use Rattle.star_cli.specs.declared.reports.Halt.{Halt}
@@ -21,7 +21,7 @@ without_end text = take (length text - 1) text
 
 -- a line with a name before it
 abbrev pub named_line : (name line : List ℕ) → List ℕ
-named_line name line = shown_name name ++ (codes " " ++ line)
+named_line name line = printed_name name ++ (codes " " ++ line)
 
 -- of a file that was answered: its two notes as one line
 abbrev pub told_line : (name : List ℕ) → Telling → List ℕ
@@ -159,7 +159,7 @@ AreAllJudged loaded errands out (Err halt) = IsJudgingHalted loaded errands out 
 
 -- how reports end: 0 where all files were answered, or would be, 1 where one was refused; and what
 -- ended them before the last is told with its own
-abbrev pub IsEnded : {S E : Type 0} → Change S → Change E → Result Bool Halt → ℕ → Type 0
-IsEnded out err (Ok true) status = IsUntouched out × IsUntouched err × (status ≡ 0)
-IsEnded out err (Ok false) status = IsUntouched out × IsUntouched err × (status ≡ 1)
-IsEnded out err (Err halt) status = IsFailureTold (failure_of_halt halt) out err status
+abbrev pub AreReportsEnded : {S E : Type 0} → Change S → Change E → Result Bool Halt → ℕ → Type 0
+AreReportsEnded out err (Ok true) status = IsUntouched out × IsUntouched err × (status ≡ 0)
+AreReportsEnded out err (Ok false) status = IsUntouched out × IsUntouched err × (status ≡ 1)
+AreReportsEnded out err (Err halt) status = IsFailureTold (failure_of_halt halt) out err status

@@ -134,7 +134,7 @@ pub record IsUnwritten {S E : Type 0} (loaded : Loaded) (is_terminal : Bool) (ol
       (record err { old = noted }) false
 
 -- no statement was read behind some that were answered, and nothing was told but a prompt
-pub record IsUnread {S E : Type 0} (loaded : Loaded) (is_terminal : Bool) (old : Option (List ℕ))
+pub record IsStatementUnread {S E : Type 0} (loaded : Loaded) (is_terminal : Bool) (old : Option (List ℕ))
     (out : Change S) (err : Change E) : Type 0 where
   pub left : Option (List ℕ)
   pub statements : List (List ℕ)
@@ -152,10 +152,10 @@ IsConversed loaded is_terminal old new failed out err (Ok answer) =
 IsConversed loaded is_terminal old new failed out err (Err Unwritten) =
     IsUnwritten loaded is_terminal old new out err
 IsConversed loaded is_terminal old new failed out err (Err (Unread ReadFailed)) =
-    IsUnread loaded is_terminal old out err
+    IsStatementUnread loaded is_terminal old out err
     × ((failed ≡ true) ⊎ ((read : List ℕ) × IsPastCounting old new read))
 IsConversed loaded is_terminal old new failed out err (Err (Unread ReadMemory)) =
-    IsUnread loaded is_terminal old out err
+    IsStatementUnread loaded is_terminal old out err
 
 -- ---- the exit status
 

@@ -1,7 +1,7 @@
 // The engine's calls, as tasks make them: under the widest limits, but for the visits of a trial.
 
 ghost use Rattle.std.specs.Prelude.{◌≡◌};
-ghost use Rattle.star_catalogue.specs.Load.{text_of};
+ghost use Rattle.star_catalogue.specs.Load.{texts_view};
 ghost use Rattle.star_cli.specs.Answers as spec;
 ghost use Rattle.star_cli.specs.Answers.{IsBenched, IsExecuted, IsExplanation, IsListed, IsListedAndBenched, IsQueried, IsQuoted, IsTried, IsWhole};
 ghost use Rattle.star_engine.specs.Answered.{change};
@@ -29,7 +29,7 @@ pub(crate) fn list<S: Sink>(
     out: &mut S,
 ) -> Result<bool, EngineFault>
     ensures { IsWhole (IsListed (change S.contents S.is_failed out.old out.new)
-        (text_of texts.now)) result }
+        (texts_view texts.now)) result }
 {
     whole(check(alloc, texts, Limits::widest(), out))
 }
@@ -40,7 +40,7 @@ pub(crate) fn answer_benchmark<S: Sink>(
     texts: &Texts<'_>,
     out: &mut S,
 ) -> Result<bool, EngineFault>
-    ensures { IsBenched (change S.contents S.is_failed out.old out.new) (text_of texts.now) result }
+    ensures { IsBenched (change S.contents S.is_failed out.old out.new) (texts_view texts.now) result }
 {
     bench(alloc, texts, Limits::widest(), out)
 }
@@ -52,7 +52,7 @@ pub(crate) fn list_and_bench<S: Sink>(
     out: &mut S,
 ) -> Result<bool, EngineFault>
     ensures { IsListedAndBenched (change S.contents S.is_failed out.old out.new)
-        (text_of texts.now) result }
+        (texts_view texts.now) result }
 {
     match list(alloc, texts, out) {
         Ok(_) => answer_benchmark(alloc, texts, out),
@@ -68,7 +68,7 @@ pub(crate) fn query<S: Sink, N: Sink>(
     notes: &mut N,
 ) -> Result<bool, EngineFault>
     ensures { IsWhole (IsQueried (change S.contents S.is_failed out.old out.new)
-        (change N.contents N.is_failed notes.old notes.new) (text_of texts.now) file.now) result }
+        (change N.contents N.is_failed notes.old notes.new) (texts_view texts.now) file.now) result }
 {
     whole(answer_query(alloc, texts, file, Limits::widest(), out, notes))
 }
@@ -88,7 +88,7 @@ pub(crate) fn execute<S: Sink, N: Sink>(
     notes: &mut N,
 ) -> Result<bool, EngineFault>
     ensures { IsWhole (IsExecuted (change S.contents S.is_failed out.old out.new)
-        (change N.contents N.is_failed notes.old notes.new) (text_of texts.now) file.now) result }
+        (change N.contents N.is_failed notes.old notes.new) (texts_view texts.now) file.now) result }
 {
     whole(answer_program(alloc, texts, file, Limits::widest(), out, notes))
 }
@@ -100,7 +100,7 @@ pub(crate) fn quote<S: Sink>(
     out: &mut S,
 ) -> Result<bool, EngineFault>
     ensures { IsWhole (IsQuoted (change S.contents S.is_failed out.old out.new)
-        (text_of texts.now) file.now) result }
+        (texts_view texts.now) file.now) result }
 {
     whole(quote_text(alloc, texts, file, Limits::widest(), out))
 }
@@ -113,7 +113,7 @@ pub(crate) fn try_program<S: Sink>(
     out: &mut S,
 ) -> Result<bool, EngineFault>
     ensures { IsWhole (IsTried limits (change S.contents S.is_failed out.old out.new)
-        (text_of texts.now) file.now) result }
+        (texts_view texts.now) file.now) result }
 {
     let visits = limits.visits;
     whole(trial_program(alloc, texts, file, visits, limits, out))

@@ -2,7 +2,7 @@
 
 ghost use Rattle.std.specs.Prelude.{IfErr, IfOk, OnOk};
 ghost use Rattle.star_engine.specs.Answered.{IsUntouched, change};
-ghost use Rattle.star_cli.specs.FolderLoads.{AreTables, IsFolderRefused, IsWidest};
+ghost use Rattle.star_cli.specs.FolderLoads.{AreLoadableRows, IsFolderRefused, IsWidest};
 ghost use Rattle.star_cli.specs.ReadFolders.{AreWidelyRead};
 
 use crate::failure::Failure;
@@ -18,7 +18,7 @@ use std::rt::Files;
 // The tables of a folder, which were read, under the widest limits.
 fn load_read(alloc: Global, read: ReadTables) -> Result<Catalogue, EngineFault>
     requires { AreWidelyRead read }
-    ensures { IfOk result (λ catalogue. AreTables catalogue) }
+    ensures { IfOk result (λ catalogue. AreLoadableRows catalogue) }
 {
     Ok(Catalogue::finish(alloc, read)?)
 }
@@ -57,7 +57,7 @@ pub fn load_folder<R: Files + AllocGlobal, P: Watch, S: Sink, E: Sink>(
     out: &mut S,
     err: &mut E,
 ) -> Result<Catalogue, u8>
-    ensures tables { IfOk result AreTables }
+    ensures tables { IfOk result AreLoadableRows }
     ensures silent { OnOk result (IsUntouched (change S.contents S.is_failed out.old out.new)
         × IsUntouched (change E.contents E.is_failed err.old err.new)) }
     ensures told { IfErr result (IsFolderRefused (change S.contents S.is_failed out.old out.new)

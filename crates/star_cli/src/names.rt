@@ -3,7 +3,7 @@
 ghost use Rattle.std.specs.Prelude.{◌≤◌, Some, encode_utf8_all};
 ghost use Rattle.std.specs.Char.Iter.{escape_end, escape_rest};
 ghost use Rattle.std.specs.Fmt.{WritesOnOk};
-ghost use Rattle.star_cli.specs.Names.{shown_letter, shown_name};
+ghost use Rattle.star_cli.specs.Names.{printed_letter, printed_name};
 
 use std::char::EscapeDefault;
 use std::fmt;
@@ -28,7 +28,7 @@ fn write_escape<W: fmt::Write>(escape: EscapeDefault, f: &mut fmt::Formatter<W>)
 // `escape_default` writes these letters as `escape_debug` does, but for the zero; and its clause
 // says so beyond ASCII too.
 fn write_letter<W: fmt::Write>(letter: char, f: &mut fmt::Formatter<W>) -> fmt::Result
-    ensures { WritesOnOk W.write_str_gives f.old result (shown_letter letter) f.new }
+    ensures { WritesOnOk W.write_str_gives f.old result (printed_letter letter) f.new }
 {
     if letter == '\0' {
         f.write_str("\\0")
@@ -40,7 +40,7 @@ fn write_letter<W: fmt::Write>(letter: char, f: &mut fmt::Formatter<W>) -> fmt::
 }
 
 impl<'a> fmt::Display for Shown<'a> {
-    ghost output = { λ shown. Some (shown_name shown.0.now) };
+    ghost output = { λ shown. Some (printed_name shown.0.now) };
 
     fn fmt<W: fmt::Write>(&self, f: &mut fmt::Formatter<W>) -> fmt::Result {
         let mut rest = self.0.chars();

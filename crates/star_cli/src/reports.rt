@@ -7,7 +7,7 @@ ghost use Rattle.star_engine.specs.Answered.{change};
 ghost use Rattle.star_engine.specs.Tellings.{telling_of};
 ghost use Rattle.star_cli.specs.Private.ReportSteps.{IsKeptAndTold, IsLineWritten, IsRefusalTold};
 ghost use Rattle.star_cli.specs.Reports as spec;
-ghost use Rattle.star_cli.specs.Reports.{AreAllDelivered, AreAllJudged, IsDelivered, IsEnded, IsJudged, told_line};
+ghost use Rattle.star_cli.specs.Reports.{AreAllDelivered, AreAllJudged, IsDelivered, AreReportsEnded, IsJudged, told_line};
 ghost use Rattle.star_cli.specs.Shelves.{shelving};
 ghost use Rattle.star_cli.specs.declared.reports.Halt.TheVariants.{OutOfMemory};
 
@@ -232,7 +232,7 @@ pub(crate) fn end<S: Sink, E: Sink>(
     out: &mut S,
     err: &mut E,
 ) -> u8
-    ensures { IsEnded (change S.contents S.is_failed out.old out.new)
+    ensures { AreReportsEnded (change S.contents S.is_failed out.old out.new)
         (change E.contents E.is_failed err.old err.new) made.entry result }
 {
     match made {

@@ -3,3 +3,4 @@ pub mod Numerals
 pub mod Out
 pub mod Quotes
 pub mod Memory
+pub mod WhiteSpace

@@ -18,7 +18,7 @@ use Rattle.star_program.specs.CodeOfSteps as step
 use Rattle.star_program.specs.Faults.{target_of}
 use Rattle.star_program.specs.declared.body.Step.{Step}
 use Rattle.star_program.specs.declared.body.Step.TheVariants.{Act}
-use Rattle.star_compile_laws.specs.Compiled.{Env, Rest, Rests, writes_one, register_count, column_code, expression_code, condition_code, conjunct_code, keys_code, values_code, before, binary_code, write, one_more}
+use Rattle.star_compile_laws.specs.Compiled.{Env, Rest, Rests, writes_one, register_count, column_code, expression_code, condition_code, conjunct_code, keys_code, values_code, one_before, binary_code, write, one_more}
 use Rattle.star_compile.specs.declared.emitter.Emitter.{Emitter}
 use Rattle.star_compile.specs.Private.Emitted.{Whole, steps_then, env_of, whole, Wrote, Writes, HasRoom, keys_after, value_after, values_after}
 
@@ -136,7 +136,7 @@ Behind after code =
 -- one register more, and those after it
 one_behind : (first : Env → Rest → Code) (after : List ℕ → Env → Rests → Code)
     (code : Env → Rests → Code) → Behind after code
-    → Behind (λ so_far env k. first env (λ e x. after (so_far ++ x ∷ []) e k)) (before first code)
+    → Behind (λ so_far env k. first env (λ e x. after (so_far ++ x ∷ []) e k)) (one_before first code)
 one_behind first after code behind so_far env k =
     λ i.
     first env (λ e x.

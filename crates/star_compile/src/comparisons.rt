@@ -1,7 +1,7 @@
 // Writes comparisons of a column with literals.
 
 ghost use Rattle.std.specs.Prelude.{◌≡◌, true, IfOk};
-ghost use Rattle.star_plan.specs.Shown.{literal_shown};
+ghost use Rattle.star_plan.specs.Views.{literal_value_view};
 ghost use Rattle.star_plan.specs.Spelled.{value_is_spelled};
 ghost use Rattle.star_program.specs.declared.op.Operation.TheVariants.{Binary};
 ghost use Rattle.star_query.specs.declared.token.Relation.TheVariants as sign;
@@ -63,10 +63,10 @@ impl Emitter {
         upto: &Literal,
     ) -> Result<u16, AllocError>
         requires room { HasRoom self.old
-            (spec.between_code column value (literal_shown from.now) (literal_shown upto.now)) }
-        requires spelled { value_is_spelled (literal_shown upto.now) ≡ true }
+            (spec.between_code column value (literal_value_view from.now) (literal_value_view upto.now)) }
+        requires spelled { value_is_spelled (literal_value_view upto.now) ≡ true }
         ensures written { IfOk result (Writes self.old self.new
-            (spec.between_code column value (literal_shown from.now) (literal_shown upto.now))) }
+            (spec.between_code column value (literal_value_view from.now) (literal_value_view upto.now))) }
     {
         let from = self.write(start_of(column, from)?)?;
         let below = self.write(end_of(column, upto)?)?;
@@ -76,10 +76,10 @@ impl Emitter {
     // Whether the value equals the literal.
     fn equal(&mut self, column: ColumnId, value: u16, literal: &Literal) -> Result<u16, AllocError>
         requires room { HasRoom self.old
-            (spec.equal_code column value (literal_shown literal.now)) }
-        requires spelled { value_is_spelled (literal_shown literal.now) ≡ true }
+            (spec.equal_code column value (literal_value_view literal.now)) }
+        requires spelled { value_is_spelled (literal_value_view literal.now) ≡ true }
         ensures written { IfOk result (Writes self.old self.new
-            (spec.equal_code column value (literal_shown literal.now))) }
+            (spec.equal_code column value (literal_value_view literal.now))) }
     {
         match literal {
             Literal::Number(number) => {
@@ -97,9 +97,9 @@ impl Emitter {
         literal: &Literal,
     ) -> Result<u16, AllocError>
         requires room { HasRoom self.old
-            (spec.test_code sign.AtMost column value (literal_shown literal.now)) }
+            (spec.test_code sign.AtMost column value (literal_value_view literal.now)) }
         ensures written { IfOk result (Writes self.old self.new
-            (spec.test_code sign.AtMost column value (literal_shown literal.now))) }
+            (spec.test_code sign.AtMost column value (literal_value_view literal.now))) }
     {
         match literal {
             Literal::Number(number) => {
@@ -121,9 +121,9 @@ impl Emitter {
         literal: &Literal,
     ) -> Result<u16, AllocError>
         requires room { HasRoom self.old
-            (spec.test_code sign.Greater column value (literal_shown literal.now)) }
+            (spec.test_code sign.Greater column value (literal_value_view literal.now)) }
         ensures written { IfOk result (Writes self.old self.new
-            (spec.test_code sign.Greater column value (literal_shown literal.now))) }
+            (spec.test_code sign.Greater column value (literal_value_view literal.now))) }
     {
         match literal {
             Literal::Number(number) => {
@@ -146,10 +146,10 @@ impl Emitter {
         literal: &Literal,
     ) -> Result<u16, AllocError>
         requires room { HasRoom self.old
-            (spec.test_code relation column value (literal_shown literal.now)) }
-        requires spelled { value_is_spelled (literal_shown literal.now) ≡ true }
+            (spec.test_code relation column value (literal_value_view literal.now)) }
+        requires spelled { value_is_spelled (literal_value_view literal.now) ≡ true }
         ensures written { IfOk result (Writes self.old self.new
-            (spec.test_code relation column value (literal_shown literal.now))) }
+            (spec.test_code relation column value (literal_value_view literal.now))) }
     {
         match relation {
             Relation::Equal => self.equal(column, value, literal),

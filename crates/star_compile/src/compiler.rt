@@ -4,7 +4,7 @@ ghost use Rattle.std.specs.Prelude.{◌≡◌, ◌+◌, ◌≤◌, true, IfOk};
 ghost use Rattle.std.specs.List.{list_all};
 ghost use Rattle.star_schema.specs.declared.table.TableId.TheVariants.{Lineorder};
 ghost use Rattle.star_plan.specs.Limits.{IsPlanWithinLimits};
-ghost use Rattle.star_plan.specs.Shown.{shown};
+ghost use Rattle.star_plan.specs.Views.{plan_view};
 ghost use Rattle.star_plan.specs.Sound.{IsSoundPlan};
 ghost use Rattle.star_plan.specs.Spelled.{IsSpelledPlan, condition_is_spelled};
 ghost use Rattle.star_program.specs.Code.{Each, Stop};
@@ -21,12 +21,12 @@ use std::alloc::{AllocError, Global};
 
 // A turn of the scan: the conjuncts, the keys, the numbers of the aggregates, and one put.
 fn turn(alloc: Global, tree: &PlanTree) -> Result<Emitter, AllocError>
-    requires room { 1 + register_count (turn_code (shown tree.now)) ≤ 4096 }
-    requires spelled { list_all condition_is_spelled (shown tree.now).conjuncts ≡ true }
+    requires room { 1 + register_count (turn_code (plan_view tree.now)) ≤ 4096 }
+    requires spelled { list_all condition_is_spelled (plan_view tree.now).conjuncts ≡ true }
     ensures code { IfOk result (λ emitter.
-        code_of_steps emitter.steps.items ≡ turn_code (shown tree.now)) }
+        code_of_steps emitter.steps.items ≡ turn_code (plan_view tree.now)) }
     ensures registers { IfOk result (λ emitter.
-        emitter.next ≡ 1 + register_count (turn_code (shown tree.now))) }
+        emitter.next ≡ 1 + register_count (turn_code (plan_view tree.now))) }
 {
     let mut emitter = Emitter::new(alloc);
     emitter.conjuncts(&tree.joins, &tree.conjuncts)?;
@@ -51,10 +51,10 @@ fn scan(alloc: Global, turn: Vec<Step>) -> Result<Body, AllocError>
 
 // What the program is made of.
 fn parts(alloc: Global, tree: &PlanTree) -> Result<Parts, AllocError>
-    requires sound { IsSoundPlan (shown tree.now) }
-    requires limits { IsPlanWithinLimits (shown tree.now) }
-    requires spelled { IsSpelledPlan (shown tree.now) }
-    ensures { IfOk result (λ parts. parts ≡ compiled (shown tree.now)) }
+    requires sound { IsSoundPlan (plan_view tree.now) }
+    requires limits { IsPlanWithinLimits (plan_view tree.now) }
+    requires spelled { IsSpelledPlan (plan_view tree.now) }
+    ensures { IfOk result (λ parts. parts ≡ compiled (plan_view tree.now)) }
 {
     let Emitter { steps, next, .. } = turn(alloc, tree)?;
     let mut groups = Vec::new(alloc);
@@ -73,7 +73,7 @@ fn parts(alloc: Global, tree: &PlanTree) -> Result<Parts, AllocError>
 /// items and sort keys as they come. A column is loaded, and a dimension's row is found, once,
 /// where it is used first. No catalogue is looked at. It fails for want of memory alone.
 pub fn compile(alloc: Global, plan: &Plan) -> Result<Program, AllocError>
-    ensures { IfOk result (λ program. program ≡ compiled (shown plan.now)) }
+    ensures { IfOk result (λ program. program ≡ compiled (plan_view plan.now)) }
 {
     planned_queries_are_sound();
     let program = Program::new(parts(alloc, plan.tree())?);

@@ -3,7 +3,7 @@
 ghost use Rattle.std.specs.Prelude.{◌≡◌, true, map, IfOk};
 ghost use Rattle.std.specs.List.{list_all};
 ghost use Rattle.star_query.specs.Tree.{test};
-ghost use Rattle.star_plan.specs.Shown.{comparison_shown, condition_shown};
+ghost use Rattle.star_plan.specs.Views.{comparison_view, row_condition_view};
 ghost use Rattle.star_plan.specs.Spelled.{condition_is_spelled};
 ghost use Rattle.star_compile_laws.specs.Compiled as spec;
 ghost use Rattle.star_compile_laws.specs.Compiled.{condition_code};
@@ -24,10 +24,10 @@ impl Emitter {
         comparison: &Comparison<ColumnId>,
     ) -> Result<u16, AllocError>
         requires room { HasRoom self.old
-            (condition_code joins.now (test (comparison_shown comparison.now))) }
-        requires spelled { condition_is_spelled (test (comparison_shown comparison.now)) ≡ true }
+            (condition_code joins.now (test (comparison_view comparison.now))) }
+        requires spelled { condition_is_spelled (test (comparison_view comparison.now)) ≡ true }
         ensures written { IfOk result (Writes self.old self.new
-            (condition_code joins.now (test (comparison_shown comparison.now)))) }
+            (condition_code joins.now (test (comparison_view comparison.now)))) }
     {
         match comparison {
             Comparison::Compare(column, relation, literal) => {
@@ -51,13 +51,13 @@ impl Emitter {
         right: &RowCondition,
     ) -> Result<u16, AllocError>
         requires room { HasRoom self.old (spec.binary_code
-            (condition_code joins.now (condition_shown left.now))
-            (condition_code joins.now (condition_shown right.now)) operator) }
-        requires left { condition_is_spelled (condition_shown left.now) ≡ true }
-        requires right { condition_is_spelled (condition_shown right.now) ≡ true }
+            (condition_code joins.now (row_condition_view left.now))
+            (condition_code joins.now (row_condition_view right.now)) operator) }
+        requires left { condition_is_spelled (row_condition_view left.now) ≡ true }
+        requires right { condition_is_spelled (row_condition_view right.now) ≡ true }
         ensures written { IfOk result (Writes self.old self.new (spec.binary_code
-            (condition_code joins.now (condition_shown left.now))
-            (condition_code joins.now (condition_shown right.now)) operator)) }
+            (condition_code joins.now (row_condition_view left.now))
+            (condition_code joins.now (row_condition_view right.now)) operator)) }
     {
         let left = self.condition(joins, left)?;
         let right = self.condition(joins, right)?;
@@ -76,10 +76,10 @@ impl Emitter {
         condition: &RowCondition,
     ) -> Result<u16, AllocError>
         requires room { HasRoom self.old
-            (condition_code joins.now (condition_shown condition.now)) }
-        requires spelled { condition_is_spelled (condition_shown condition.now) ≡ true }
+            (condition_code joins.now (row_condition_view condition.now)) }
+        requires spelled { condition_is_spelled (row_condition_view condition.now) ≡ true }
         ensures written { IfOk result (Writes self.old self.new
-            (condition_code joins.now (condition_shown condition.now))) }
+            (condition_code joins.now (row_condition_view condition.now))) }
     {
         match condition {
             Condition::Or(left, right) => self.connective(joins, Operator::Or, left, right),
@@ -95,10 +95,10 @@ impl Emitter {
     // Keeps the rows for which a condition holds.
     fn conjunct(&mut self, joins: &[Join], condition: &RowCondition) -> Result<(), AllocError>
         requires room { HasRoom self.old
-            (spec.conjunct_code joins.now (condition_shown condition.now)) }
-        requires spelled { condition_is_spelled (condition_shown condition.now) ≡ true }
+            (spec.conjunct_code joins.now (row_condition_view condition.now)) }
+        requires spelled { condition_is_spelled (row_condition_view condition.now) ≡ true }
         ensures written { IfOk result (λ _. Wrote self.old self.new
-            (spec.conjunct_code joins.now (condition_shown condition.now))) }
+            (spec.conjunct_code joins.now (row_condition_view condition.now))) }
     {
         let flag = self.condition(joins, condition)?;
         self.keep(flag)
@@ -111,11 +111,11 @@ impl Emitter {
         conditions: &[RowCondition],
     ) -> Result<(), AllocError>
         requires room { HasRoom self.old
-            (spec.conjuncts_code joins.now (map condition_shown conditions.now)) }
+            (spec.conjuncts_code joins.now (map row_condition_view conditions.now)) }
         requires spelled { list_all condition_is_spelled
-            (map condition_shown conditions.now) ≡ true }
+            (map row_condition_view conditions.now) ≡ true }
         ensures written { IfOk result (λ _. Wrote self.old self.new
-            (spec.conjuncts_code joins.now (map condition_shown conditions.now))) }
+            (spec.conjuncts_code joins.now (map row_condition_view conditions.now))) }
     {
         for condition in conditions {
             self.conjunct(joins, condition)?;

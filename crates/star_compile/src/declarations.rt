@@ -3,7 +3,7 @@
 ghost use Rattle.std.specs.Prelude.{◌≡◌, true, length, map, IfOk};
 ghost use Rattle.std.specs.List.{list_all};
 ghost use Rattle.star_plan.specs.Meaning.{aggregate_of};
-ghost use Rattle.star_plan.specs.Shown.{measure_shown, measures_shown, shown};
+ghost use Rattle.star_plan.specs.Views.{column_measure_view, measures_view, plan_view};
 ghost use Rattle.star_plan.specs.Sound.{is_group_column};
 ghost use Rattle.star_compile_laws.specs.Compiled as spec;
 ghost use Rattle.star_query_meaning.specs.Answers.{shown_name};
@@ -31,7 +31,7 @@ fn keys(alloc: Global, columns: &[ColumnId]) -> Result<Vec<GroupKey>, AllocError
 }
 
 fn aggregate(measure: &Measure<ColumnId>) -> Aggregate
-    ensures { result ≡ aggregate_of (measure_shown measure.now) }
+    ensures { result ≡ aggregate_of (column_measure_view measure.now) }
 {
     match measure {
         Measure::Count => Aggregate::Count,
@@ -46,7 +46,7 @@ fn aggregates(
     aggregates: &[star_plan::Aggregate],
 ) -> Result<Vec<Aggregate>, AllocError>
     ensures { IfOk result (λ declared.
-        declared.items ≡ map aggregate_of (measures_shown aggregates.now)) }
+        declared.items ≡ map aggregate_of (measures_view aggregates.now)) }
 {
     let mut declared = Vec::new(alloc);
     for each in aggregates {
@@ -57,7 +57,7 @@ fn aggregates(
 
 /// The group of a plan: its keys as texts or as numbers, and its aggregates.
 pub(crate) fn group(alloc: Global, tree: &PlanTree) -> Result<GroupDecl, AllocError>
-    ensures { IfOk result (λ group. group ≡ spec.group_of (shown tree.now)) }
+    ensures { IfOk result (λ group. group ≡ spec.plan_group (plan_view tree.now)) }
 {
     Ok(GroupDecl {
         shape: tree.shape,
@@ -70,7 +70,7 @@ pub(crate) fn group(alloc: Global, tree: &PlanTree) -> Result<GroupDecl, AllocEr
 fn name(alloc: Global, tree: &PlanTree, column: GroupColumn) -> Result<Vec<u8>, AllocError>
     requires there { is_group_column
         (length tree.now.keys.items) (length tree.now.aggregates.items) column ≡ true }
-    ensures { IfOk result (λ name. name.items ≡ shown_name (shown tree.now) column) }
+    ensures { IfOk result (λ name. name.items ≡ shown_name (plan_view tree.now) column) }
 {
     match column {
         GroupColumn::Key(place) => {
@@ -86,7 +86,7 @@ pub(crate) fn shows(alloc: Global, tree: &PlanTree) -> Result<Vec<Show>, AllocEr
         (is_group_column (length tree.now.keys.items) (length tree.now.aggregates.items))
         tree.now.items.items ≡ true }
     ensures { IfOk result (λ shows.
-        shows.items ≡ map (spec.show_of (shown tree.now)) tree.now.items.items) }
+        shows.items ≡ map (spec.plan_show (plan_view tree.now)) tree.now.items.items) }
 {
     let mut shows = Vec::new(alloc);
     for column in &tree.items {

@@ -1,7 +1,7 @@
 // Writes expressions.
 
 ghost use Rattle.std.specs.Prelude.{IfOk};
-ghost use Rattle.star_plan.specs.Shown.{expression_shown};
+ghost use Rattle.star_plan.specs.Views.{column_expression_view};
 ghost use Rattle.star_compile_laws.specs.Compiled as spec;
 ghost use Rattle.star_compile_laws.specs.Compiled.{expression_code};
 ghost use Rattle.star_compile.specs.Private.Emitted.{HasRoom, Writes};
@@ -24,11 +24,11 @@ impl Emitter {
         right: &Expression<ColumnId>,
     ) -> Result<u16, AllocError>
         requires room { HasRoom self.old (spec.binary_code
-            (expression_code joins.now (expression_shown left.now))
-            (expression_code joins.now (expression_shown right.now)) operator) }
+            (expression_code joins.now (column_expression_view left.now))
+            (expression_code joins.now (column_expression_view right.now)) operator) }
         ensures written { IfOk result (Writes self.old self.new (spec.binary_code
-            (expression_code joins.now (expression_shown left.now))
-            (expression_code joins.now (expression_shown right.now)) operator)) }
+            (expression_code joins.now (column_expression_view left.now))
+            (expression_code joins.now (column_expression_view right.now)) operator)) }
     {
         let left = self.expression(joins, left)?;
         let right = self.expression(joins, right)?;
@@ -47,9 +47,9 @@ impl Emitter {
         expression: &Expression<ColumnId>,
     ) -> Result<u16, AllocError>
         requires room { HasRoom self.old
-            (expression_code joins.now (expression_shown expression.now)) }
+            (expression_code joins.now (column_expression_view expression.now)) }
         ensures written { IfOk result (Writes self.old self.new
-            (expression_code joins.now (expression_shown expression.now))) }
+            (expression_code joins.now (column_expression_view expression.now))) }
     {
         match expression {
             Expression::Column(column) => self.column(joins, *column),

@@ -1,7 +1,7 @@
 // What a column is compared with.
 
 ghost use Rattle.std.specs.Prelude.{◌≡◌, true, IfOk};
-ghost use Rattle.star_plan.specs.Shown.{literal_shown};
+ghost use Rattle.star_plan.specs.Views.{literal_value_view};
 ghost use Rattle.star_plan.specs.Spelled.{value_is_spelled};
 ghost use Rattle.star_program.specs.declared.op.Operation.TheVariants as operation;
 ghost use Rattle.star_compile_laws.specs.Compiled as spec;
@@ -21,7 +21,7 @@ pub(crate) fn edge_of(edge: Edge, column: ColumnId, text: &Vec<u8>) -> Result<Op
 
 /// Where the values of a column begin that equal the literal.
 pub(crate) fn start_of(column: ColumnId, literal: &Literal) -> Result<Operation, AllocError>
-    ensures { IfOk result (λ made. made ≡ spec.start_of column (literal_shown literal.now)) }
+    ensures { IfOk result (λ made. made ≡ spec.start_of column (literal_value_view literal.now)) }
 {
     match literal {
         Literal::Number(number) => Ok(Operation::Const { number: *number }),
@@ -31,8 +31,8 @@ pub(crate) fn start_of(column: ColumnId, literal: &Literal) -> Result<Operation,
 
 /// Where the values of a column begin that are greater than the literal.
 pub(crate) fn end_of(column: ColumnId, literal: &Literal) -> Result<Operation, AllocError>
-    requires spelled { value_is_spelled (literal_shown literal.now) ≡ true }
-    ensures { IfOk result (λ made. made ≡ spec.end_of column (literal_shown literal.now)) }
+    requires spelled { value_is_spelled (literal_value_view literal.now) ≡ true }
+    ensures { IfOk result (λ made. made ≡ spec.end_behind column (literal_value_view literal.now)) }
 {
     match literal {
         Literal::Number(number) => Ok(Operation::Const {

@@ -1,7 +1,7 @@
 // Writes what is put of a row: its keys, and a number for each aggregate that isn't a count.
 
 ghost use Rattle.std.specs.Prelude.{IfOk};
-ghost use Rattle.star_plan.specs.Shown.{measure_shown, measures_shown};
+ghost use Rattle.star_plan.specs.Views.{column_measure_view, measures_view};
 ghost use Rattle.star_compile_laws.specs.Compiled.{keys_code, values_code};
 ghost use Rattle.star_compile.specs.Private.Emitted.{HasRoom, Writes, value_after};
 
@@ -39,9 +39,9 @@ impl Emitter {
         registers: &mut Vec<u16>,
     ) -> Result<(), AllocError>
         requires room { HasRoom self.old
-            (value_after joins.now (measure_shown measure.now) registers.old.items) }
+            (value_after joins.now (column_measure_view measure.now) registers.old.items) }
         ensures written { IfOk result (λ _. Writes self.old self.new
-            (value_after joins.now (measure_shown measure.now) registers.old.items)
+            (value_after joins.now (column_measure_view measure.now) registers.old.items)
             registers.new.items) }
     {
         if let Measure::Fold(_, expression) = measure {
@@ -58,9 +58,9 @@ impl Emitter {
         joins: &[Join],
         aggregates: &[Aggregate],
     ) -> Result<Vec<u16>, AllocError>
-        requires room { HasRoom self.old (values_code joins.now (measures_shown aggregates.now)) }
+        requires room { HasRoom self.old (values_code joins.now (measures_view aggregates.now)) }
         ensures written { IfOk result (λ registers. Writes self.old self.new
-            (values_code joins.now (measures_shown aggregates.now)) registers.items) }
+            (values_code joins.now (measures_view aggregates.now)) registers.items) }
     {
         let mut registers = Vec::new(alloc);
         for aggregate in aggregates {

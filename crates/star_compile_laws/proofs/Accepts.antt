@@ -17,7 +17,7 @@ use Rattle.star_plan.specs.Meaning.{RowCondition}
 use Rattle.star_plan.specs.Names.{same_kind}
 use Rattle.star_plan.specs.Sound.{in_scope, condition_is_sound, expression_is_sound}
 use Rattle.star_plan.specs.Spelled.{value_is_spelled, condition_is_spelled}
-use Rattle.star_plan.specs.Fits.{range_of, nodes_fit}
+use Rattle.star_plan.specs.Fits.{expression_range, nodes_fit}
 use Rattle.star_program.specs.declared.op.Edge.{Edge}
 use Rattle.star_program.specs.declared.op.Edge.TheVariants.{Low, High}
 use Rattle.star_program.specs.declared.op.Operation.{Operation}
@@ -27,11 +27,11 @@ use Rattle.star_program.specs.declared.op.Operator.TheVariants as operator
 use Rattle.star_program.specs.declared.value.Kind.TheVariants as kinds
 use Rattle.star_program.specs.declared.fault.Fault.TheVariants.{BadColumn}
 use Rattle.star_program.specs.Code.{Code}
-use Rattle.star_program.specs.Faults.{Kinds, unless, is_number, is_flag, is_ordered, compares_with, compare_fault, both_fault, binary_fault}
+use Rattle.star_program.specs.Faults.{Kinds, unless, is_number_kind, is_flag_kind, is_ordered, compares_with, compare_fault, both_fault, binary_fault}
 use Rattle.star_program.specs.World.{is_column, is_text}
-use Rattle.star_safety.specs.Ranges.{Reach, no_reach, joined_reach, Known, KnownNumber, KnownPlace, KnownFlag, known_kind, kinds_known, given, answer_known, computed}
+use Rattle.star_safety.specs.Ranges.{Reach, no_reach, joined_reach, Known, KnownNumber, KnownPlace, KnownFlag, known_kind, kinds_known, known_number, answer_known, known_arithmetic}
 use Rattle.star_safety.specs.Refusals.{overflow_of}
-use Rattle.star_compile_laws.specs.Compiled.{Env, Rest, write, binary_code, column_code, start_of, end_of, beside, equal_code, test_code, between_code, condition_code, expression_code}
+use Rattle.star_compile_laws.specs.Compiled.{Env, Rest, write, binary_code, column_code, start_of, end_behind, beside, equal_code, test_code, between_code, condition_code, expression_code}
 use Rattle.star_compile_laws.proofs.Constants.{constant_fits, next_fits}
 use Rattle.star_compile_laws.proofs.ForeignKeys.{AreForeign}
 use Rattle.star_compile_laws.proofs.Joins.{holds_numbers, holds_texts}
@@ -79,7 +79,7 @@ module _ (turn : Turn) where
         → (turn.Asked → fits_i64 (only z) ≡ true) → Bounds c (operation.Const z)
     const_bounds c number z lies =
         let e = sym (number_known turn.world c (is_text c) number) in record {
-          known = given (only z);
+          known = known_number (only z);
           suits = λ p. record {
             place = λ t. refl;
             operands = refl;
@@ -122,7 +122,7 @@ module _ (turn : Turn) where
     start_bounds c (Text t) same spelled = edge_bounds Low c (holds_texts c same) t
 
     end_bounds : (c : ColumnId) (v : Value) → same_kind (kind_of c) (kind_of_value v) ≡ true
-        → (turn.Asked → value_is_spelled v ≡ true) → Bounds c (end_of c v)
+        → (turn.Asked → value_is_spelled v ≡ true) → Bounds c (end_behind c v)
     end_bounds c (Number a) same spelled =
         const_bounds c (holds_numbers c same) (a +ℤ pos 1) (λ s. next_fits a (spelled s))
     end_bounds c (Text t) same spelled = edge_bounds High c (holds_texts c same) t
@@ -222,7 +222,7 @@ module _ (turn : Turn) where
         → (p : Point) (k : Rest) → At (column_known c) p x
         → Judges true (At KnownFlag) k p (between_code c x from upto p.env k)
     between_judged c x from upto kind_from kind_upto said_from said_upto p k at room =
-        within_judged c (start_of c from) (end_of c upto) (start_bounds c from kind_from said_from)
+        within_judged c (start_of c from) (end_behind c upto) (start_bounds c from kind_from said_from)
         (end_bounds c upto kind_upto said_upto) x p k at room
 
     not_judged : (y : ℕ) (p : Point) (k : Rest) → At KnownFlag p y
@@ -231,7 +231,7 @@ module _ (turn : Turn) where
         columns.written turn (operation.Not y) KnownFlag p k
         (λ h. record {
           place = λ t. refl;
-          operands = columns.operand turn p is_flag y KnownFlag h at refl;
+          operands = columns.operand turn p is_flag_kind y KnownFlag h at refl;
           source = λ g t. refl;
           makes = refl;
           range = λ t. refl;
@@ -288,7 +288,7 @@ module _ (turn : Turn) where
     -- an operator on two flags
     record TakesFlags (o : Operator) : Type 0 where
       takes : (registers : ℕ) (kinds : Kinds) (l r : ℕ)
-          → binary_fault registers kinds o l r ≡ both_fault registers kinds is_flag l r
+          → binary_fault registers kinds o l r ≡ both_fault registers kinds is_flag_kind l r
       makes : (l r : Option Known) → answer_known o l r ≡ KnownFlag
 
     conjunction : TakesFlags operator.And
@@ -305,7 +305,7 @@ module _ (turn : Turn) where
         (λ h. record {
           place = λ t. refl;
           operands = is.takes turn.parts.registers (kinds_known p.known) x y
-              ∙ columns.two_of turn p is_flag x y KnownFlag KnownFlag h at_x at_y refl refl;
+              ∙ columns.two_of turn p is_flag_kind x y KnownFlag KnownFlag h at_x at_y refl refl;
           source = λ g t. refl;
           makes = is.makes (p.known x) (p.known y);
           range = λ t. ap (overflow_of turn.world) (is.makes (p.known x) (p.known y));
@@ -390,8 +390,8 @@ module _ (turn : Turn) where
     -- arithmetic on two numbers, by a range and what makes it
     record Computes (o : Operator) (z : ℤ → ℤ → ℤ) : Type 0 where
       takes : (registers : ℕ) (kinds : Kinds) (l r : ℕ)
-          → binary_fault registers kinds o l r ≡ both_fault registers kinds is_number l r
-      makes : (l r : Option Known) → answer_known o l r ≡ computed z l r
+          → binary_fault registers kinds o l r ≡ both_fault registers kinds is_number_kind l r
+      makes : (l r : Option Known) → answer_known o l r ≡ known_arithmetic z l r
 
     adds : Computes operator.Add ◌+ℤ◌
     adds = record { takes = λ registers kinds l r. refl; makes = λ l r. refl }
@@ -417,18 +417,18 @@ module _ (turn : Turn) where
         (λ h. record {
           place = λ t. refl;
           operands = is.takes turn.parts.registers (kinds_known p.known) x y
-              ∙ columns.two_of turn p is_number x y u v h (number_at p x a at_x) (number_at p y b at_y) refl
+              ∙ columns.two_of turn p is_number_kind x y u v h (number_at p x a at_x) (number_at p y b at_y) refl
               refl;
           source = λ g t. refl;
-          makes = is.makes (p.known x) (p.known y) ∙ λ i. computed z (at_x.1.2 i) (at_y.1.2 i);
-          range = λ t. ap (overflow_of turn.world) (is.makes (p.known x) (p.known y) ∙ λ i. computed z (at_x.1.2 i) (at_y.1.2 i));
+          makes = is.makes (p.known x) (p.known y) ∙ λ i. known_arithmetic z (at_x.1.2 i) (at_y.1.2 i);
+          range = λ t. ap (overflow_of turn.world) (is.makes (p.known x) (p.known y) ∙ λ i. known_arithmetic z (at_x.1.2 i) (at_y.1.2 i));
         })
         room)
 
     abbrev JudgesRange : Expression ColumnId → Type 0
     JudgesRange a =
         expression_is_sound js a ≡ true → (p : Point) (k : Rest)
-        → Judges (nodes_fit turn.world.bounds a) (Ranged (range_of turn.world.bounds a)) k p
+        → Judges (nodes_fit turn.world.bounds a) (Ranged (expression_range turn.world.bounds a)) k p
         (expression_code js a p.env k)
 
     -- an operator after its two parts
@@ -437,13 +437,13 @@ module _ (turn : Turn) where
         → (p : Point) (k : Rest)
         → Judges
         (nodes_fit turn.world.bounds a && (nodes_fit turn.world.bounds b
-        && fits_i64 (corner_range z (range_of turn.world.bounds a) (range_of turn.world.bounds b))))
-        (Ranged (corner_range z (range_of turn.world.bounds a) (range_of turn.world.bounds b))) k p
+        && fits_i64 (corner_range z (expression_range turn.world.bounds a) (expression_range turn.world.bounds b))))
+        (Ranged (corner_range z (expression_range turn.world.bounds a) (expression_range turn.world.bounds b))) k p
         (binary_code (expression_code js a) (expression_code js b) o p.env k)
     two_judged a b o z is first second sound p k room =
         let parts = and_parts (expression_is_sound js a) (expression_is_sound js b) sound in
-        let q = range_of turn.world.bounds a in
-        let r = range_of turn.world.bounds b in
+        let q = expression_range turn.world.bounds a in
+        let r = expression_range turn.world.bounds b in
         let c = corner_range z q r in
         let l : Rest = λ e x. expression_code js b e (λ e y. write (operation.Binary o x y) e k) in
         points.judged_then turn (Ranged q) (Ranged c) l k (nodes_fit turn.world.bounds a)
@@ -470,9 +470,9 @@ module _ (turn : Turn) where
         (points.answer turn p (column_code js c p.env k))) is
         (columns.column_judged turn js foreign within c p k parts.0 room))
     expression_judged (constant z) sound p k room =
-        points.weaker turn (λ t. t) (At (given (only z))) (Ranged (only z)) k (fits_i64 (only z))
+        points.weaker turn (λ t. t) (At (known_number (only z))) (Ranged (only z)) k (fits_i64 (only z))
         p _ (λ h. ranged (only z) no_reach None h.after h.out h.says)
-        (columns.written turn (operation.Const z) (given (only z)) p k
+        (columns.written turn (operation.Const z) (known_number (only z)) p k
         (λ h. record { place = λ t. refl; operands = refl; source = λ g t. refl; makes = refl; range = λ t. refl })
         room)
     expression_judged (add a b) sound p k room =

@@ -17,7 +17,7 @@ use Rattle.star_program.specs.declared.op.Operation.TheVariants as operation
 use Rattle.star_program.specs.declared.value.Kind.{Kind}
 use Rattle.star_program.specs.declared.fault.Fault.TheVariants.{BadRegister, WrongKind, BadColumn}
 use Rattle.star_program.specs.Code.{Code}
-use Rattle.star_program.specs.Faults.{unless, kind_fault, operand_fault, is_number, is_row, is_ordered, is_row_of, compares_with, compare_fault, both_fault}
+use Rattle.star_program.specs.Faults.{unless, kind_fault, operand_fault, is_number_kind, is_row_kind, is_ordered, is_row_of, compares_with, compare_fault, both_fault}
 use Rattle.star_program.specs.World.{World, is_column, is_text}
 use Rattle.star_safety.specs.Ranges.{Known, KnownNumber, KnownText, KnownRow, known_kind, kinds_known, origin_at, loaded_known}
 use Rattle.star_safety.specs.declared.reason.Reason.{Reason}
@@ -160,7 +160,7 @@ module _ (turn : Turn) where
       (with_loaded p.env c) k refl
       (record {
         place = λ t. refl;
-        operands = both_none _ _ (operand p is_row row (KnownRow (table_of c)) below at refl)
+        operands = both_none _ _ (operand p is_row_kind row (KnownRow (table_of c)) below at refl)
             (ap (λ o. unless (is_row_of (table_of c) (option_map known_kind o)) BadColumn) at.1
             ∙ ap (λ b. unless b BadColumn) (table_itself (table_of c)));
         source = λ g t. refl;
@@ -213,7 +213,7 @@ module _ (turn : Turn) where
         refl
         (record {
           place = λ q. refl;
-          operands = operand p is_number r v (omega (arith, room)) key refl;
+          operands = operand p is_number_kind r v (omega (arith, room)) key refl;
           source = λ g q. ap (λ o. refuses (not (refers_to t (origin_at o))) NotAForeignKey) key.1
               ∙ ap (λ o. refuses (not (is_some_table t o)) NotAForeignKey) (foreign.references t j)
               ∙ ap (λ b. refuses (not b) NotAForeignKey) (table_itself t);

@@ -17,23 +17,23 @@ use Rattle.star_query.specs.Tree.{Expression, Measure, count, fold}
 use Rattle.star_plan.specs.Meaning.{aggregate_of, Plan, RowCondition}
 use Rattle.star_plan.specs.Sound.{in_scope, condition_is_sound, expression_is_sound, measure_is_sound, IsSoundPlan}
 use Rattle.star_plan.specs.Spelled.{condition_is_spelled}
-use Rattle.star_plan.specs.Fits.{range_of, nodes_fit, measure_fits}
+use Rattle.star_plan.specs.Fits.{expression_range, nodes_fit, measure_fits}
 use Rattle.star_program.specs.declared.fault.Fault.TheVariants.{BadRegister, BadGroup}
 use Rattle.star_program.specs.declared.group.GroupKey.TheVariants as key
 use Rattle.star_program.specs.declared.op.Op.TheVariants.{Keep, Put}
 use Rattle.star_program.specs.declared.program.Parts.{Parts}
 use Rattle.star_program.specs.Code.{Code, Then}
-use Rattle.star_program.specs.Faults.{unless, operand_fault, is_number, is_flag, fits_key, keys_fault, numbers_fault, place_fault, value_count, fault_of}
+use Rattle.star_program.specs.Faults.{unless, operand_fault, is_number_kind, is_flag_kind, fits_key, keys_fault, numbers_fault, place_fault, value_count, fault_of}
 use Rattle.star_program.specs.Values.{with_entry}
 use Rattle.star_program.specs.World.{World, is_text}
 use Rattle.star_safety.specs.Contexts.{at_first}
-use Rattle.star_safety.specs.Ranges.{Known, KnownNumber, KnownRow, KnownFlag, known_kind, Table, kinds_known, loaded_known}
+use Rattle.star_safety.specs.Ranges.{Known, KnownNumber, KnownRow, KnownFlag, known_kind, AllKnown, kinds_known, loaded_known}
 use Rattle.star_safety.specs.declared.reason.Reason.{Reason}
 use Rattle.star_safety.specs.declared.reason.Reason.TheVariants.{Faulty}
 use Rattle.star_safety.specs.Standing.{at_place}
 use Rattle.star_safety.specs.Private.Forward.{first_reason, none_open, open_with}
-use Rattle.star_compile_laws.specs.Compiled.{Env, Rest, env_first, conjuncts_code, keys_code, values_code, put_code, turn_code, body_code, compiled, key_of_group, register_count, before, expression_code}
-use Rattle.star_compile_laws.specs.Judged.{AreBoundsI64}
+use Rattle.star_compile_laws.specs.Compiled.{Env, Rest, env_first, conjuncts_code, keys_code, values_code, put_code, turn_code, body_code, compiled, key_of_group, register_count, one_before, expression_code}
+use Rattle.star_schema.specs.Columns.{AreBoundsI64}
 use Rattle.star_compile_laws.specs.Wide.{turn_wide}
 use Rattle.star_compile_laws.proofs.FirstWide.{NothingElse, turn_wide_is}
 use Rattle.star_compile_laws.proofs.ForeignKeys.{AreForeign, are_foreign}
@@ -64,7 +64,7 @@ number_kind c e = by (kind_of c) refl
 abbrev ranges_of : World → List (Measure ColumnId) → List Range
 ranges_of w [] = []
 ranges_of w (count ∷ ms) = ranges_of w ms
-ranges_of w (fold f a ∷ ms) = range_of w.bounds a ∷ ranges_of w ms
+ranges_of w (fold f a ∷ ms) = expression_range w.bounds a ∷ ranges_of w ms
 
 -- a turn of the program that is met so many times
 module _ (w : World) (p : Plan) (sound : IsSoundPlan p) (n : ℕ) (pending : ℕ → Bool) where
@@ -141,8 +141,8 @@ module _ (w : World) (p : Plan) (sound : IsSoundPlan p) (n : ℕ) (pending : ℕ
       → points.Room turn q (Then (Keep x) (k q.env))
       → Passed Nothing (λ e u. k e) q (answer q (Then (Keep x) (k q.env)))
   keep_passes q x k at room =
-      let fault : operand_fault f.registers (kinds_known q.known) is_flag x ≡ None =
-      columns.operand turn q is_flag x KnownFlag (omega (arith, room)) at refl in
+      let fault : operand_fault f.registers (kinds_known q.known) is_flag_kind x ≡ None =
+      columns.operand turn q is_flag_kind x KnownFlag (omega (arith, room)) at refl in
       record {
         after = after_keep q;
         out = tt;
@@ -213,10 +213,10 @@ module _ (w : World) (p : Plan) (sound : IsSoundPlan p) (n : ℕ) (pending : ℕ
   value_judged : (a : Expression ColumnId) (ms : List (Measure ColumnId)) → expression_is_sound p.joins a ≡ true
       → JudgesValues ms → (q : Point) (k : Env → List ℕ → Code)
       → Judges (nodes_fit w.bounds a && list_all (measure_fits w.bounds) ms)
-      (RangesStand (range_of w.bounds a ∷ ranges_of w ms)) k q
-      (before (expression_code p.joins a) (values_code p.joins ms) q.env k)
+      (RangesStand (expression_range w.bounds a ∷ ranges_of w ms)) k q
+      (one_before (expression_code p.joins a) (values_code p.joins ms) q.env k)
   value_judged a ms h later q k room =
-      let r = range_of w.bounds a in
+      let r = expression_range w.bounds a in
       let l : Rest = λ e x. values_code p.joins ms e (λ e xs. k e (x ∷ xs)) in
       points.judged_then turn (Ranged r) (RangesStand (r ∷ ranges_of w ms)) l k
       (nodes_fit w.bounds a) (list_all (measure_fits w.bounds) ms) q _
@@ -267,7 +267,7 @@ module _ (w : World) (p : Plan) (sound : IsSoundPlan p) (n : ℕ) (pending : ℕ
   numbers_fit (a ∷ as') (r ∷ rs) q room h =
       let later = numbers_fit as' rs q room h.1 in (
         both_none _ _
-            (columns.operand turn q is_number r (KnownNumber a h.0.1.0 h.0.1.1) room
+            (columns.operand turn q is_number_kind r (KnownNumber a h.0.1.0 h.0.1.1) room
             (h.0.0, h.0.1.2) refl)
             later.0,
         ap suc later.1,
@@ -338,7 +338,7 @@ module _ (w : World) (p : Plan) (sound : IsSoundPlan p) (n : ℕ) (pending : ℕ
   keys_kept [] (r ∷ rs) a b onward kept h = absurd h
   keys_kept (c ∷ cs) [] a b onward kept h = absurd h
 
-  pub turn_accepted : (at : ℕ) (known : Table) (written : ℕ → Bool)
+  pub turn_accepted : (at : ℕ) (known : AllKnown) (written : ℕ → Bool)
       → points.Knows turn env_first known written
       → 1 + register_count (turn_code p) ≤ f.registers
       → Accepted S (list_all (measure_fits w.bounds) p.measures)

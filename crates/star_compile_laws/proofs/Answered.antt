@@ -18,16 +18,17 @@ use Rattle.star_schema.specs.Groups.{Entry, GroupRow, IsGroup, IsMasked, AreGrou
 use Rattle.star_schema.specs.Order.{value_cmp}
 use Rattle.star_schema.specs.Schema.{table_of}
 use Rattle.star_schema.specs.Tables.{Value, Number, Text}
-use Rattle.star_plan.specs.Meaning.{Tables, Joined, value_of, all_hold, measured, aggregate_of, joined_rows, plan_rows, entry_of, Plan}
+use Rattle.star_plan.specs.Meaning.{Tables, Joined, joined_value, all_hold, measured, aggregate_of, joined_rows, plan_rows, entry_of, Plan}
 use Rattle.star_plan.specs.Sound.{in_scope, IsSoundPlan}
 use Rattle.star_program.specs.declared.group.GroupKey.TheVariants as declared
 use Rattle.star_program.specs.declared.key.KeyValue.{KeyValue}
 use Rattle.star_program.specs.declared.key.KeyValue.TheVariants as key
 use Rattle.star_program.specs.declared.program.Show.{Show}
 use Rattle.star_program.specs.Keys as by_code
-use Rattle.star_program.specs.Outcome.{decoded, decoded_keys, decoded_row, cell_of}
+use Rattle.star_program.specs.RowCells.{cell_of}
+use Rattle.star_program.specs.Outcome.{decoded, decoded_keys, decoded_row}
 use Rattle.star_program.specs.World.{World}
-use Rattle.star_compile_laws.specs.Compiled.{group_of, key_of_group, show_of}
+use Rattle.star_compile_laws.specs.Compiled.{plan_group, key_of_group, plan_show}
 use Rattle.star_query_meaning.proofs.GroupOrders.{groups_reordered}
 use Rattle.star_compile_laws.specs.Answers.{AnswersThePlan, coded, update_of_row}
 use Rattle.star_compile_laws.proofs.Comparisons.{code_eq}
@@ -64,23 +65,23 @@ key_kept w c n m (Text v) (Number z) p q = let a : true ≡ false = sym p.0 ∙ 
 -- a row shows the columns
 abbrev ShowsAll : World → List ColumnId → Joined → Type 0
 ShowsAll w [] row = Unit {0}
-ShowsAll w (c ∷ cs) row = ((n : ℕ) × Shows w c n (value_of c row)) × ShowsAll w cs row
+ShowsAll w (c ∷ cs) row = ((n : ℕ) × Shows w c n (joined_value c row)) × ShowsAll w cs row
 
 keys_decoded : (w : World) (cs : List ColumnId) (row : Joined) → ShowsAll w cs row
-    → applied (decoded_at w cs) (map (λ c. coded w c (value_of c row)) cs) ≡ map
-    (λ c. value_of c row) cs
+    → applied (decoded_at w cs) (map (λ c. coded w c (joined_value c row)) cs) ≡ map
+    (λ c. joined_value c row) cs
 keys_decoded w [] row h = refl
 keys_decoded w (c ∷ cs) row h =
-    λ i. decoded_same w c h.0.0 (value_of c row) h.0.1 i ∷ keys_decoded w cs row h.1 i
+    λ i. decoded_same w c h.0.0 (joined_value c row) h.0.1 i ∷ keys_decoded w cs row h.1 i
 
 keys_kept : (w : World) (cs : List ColumnId) (a b : Joined) → ShowsAll w cs a → ShowsAll w cs b
-    → Keeps by_code.key_value_cmp value_cmp (decoded_at w cs) (map (λ c. coded w c (value_of c a)) cs)
-    (map (λ c. coded w c (value_of c b)) cs)
+    → Keeps by_code.key_value_cmp value_cmp (decoded_at w cs) (map (λ c. coded w c (joined_value c a)) cs)
+    (map (λ c. coded w c (joined_value c b)) cs)
 keys_kept w [] a b p q = tt
 keys_kept w (c ∷ cs) a b p q = (
-  (λ i. is_eq (value_cmp (decoded_same w c p.0.0 (value_of c a) p.0.1 i)
-      (decoded_same w c q.0.0 (value_of c b) q.0.1 i)))
-      ∙ key_kept w c p.0.0 q.0.0 (value_of c a) (value_of c b) p.0.1 q.0.1,
+  (λ i. is_eq (value_cmp (decoded_same w c p.0.0 (joined_value c a) p.0.1 i)
+      (decoded_same w c q.0.0 (joined_value c b) q.0.1 i)))
+      ∙ key_kept w c p.0.0 q.0.0 (joined_value c a) (joined_value c b) p.0.1 q.0.1,
   keys_kept w cs a b p.1 q.1,
 )
 
@@ -157,7 +158,7 @@ module _ (ts : Tables) (w : World) (seen : Sees ts w) (p : Plan) (sound : IsSoun
       map-map (entry_applied (decoded_at w p.keys)) (update_of_row w p) (plan_rows ts p)
       ∙ map_same (λ r. entry_applied (decoded_at w p.keys) (update_of_row w p r)) (entry_of p)
       (plan_rows ts p)
-      (λ r h. ap (λ ks. record { keys = ks; values = map (measured (λ c. value_of c r)) p.measures })
+      (λ r h. ap (λ ks. record { keys = ks; values = map (measured (λ c. joined_value c r)) p.measures })
       (keys_decoded w p.keys r (row_shows r h)))
 
   entry_length : (e : Entry KeyValue) → Contains (map (update_of_row w p) (plan_rows ts p)) e
@@ -165,13 +166,13 @@ module _ (ts : Tables) (w : World) (seen : Sees ts w) (p : Plan) (sound : IsSoun
   entry_length e h =
       let x = from_contains_map (update_of_row w p) (plan_rows ts p) e h in
       ap (λ (z : Entry KeyValue). length z.keys) (sym x.2)
-      ∙ length-map p.keys (λ c. coded w c (value_of c x.0))
+      ∙ length-map p.keys (λ c. coded w c (joined_value c x.0))
 
   groups_the_rows : (us : List (Entry KeyValue)) (groups : List (GroupRow KeyValue))
       → us ≡ reverse (map (update_of_row w p) (plan_rows ts p))
       → AreGroups by_code.key_value_cmp p.shape (length p.keys) (map aggregate_of p.measures) us groups
       → AreGroups value_cmp p.shape (length p.keys) (map aggregate_of p.measures)
-      (map (entry_of p) (plan_rows ts p)) (map (decoded_row w (group_of p)) groups)
+      (map (entry_of p) (plan_rows ts p)) (map (decoded_row w (plan_group p)) groups)
   groups_the_rows us groups are h =
       let k = length p.keys in
       let gs = map aggregate_of p.measures in
@@ -183,9 +184,9 @@ module _ (ts : Tables) (w : World) (seen : Sees ts w) (p : Plan) (sound : IsSoun
       let there =
       groups_applied by_code.key_value_cmp value_cmp p.shape k gs (decoded_at w p.keys) es entry_kept
       groups straight in
-      let same : map (row_applied (decoded_at w p.keys)) groups ≡ map (decoded_row w (group_of p))
+      let same : map (row_applied (decoded_at w p.keys)) groups ≡ map (decoded_row w (plan_group p))
       groups =
-      map_same (row_applied (decoded_at w p.keys)) (decoded_row w (group_of p)) groups
+      map_same (row_applied (decoded_at w p.keys)) (decoded_row w (plan_group p)) groups
       (λ r has. ap (λ ks. record { keys = ks; totals = r.totals })
       (keys_applied w p.keys r.keys
       (group_length p.shape k es r.keys entry_length (straight.each r has).0))) in
@@ -203,7 +204,7 @@ module _ (ts : Tables) (w : World) (seen : Sees ts w) (p : Plan) (sound : IsSoun
       groups_the_rows (e.updates_of 0) reported.groups (puts_the_rows ts w seen p sound may e run)
       counted in
       record {
-        headed = told.names ∙ map-map (λ (show : Show). show.name) (show_of p) p.items;
+        headed = told.names ∙ map-map (λ (show : Show). show.name) (plan_show p) p.items;
         groups = told.rows;
         each_group =
             subst (λ rs. AreGroups value_cmp p.shape (length p.keys) (map aggregate_of p.measures)
@@ -211,5 +212,5 @@ module _ (ts : Tables) (w : World) (seen : Sees ts w) (p : Plan) (sound : IsSoun
         in_order = reported.in_order;
         cells =
             told.cells ∙ λ i. map (λ row. map-map (λ (show : Show). cell_of row show.column)
-            (show_of p) p.items i) told.rows;
+            (plan_show p) p.items i) told.rows;
       }

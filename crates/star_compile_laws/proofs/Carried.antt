@@ -18,7 +18,7 @@ use Rattle.star_program.specs.declared.op.Operation.TheVariants.{Binary, Const, 
 use Rattle.star_program.specs.declared.op.Operator.{Operator}
 use Rattle.star_program.specs.declared.op.Operator.TheVariants as operator
 use Rattle.star_program.specs.Code.{Code, Stop, Then}
-use Rattle.star_compile_laws.specs.Compiled.{Env, Rest, Rests, before, beside, between_code, binary_code, column_code, column_from, condition_code, conjuncts_code, end_of, env_first, equal_code, expression_code, fact_code, find_code, foreign_of, found_in, keys_code, load_code, loaded_in, one_more, place_code, put_code, row_code, start_of, test_code, turn_code, values_code, with_found, with_loaded, write}
+use Rattle.star_compile_laws.specs.Compiled.{Env, Rest, Rests, one_before, beside, between_code, binary_code, column_code, column_from, condition_code, conjuncts_code, end_behind, env_first, equal_code, expression_code, fact_code, find_code, foreign_of, found_in, keys_code, load_code, loaded_in, one_more, place_code, put_code, row_code, start_of, test_code, turn_code, values_code, with_found, with_loaded, write}
 
 -- an operation that neither loads a column nor finds a row
 abbrev pub is_plain : Operation → Bool
@@ -70,7 +70,7 @@ module _ (js : List Join) (Fact : Env → Code → Type 0) (Unseen : Env → Col
       (λ e x. g e (λ e y. write (Binary o x y) e k) (λ e y. of_write (Binary o x y) refl e k h))
 
   of_before : (first : Env → Rest → Code) (others : Env → Rests → Code) → Carries first
-      → Carries others → Carries (before first others)
+      → Carries others → Carries (one_before first others)
   of_before first others f g env k h =
       f env (λ e x. others e (λ e xs. k e (x ∷ xs)))
       (λ e x. g e (λ e xs. k e (x ∷ xs)) (λ e xs. h e (x ∷ xs)))
@@ -85,15 +85,15 @@ module _ (js : List Join) (Fact : Env → Code → Type 0) (Unseen : Env → Col
   start_plain c (Number a) = refl
   start_plain c (Text t) = refl
 
-  end_plain : (c : ColumnId) (v : Value) → is_plain (end_of c v) ≡ true
+  end_plain : (c : ColumnId) (v : Value) → is_plain (end_behind c v) ≡ true
   end_plain c (Number a) = refl
   end_plain c (Text t) = refl
 
   of_between : (c : ColumnId) (x : ℕ) (a b : Value) → Carries (between_code c x a b)
   of_between c x a b env k h =
       of_write (start_of c a) (start_plain c a) env
-      (λ e m. beside (end_of c b) (λ n. Within x m n) e k)
-      (λ e m. of_beside (end_of c b) (λ n. Within x m n) (end_plain c b) (λ n. refl) e k h)
+      (λ e m. beside (end_behind c b) (λ n. Within x m n) e k)
+      (λ e m. of_beside (end_behind c b) (λ n. Within x m n) (end_plain c b) (λ n. refl) e k h)
 
   of_equal : (c : ColumnId) (x : ℕ) (v : Value) → Carries (equal_code c x v)
   of_equal c x (Number a) env k h =

@@ -18,7 +18,7 @@ use Rattle.star_program.specs.Values.{with_entry}
 use Rattle.star_program.specs.Faults.{fault_of}
 use Rattle.star_program.specs.World.{World, is_column, is_text}
 use Rattle.star_safety.specs.Contexts.{Context, after_op, operation_known}
-use Rattle.star_safety.specs.Ranges.{Known, KnownNumber, KnownRow, Table, kinds_known, loaded_known, origin_at, range_at, reach_at}
+use Rattle.star_safety.specs.Ranges.{Known, KnownNumber, KnownRow, AllKnown, kinds_known, loaded_known, origin_at, range_at, reach_at}
 use Rattle.star_safety.specs.declared.reason.Reason.{Reason}
 use Rattle.star_safety.specs.declared.reason.Reason.TheVariants.{Faulty, NotAForeignKey, Overflow}
 use Rattle.star_safety.specs.Refusals.{overflow_of, range_reason, reached, refers_to, refuses, source_reason, target_again}
@@ -65,7 +65,7 @@ turn_is_straight p =
 -- ---- what is known of the registers
 
 -- as numbers alone
-record Agree (x : Table) (known : ℕ → Computed) : Type 0 where
+record Agree (x : AllKnown) (known : ℕ → Computed) : Type 0 where
   range : (r : ℕ) → range_at (x r) ≡ (known r).range
   columns : (r : ℕ) → reach_at (x r) ≡ (known r).columns
 
@@ -148,7 +148,7 @@ module _ (w : World) (parts : Parts) (pending : ℕ → Bool) where
   entry_columns true v n m o agree e = agree.columns
   entry_columns false v n m o agree e = e
 
-  agree_after : (x : Table) (known : ℕ → Computed) (t : ℕ) (v : Known) (n : Computed)
+  agree_after : (x : AllKnown) (known : ℕ → Computed) (t : ℕ) (v : Known) (n : Computed)
       → Agree x known → AgreeAt v n
       → Agree (with_entry x t v) (λ r. if nat_eq r t then n else known r)
   agree_after x known t v n all here = record {

@@ -27,11 +27,11 @@ use Rattle.star_program.specs.declared.value.Value.{Value}
 use Rattle.star_program.specs.declared.value.Value.TheVariants.{Number, Place, Row, Flag}
 use Rattle.star_program.specs.Code.{Code, Then}
 use Rattle.star_program.specs.World.{World, is_text}
-use Rattle.star_program.specs.Values.{Registers, with_entry, number_in, flag_in}
+use Rattle.star_program.specs.Values.{Registers, with_entry, number_read, flag_read}
 use Rattle.star_program.specs.declared.fault.TrapKind.{TrapKind}
 use Rattle.star_program.specs.declared.fault.TrapKind.TheVariants.{Wrong, AbsentKey, Overflow}
 use Rattle.star_program.specs.Faults.{unless, fault_of}
-use Rattle.star_program.specs.Effects.{Store, Effect, GoesOn, LookUp, marked, answer_of, loaded, fits_register, unless_trap, kinds_in}
+use Rattle.star_program.specs.Effects.{State, Effect, GoesOn, LookUp, marked, answer_of, loaded, fits_register, unless_trap, kinds_in}
 use Rattle.star_program.specs.Private.Doing.{sets, assigns}
 use Rattle.star_program.specs.Run.{End, Ended, follow, meaning}
 use Rattle.star_compile_laws.specs.Compiled.{Env, Rest, binary_code, loaded_in, found_in, one_more, write, test_code, between_code}
@@ -45,34 +45,34 @@ use Rattle.star_compile_laws.proofs.Comparisons.{number_gt, number_ge, number_up
 
 -- an instruction that ends the run without a trap has no fault
 pub no_fault : (o : Option Fault) (own : Option TrapKind) (x : Effect) (n : ℕ)
-    (next : Registers → Store → End) (e : Store)
+    (next : Registers → State → End) (e : State)
     → follow n (unless_trap (option_or (option_map Wrong o) own) x) next ≡ Ended e
     → follow n (unless_trap own x) next ≡ Ended e
 no_fault None own x n next e h = h
 no_fault (Some f) own x n next e h = absurd (cc)
 
-no_trap : (b : Bool) (kind : TrapKind) (x : Effect) (n : ℕ) (next : Registers → Store → End)
-    (e : Store) → follow n (unless_trap (unless b kind) x) next ≡ Ended e
+no_trap : (b : Bool) (kind : TrapKind) (x : Effect) (n : ℕ) (next : Registers → State → End)
+    (e : State) → follow n (unless_trap (unless b kind) x) next ≡ Ended e
     → follow n x next ≡ Ended e
 no_trap true kind x n next e h = h
 no_trap false kind x n next e h = absurd (cc)
 
 -- the look-ups so far, with those of some code by the flags of its keeps
-abbrev pub ahead : Store → Code → List Bool → ℕ
+abbrev pub ahead : State → Code → List Bool → ℕ
 ahead s code flags = s.lookups + lookups_in code flags
 
-found_sets : (b : Bool) (regs regs' : Registers) (s s' : Store)
+found_sets : (b : Bool) (regs regs' : Registers) (s s' : State)
     → unless_trap (unless b AbsentKey) (GoesOn regs s') ≡ GoesOn regs' s → s' ≡ s
 found_sets true regs regs' s s' e = cc
 found_sets false regs regs' s s' e = absurd (cc)
 
 -- an operation that sets a register and nothing more looks nothing up
-no_look : (w : World) (f : Parts) (o : Operation) (v : Value) (regs : Registers) (s : Store)
+no_look : (w : World) (f : Parts) (o : Operation) (v : Value) (regs : Registers) (s : State)
     (t : ℕ) → assigns w f regs s t o ≡ sets regs s t v → (rest : Code) (flags : List Bool)
     → ahead s rest flags ≡ ahead s (Then (Assign t o) rest) flags
 no_look w f (Find table key) v regs s t e rest flags =
-    let found = found_sets (is_some (w.find table (number_in (regs key))))
-    (with_entry regs t (Row table (unwrap_or (w.find table (number_in (regs key))) 0)))
+    let found = found_sets (is_some (w.find table (number_read (regs key))))
+    (with_entry regs t (Row table (unwrap_or (w.find table (number_read (regs key))) 0)))
     (with_entry regs t v) s (marked LookUp s) e in
     let more : s.lookups + 1 ≡ s.lookups = ap (λ s. s.lookups) found in
     absurd (omega arith)
@@ -92,12 +92,12 @@ module _ (w : World) (f : Parts) (may : ℕ → Bool) (at : TableId → ℕ) whe
   -- before and have what the piece says; nothing is visited or put, and in all there are so many
   -- look-ups, by the flags of the keeps that follow
   pub record Reached {A : Type 0} (Says : ℕ → Registers → A → Type 0) (k : Env → A → Code)
-      (env : Env) (regs : Registers) (s e : Store) (total : List Bool → ℕ) : Type 0 where
+      (env : Env) (regs : Registers) (s e : State) (total : List Bool → ℕ) : Type 0 where
     pub env' : Env
     pub out : A
     pub n : ℕ
     pub regs' : Registers
-    pub s' : Store
+    pub s' : State
     pub knows : Knows env' regs'
     pub onward : env.next ≤ env'.next
     pub kept : (q : ℕ) → q < env.next → regs' q ≡ regs q
@@ -114,7 +114,7 @@ module _ (w : World) (f : Parts) (may : ℕ → Bool) (at : TableId → ℕ) whe
   -- a piece and another behind it, with a result of both
   pub chained_as : {A B C : Type 0} {P : ℕ → Registers → A → Type 0}
       {Q : ℕ → Registers → B → Type 0} {S : ℕ → Registers → C → Type 0} {k : Env → A → Code}
-      {l : Env → B → Code} {m : Env → C → Code} {env : Env} {regs : Registers} {s e : Store}
+      {l : Env → B → Code} {m : Env → C → Code} {env : Env} {regs : Registers} {s e : State}
       {total : List Bool → ℕ} (p : Reached P k env regs s e total)
       (q : Reached Q l p.env' p.regs' p.s' e (ahead p.s' (k p.env' p.out))) (out : C)
       → S q.env'.next q.regs' out
@@ -139,7 +139,7 @@ module _ (w : World) (f : Parts) (may : ℕ → Bool) (at : TableId → ℕ) whe
   }
 
   pub chained : {A B : Type 0} {P : ℕ → Registers → A → Type 0} {Q : ℕ → Registers → B → Type 0}
-      {k : Env → A → Code} {l : Env → B → Code} {env : Env} {regs : Registers} {s e : Store}
+      {k : Env → A → Code} {l : Env → B → Code} {env : Env} {regs : Registers} {s e : State}
       {total : List Bool → ℕ} (p : Reached P k env regs s e total)
       → Reached Q l p.env' p.regs' p.s' e (ahead p.s' (k p.env' p.out))
       → Reached Q l env regs s e total
@@ -147,7 +147,7 @@ module _ (w : World) (f : Parts) (may : ℕ → Bool) (at : TableId → ℕ) whe
 
   -- nothing was done
   pub reached : {A : Type 0} (P : ℕ → Registers → A → Type 0) (k : Env → A → Code) (env : Env)
-      (out : A) (n : ℕ) (regs : Registers) (s e : Store) → Knows env regs → P env.next regs out
+      (out : A) (n : ℕ) (regs : Registers) (s e : State) → Knows env regs → P env.next regs out
       → meaning w f may (k env out) n true regs s ≡ Ended e → Reached P k env regs s e
       (ahead s (k env out))
   reached P k env out n regs s e knows says h =
@@ -191,12 +191,12 @@ module _ (w : World) (f : Parts) (may : ℕ → Bool) (at : TableId → ℕ) whe
   abbrev pub Runs : {A : Type 0} → (ℕ → Registers → A → Type 0) → (Env → (Env → A → Code) → Code)
       → Type 0
   Runs {A} Says piece =
-      (k : Env → A → Code) (env : Env) (n : ℕ) (regs : Registers) (s e : Store) → Knows env regs
+      (k : Env → A → Code) (env : Env) (n : ℕ) (regs : Registers) (s e : State) → Knows env regs
       → meaning w f may (piece env k) n true regs s ≡ Ended e → Reached Says k env regs s e
       (ahead s (piece env k))
 
   -- the next register is set
-  is_set : (v : Value) (k : Rest) (env : Env) (n : ℕ) (regs : Registers) (s e : Store)
+  is_set : (v : Value) (k : Rest) (env : Env) (n : ℕ) (regs : Registers) (s e : State)
       → Knows env regs
       → meaning w f may (k (one_more env) env.next) (n + 1) true (with_entry regs env.next v) s
       ≡ Ended e → Reached (At v) k env regs s e (ahead s (k (one_more env) env.next))
@@ -218,7 +218,7 @@ module _ (w : World) (f : Parts) (may : ℕ → Bool) (at : TableId → ℕ) whe
   }
 
   in_all : {A : Type 0} {P : ℕ → Registers → A → Type 0} {k : Env → A → Code} {env : Env}
-      {regs : Registers} {s e : Store} {some total : List Bool → ℕ}
+      {regs : Registers} {s e : State} {some total : List Bool → ℕ}
       → ((flags : List Bool) → some flags ≡ total flags) → Reached P k env regs s e some
       → Reached P k env regs s e total
   in_all {P = P} {k = k} {env = env} {regs = regs} {s = s} {e = e} same r =
@@ -226,7 +226,7 @@ module _ (w : World) (f : Parts) (may : ℕ → Bool) (at : TableId → ℕ) whe
 
   -- an operation that sets the next register
   pub wrote : (o : Operation) (v : Value) (k : Rest) (env : Env) (n : ℕ) (regs : Registers)
-      (s e : Store) → Knows env regs
+      (s e : State) → Knows env regs
       → assigns w f regs s env.next o ≡ sets regs s env.next v
       → meaning w f may (write o env k) n true regs s ≡ Ended e → Reached (At v) k env regs s e
       (ahead s (write o env k))
@@ -239,7 +239,7 @@ module _ (w : World) (f : Parts) (may : ℕ → Bool) (at : TableId → ℕ) whe
   -- ---- operators
 
   answered : (o : Operator) (l r : ℕ) (k : Rest) (env : Env) (n : ℕ) (regs : Registers)
-      (s e : Store) → Knows env regs
+      (s e : State) → Knows env regs
       → meaning w f may (write (Binary o l r) env k) n true regs s ≡ Ended e
       → Reached (At (answer_of o (regs l) (regs r))) k env regs s e
       (ahead s (write (Binary o l r) env k))
@@ -269,28 +269,28 @@ module _ (w : World) (f : Parts) (may : ℕ → Bool) (at : TableId → ℕ) whe
   -- ---- tests
 
   pub number_rank : (c : ColumnId) (n : ℕ) (b : Bool) → b ≡ false
-      → number_in (Some (loaded w c n b)) ≡ w.number c n
+      → number_read (Some (loaded w c n b)) ≡ w.number c n
   number_rank c n true p = absurd (cc)
   number_rank c n false p = refl
 
   pub as_flag : {total : List Bool → ℕ} (a b : Bool) (k : Rest) (env : Env) (regs : Registers)
-      (s e : Store) → a ≡ b → Reached (At (Flag a)) k env regs s e total
+      (s e : State) → a ≡ b → Reached (At (Flag a)) k env regs s e total
       → Reached (At (Flag b)) k env regs s e total
   as_flag {total = total} a b k env regs s e p r =
       subst (λ b. Reached (At (Flag b)) k env regs s e total) p r
 
   pub with_not : {total : List Bool → ℕ} (b : Bool) (k : Rest) (env : Env) (regs : Registers)
-      (s e : Store) → Reached (At (Flag b)) (λ e y. write (Not y) e k) env regs s e total
+      (s e : State) → Reached (At (Flag b)) (λ e y. write (Not y) e k) env regs s e total
       → Reached (At (Flag (not b))) k env regs s e total
   with_not b k env regs s e p =
       chained p (wrote (Not p.out) (Flag (not b)) k p.env' p.n p.regs' p.s' e p.knows
-      (ap (λ o. sets p.regs' p.s' p.env'.next (Flag (not (flag_in o)))) p.says.1) p.goes)
+      (ap (λ o. sets p.regs' p.s' p.env'.next (Flag (not (flag_read o)))) p.says.1) p.goes)
 
   -- one bound, and a test with it
   bound_test : (x : ℕ) (o : Operation) (v : Value) (test : ℕ → Operation) (b : Bool) (k : Rest)
-      (env : Env) (n : ℕ) (regs : Registers) (s e : Store) → Knows env regs → x < env.next
+      (env : Env) (n : ℕ) (regs : Registers) (s e : State) → Knows env regs → x < env.next
       → assigns w f regs s env.next o ≡ sets regs s env.next v
-      → ((m t : ℕ) (regs' : Registers) (s' : Store) → regs' x ≡ regs x → regs' m ≡ Some v
+      → ((m t : ℕ) (regs' : Registers) (s' : State) → regs' x ≡ regs x → regs' m ≡ Some v
       → assigns w f regs' s' t (test m) ≡ sets regs' s' t (Flag b))
       → meaning w f may (write o env (λ e m. write (test m) e k)) n true regs s ≡ Ended e
       → Reached (At (Flag b)) k env regs s e (ahead s (write o env (λ e m. write (test m) e k)))
@@ -301,11 +301,11 @@ module _ (w : World) (f : Parts) (may : ℕ → Bool) (at : TableId → ℕ) whe
 
   -- two bounds, and a test with them
   bounds_test : (x : ℕ) (o1 o2 : Operation) (v1 v2 : Value) (test : ℕ → ℕ → Operation) (b : Bool)
-      (k : Rest) (env : Env) (n : ℕ) (regs : Registers) (s e : Store) → Knows env regs
+      (k : Rest) (env : Env) (n : ℕ) (regs : Registers) (s e : State) → Knows env regs
       → x < env.next
       → assigns w f regs s env.next o1 ≡ sets regs s env.next v1
-      → ((regs' : Registers) (s' : Store) (t : ℕ) → assigns w f regs' s' t o2 ≡ sets regs' s' t v2)
-      → ((m1 m2 t : ℕ) (regs' : Registers) (s' : Store) → regs' x ≡ regs x → regs' m1 ≡ Some v1
+      → ((regs' : Registers) (s' : State) (t : ℕ) → assigns w f regs' s' t o2 ≡ sets regs' s' t v2)
+      → ((m1 m2 t : ℕ) (regs' : Registers) (s' : State) → regs' x ≡ regs x → regs' m1 ≡ Some v1
       → regs' m2 ≡ Some v2 → assigns w f regs' s' t (test m1 m2) ≡ sets regs' s' t (Flag b))
       → meaning w f may (write o1 env (λ e m1. write o2 e (λ e m2. write (test m1 m2) e k))) n true
       regs s ≡ Ended e → Reached (At (Flag b)) k env regs s e
@@ -322,21 +322,21 @@ module _ (w : World) (f : Parts) (may : ℕ → Bool) (at : TableId → ℕ) whe
       (q.kept p.out p.says.0 ∙ p.says.1) q.says.1) q.goes))
 
   -- what is value_cmp is the order of the ranks
-  ranked : (o p : Option Value) (y z : ℤ) (g : ℤ → ℤ → Bool) (regs : Registers) (s : Store) (t : ℕ)
-      (b : Bool) → number_in o ≡ y → number_in p ≡ z → g y z ≡ b
-      → sets regs s t (Flag (g (number_in o) (number_in p))) ≡ sets regs s t (Flag b)
+  ranked : (o p : Option Value) (y z : ℤ) (g : ℤ → ℤ → Bool) (regs : Registers) (s : State) (t : ℕ)
+      (b : Bool) → number_read o ≡ y → number_read p ≡ z → g y z ≡ b
+      → sets regs s t (Flag (g (number_read o) (number_read p))) ≡ sets regs s t (Flag b)
   ranked o p y z g regs s t b e1 e2 e3 =
       (λ i. sets regs s t (Flag (g (e1 i) (e2 i)))) ∙ ap (λ q. sets regs s t (Flag q)) e3
 
-  ranked3 : (o p q : Option Value) (y z u : ℤ) (g : ℤ → ℤ → ℤ → Bool) (regs : Registers) (s : Store)
-      (t : ℕ) (b : Bool) → number_in o ≡ y → number_in p ≡ z → number_in q ≡ u → g y z u ≡ b
-      → sets regs s t (Flag (g (number_in o) (number_in p) (number_in q))) ≡ sets regs s t (Flag b)
+  ranked3 : (o p q : Option Value) (y z u : ℤ) (g : ℤ → ℤ → ℤ → Bool) (regs : Registers) (s : State)
+      (t : ℕ) (b : Bool) → number_read o ≡ y → number_read p ≡ z → number_read q ≡ u → g y z u ≡ b
+      → sets regs s t (Flag (g (number_read o) (number_read p) (number_read q))) ≡ sets regs s t (Flag b)
   ranked3 o p q y z u g regs s t b e1 e2 e3 e4 =
       (λ i. sets regs s t (Flag (g (e1 i) (e2 i) (e3 i)))) ∙ ap (λ c. sets regs s t (Flag c)) e4
 
-  module _ (c : ColumnId) (x : ℕ) (k : Rest) (env : Env) (n : ℕ) (regs : Registers) (s e : Store)
+  module _ (c : ColumnId) (x : ℕ) (k : Rest) (env : Env) (n : ℕ) (regs : Registers) (s e : State)
       (knows : Knows env regs) (below : x < env.next) where
-    number_test : (q : Relation) (z a : ℤ) → number_in (regs x) ≡ z
+    number_test : (q : Relation) (z a : ℤ) → number_read (regs x) ≡ z
         → meaning w f may (test_code q c x (held.Number a) env k) n true regs s ≡ Ended e
         → Reached (At (Flag (tests q (int_cmp z a)))) k env regs s e
         (ahead s (test_code q c x (held.Number a) env k))
@@ -344,36 +344,36 @@ module _ (w : World) (f : Parts) (may : ℕ → Bool) (at : TableId → ℕ) whe
         bound_test x (Const a) (Number a) (λ m. Binary operator.Equal x m) _ k env n regs s e knows
         below refl
         (λ m t regs' s' p q. ranked (regs' x) (regs' m) z a (λ y u. is_eq (int_cmp y u)) regs' s' t
-        _ (ap number_in p ∙ at_x) (ap number_in q) refl) h
+        _ (ap number_read p ∙ at_x) (ap number_read q) refl) h
     number_test sign.Less z a at_x h =
         bound_test x (Const a) (Number a) (λ m. Binary operator.Less x m) _ k env n regs s e knows
         below refl
         (λ m t regs' s' p q. ranked (regs' x) (regs' m) z a (λ y u. is_lt (int_cmp y u)) regs' s' t
-        _ (ap number_in p ∙ at_x) (ap number_in q) refl) h
+        _ (ap number_read p ∙ at_x) (ap number_read q) refl) h
     number_test sign.AtMost z a at_x h =
         bound_test x (Const a) (Number a) (λ m. Binary operator.LessOrEqual x m) _ k env n regs s e
         knows below refl
         (λ m t regs' s' p q. ranked (regs' x) (regs' m) z a (λ y u. is_le (int_cmp y u)) regs' s' t
-        _ (ap number_in p ∙ at_x) (ap number_in q) refl) h
+        _ (ap number_read p ∙ at_x) (ap number_read q) refl) h
     number_test sign.Greater z a at_x h =
         bound_test x (Const a) (Number a) (λ m. Binary operator.Less m x) _ k env n regs s e knows
         below refl
         (λ m t regs' s' p q. ranked (regs' m) (regs' x) a z (λ y u. is_lt (int_cmp y u)) regs' s' t
-        _ (ap number_in q) (ap number_in p ∙ at_x) (number_gt z a)) h
+        _ (ap number_read q) (ap number_read p ∙ at_x) (number_gt z a)) h
     number_test sign.AtLeast z a at_x h =
         bound_test x (Const a) (Number a) (λ m. Binary operator.LessOrEqual m x) _ k env n regs s e
         knows below refl
         (λ m t regs' s' p q. ranked (regs' m) (regs' x) a z (λ y u. is_le (int_cmp y u)) regs' s' t
-        _ (ap number_in q) (ap number_in p ∙ at_x) (number_ge z a)) h
+        _ (ap number_read q) (ap number_read p ∙ at_x) (number_ge z a)) h
     number_test sign.Unequal z a at_x h =
         as_flag _ _ k env regs s e (ne_is (int_cmp z a)) (with_not _ k env regs s e
         (bound_test x (Const a) (Number a) (λ m. Binary operator.Equal x m) (is_eq (int_cmp z a))
         (λ e y. write (Not y) e k) env n regs s e knows below refl
         (λ m t regs' s' p q. ranked (regs' x) (regs' m) z a (λ y u. is_eq (int_cmp y u)) regs' s' t
-        _ (ap number_in p ∙ at_x) (ap number_in q) refl) h))
+        _ (ap number_read p ∙ at_x) (ap number_read q) refl) h))
 
     -- the number lies between
-    number_between : (z a b : ℤ) → number_in (regs x) ≡ z
+    number_between : (z a b : ℤ) → number_read (regs x) ≡ z
         → meaning w f may (between_code c x (held.Number a) (held.Number b) env k) n true regs s
         ≡ Ended e → Reached (At (Flag (is_le (int_cmp a z) && is_le (int_cmp z b)))) k env regs s e
         (ahead s (between_code c x (held.Number a) (held.Number b) env k))
@@ -381,11 +381,11 @@ module _ (w : World) (f : Parts) (may : ℕ → Bool) (at : TableId → ℕ) whe
         bounds_test x (Const a) (Const (b +ℤ pos 1)) (Number a) (Number (b +ℤ pos 1))
         (λ m1 m2. Within x m1 m2) _ k env n regs s e knows below refl (λ regs' s' t. refl)
         (λ m1 m2 t regs' s' p q1 q2. ranked3 (regs' x) (regs' m1) (regs' m2) z a (b +ℤ pos 1)
-        (λ y u v. is_le (int_cmp u y) && is_lt (int_cmp y v)) regs' s' t _ (ap number_in p ∙ at_x)
-        (ap number_in q1) (ap number_in q2) (ap (λ o. is_le (int_cmp a z) && o) (number_upto z b)))
+        (λ y u v. is_le (int_cmp u y) && is_lt (int_cmp y v)) regs' s' t _ (ap number_read p ∙ at_x)
+        (ap number_read q1) (ap number_read q2) (ap (λ o. is_le (int_cmp a z) && o) (number_upto z b)))
         h
 
-    module _ (i : ℕ) (v : List ℕ) (at_x : number_in (regs x) ≡ pos (w.code c i))
+    module _ (i : ℕ) (v : List ℕ) (at_x : number_read (regs x) ≡ pos (w.code c i))
         (low : (t : List ℕ) → nat_lt (w.code c i) (w.low c t) ≡ is_lt (slice_cmp nat_cmp v t))
         (high : (t : List ℕ) → nat_lt (w.code c i) (w.high c t) ≡ is_le
         (slice_cmp nat_cmp v t)) where
@@ -402,7 +402,7 @@ module _ (w : World) (f : Parts) (may : ℕ → Bool) (at : TableId → ℕ) whe
           (λ m1 m2. Within x m1 m2) _ l env n regs s e knows below refl (λ regs' s' t. refl)
           (λ m1 m2 t regs' s' p q1 q2. ranked3 (regs' x) (regs' m1) (regs' m2) (pos (w.code c i))
           (pos (w.low c a)) (pos (w.high c b)) (λ y u v. is_le (int_cmp u y) && is_lt (int_cmp y v))
-          regs' s' t _ (ap number_in p ∙ at_x) (ap number_in q1) (ap number_in q2)
+          regs' s' t _ (ap number_read p ∙ at_x) (ap number_read q1) (ap number_read q2)
           (λ j. (place_le (w.code c i) (w.low c a) ∙ ap not (low a)) j
           && (place_lt (w.code c i) (w.high c b) ∙ high b) j)) h
 
@@ -420,26 +420,26 @@ module _ (w : World) (f : Parts) (may : ℕ → Bool) (at : TableId → ℕ) whe
           bound_test x (Edge Low c t) (Place c (w.low c t)) (λ m. Binary operator.Less x m) _ k env
           n regs s e knows below refl
           (λ m o regs' s' p q. ranked (regs' x) (regs' m) (pos (w.code c i)) (pos (w.low c t))
-          (λ y u. is_lt (int_cmp y u)) regs' s' o _ (ap number_in p ∙ at_x) (ap number_in q)
+          (λ y u. is_lt (int_cmp y u)) regs' s' o _ (ap number_read p ∙ at_x) (ap number_read q)
           (place_lt (w.code c i) (w.low c t) ∙ low t)) h
       text_test sign.AtMost t h =
           bound_test x (Edge High c t) (Place c (w.high c t)) (λ m. Binary operator.Less x m) _ k
           env n regs s e knows below refl
           (λ m o regs' s' p q. ranked (regs' x) (regs' m) (pos (w.code c i)) (pos (w.high c t))
-          (λ y u. is_lt (int_cmp y u)) regs' s' o _ (ap number_in p ∙ at_x) (ap number_in q)
+          (λ y u. is_lt (int_cmp y u)) regs' s' o _ (ap number_read p ∙ at_x) (ap number_read q)
           (place_lt (w.code c i) (w.high c t) ∙ high t)) h
       text_test sign.Greater t h =
           bound_test x (Edge High c t) (Place c (w.high c t)) (λ m. Binary operator.LessOrEqual m x)
           _ k env n regs s e knows below refl
           (λ m o regs' s' p q. ranked (regs' m) (regs' x) (pos (w.high c t)) (pos (w.code c i))
-          (λ y u. is_le (int_cmp y u)) regs' s' o _ (ap number_in q) (ap number_in p ∙ at_x)
+          (λ y u. is_le (int_cmp y u)) regs' s' o _ (ap number_read q) (ap number_read p ∙ at_x)
           (place_le (w.code c i) (w.high c t) ∙ ap not (high t)
           ∙ gt_not_le (slice_cmp nat_cmp v t))) h
       text_test sign.AtLeast t h =
           bound_test x (Edge Low c t) (Place c (w.low c t)) (λ m. Binary operator.LessOrEqual m x) _
           k env n regs s e knows below refl
           (λ m o regs' s' p q. ranked (regs' m) (regs' x) (pos (w.low c t)) (pos (w.code c i))
-          (λ y u. is_le (int_cmp y u)) regs' s' o _ (ap number_in q) (ap number_in p ∙ at_x)
+          (λ y u. is_le (int_cmp y u)) regs' s' o _ (ap number_read q) (ap number_read p ∙ at_x)
           (place_le (w.code c i) (w.low c t) ∙ ap not (low t) ∙ ge_not_lt (slice_cmp nat_cmp v t)))
           h
 
@@ -452,7 +452,7 @@ module _ (w : World) (f : Parts) (may : ℕ → Bool) (at : TableId → ℕ) whe
           (sym (le_not_lt (slice_cmp nat_cmp v a))
           ∙ ap is_le (sym (nat_list_cmp_total.antisymm a v)))) (text_within a b k h)
 
-    text_rank : (i : ℕ) (b : Bool) → b ≡ true → number_in (Some (loaded w c i b)) ≡ pos (w.code c i)
+    text_rank : (i : ℕ) (b : Bool) → b ≡ true → number_read (Some (loaded w c i b)) ≡ pos (w.code c i)
     text_rank i true p = refl
     text_rank i false p = absurd (cc)
 
@@ -464,9 +464,9 @@ module _ (w : World) (f : Parts) (may : ℕ → Bool) (at : TableId → ℕ) whe
         → Reached (At (Flag (tests q (value_cmp v lit)))) k env regs s e
         (ahead s (test_code q c x lit env k))
     test_runs q i (held.Number z) (held.Number a) shows kind at_x h =
-        number_test q z a (ap number_in at_x ∙ number_rank c i (is_text c) shows.0 ∙ shows.1) h
+        number_test q z a (ap number_read at_x ∙ number_rank c i (is_text c) shows.0 ∙ shows.1) h
     test_runs q i (held.Text v) (held.Text t) shows kind at_x h =
-        text_test i v (ap number_in at_x ∙ text_rank i (is_text c) shows.0) shows.1.low shows.1.high
+        text_test i v (ap number_read at_x ∙ text_rank i (is_text c) shows.0) shows.1.low shows.1.high
         q t h
     test_runs q i (held.Number z) (held.Text t) shows kind at_x h =
         let a : true ≡ false = sym (holds_texts c kind) ∙ shows.0 in absurd (cc)
@@ -481,9 +481,9 @@ module _ (w : World) (f : Parts) (may : ℕ → Bool) (at : TableId → ℕ) whe
         → Reached (At (Flag (is_le (value_cmp from v) && is_le (value_cmp v upto)))) k env regs s e
         (ahead s (between_code c x from upto env k))
     between_runs i (held.Number z) (held.Number a) (held.Number b) shows k1 k2 at_x h =
-        number_between z a b (ap number_in at_x ∙ number_rank c i (is_text c) shows.0 ∙ shows.1) h
+        number_between z a b (ap number_read at_x ∙ number_rank c i (is_text c) shows.0 ∙ shows.1) h
     between_runs i (held.Text v) (held.Text a) (held.Text b) shows k1 k2 at_x h =
-        text_between i v (ap number_in at_x ∙ text_rank i (is_text c) shows.0) shows.1.low
+        text_between i v (ap number_read at_x ∙ text_rank i (is_text c) shows.0) shows.1.low
         shows.1.high a b h
     between_runs i (held.Number z) (held.Text t) u shows k1 k2 at_x h =
         let a : true ≡ false = sym (holds_texts c k1) ∙ shows.0 in absurd (cc)

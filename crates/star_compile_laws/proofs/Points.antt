@@ -17,7 +17,7 @@ use Rattle.star_program.specs.Faults.{unless, place_fault, operation_fault, faul
 use Rattle.star_program.specs.Values.{with_entry}
 use Rattle.star_program.specs.World.{World, is_text}
 use Rattle.star_safety.specs.Contexts.{Context, operation_known, after_op}
-use Rattle.star_safety.specs.Ranges.{Known, KnownNumber, KnownRow, KnownText, KnownPlace, KnownFlag, Table, kinds_known, loaded_known}
+use Rattle.star_safety.specs.Ranges.{Known, KnownNumber, KnownRow, KnownText, KnownPlace, KnownFlag, AllKnown, kinds_known, loaded_known}
 use Rattle.star_safety.specs.declared.reason.Reached.{Reached}
 use Rattle.star_safety.specs.declared.reason.Reason.{Reason}
 use Rattle.star_safety.specs.declared.reason.Reason.TheVariants.{Overflow, Faulty}
@@ -72,7 +72,7 @@ leaving w KnownFlag at rest e = absurd (cc)
 -- ---- a turn
 
 -- in a scan that is met so many times, where nothing was put
-abbrev pub in_turn : ℕ → Table → (ℕ → Bool) → Context
+abbrev pub in_turn : ℕ → AllKnown → (ℕ → Bool) → Context
 in_turn n known written =
     record {
       inside = true;
@@ -100,7 +100,7 @@ module _ (turn : Turn) where
   column_known c = loaded_known turn.world c (is_text c)
 
   -- what is known of the registers is what they are written with
-  pub record Knows (env : Env) (known : Table) (written : ℕ → Bool) : Type 0 where
+  pub record Knows (env : Env) (known : AllKnown) (written : ℕ → Bool) : Type 0 where
     pub fact : known 0 ≡ Some (KnownRow Lineorder)
     pub some : 0 < env.next
     pub columns : (c : ColumnId) (r : ℕ) → loaded_in env.loaded c ≡ Some r
@@ -112,7 +112,7 @@ module _ (turn : Turn) where
   pub record Point : Type 0 where
     pub env : Env
     pub at : ℕ
-    pub known : Table
+    pub known : AllKnown
     pub written : ℕ → Bool
     pub knows : Knows env known written
 
@@ -246,7 +246,7 @@ module _ (turn : Turn) where
       (option_or (suits.source later_puts t i) (suits.range t i))
 
   -- after it one register more is written
-  abbrev pub known_after : Point → Known → Table
+  abbrev pub known_after : Point → Known → AllKnown
   known_after p v = with_entry p.known p.env.next v
 
   abbrev pub written_after : Point → ℕ → Bool

@@ -6,12 +6,12 @@ use Rattle.star_common.specs.Quotes.{quoted}
 use Rattle.star_schema.specs.Schema.{column_of, table_name}
 use Rattle.star_program.specs.Text.Keywords.{shape_name, aggregate_name, mnemonic_name, direction_name}
 use Rattle.star_program.specs.Text.Statements.{lines_of_code}
-use Rattle.star_program.specs.Text.Written.{text_of, line_text, op_text, assigned_text, register_text, target_text, group_text, key_text, column_text, show_text, sort_text}
+use Rattle.star_program.specs.Text.Written.{program_text, written_line, op_text, assigned_text, register_text, target_text, group_text, key_text, written_column, show_text, sort_text}
 use Rattle.star_compile_laws.specs.Compiled.{compiled}
 use Rattle.star_compile_laws.proofs.Plans.{q41, q42, q43, profits, others}
 use Rattle.star_compile_laws.proofs.RevenueTexts.{as_lines}
 
-q41_text : text_of (compiled q41)
+q41_text : program_text (compiled q41)
     ≡ as_lines (
     codes "star program 1"
     ∷ codes "registers 30"
@@ -57,10 +57,10 @@ q41_text : text_of (compiled q41)
     ∷ codes "show profit aggregate 0"
     ∷ codes "sort key 0 ascending"
     ∷ codes "sort key 1 ascending" ∷ [])
-unfolding column_of table_name text_of line_text lines_of_code register_text target_text assigned_text op_text key_text group_text column_text show_text sort_text digits quoted shape_name aggregate_name mnemonic_name direction_name
+unfolding column_of table_name program_text written_line lines_of_code register_text target_text assigned_text op_text key_text group_text written_column show_text sort_text digits quoted shape_name aggregate_name mnemonic_name direction_name
 q41_text = refl
 
-q42_text : text_of (compiled q42)
+q42_text : program_text (compiled q42)
     ≡ as_lines (
     codes "star program 1"
     ∷ codes "registers 36"
@@ -115,10 +115,10 @@ q42_text : text_of (compiled q42)
     ∷ codes "sort key 0 ascending"
     ∷ codes "sort key 1 ascending"
     ∷ codes "sort key 2 ascending" ∷ [])
-unfolding column_of table_name text_of line_text lines_of_code register_text target_text assigned_text op_text key_text group_text column_text show_text sort_text digits quoted shape_name aggregate_name mnemonic_name direction_name
+unfolding column_of table_name program_text written_line lines_of_code register_text target_text assigned_text op_text key_text group_text written_column show_text sort_text digits quoted shape_name aggregate_name mnemonic_name direction_name
 q42_text = refl
 
-q43_text : text_of (compiled q43)
+q43_text : program_text (compiled q43)
     ≡ as_lines (
     codes "star program 1"
     ∷ codes "registers 32"
@@ -169,10 +169,10 @@ q43_text : text_of (compiled q43)
     ∷ codes "sort key 0 ascending"
     ∷ codes "sort key 1 ascending"
     ∷ codes "sort key 2 ascending" ∷ [])
-unfolding column_of table_name text_of line_text lines_of_code register_text target_text assigned_text op_text key_text group_text column_text show_text sort_text digits quoted shape_name aggregate_name mnemonic_name direction_name
+unfolding column_of table_name program_text written_line lines_of_code register_text target_text assigned_text op_text key_text group_text written_column show_text sort_text digits quoted shape_name aggregate_name mnemonic_name direction_name
 q43_text = refl
 
-profits_text : text_of (compiled profits)
+profits_text : program_text (compiled profits)
     ≡ as_lines (
     codes "star program 1"
     ∷ codes "registers 24"
@@ -212,10 +212,10 @@ profits_text : text_of (compiled profits)
     ∷ codes "show lines aggregate 1"
     ∷ codes "sort aggregate 0 descending"
     ∷ codes "sort key 0 ascending" ∷ [])
-unfolding column_of table_name text_of line_text lines_of_code register_text target_text assigned_text op_text key_text group_text column_text show_text sort_text digits quoted shape_name aggregate_name mnemonic_name direction_name
+unfolding column_of table_name program_text written_line lines_of_code register_text target_text assigned_text op_text key_text group_text written_column show_text sort_text digits quoted shape_name aggregate_name mnemonic_name direction_name
 profits_text = refl
 
-others_text : text_of (compiled others)
+others_text : program_text (compiled others)
     ≡ as_lines (
     codes "star program 1"
     ∷ codes "registers 40"
@@ -274,5 +274,5 @@ others_text : text_of (compiled others)
     ∷ codes "show max2 aggregate 1"
     ∷ codes "show count3 aggregate 2"
     ∷ codes "sort key 0 descending" ∷ [])
-unfolding column_of table_name text_of line_text lines_of_code register_text target_text assigned_text op_text key_text group_text column_text show_text sort_text digits quoted shape_name aggregate_name mnemonic_name direction_name
+unfolding column_of table_name program_text written_line lines_of_code register_text target_text assigned_text op_text key_text group_text written_column show_text sort_text digits quoted shape_name aggregate_name mnemonic_name direction_name
 others_text = refl

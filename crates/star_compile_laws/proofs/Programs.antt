@@ -28,11 +28,11 @@ use Rattle.star_program.specs.declared.program.Show.{Show}
 use Rattle.star_program.specs.declared.spelling.statement.Statement.TheVariants as says
 use Rattle.star_program.specs.Code.{code_size, Code, Stop, Then, Each}
 use Rattle.star_program.specs.Limits.{IsSmall, IsWithinLimits}
-use Rattle.star_program.specs.Text.Numerals.{is_name, is_name_byte}
-use Rattle.star_program.specs.Shown.{has_column, first_unshown, named_columns, reports, shown_fault}
+use Rattle.star_program.specs.Text.Numerals.{is_show_name, is_name_byte}
+use Rattle.star_program.specs.ShowLines.{has_column, first_unshown, named_columns, reports, shown_fault}
 use Rattle.star_program.specs.Text.Spellable.{IsKey, IsShortColumn, IsSayable, IsSpellable}
 use Rattle.star_program.specs.Text.Statements.{Line, line, lines_of_code, show_line, sort_line, lines_of_program}
-use Rattle.star_compile_laws.specs.Compiled.{compiled, body_code, turn_code, group_of, key_of_group, show_of}
+use Rattle.star_compile_laws.specs.Compiled.{compiled, body_code, turn_code, plan_group, key_of_group, plan_show}
 use Rattle.star_query_meaning.specs.Answers.{shown_name}
 use Rattle.star_compile_laws.proofs.Flat.{turn_is_flat, flat_depth}
 use Rattle.star_compile_laws.proofs.Sizes.{body_size, registers_size}
@@ -40,7 +40,7 @@ use Rattle.star_compile_laws.proofs.Sayable.{Spelled, turn_spelled}
 
 -- ---- limits
 
-small : (p : Plan) → IsPlanWithinLimits p → IsSmall (group_of p)
+small : (p : Plan) → IsPlanWithinLimits p → IsSmall (plan_group p)
 small p l = record {
   keys = omega (arith, length-map p.keys key_of_group, l.keys);
   aggregates = omega (arith, length-map p.measures aggregate_of, l.measures);
@@ -56,10 +56,10 @@ is_within_limits p l =
     record {
       registers = omega (arith, registers_size (body_code p));
       groups = omega arith;
-      each_group = All-cons IsSmall (group_of p) [] (small p l) (All-nil IsSmall);
+      each_group = All-cons IsSmall (plan_group p) [] (small p l) (All-nil IsSmall);
       instructions = omega arith;
       scans = subst (λ n. (if nat_lt (1 + n) 0 then 0 else 1 + n) ≤ 3) (sym flat) (omega arith);
-      shows = omega (arith, length-map p.items (show_of p), l.items);
+      shows = omega (arith, length-map p.items (plan_show p), l.items);
       sorts = l.sorts;
     }
 
@@ -78,7 +78,7 @@ none_unshown d n (c ∷ cs) h =
     first_by (has_column d c) n (first_unshown d (n + 1) cs) hs.0 (none_unshown d (n + 1) cs hs.1)
 
 has_same : (p : Plan) (c : GroupColumn)
-    → has_column (group_of p) c ≡ is_group_column (length p.keys) (length p.measures) c
+    → has_column (plan_group p) c ≡ is_group_column (length p.keys) (length p.measures) c
 has_same p (group.Key n) = ap (nat_lt n) (length-map p.keys key_of_group)
 has_same p (group.Aggregate n) = ap (nat_lt n) (length-map p.measures aggregate_of)
 
@@ -92,14 +92,14 @@ abbrev column_of_sort : SortKey → GroupColumn
 column_of_sort sort = sort.column
 
 shows_there : (p : Plan) (cs : List GroupColumn) → list_all (is_there p) cs ≡ true
-    → list_all (has_column (group_of p)) (map column_of_show (map (show_of p) cs)) ≡ true
+    → list_all (has_column (plan_group p)) (map column_of_show (map (plan_show p) cs)) ≡ true
 shows_there p [] h = refl
 shows_there p (c ∷ cs) h =
     let parts = and_parts (is_there p c) (list_all (is_there p) cs) h in
     and_from _ _ (has_same p c ∙ parts.0) (shows_there p cs parts.1)
 
 sorts_there : (p : Plan) (ss : List SortKey) → list_all (λ s. is_there p s.column) ss ≡ true
-    → list_all (has_column (group_of p)) (map column_of_sort ss) ≡ true
+    → list_all (has_column (plan_group p)) (map column_of_sort ss) ≡ true
 sorts_there p [] h = refl
 sorts_there p (s ∷ ss) h =
     let parts = and_parts (is_there p s.column) (list_all (λ s. is_there p s.column) ss) h in
@@ -107,14 +107,14 @@ sorts_there p (s ∷ ss) h =
 
 pub shows_what_is_there : (p : Plan) → IsSoundPlan p → shown_fault (compiled p) ≡ None
 shows_what_is_there p sound =
-    let shows = map (show_of p) p.items in
-    let some : 0 < length shows = omega (arith, length-map p.items (show_of p), sound.shown) in
+    let shows = map (plan_show p) p.items in
+    let some : 0 < length shows = omega (arith, length-map p.items (plan_show p), sound.shown) in
     let there =
     and_from _ _ (shows_there p p.items sound.items) (sorts_there p p.sorts sound.sorts) in
-    first_by (reports (compiled p)) 0 (first_unshown (group_of p) 1 (named_columns (compiled p)))
+    first_by (reports (compiled p)) 0 (first_unshown (plan_group p) 1 (named_columns (compiled p)))
     (lt-ltb 0 (length shows) some)
-    (none_unshown (group_of p) 1 (named_columns (compiled p))
-    (list_all-append (has_column (group_of p)) (map column_of_show shows)
+    (none_unshown (plan_group p) 1 (named_columns (compiled p))
+    (list_all-append (has_column (plan_group p)) (map column_of_show shows)
     (map column_of_sort p.sorts) ∙ there))
 
 -- ---- names
@@ -138,16 +138,16 @@ filled : (bs : List ℕ) → begins_with_letter bs ≡ true → nat_le 1 (length
 filled [] h = absurd (cc)
 filled (b ∷ bs) h = le-leb 1 (length (b ∷ bs)) (omega arith)
 
-name_said : (bs : List ℕ) → asked.is_name bs ≡ true → is_name bs ≡ true
-unfolding asked.is_name is_name
+name_said : (bs : List ℕ) → asked.is_name bs ≡ true → is_show_name bs ≡ true
+unfolding asked.is_name is_show_name
 name_said bs h =
     let a =
     and_parts (begins_with_letter bs) (list_all is_word_byte bs && nat_le (length bs) 64) h in
     let b = and_parts (list_all is_word_byte bs) (nat_le (length bs) 64) a.1 in
     and_from _ _ (and_from _ _ (filled bs a.0) b.1) (named bs b.0)
 
-column_named : (c : ColumnId) → is_name (column_name c) ≡ true
-unfolding column_of is_name
+column_named : (c : ColumnId) → is_show_name (column_name c) ≡ true
+unfolding column_of is_show_name
 column_named DDatekey = refl
 column_named _ = refl
 
@@ -159,7 +159,7 @@ at_place test (x ∷ xs) (suc n) d h below =
     at_place test xs n d (and_parts (test x) (list_all test xs) h).1 (omega arith)
 
 shown_named : (p : Plan) → IsSoundPlan p → IsSpelledPlan p → (c : GroupColumn)
-    → is_group_column (length p.keys) (length p.measures) c ≡ true → is_name (shown_name p c) ≡ true
+    → is_group_column (length p.keys) (length p.measures) c ≡ true → is_show_name (shown_name p c) ≡ true
 shown_named p sound spelled (group.Key n) h = column_named (slice_index_or p.keys n DDatekey)
 shown_named p sound spelled (group.Aggregate n) h =
     let a = ltb-true n (length p.measures) h in
@@ -191,11 +191,11 @@ short_column p l (group.Aggregate n) h = omega (arith, ltb-true n (length p.meas
 
 shows_said : (p : Plan) → IsPlanWithinLimits p → IsSoundPlan p → IsSpelledPlan p
     → (cs : List GroupColumn) → list_all (is_there p) cs ≡ true
-    → All Says (map show_line (map (show_of p) cs))
+    → All Says (map show_line (map (plan_show p) cs))
 shows_said p l sound spelled [] h = All-nil Says
 shows_said p l sound spelled (c ∷ cs) h =
     let parts = and_parts (is_there p c) (list_all (is_there p) cs) h in
-    All-cons Says (show_line (show_of p c)) (map show_line (map (show_of p) cs))
+    All-cons Says (show_line (plan_show p c)) (map show_line (map (plan_show p) cs))
     (shown_named p sound spelled c parts.0, short_column p l c parts.0)
     (shows_said p l sound spelled cs parts.1)
 
@@ -229,10 +229,10 @@ is_spellable p l sound spelled =
     let turn = turn_spelled p spelled.conjuncts spelled.measures (omega arith) in
     let header = line 0 says.Header in
     let registers = line 0 (says.Registers (compiled p).registers) in
-    let group = line 0 (says.Group 0 (group_of p)) in
+    let group = line 0 (says.Group 0 (plan_group p)) in
     let body = lines_of_code 0 (body_code p) in
     let report = line 0 (says.Report 0) in
-    let shows = map show_line (map (show_of p) p.items) in
+    let shows = map show_line (map (plan_show p) p.items) in
     let sorts = map sort_line p.sorts in
     All-map IsSayable (λ (l : Line). l.says) (lines_of_program (compiled p))
     (All-cons Says header (registers ∷ group ∷ (body ++ report ∷ (shows ++ sorts))) tt

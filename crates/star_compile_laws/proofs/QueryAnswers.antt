@@ -16,7 +16,7 @@ use Rattle.star_program.specs.World.{World}
 use Rattle.std.proofs.lemmas.List.Sorted.{length_permutation}
 use Rattle.star_query_meaning.specs.Rows.{selected}
 use Rattle.star_query_meaning.proofs.OwnWords.{own_answer, selected_reordered}
-use Rattle.star_world.specs.Shown.{IsWorldOf}
+use Rattle.star_world.specs.RowsSeen.{IsWorldOf}
 use Rattle.star_world.specs.WorldOf.{world_of}
 use Rattle.star_compile_laws.specs.Answers.{AnswersTheQuery, ReportsTheQuery}
 use Rattle.star_compile_laws.specs.Counts.{CountsTheRows}

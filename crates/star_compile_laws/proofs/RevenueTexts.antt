@@ -6,7 +6,7 @@ use Rattle.star_common.specs.Quotes.{quoted}
 use Rattle.star_schema.specs.Schema.{column_of, table_name}
 use Rattle.star_program.specs.Text.Keywords.{shape_name, aggregate_name, mnemonic_name, direction_name}
 use Rattle.star_program.specs.Text.Statements.{lines_of_code}
-use Rattle.star_program.specs.Text.Written.{text_of, line_text, op_text, assigned_text, register_text, target_text, group_text, key_text, column_text, show_text, sort_text}
+use Rattle.star_program.specs.Text.Written.{program_text, written_line, op_text, assigned_text, register_text, target_text, group_text, key_text, written_column, show_text, sort_text}
 use Rattle.star_compile_laws.specs.Compiled.{compiled}
 use Rattle.star_compile_laws.proofs.Plans.{q11, q12, q13, q21, q22, q23, q31, q32, q33, q34}
 
@@ -14,7 +14,7 @@ use Rattle.star_compile_laws.proofs.Plans.{q11, q12, q13, q21, q22, q23, q31, q3
 abbrev pub as_lines : List (List ℕ) → List ℕ
 as_lines lines = flat_map (λ l. l ++ 10 ∷ []) lines
 
-q11_text : text_of (compiled q11)
+q11_text : program_text (compiled q11)
     ≡ as_lines (
     codes "star program 1"
     ∷ codes "registers 15"
@@ -41,10 +41,10 @@ q11_text : text_of (compiled q11)
     ∷ codes "end"
     ∷ codes "report 0"
     ∷ codes "show revenue aggregate 0" ∷ [])
-unfolding column_of table_name text_of line_text lines_of_code register_text target_text assigned_text op_text key_text group_text column_text show_text sort_text digits quoted shape_name aggregate_name mnemonic_name direction_name
+unfolding column_of table_name program_text written_line lines_of_code register_text target_text assigned_text op_text key_text group_text written_column show_text sort_text digits quoted shape_name aggregate_name mnemonic_name direction_name
 q11_text = refl
 
-q12_text : text_of (compiled q12)
+q12_text : program_text (compiled q12)
     ≡ as_lines (
     codes "star program 1"
     ∷ codes "registers 16"
@@ -72,10 +72,10 @@ q12_text : text_of (compiled q12)
     ∷ codes "end"
     ∷ codes "report 0"
     ∷ codes "show revenue aggregate 0" ∷ [])
-unfolding column_of table_name text_of line_text lines_of_code register_text target_text assigned_text op_text key_text group_text column_text show_text sort_text digits quoted shape_name aggregate_name mnemonic_name direction_name
+unfolding column_of table_name program_text written_line lines_of_code register_text target_text assigned_text op_text key_text group_text written_column show_text sort_text digits quoted shape_name aggregate_name mnemonic_name direction_name
 q12_text = refl
 
-q13_text : text_of (compiled q13)
+q13_text : program_text (compiled q13)
     ≡ as_lines (
     codes "star program 1"
     ∷ codes "registers 19"
@@ -107,10 +107,10 @@ q13_text : text_of (compiled q13)
     ∷ codes "end"
     ∷ codes "report 0"
     ∷ codes "show revenue aggregate 0" ∷ [])
-unfolding column_of table_name text_of line_text lines_of_code register_text target_text assigned_text op_text key_text group_text column_text show_text sort_text digits quoted shape_name aggregate_name mnemonic_name direction_name
+unfolding column_of table_name program_text written_line lines_of_code register_text target_text assigned_text op_text key_text group_text written_column show_text sort_text digits quoted shape_name aggregate_name mnemonic_name direction_name
 q13_text = refl
 
-q21_text : text_of (compiled q21)
+q21_text : program_text (compiled q21)
     ≡ as_lines (
     codes "star program 1"
     ∷ codes "registers 18"
@@ -143,10 +143,10 @@ q21_text : text_of (compiled q21)
     ∷ codes "show p_brand1 key 1"
     ∷ codes "sort key 0 ascending"
     ∷ codes "sort key 1 ascending" ∷ [])
-unfolding column_of table_name text_of line_text lines_of_code register_text target_text assigned_text op_text key_text group_text column_text show_text sort_text digits quoted shape_name aggregate_name mnemonic_name direction_name
+unfolding column_of table_name program_text written_line lines_of_code register_text target_text assigned_text op_text key_text group_text written_column show_text sort_text digits quoted shape_name aggregate_name mnemonic_name direction_name
 q21_text = refl
 
-q22_text : text_of (compiled q22)
+q22_text : program_text (compiled q22)
     ≡ as_lines (
     codes "star program 1"
     ∷ codes "registers 17"
@@ -178,10 +178,10 @@ q22_text : text_of (compiled q22)
     ∷ codes "show p_brand1 key 1"
     ∷ codes "sort key 0 ascending"
     ∷ codes "sort key 1 ascending" ∷ [])
-unfolding column_of table_name text_of line_text lines_of_code register_text target_text assigned_text op_text key_text group_text column_text show_text sort_text digits quoted shape_name aggregate_name mnemonic_name direction_name
+unfolding column_of table_name program_text written_line lines_of_code register_text target_text assigned_text op_text key_text group_text written_column show_text sort_text digits quoted shape_name aggregate_name mnemonic_name direction_name
 q22_text = refl
 
-q23_text : text_of (compiled q23)
+q23_text : program_text (compiled q23)
     ≡ as_lines (
     codes "star program 1"
     ∷ codes "registers 17"
@@ -213,10 +213,10 @@ q23_text : text_of (compiled q23)
     ∷ codes "show p_brand1 key 1"
     ∷ codes "sort key 0 ascending"
     ∷ codes "sort key 1 ascending" ∷ [])
-unfolding column_of table_name text_of line_text lines_of_code register_text target_text assigned_text op_text key_text group_text column_text show_text sort_text digits quoted shape_name aggregate_name mnemonic_name direction_name
+unfolding column_of table_name program_text written_line lines_of_code register_text target_text assigned_text op_text key_text group_text written_column show_text sort_text digits quoted shape_name aggregate_name mnemonic_name direction_name
 q23_text = refl
 
-q31_text : text_of (compiled q31)
+q31_text : program_text (compiled q31)
     ≡ as_lines (
     codes "star program 1"
     ∷ codes "registers 23"
@@ -257,10 +257,10 @@ q31_text : text_of (compiled q31)
     ∷ codes "show revenue aggregate 0"
     ∷ codes "sort key 2 ascending"
     ∷ codes "sort aggregate 0 descending" ∷ [])
-unfolding column_of table_name text_of line_text lines_of_code register_text target_text assigned_text op_text key_text group_text column_text show_text sort_text digits quoted shape_name aggregate_name mnemonic_name direction_name
+unfolding column_of table_name program_text written_line lines_of_code register_text target_text assigned_text op_text key_text group_text written_column show_text sort_text digits quoted shape_name aggregate_name mnemonic_name direction_name
 q31_text = refl
 
-q32_text : text_of (compiled q32)
+q32_text : program_text (compiled q32)
     ≡ as_lines (
     codes "star program 1"
     ∷ codes "registers 23"
@@ -301,10 +301,10 @@ q32_text : text_of (compiled q32)
     ∷ codes "show revenue aggregate 0"
     ∷ codes "sort key 2 ascending"
     ∷ codes "sort aggregate 0 descending" ∷ [])
-unfolding column_of table_name text_of line_text lines_of_code register_text target_text assigned_text op_text key_text group_text column_text show_text sort_text digits quoted shape_name aggregate_name mnemonic_name direction_name
+unfolding column_of table_name program_text written_line lines_of_code register_text target_text assigned_text op_text key_text group_text written_column show_text sort_text digits quoted shape_name aggregate_name mnemonic_name direction_name
 q32_text = refl
 
-q33_text : text_of (compiled q33)
+q33_text : program_text (compiled q33)
     ≡ as_lines (
     codes "star program 1"
     ∷ codes "registers 29"
@@ -351,10 +351,10 @@ q33_text : text_of (compiled q33)
     ∷ codes "show revenue aggregate 0"
     ∷ codes "sort key 2 ascending"
     ∷ codes "sort aggregate 0 descending" ∷ [])
-unfolding column_of table_name text_of line_text lines_of_code register_text target_text assigned_text op_text key_text group_text column_text show_text sort_text digits quoted shape_name aggregate_name mnemonic_name direction_name
+unfolding column_of table_name program_text written_line lines_of_code register_text target_text assigned_text op_text key_text group_text written_column show_text sort_text digits quoted shape_name aggregate_name mnemonic_name direction_name
 q33_text = refl
 
-q34_text : text_of (compiled q34)
+q34_text : program_text (compiled q34)
     ≡ as_lines (
     codes "star program 1"
     ∷ codes "registers 29"
@@ -400,5 +400,5 @@ q34_text : text_of (compiled q34)
     ∷ codes "show revenue aggregate 0"
     ∷ codes "sort key 2 ascending"
     ∷ codes "sort aggregate 0 descending" ∷ [])
-unfolding column_of table_name text_of line_text lines_of_code register_text target_text assigned_text op_text key_text group_text column_text show_text sort_text digits quoted shape_name aggregate_name mnemonic_name direction_name
+unfolding column_of table_name program_text written_line lines_of_code register_text target_text assigned_text op_text key_text group_text written_column show_text sort_text digits quoted shape_name aggregate_name mnemonic_name direction_name
 q34_text = refl

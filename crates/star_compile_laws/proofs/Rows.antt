@@ -22,12 +22,12 @@ use Rattle.star_schema.proofs.KeyColumns.{foreign_key}
 use Rattle.star_schema.proofs.Same.{table_same, table_itself}
 use Rattle.star_plan.specs.declared.tree.Join.{Join}
 use Rattle.star_plan.specs.Joins.{is_foreign, is_lone_key, refers}
-use Rattle.star_plan.specs.Meaning.{Row, Tables, Joined, value_in, value_of, with_row, only_row, matches, partners, joined_rows, all_hold, plan_rows, Plan}
+use Rattle.star_plan.specs.Meaning.{Row, Tables, Joined, value_in, joined_value, with_row, only_row, matches, partners, joined_rows, all_hold, plan_rows, Plan}
 use Rattle.star_plan.specs.Sound.{joins_table, are_distinct, IsSoundPlan}
-use Rattle.star_program.specs.World.{World, IsRowOf, is_text}
+use Rattle.star_program.specs.World.{World, IsRowNumberOf, is_text}
 use Rattle.star_program.specs.Values.{no_registers}
-use Rattle.star_program.specs.Effects.{Store, empty_store}
-use Rattle.star_program.specs.Shown.{shown_fault}
+use Rattle.star_program.specs.Effects.{State, empty_state}
+use Rattle.star_program.specs.ShowLines.{shown_fault}
 use Rattle.star_program.specs.Run.{End, Ended, unless_unshown, meaning_of, run_while}
 use Rattle.star_query_meaning.proofs.Choices.{table_turned}
 use Rattle.star_compile_laws.specs.Compiled.{foreign_of, compiled}
@@ -45,7 +45,7 @@ pub record IsJoin (ts : Tables) (w : World) (j : Join) : Type 0 where
   pub lone : is_lone_key j.key (key_of (table_of j.key)) ≡ true
   pub dimension : is_table Lineorder (table_of j.key) ≡ false
   pub found : (n : ℕ) → n < length (ts Lineorder)
-      → IsRowOf w (table_of j.key) (w.find (table_of j.key) (w.number j.foreign n))
+      → IsRowNumberOf w (table_of j.key) (w.find (table_of j.key) (w.number j.foreign n))
 
 -- each dimension is joined once
 abbrev IsDistinct : List Join → Type 0
@@ -169,7 +169,7 @@ number_shown : (w : World) (c : ColumnId) (n : ℕ) (v : Value) → is_text c �
 number_shown w c n (Number z) e shows = ap Number (sym shows.1)
 number_shown w c n (Text t) e shows = let a : true ≡ false = sym shows.0 ∙ e in absurd (cc)
 
-found_some : (w : World) (t : TableId) (o : Option ℕ) → IsRowOf w t o → o ≡ Some (unwrap_or o 0)
+found_some : (w : World) (t : TableId) (o : Option ℕ) → IsRowNumberOf w t o → o ≡ Some (unwrap_or o 0)
 found_some w t None h = absurd h
 found_some w t (Some n) h = refl
 
@@ -191,7 +191,7 @@ module _ (ts : Tables) (w : World) (seen : Sees ts w) (i : ℕ)
   partner at j base ok fact =
       let z = w.number j.foreign i in
       let t = table_of j.key in
-      let is_at : value_of j.foreign base ≡ Number z =
+      let is_at : joined_value j.foreign base ≡ Number z =
       (ap (λ q. value_in j.foreign (base q)) ok.0.fact ∙ ap (value_in j.foreign) fact
       ∙ ap (λ q. value_in j.foreign (row_at (ts q) i)) (sym ok.0.fact))
       ∙ number_shown w j.foreign i _ ok.0.number
@@ -272,7 +272,7 @@ record Joins (ts : Tables) (w : World) (i : ℕ) (c : ColumnId) (t : TableId) : 
   fact : (table_of c) ≡ Lineorder
   number : is_text c ≡ false
   dimension : is_table Lineorder t ≡ false
-  found : IsRowOf w t (w.find t (w.number c i))
+  found : IsRowNumberOf w t (w.find t (w.number c i))
   key : ColumnId
   of : table_of key ≡ t
   lone : is_lone_key key (key_of (table_of key)) ≡ true
@@ -396,19 +396,19 @@ module _ (ts : Tables) (w : World) (seen : Sees ts w) (p : Plan) (sound : IsSoun
       (filter (λ i. all_hold p.conjuncts (row_of_fact i)) (numbers (length (ts Lineorder)) 0))
 
   -- the report names what is there, so it runs
-  shown_runs : (o : Option ℕ) (go : Unit {0} → End) → o ≡ None → (e : Store)
+  shown_runs : (o : Option ℕ) (go : Unit {0} → End) → o ≡ None → (e : State)
       → unless_unshown o go ≡ Ended e → go tt ≡ Ended e
   shown_runs None go q e h = h
   shown_runs (Some n) go q e h = absurd (cc)
 
   -- the run of its scan
-  scanned : (may : ℕ → Bool) (e : Store) → run_while w may (compiled p) ≡ Ended e
+  scanned : (may : ℕ → Bool) (e : State) → run_while w may (compiled p) ≡ Ended e
       → Scanned (updates_of_rows w (compiled p) may p (place_in w p.joins) row_of_fact is_turn place_of_fact
       (numbers (w.size Lineorder) 0)) (w.size Lineorder)
-      (sum_by (λ i. turn_lookups p (row_of_fact i)) (numbers (w.size Lineorder) 0)) empty_store e
+      (sum_by (λ i. turn_lookups p (row_of_fact i)) (numbers (w.size Lineorder) 0)) empty_state e
   scanned may e h =
       scan_runs w (compiled p) may p (place_in w p.joins) row_of_fact is_turn place_of_fact refl
-      sound 1 false no_registers empty_store e
+      sound 1 false no_registers empty_state e
       (shown_runs (shown_fault (compiled p)) (λ _. meaning_of w may (compiled p))
       (shows_what_is_there p sound) e h)
 
@@ -428,7 +428,7 @@ module _ (ts : Tables) (w : World) (seen : Sees ts w) (p : Plan) (sound : IsSoun
       ∙ ap (λ n. turn_lookups p (row_of_fact i) + n) (looked_up_in is)
       ∙ sym (sum_by-cons (λ i. turn_lookups p (row_of_fact i)) i is)
 
-  pub counts_the_rows : (may : ℕ → Bool) (e : Store) → run_while w may (compiled p) ≡ Ended e
+  pub counts_the_rows : (may : ℕ → Bool) (e : State) → run_while w may (compiled p) ≡ Ended e
       → (e.visits ≡ length (ts Lineorder)) × (e.lookups ≡ lookups_of ts p)
       × (e.updates ≡ length (plan_rows ts p))
   counts_the_rows may e h =

@@ -19,7 +19,7 @@ use Rattle.star_schema.proofs.Same.{column_same}
 use Rattle.star_plan.specs.Joins.{is_lone_key}
 use Rattle.star_plan.specs.Meaning.{Row, value_in}
 use Rattle.star_program.specs.World.{World}
-use Rattle.star_world.specs.Shown.{HasNumber, HasText, IsWorldOf}
+use Rattle.star_world.specs.RowsSeen.{HasNumber, HasText, IsWorldOf}
 use Rattle.star_world.proofs.Loaded.{numbers_len}
 use Rattle.star_compile_laws.proofs.Joins.{of_text}
 use Rattle.star_compile_laws.proofs.TurnRows.{Sees, Shows, row_at}

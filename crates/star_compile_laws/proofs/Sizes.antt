@@ -23,7 +23,7 @@ use Rattle.star_program.specs.declared.op.Operator.{Operator}
 use Rattle.star_program.specs.declared.op.Operator.TheVariants as operator
 use Rattle.star_program.specs.Code.{Code, Stop, Then, Each, code_size}
 use Rattle.star_program.specs.Faults.{target_of}
-use Rattle.star_compile_laws.specs.Compiled.{Env, Rest, Rests, before, beside, binary_code, column_code, start_of, end_of, equal_code, find_code, env_first, loaded_in, found_in, one_more, with_loaded, with_found, foreign_of, fact_code, row_code, place_code, column_from, test_code, between_code, condition_code, expression_code, conjuncts_code, keys_code, values_code, put_code, body_code, write, load_code, writes_one, register_count}
+use Rattle.star_compile_laws.specs.Compiled.{Env, Rest, Rests, one_before, beside, binary_code, column_code, start_of, end_behind, equal_code, find_code, env_first, loaded_in, found_in, one_more, with_loaded, with_found, foreign_of, fact_code, row_code, place_code, column_from, test_code, between_code, condition_code, expression_code, conjuncts_code, keys_code, values_code, put_code, body_code, write, load_code, writes_one, register_count}
 use Rattle.star_compile_laws.specs.Looks.{one_if}
 use Rattle.star_compile_laws.proofs.Entries.{missing, entry_falls}
 
@@ -94,7 +94,7 @@ of_binary left right o p q r sum f g env k m h =
     omega arith
 
 of_before : (first : Env → Rest → Code) (others : Env → Rests → Code) (p q : ℕ) → Adds p first
-    → Adds q others → Adds (p + q) (before first others)
+    → Adds q others → Adds (p + q) (one_before first others)
 of_before first others p q f g env k m h =
     let whole =
     f env (λ e x. others e (λ e xs. k e (x ∷ xs))) (q + m)
@@ -128,8 +128,8 @@ of_beside o used env k m h =
 of_between : (c : ColumnId) (x : ℕ) (a b : Value) → Adds 3 (between_code c x a b)
 of_between c x a b env k m h =
     let p =
-    of_one (start_of c a) env (λ e n. beside (end_of c b) (λ l. Within x n l) e k) (2 + m)
-    (λ e n. of_beside (end_of c b) (λ l. Within x n l) e k m h) in
+    of_one (start_of c a) env (λ e n. beside (end_behind c b) (λ l. Within x n l) e k) (2 + m)
+    (λ e n. of_beside (end_behind c b) (λ l. Within x n l) e k m h) in
     omega arith
 
 of_equal : (c : ColumnId) (x : ℕ) (v : Value) → Adds 3 (equal_code c x v)
@@ -267,7 +267,7 @@ module _ (js : List Join) where
   of_measure : (x : Measure ColumnId) (a : Expression ColumnId) (ms : List (Measure ColumnId))
       → measure_operands x ≡ operands_of a
       → Adds (2 * sum_by measure_operands ms) (values_code js ms)
-      → Adds (2 * sum_by measure_operands (x ∷ ms)) (before (expression_code js a) (values_code js ms))
+      → Adds (2 * sum_by measure_operands (x ∷ ms)) (one_before (expression_code js a) (values_code js ms))
   of_measure x a ms operands rest env k m h =
       omega (
         arith,

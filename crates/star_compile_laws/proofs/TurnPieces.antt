@@ -13,7 +13,7 @@ use Rattle.star_schema.specs.Tables.{kind_of_value}
 use Rattle.star_schema.proofs.Same.{table_same, column_same}
 use Rattle.star_plan.specs.declared.tree.Join.{Join}
 use Rattle.star_query.specs.Tree.{Expression, column, constant, add, sub, mul, or, and, not, test, compare, between}
-use Rattle.star_plan.specs.Meaning.{Joined, value_of, holds, expression_number, number_of, RowCondition}
+use Rattle.star_plan.specs.Meaning.{Joined, joined_value, holds, expression_number, value_number, RowCondition}
 use Rattle.star_plan.specs.Names.{same_kind}
 use Rattle.star_plan.specs.Sound.{joins_table, in_scope, condition_is_sound, expression_is_sound}
 use Rattle.star_program.specs.declared.op.Op.TheVariants.{Assign}
@@ -23,9 +23,9 @@ use Rattle.star_program.specs.declared.program.Parts.{Parts}
 use Rattle.star_program.specs.declared.value.Value.{Value}
 use Rattle.star_program.specs.declared.value.Value.TheVariants.{Number, Row, Flag}
 use Rattle.star_program.specs.World.{World, is_column, is_text}
-use Rattle.star_program.specs.Values.{Registers, with_entry, number_in, row_in}
+use Rattle.star_program.specs.Values.{Registers, with_entry, number_read, row_read}
 use Rattle.star_program.specs.Faults.{fault_of}
-use Rattle.star_program.specs.Effects.{Store, loaded, kinds_in}
+use Rattle.star_program.specs.Effects.{State, loaded, kinds_in}
 use Rattle.star_program.specs.Private.Doing.{sets_found}
 use Rattle.star_program.specs.Run.{End, Ended, follow, meaning}
 use Rattle.star_compile_laws.specs.Compiled.{Env, Rest, loaded_in, found_in, with_loaded, with_found, write, load_code, find_code, foreign_of, fact_code, row_code, place_code, column_from, column_code, test_code, between_code, condition_code, expression_code}
@@ -63,11 +63,11 @@ module _ (w : World) (f : Parts) (may : ℕ → Bool) (at : TableId → ℕ) whe
   }
 
   load_runs : (c : ColumnId) (row : ℕ) (k : Rest) (env : Env) (n : ℕ) (regs : Registers)
-      (s e : Store) → Knows w f may at env regs → row_in (regs row) ≡ at (table_of c)
+      (s e : State) → Knows w f may at env regs → row_read (regs row) ≡ at (table_of c)
       → meaning w f may (load_code c row env k) n true regs s ≡ Ended e
       → Reached w f may at (At w f may at (here c)) k env regs s e (ahead s (load_code c row env k))
   load_runs c row k env n regs s e knows at_row h =
-      let v = loaded w c (row_in (regs row)) (is_text c) in
+      let v = loaded w c (row_read (regs row)) (is_text c) in
       let same : v ≡ here c = ap (λ i. loaded w c i (is_text c)) at_row in
       record {
         env' = with_loaded env c;
@@ -89,17 +89,17 @@ module _ (w : World) (f : Parts) (may : ℕ → Bool) (at : TableId → ℕ) whe
       }
 
   fact_runs : (c : ColumnId) (k : Rest) (env : Env) (o : Option ℕ) → loaded_in env.loaded c ≡ o
-      → (n : ℕ) (regs : Registers) (s e : Store) → Knows w f may at env regs
+      → (n : ℕ) (regs : Registers) (s e : State) → Knows w f may at env regs
       → table_of c ≡ Lineorder
       → meaning w f may (fact_code c env k o) n true regs s ≡ Ended e
       → Reached w f may at (At w f may at (here c)) k env regs s e (ahead s (fact_code c env k o))
   fact_runs c k env (Some r) p n regs s e knows t h =
       reached w f may at (At w f may at (here c)) k env r n regs s e knows (knows.columns c r p) h
   fact_runs c k env None p n regs s e knows t h =
-      load_runs c 0 k env n regs s e knows (ap row_in knows.fact ∙ ap at (sym t)) h
+      load_runs c 0 k env n regs s e knows (ap row_read knows.fact ∙ ap at (sym t)) h
 
-  found_goes : (regs : Registers) (s : Store) (t : ℕ) (table : TableId) (o : Option ℕ) (i : ℕ)
-      (n : ℕ) (next : Registers → Store → End) (e : Store) → o ≡ Some i
+  found_goes : (regs : Registers) (s : State) (t : ℕ) (table : TableId) (o : Option ℕ) (i : ℕ)
+      (n : ℕ) (next : Registers → State → End) (e : State) → o ≡ Some i
       → follow n (sets_found regs s t table o) next ≡ Ended e
       → next (with_entry regs t (Row table i)) (record s { lookups = s.lookups + 1 }) ≡ Ended e
   found_goes regs s t table None i n next e p h = absurd (cc)
@@ -109,7 +109,7 @@ module _ (w : World) (f : Parts) (may : ℕ → Bool) (at : TableId → ℕ) whe
 
   module _ (js : List Join) (row : Joined) (turn : IsTurn w js at row) where
     row_runs : (t : TableId) → joins_table js t ≡ true → (k : Rest) (env : Env) (o : Option ℕ)
-        → found_in env.found t ≡ o → (n : ℕ) (regs : Registers) (s e : Store)
+        → found_in env.found t ≡ o → (n : ℕ) (regs : Registers) (s e : State)
         → Knows w f may at env regs
         → meaning w f may (row_code js t env k o) n true regs s ≡ Ended e
         → Reached w f may at (At w f may at (Row t (at t))) k env regs s e (ahead s (row_code js t env k o))
@@ -122,8 +122,8 @@ module _ (w : World) (f : Parts) (may : ℕ → Bool) (at : TableId → ℕ) whe
         let p =
         fact_runs c (λ e r. find_code t r e k) env (loaded_in env.loaded c) refl n regs s e knows
         fk.0 h in
-        let is_key : w.find t (number_in (p.regs' p.out)) ≡ Some (at t) =
-        ap (λ x. w.find t (number_in x)) p.says.1
+        let is_key : w.find t (number_read (p.regs' p.out)) ≡ Some (at t) =
+        ap (λ x. w.find t (number_read x)) p.says.1
         ∙ ap (w.find t) (number_rank w f may at c (at (table_of c)) (is_text c) fk.1 ∙ ap
         (λ q. w.number c (at q)) fk.0) ∙ turn.found t j in
         let next = meaning w f may (k (with_found p.env' t) p.env'.next) (p.n + 1) true in
@@ -142,7 +142,7 @@ module _ (w : World) (f : Parts) (may : ℕ → Bool) (at : TableId → ℕ) whe
           updates = refl;
           looked = λ flags. omega arith;
           goes =
-              found_goes p.regs' p.s' p.env'.next t (w.find t (number_in (p.regs' p.out))) (at t)
+              found_goes p.regs' p.s' p.env'.next t (w.find t (number_read (p.regs' p.out))) (at t)
               p.n next e is_key
               (no_fault (fault_of f true None (kinds_in p.regs')
               (Assign p.env'.next (Find t p.out))) _ _ p.n next e p.goes);
@@ -150,22 +150,22 @@ module _ (w : World) (f : Parts) (may : ℕ → Bool) (at : TableId → ℕ) whe
 
     place_runs : (c : ColumnId) (k : Rest) (env : Env) (b : Bool)
         → is_table (table_of c) Lineorder ≡ b → (b || joins_table js (table_of c)) ≡ true
-        → (n : ℕ) (regs : Registers) (s e : Store) → Knows w f may at env regs
+        → (n : ℕ) (regs : Registers) (s e : State) → Knows w f may at env regs
         → meaning w f may (place_code js c env k b) n true regs s ≡ Ended e
         → Reached w f may at (At w f may at (here c)) k env regs s e (ahead s (place_code js c env k b))
     place_runs c k env true p j n regs s e knows h =
         load_runs c 0 k env n regs s e knows
-        (ap row_in knows.fact ∙ ap at (sym (table_same (table_of c) Lineorder p))) h
+        (ap row_read knows.fact ∙ ap at (sym (table_same (table_of c) Lineorder p))) h
     place_runs c k env false p j n regs s e knows h =
         let q =
         row_runs (table_of c) j (λ e r. load_code c r e k) env (found_in env.found (table_of c))
         refl n regs s e knows h in
         chained w f may at q
-        (load_runs c q.out k q.env' q.n q.regs' q.s' e q.knows (ap row_in q.says.1) q.goes)
+        (load_runs c q.out k q.env' q.n q.regs' q.s' e q.knows (ap row_read q.says.1) q.goes)
 
     column_from_runs : (c : ColumnId) (k : Rest) (env : Env) (o : Option ℕ)
         → loaded_in env.loaded c ≡ o → in_scope js (table_of c) ≡ true
-        → (n : ℕ) (regs : Registers) (s e : Store) → Knows w f may at env regs
+        → (n : ℕ) (regs : Registers) (s e : State) → Knows w f may at env regs
         → meaning w f may (column_from js c env k o) n true regs s ≡ Ended e
         → Reached w f may at (At w f may at (here c)) k env regs s e (ahead s (column_from js c env k o))
     column_from_runs c k env (Some r) p j n regs s e knows h =
@@ -200,7 +200,7 @@ module _ (w : World) (f : Parts) (may : ℕ → Bool) (at : TableId → ℕ) whe
         let p =
         column_runs js row turn c oks.0 (λ e x. test_code q c x v e k) env n regs s e knows h in
         chained w f may at p (test_runs w f may at c p.out k p.env' p.n p.regs' p.s' e p.knows
-        p.says.0 q (at (table_of c)) (value_of c row) v (turn.shows c oks.0) oks.1 p.says.1 p.goes)
+        p.says.0 q (at (table_of c)) (joined_value c row) v (turn.shows c oks.0) oks.1 p.says.1 p.goes)
     condition_runs (test (between c a b)) ok = λ k env n regs s e knows h.
         let oks =
         and_parts (in_scope js (table_of c))
@@ -211,11 +211,11 @@ module _ (w : World) (f : Parts) (may : ℕ → Bool) (at : TableId → ℕ) whe
         let p =
         column_runs js row turn c oks.0 (λ e x. between_code c x a b e k) env n regs s e knows h in
         chained w f may at p (between_runs w f may at c p.out k p.env' p.n p.regs' p.s' e p.knows
-        p.says.0 (at (table_of c)) (value_of c row) a b (turn.shows c oks.0) kinds.0 kinds.1
+        p.says.0 (at (table_of c)) (joined_value c row) a b (turn.shows c oks.0) kinds.0 kinds.1
         p.says.1 p.goes)
 
     shown_number : (c : ColumnId) (i : ℕ) (v : held.Value) (b : Bool) → is_text c ≡ b → b ≡ false
-        → Shows w c i v → loaded w c i b ≡ Number (number_of v)
+        → Shows w c i v → loaded w c i b ≡ Number (value_number v)
     shown_number c i (held.Number z) false p q shows = ap Number shows.1
     shown_number c i (held.Text v) false p q shows =
         let a : true ≡ false = sym shows.0 ∙ p in absurd (cc)
@@ -226,7 +226,7 @@ module _ (w : World) (f : Parts) (may : ℕ → Bool) (at : TableId → ℕ) whe
     expression_runs (column c) ok =
         let oks = and_parts (in_scope js (table_of c)) (same_kind (kind_of c) kind.Number) ok in
         subst (λ v. Runs w f may at (At w f may at v) (column_code js c))
-        (shown_number c (at (table_of c)) (value_of c row) (is_text c) refl (holds_numbers c oks.1)
+        (shown_number c (at (table_of c)) (joined_value c row) (is_text c) refl (holds_numbers c oks.1)
         (turn.shows c oks.0))
         (column_runs js row turn c oks.0)
     expression_runs (constant z) ok =

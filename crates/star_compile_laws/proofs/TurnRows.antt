@@ -7,10 +7,10 @@ use Rattle.star_schema.specs.Schema.{is_table, key_of, references, table_of}
 use Rattle.star_schema.specs.Tables.{Value, Number, Text}
 use Rattle.star_plan.specs.declared.tree.Join.{Join}
 use Rattle.star_plan.specs.Joins.{is_lone_key}
-use Rattle.star_plan.specs.Meaning.{Row, Tables, Joined, value_in, value_of}
+use Rattle.star_plan.specs.Meaning.{Row, Tables, Joined, value_in, joined_value}
 use Rattle.star_plan.specs.Sound.{joins_table, in_scope}
-use Rattle.star_program.specs.World.{World, IsRowOf, is_text}
-use Rattle.star_world.specs.Shown.{IsCodeOf}
+use Rattle.star_program.specs.World.{World, IsRowNumberOf, is_text}
+use Rattle.star_world.specs.RowsSeen.{IsCodeOf}
 use Rattle.star_compile_laws.specs.Compiled.{foreign_of}
 
 -- the world's number or code in a row shows this value
@@ -34,12 +34,12 @@ pub record Sees (ts : Tables) (w : World) : Type 0 where
       → m < length (ts (table_of k)) → n < length (ts (table_of k))
       → value_in k (row_at (ts (table_of k)) m) ≡ value_in k (row_at (ts (table_of k)) n) → m ≡ n
   pub found : (c : ColumnId) (t : TableId) (n : ℕ) → references c ≡ Some t
-      → n < length (ts (table_of c)) → IsRowOf w t (w.find t (w.number c n))
+      → n < length (ts (table_of c)) → IsRowNumberOf w t (w.find t (w.number c n))
 
 -- the rows of the tables at these places make the joined row
 pub record IsTurn (w : World) (js : List Join) (at : TableId → ℕ) (row : Joined) : Type 0 where
   pub shows : (c : ColumnId) → in_scope js (table_of c) ≡ true
-      → Shows w c (at (table_of c)) (value_of c row)
+      → Shows w c (at (table_of c)) (joined_value c row)
   pub keys : (t : TableId) → joins_table js t ≡ true → (table_of (foreign_of js t) ≡ Lineorder)
       × (is_text (foreign_of js t) ≡ false)
   pub found : (t : TableId) → joins_table js t ≡ true

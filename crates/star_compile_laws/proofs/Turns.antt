@@ -12,7 +12,7 @@ use Rattle.star_schema.specs.Schema.{table_of}
 use Rattle.star_schema.specs.Tables as held
 use Rattle.star_query.specs.declared.token.Fold.TheVariants.{Sum, Min, Max}
 use Rattle.star_query.specs.Tree.{Expression, Measure, count, fold}
-use Rattle.star_plan.specs.Meaning.{Joined, value_of, holds, all_hold, expression_number, measured, aggregate_of, Plan, RowCondition}
+use Rattle.star_plan.specs.Meaning.{Joined, joined_value, holds, all_hold, expression_number, measured, aggregate_of, Plan, RowCondition}
 use Rattle.star_plan.specs.Sound.{in_scope, condition_is_sound, expression_is_sound, measure_is_sound, IsSoundPlan}
 use Rattle.star_program.specs.declared.key.KeyValue.TheVariants as key
 use Rattle.star_program.specs.declared.op.Op.TheVariants.{Keep, Put}
@@ -21,13 +21,13 @@ use Rattle.star_program.specs.Code.{Code, Stop, Then}
 use Rattle.star_program.specs.World.{World, is_text}
 use Rattle.star_program.specs.declared.value.Value.{Value}
 use Rattle.star_program.specs.declared.value.Value.TheVariants.{Number, Row}
-use Rattle.star_program.specs.Values.{Registers, with_entry, number_in, flag_in, key_in}
+use Rattle.star_program.specs.Values.{Registers, with_entry, number_read, flag_read, key_read}
 use Rattle.star_program.specs.Faults.{group_at, fault_of}
 use Rattle.star_program.specs.Puts.{Update, aligned, overflows}
-use Rattle.star_program.specs.Effects.{Store, with_update, update_of, loaded, kinds_in, effect_of}
+use Rattle.star_program.specs.Effects.{State, with_update, update_of, loaded, kinds_in, effect_of}
 use Rattle.star_program.specs.Private.Doing.{keeps, puts}
 use Rattle.star_program.specs.Run.{End, Ended, Trapped, Limited, follow, after, begin, turns, scans, meaning}
-use Rattle.star_compile_laws.specs.Compiled.{Env, Rest, Rests, before, column_code, conjuncts_code, env_first, expression_code, keys_code, values_code, put_code, turn_code, body_code}
+use Rattle.star_compile_laws.specs.Compiled.{Env, Rest, Rests, one_before, column_code, conjuncts_code, env_first, expression_code, keys_code, values_code, put_code, turn_code, body_code}
 use Rattle.star_compile_laws.specs.Answers.{coded, update_of_row}
 use Rattle.star_compile_laws.specs.Counts.{turn_lookups}
 use Rattle.star_compile_laws.specs.Looks.{one_if}
@@ -41,7 +41,7 @@ put_if w p row true us = with_update us 0 (update_of_row w p row)
 put_if w p row false us = us
 
 -- what a turn leaves: the update of the row where it is selected, and so many look-ups in all
-pub record Turned (w : World) (p : Plan) (row : Joined) (selected : Bool) (s e : Store)
+pub record Turned (w : World) (p : Plan) (row : Joined) (selected : Bool) (s e : State)
     (lookups : ℕ) : Type 0 where
   pub put : e.updates_of ≡ put_if w p row selected s.updates_of
   pub visits : e.visits ≡ s.visits
@@ -53,20 +53,20 @@ module _ (w : World) (f : Parts) (may : ℕ → Bool) (at : TableId → ℕ) (p 
   -- ---- conjuncts
 
   -- the turn has ended with nothing put
-  record Ends (s e : Store) (total : List Bool → ℕ) : Type 0 where
+  record Ends (s e : State) (total : List Bool → ℕ) : Type 0 where
     same : e.updates_of ≡ s.updates_of
     visits : e.visits ≡ s.visits
     updates : e.updates ≡ s.updates
     looked : (flags : List Bool) → e.lookups ≡ total flags
 
   -- it goes on, or it has ended so
-  abbrev Kept : Bool → (Env → Code) → Env → Registers → Store → Store → (List Bool → ℕ) → Type 0
+  abbrev Kept : Bool → (Env → Code) → Env → Registers → State → State → (List Bool → ℕ) → Type 0
   Kept true k env regs s e total =
       Reached w f may at {A = Unit {0}} (λ n r u. Unit {0}) (λ e u. k e) env regs s e total
   Kept false k env regs s e total = Ends s e total
 
   kept_after : {A : Type 0} {P : ℕ → Registers → A → Type 0} {l : Env → A → Code} (b : Bool)
-      (k : Env → Code) (env : Env) (regs : Registers) (s e : Store) (before total : List Bool → ℕ)
+      (k : Env → Code) (env : Env) (regs : Registers) (s e : State) (before total : List Bool → ℕ)
       (q : Reached w f may at P l env regs s e before) (after : List Bool → ℕ)
       → ((flags : List Bool) → after flags ≡ total flags)
       → Kept b k q.env' q.regs' q.s' e after → Kept b k env regs s e total
@@ -95,7 +95,7 @@ module _ (w : World) (f : Parts) (may : ℕ → Bool) (at : TableId → ℕ) (p 
 
   -- by the keep at the end of a conjunct, and the conjuncts behind it
   kept_by : (b c : Bool) (more : List Bool) (k : Env → Code) (x : ℕ) (rest : Code) (env : Env)
-      (n : ℕ) (regs : Registers) (s e : Store)
+      (n : ℕ) (regs : Registers) (s e : State)
       → follow n (keeps regs s b) (meaning w f may rest (n + 1) true) ≡ Ended e
       → (meaning w f may rest (n + 1) true regs s ≡ Ended e
       → Kept c k env regs s e (λ flags. ahead s rest (more ++ flags)))
@@ -115,7 +115,7 @@ module _ (w : World) (f : Parts) (may : ℕ → Bool) (at : TableId → ℕ) (p 
   flags_of cs = map (λ c. holds c row) cs
 
   conjuncts_run : (cs : List RowCondition) → list_all (condition_is_sound p.joins) cs ≡ true
-      → (k : Env → Code) (env : Env) (n : ℕ) (regs : Registers) (s e : Store)
+      → (k : Env → Code) (env : Env) (n : ℕ) (regs : Registers) (s e : State)
       → Knows w f may at env regs → meaning w f may (conjuncts_code p.joins cs env k) n true regs s
       ≡ Ended e
       → Kept (all_hold cs row) k env regs s e
@@ -132,14 +132,14 @@ module _ (w : World) (f : Parts) (may : ℕ → Bool) (at : TableId → ℕ) (p 
       let rest = conjuncts_code p.joins cs q.env' k in
       let g =
       no_fault (fault_of f true None (kinds_in q.regs') (Keep q.out)) None
-      (keeps q.regs' q.s' (flag_in (q.regs' q.out))) q.n (meaning w f may rest (q.n + 1) true) e
+      (keeps q.regs' q.s' (flag_read (q.regs' q.out))) q.n (meaning w f may rest (q.n + 1) true) e
       q.goes in
       kept_after (holds c row && all_hold cs row) k env regs s e (ahead s whole)
       (λ flags. ahead s whole (flags_of (c ∷ cs) ++ flags)) q
       (λ flags. ahead q.s' (Then (Keep q.out) rest) (flags_of (c ∷ cs) ++ flags))
       (λ flags. q.looked (flags_of (c ∷ cs) ++ flags))
       (kept_by (holds c row) (all_hold cs row) (flags_of cs) k q.out rest q.env' q.n q.regs' q.s' e
-      (subst (λ o. follow q.n (keeps q.regs' q.s' (flag_in o)) (meaning w f may rest (q.n + 1) true)
+      (subst (λ o. follow q.n (keeps q.regs' q.s' (flag_read o)) (meaning w f may rest (q.n + 1) true)
       ≡ Ended e) q.says.1 g)
       (conjuncts_run cs oks.1 k q.env' (q.n + 1) q.regs' q.s' e q.knows))
 
@@ -151,7 +151,7 @@ module _ (w : World) (f : Parts) (may : ℕ → Bool) (at : TableId → ℕ) (p 
   Stand _ next regs _ = ⊥
 
   consed : (v : Value) (vs : List Value) (k : Env → List ℕ → Code) (l : Env → ℕ → Code) (env : Env)
-      (regs : Registers) (s e : Store) (total : List Bool → ℕ)
+      (regs : Registers) (s e : State) (total : List Bool → ℕ)
       (q : Reached w f may at (At w f may at v) l env regs s e total)
       → Reached w f may at (Stand vs) (λ e xs. k e (q.out ∷ xs)) q.env' q.regs' q.s' e
       (ahead q.s' (l q.env' q.out))
@@ -173,11 +173,11 @@ module _ (w : World) (f : Parts) (may : ℕ → Bool) (at : TableId → ℕ) (p 
   before_runs : (v : Value) (vs : List Value) (first : Env → Rest → Code)
       (others : Env → Rests → Code)
       → Runs w f may at (At w f may at v) first → Runs w f may at (Stand vs) others
-      → Runs w f may at (Stand (v ∷ vs)) (before first others)
+      → Runs w f may at (Stand (v ∷ vs)) (one_before first others)
   before_runs v vs first others runs more k env n regs s e knows h =
       let q = runs (λ e x. others e (λ e xs. k e (x ∷ xs))) env n regs s e knows h in
       consed v vs k (λ e x. others e (λ e xs. k e (x ∷ xs))) env regs s e
-      (ahead s (before first others env k)) q
+      (ahead s (one_before first others env k)) q
       (more (λ e xs. k e (q.out ∷ xs)) q.env' q.n q.regs' q.s' e q.knows q.goes)
 
   keys_run : (cs : List ColumnId) → list_all (λ c. in_scope p.joins (table_of c)) cs ≡ true
@@ -200,7 +200,7 @@ module _ (w : World) (f : Parts) (may : ℕ → Bool) (at : TableId → ℕ) (p 
   value_runs : (a : Expression ColumnId) (ms : List (Measure ColumnId)) → expression_is_sound p.joins a ≡ true
       → Runs w f may at (Stand (values_of ms)) (values_code p.joins ms)
       → Runs w f may at (Stand (Number (expression_number a row) ∷ values_of ms))
-      (before (expression_code p.joins a) (values_code p.joins ms))
+      (one_before (expression_code p.joins a) (values_code p.joins ms))
   value_runs a ms ok more =
       before_runs (Number (expression_number a row)) (values_of ms) (expression_code p.joins a)
       (values_code p.joins ms)
@@ -219,7 +219,7 @@ module _ (w : World) (f : Parts) (may : ℕ → Bool) (at : TableId → ℕ) (p 
   -- ---- the put
 
   key_shown : (c : ColumnId) (v : held.Value) (b : Bool) → is_text c ≡ b
-      → Shows w c (at (table_of c)) v → key_in (Some (loaded w c (at (table_of c)) b)) ≡ coded w c v
+      → Shows w c (at (table_of c)) v → key_read (Some (loaded w c (at (table_of c)) b)) ≡ coded w c v
   key_shown c (held.Number z) false q shows = ap key.Number shows.1
   key_shown c (held.Text v) true q shows = ap key.Code shows.1.place
   key_shown c (held.Number z) true q shows = let a : true ≡ false = sym q ∙ shows.0 in absurd (cc)
@@ -227,40 +227,40 @@ module _ (w : World) (f : Parts) (may : ℕ → Bool) (at : TableId → ℕ) (p 
 
   keys_stand : (cs : List ColumnId) → list_all (λ c. in_scope p.joins (table_of c)) cs ≡ true
       → (ks : List ℕ) (next : ℕ) (regs : Registers) → Stand (map (here w f may at) cs) next regs ks
-      → map (λ r. key_in (regs r)) ks ≡ map (λ c. coded w c (value_of c row)) cs
+      → map (λ r. key_read (regs r)) ks ≡ map (λ c. coded w c (joined_value c row)) cs
   keys_stand [] ok [] next regs q = refl
   keys_stand (c ∷ cs) ok (r ∷ rs) next regs q =
       let oks =
       and_parts (in_scope p.joins (table_of c)) (list_all (λ c. in_scope p.joins (table_of c)) cs)
       ok in
-      λ i. (ap key_in q.1 ∙ key_shown c (value_of c row) (is_text c) refl (turn.shows c oks.0)) i
+      λ i. (ap key_read q.1 ∙ key_shown c (joined_value c row) (is_text c) refl (turn.shows c oks.0)) i
       ∷ keys_stand cs oks.1 rs next regs q.2 i
   keys_stand [] ok (r ∷ rs) next regs q = absurd q
   keys_stand (c ∷ cs) ok [] next regs q = absurd q
 
   values_stand : (ms : List (Measure ColumnId)) (vs : List ℕ) (next : ℕ) (regs : Registers)
       → Stand (values_of ms) next regs vs → aligned (pos 1) (map aggregate_of ms)
-      (map (λ r. number_in (regs r)) vs) ≡ map (measured (λ c. value_of c row)) ms
+      (map (λ r. number_read (regs r)) vs) ≡ map (measured (λ c. joined_value c row)) ms
   values_stand [] [] next regs q = refl
   values_stand [] (r ∷ rs) next regs q = absurd q
   values_stand (count ∷ ms) vs next regs q =
       ap (λ xs. pos 1 ∷ xs) (values_stand ms vs next regs q)
   values_stand (fold Sum a ∷ ms) (r ∷ rs) next regs q =
-      λ i. number_in (q.1 i) ∷ values_stand ms rs next regs q.2 i
+      λ i. number_read (q.1 i) ∷ values_stand ms rs next regs q.2 i
   values_stand (fold Min a ∷ ms) (r ∷ rs) next regs q =
-      λ i. number_in (q.1 i) ∷ values_stand ms rs next regs q.2 i
+      λ i. number_read (q.1 i) ∷ values_stand ms rs next regs q.2 i
   values_stand (fold Max a ∷ ms) (r ∷ rs) next regs q =
-      λ i. number_in (q.1 i) ∷ values_stand ms rs next regs q.2 i
+      λ i. number_read (q.1 i) ∷ values_stand ms rs next regs q.2 i
   values_stand (fold f a ∷ ms) [] next regs q = absurd q
 
   -- with one more update
-  record Puts (u : Update) (s e : Store) : Type 0 where
+  record Puts (u : Update) (s e : State) : Type 0 where
     put : e.updates_of ≡ with_update s.updates_of 0 u
     visits : e.visits ≡ s.visits
     updates : e.updates ≡ s.updates + 1
     lookups : e.lookups ≡ s.lookups
 
-  put_goes : (regs : Registers) (s e : Store) (u : Update) (b : Bool) (n : ℕ)
+  put_goes : (regs : Registers) (s e : State) (u : Update) (b : Bool) (n : ℕ)
       → follow n (puts regs s 0 u b) (meaning w f may Stop (n + 1) true) ≡ Ended e
       → Puts u s e
   put_goes regs s e u true n h = absurd (cc)
@@ -277,7 +277,7 @@ module _ (w : World) (f : Parts) (may : ℕ → Bool) (at : TableId → ℕ) (p 
 
   put_runs : (group_at f 0).aggregates ≡ map aggregate_of p.measures
       → list_all (λ c. in_scope p.joins (table_of c)) p.keys ≡ true
-      → (ks vs : List ℕ) (next : ℕ) (n : ℕ) (regs : Registers) (s e : Store)
+      → (ks vs : List ℕ) (next : ℕ) (n : ℕ) (regs : Registers) (s e : State)
       → Stand (map (here w f may at) p.keys) next regs ks
       → Stand (values_of p.measures) next regs vs
       → meaning w f may (Then (Put 0 ks vs) Stop) n true regs s ≡ Ended e
@@ -291,16 +291,16 @@ module _ (w : World) (f : Parts) (may : ℕ → Bool) (at : TableId → ℕ) (p 
       (λ i. record {
         keys = keys_stand p.keys ok ks next regs key_at i;
         values =
-            (ap (λ gs. aligned (pos 1) gs (map (λ r. number_in (regs r)) vs)) same_aggregates
+            (ap (λ gs. aligned (pos 1) gs (map (λ r. number_read (regs r)) vs)) same_aggregates
             ∙ values_stand p.measures vs next regs value_at) i;
       })
       (put_goes regs s e (update_of d regs ks vs)
-      (overflows d (s.updates_of 0) (update_of d regs ks vs)) n g)
+      (overflows d.shape d.aggregates (s.updates_of 0) (update_of d regs ks vs)) n g)
 
   -- ---- a turn
 
   turn_kept : (group_at f 0).aggregates ≡ map aggregate_of p.measures → IsSoundPlan p
-      → (b : Bool) (regs : Registers) (s e : Store) (total : List Bool → ℕ)
+      → (b : Bool) (regs : Registers) (s e : State) (total : List Bool → ℕ)
       → Kept b (λ e. keys_code p.joins p.keys e
       (λ e ks. values_code p.joins p.measures e (put_code ks))) env_first regs s e total
       → Turned w p row b s e (total [])
@@ -328,7 +328,7 @@ module _ (w : World) (f : Parts) (may : ℕ → Bool) (at : TableId → ℕ) (p 
       }
 
   pub turn_runs : (group_at f 0).aggregates ≡ map aggregate_of p.measures → IsSoundPlan p
-      → (n : ℕ) (regs : Registers) (s e : Store) → regs 0 ≡ Some (Row Lineorder (at Lineorder))
+      → (n : ℕ) (regs : Registers) (s e : State) → regs 0 ≡ Some (Row Lineorder (at Lineorder))
       → meaning w f may (turn_code p) n true regs s ≡ Ended e
       → Turned w p row (all_hold p.conjuncts row) s e (s.lookups + turn_lookups p row)
   turn_runs same_aggregates ok n regs s e fact h =
@@ -349,7 +349,7 @@ module _ (w : World) (f : Parts) (may : ℕ → Bool) (at : TableId → ℕ) (p 
 
 -- a run came to its end with the updates of some rows, in their order, and with so many visits and
 -- look-ups
-pub record Scanned (us : List Update) (visited looked : ℕ) (s e : Store) : Type 0 where
+pub record Scanned (us : List Update) (visited looked : ℕ) (s e : State) : Type 0 where
   pub put : e.updates_of 0 ≡ reverse_aux us (s.updates_of 0)
   pub visits : e.visits ≡ s.visits + visited
   pub lookups : e.lookups ≡ s.lookups + looked
@@ -362,13 +362,13 @@ module _ (w : World) (f : Parts) (may : ℕ → Bool) (p : Plan) (at : ℕ → T
   updates_of_rows is =
       map (λ i. update_of_row w p (row i)) (filter (λ i. all_hold p.conjuncts (row i)) is)
 
-  after_ends : (x : End) (next : Store → End) (e : Store) → after x next ≡ Ended e → (s : Store)
+  after_ends : (x : End) (next : State → End) (e : State) → after x next ≡ Ended e → (s : State)
       × (x ≡ Ended s) × (next s ≡ Ended e)
   after_ends (Ended s) next e h = (s, refl, h)
   after_ends (Trapped n t) next e h = absurd (cc)
   after_ends Limited next e h = absurd (cc)
 
-  begin_ends : (b : Bool) (s : Store) (go : Store → End) (e : Store) → begin b s go ≡ Ended e
+  begin_ends : (b : Bool) (s : State) (go : State → End) (e : State) → begin b s go ≡ Ended e
       → go (record s { visits = s.visits + 1 }) ≡ Ended e
   begin_ends true s go e h = h
   begin_ends false s go e h = absurd (cc)
@@ -389,10 +389,10 @@ module _ (w : World) (f : Parts) (may : ℕ → Bool) (p : Plan) (at : ℕ → T
   abbrev pub looked_up : ℕ → ℕ
   looked_up i = turn_lookups p (row i)
 
-  turns_run : (go : ℕ → Store → End) → ((i : ℕ) → i < w.size Lineorder → (s e : Store) → go i s
+  turns_run : (go : ℕ → State → End) → ((i : ℕ) → i < w.size Lineorder → (s e : State) → go i s
       ≡ Ended e
       → Turned w p (row i) (all_hold p.conjuncts (row i)) s e (s.lookups + looked_up i))
-      → (k i : ℕ) → i + k ≡ w.size Lineorder → (s e : Store) → turns may k i go s ≡ Ended e
+      → (k i : ℕ) → i + k ≡ w.size Lineorder → (s e : State) → turns may k i go s ≡ Ended e
       → Scanned (updates_of_rows (numbers k i)) k (sum_by looked_up (numbers k i)) s e
   turns_run go each zero i q s e h =
       let same : s ≡ e = cc in
@@ -424,18 +424,18 @@ module _ (w : World) (f : Parts) (may : ℕ → Bool) (p : Plan) (at : ℕ → T
             ∙ one_length selected i later (λ i. update_of_row w p (row i)) s.updates;
       }
 
-  scan_ends : (b : Bool) (n : ℕ) (go : Unit {0} → End) (e : Store) → scans n b go ≡ Ended e
+  scan_ends : (b : Bool) (n : ℕ) (go : Unit {0} → End) (e : State) → scans n b go ≡ Ended e
       → go tt ≡ Ended e
   scan_ends true n go e h = h
   scan_ends false n go e h = absurd (cc)
 
   pub scan_runs : (group_at f 0).aggregates ≡ map aggregate_of p.measures → IsSoundPlan p
-      → (n : ℕ) (inside : Bool) (regs : Registers) (s e : Store)
+      → (n : ℕ) (inside : Bool) (regs : Registers) (s e : State)
       → meaning w f may (body_code p) n inside regs s ≡ Ended e
       → Scanned (updates_of_rows (numbers (w.size Lineorder) 0)) (w.size Lineorder)
       (sum_by looked_up (numbers (w.size Lineorder) 0)) s e
   scan_runs same_aggregates ok n inside regs s e h =
-      let go : ℕ → Store → End =
+      let go : ℕ → State → End =
       λ i. meaning w f may (turn_code p) (n + 1) true (with_entry regs 0 (Row Lineorder i)) in
       let a =
       after_ends (turns may (w.size Lineorder) 0 go s) (λ s. Ended s) e

@@ -11,14 +11,15 @@ use Rattle.star_plan.specs.Sound.{IsSoundPlan}
 use Rattle.star_plan.specs.Spelled.{IsSpelledPlan}
 use Rattle.star_plan.specs.Fits.{measure_fits, Fits}
 use Rattle.star_program.specs.World.{World}
-use Rattle.star_program.specs.Shown.{shown_fault}
+use Rattle.star_program.specs.ShowLines.{shown_fault}
 use Rattle.star_safety.specs.Admissible.{Refusal, TooCostly, Refused, BadShow, cost_refusal, first_refusal}
 use Rattle.star_safety.specs.declared.reason.Reason.{Reason}
 use Rattle.star_safety.specs.declared.reason.Reason.TheVariants.{Overflow}
 use Rattle.star_safety.specs.Standing.{instructions_of, reason_of}
 use Rattle.star_safety.proofs.Forward.{first_standing}
 use Rattle.star_compile_laws.specs.Compiled.{compiled}
-use Rattle.star_compile_laws.specs.Judged.{AreBoundsI64, IsOverflow}
+use Rattle.star_schema.specs.Columns.{AreBoundsI64}
+use Rattle.star_compile_laws.specs.Judged.{IsOverflow}
 use Rattle.star_compile_laws.specs.Wide.{turn_wide}
 use Rattle.star_compile_laws.proofs.AcceptsPlan.{Accepted, AreColumnsI64, first_instruction, instructions_judged}
 use Rattle.star_compile_laws.proofs.Points.{or_none_right}

@@ -80,8 +80,8 @@ abbrev pub binary_code : (left right : Env → Rest → Code) → Operator → E
 binary_code left right o env k = left env (λ e x. right e (λ e y. write (Binary o x y) e k))
 
 -- the result of a piece, and then those of others
-abbrev pub before : (Env → Rest → Code) → (Env → Rests → Code) → Env → Rests → Code
-before first others env k = first env (λ e x. others e (λ e xs. k e (x ∷ xs)))
+abbrev pub one_before : (Env → Rest → Code) → (Env → Rests → Code) → Env → Rests → Code
+one_before first others env k = first env (λ e x. others e (λ e xs. k e (x ∷ xs)))
 
 -- ---- columns: each is loaded once, where it is used first
 
@@ -129,9 +129,9 @@ abbrev pub start_of : ColumnId → Value → Operation
 start_of c (Number a) = Const a
 start_of c (Text t) = Edge Low c t
 
-abbrev pub end_of : ColumnId → Value → Operation
-end_of c (Number a) = Const (a +ℤ pos 1)
-end_of c (Text t) = Edge High c t
+abbrev pub end_behind : ColumnId → Value → Operation
+end_behind c (Number a) = Const (a +ℤ pos 1)
+end_behind c (Text t) = Edge High c t
 
 -- an operand is made anew at each use, and then an operation has it
 abbrev pub beside : Operation → (ℕ → Operation) → Env → Rest → Code
@@ -140,7 +140,7 @@ beside operand used env k = write operand env (λ e n. write (used n) e k)
 -- from where the values begin that equal the one, to where those end that equal the other
 abbrev pub between_code : ColumnId → ℕ → Value → Value → Env → Rest → Code
 between_code c x from upto env k =
-    write (start_of c from) env (λ e m. beside (end_of c upto) (λ n. Within x m n) e k)
+    write (start_of c from) env (λ e m. beside (end_behind c upto) (λ n. Within x m n) e k)
 
 -- a number is compared by an operator; a text equals another where it lies between it and itself
 abbrev pub equal_code : ColumnId → ℕ → Value → Env → Rest → Code
@@ -197,13 +197,13 @@ expression_code js (mul a b) env k =
 -- the keys in the order of GROUP BY
 abbrev pub keys_code : List Join → List ColumnId → Env → Rests → Code
 keys_code js [] env k = k env []
-keys_code js (c ∷ cs) env k = before (column_code js c) (keys_code js cs) env k
+keys_code js (c ∷ cs) env k = one_before (column_code js c) (keys_code js cs) env k
 
 -- and a value for each aggregate that isn't a count, in the order of SELECT
 abbrev pub values_code : List Join → List (Measure ColumnId) → Env → Rests → Code
 values_code js [] env k = k env []
 values_code js (count ∷ ms) env k = values_code js ms env k
-values_code js (fold f a ∷ ms) env k = before (expression_code js a) (values_code js ms) env k
+values_code js (fold f a ∷ ms) env k = one_before (expression_code js a) (values_code js ms) env k
 
 abbrev pub put_code : List ℕ → Env → List ℕ → Code
 put_code keys env values = Then (Put 0 keys values) Stop
@@ -235,24 +235,24 @@ register_count (Each t r body rest) = 1 + register_count body + register_count r
 abbrev pub key_of_group : ColumnId → GroupKey
 key_of_group c = if is_text c then key.Text c else key.Number
 
-abbrev pub group_of : Plan → GroupDecl
-group_of p = record {
+abbrev pub plan_group : Plan → GroupDecl
+plan_group p = record {
   shape = p.shape;
   keys = map key_of_group p.keys;
   aggregates = map aggregate_of p.measures;
 }
 
-abbrev pub show_of : Plan → GroupColumn → Show
-show_of p c = record { name = shown_name p c; column = c }
+abbrev pub plan_show : Plan → GroupColumn → Show
+plan_show p c = record { name = shown_name p c; column = c }
 
 -- the program of a plan: one group, one scan of the fact, the items of SELECT and the keys of ORDER
 -- BY as they come
 abbrev pub compiled : Plan → Parts
 compiled p = record {
   registers = register_count (body_code p);
-  groups = group_of p ∷ [];
+  groups = plan_group p ∷ [];
   body = body_code p;
   report = 0;
-  shows = map (show_of p) p.items;
+  shows = map (plan_show p) p.items;
   sorts = p.sorts;
 }

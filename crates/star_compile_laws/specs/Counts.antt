@@ -7,7 +7,7 @@ use Rattle.star_plan.specs.Meaning.{Joined, Plan, Tables, holds, joined_rows}
 use Rattle.star_program.specs.declared.op.Op.TheVariants.{Assign, Keep}
 use Rattle.star_program.specs.declared.op.Operation.TheVariants.{Find}
 use Rattle.star_program.specs.Code.{Code, Then}
-use Rattle.star_program.specs.Effects.{Store}
+use Rattle.star_program.specs.Effects.{State}
 use Rattle.star_program.specs.Run.{Ended, run_while}
 use Rattle.star_program.specs.World.{World}
 use Rattle.star_query_meaning.specs.Rows.{selected}
@@ -32,7 +32,7 @@ lookups_of ts p = sum_by (turn_lookups p) (joined_rows ts p.joins)
 
 -- a run that comes to its end has visited each row of lineorder once, and made an update of each row
 -- that the query selects
-pub record HasCounted (ts : Tables) (query : Tree) (p : Plan) (s : Store) : Type 0 where
+pub record HasCounted (ts : Tables) (query : Tree) (p : Plan) (s : State) : Type 0 where
   pub visits : s.visits ≡ length (ts Lineorder)
   pub lookups : s.lookups ≡ lookups_of ts p
   pub updates : s.updates ≡ length (selected ts query)
@@ -40,5 +40,5 @@ pub record HasCounted (ts : Tables) (query : Tree) (p : Plan) (s : Store) : Type
 -- with a bound on its visits or without
 abbrev pub CountsTheRows : Tables → World → Tree → Plan → Type 0
 CountsTheRows ts w query p =
-    (may : ℕ → Bool) (s : Store) → run_while w may (compiled p) ≡ Ended s
+    (may : ℕ → Bool) (s : State) → run_while w may (compiled p) ≡ Ended s
     → HasCounted ts query p s

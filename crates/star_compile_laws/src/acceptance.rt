@@ -11,9 +11,11 @@ ghost use Rattle.star_plan.specs.Spelled.{IsSpelledPlan};
 ghost use Rattle.star_program.specs.World.{World};
 ghost use Rattle.star_world.specs.WorldOf.{world_of};
 ghost use Rattle.star_safety.specs.Admissible.{Refused, TooCostly, first_refusal};
-ghost use Rattle.star_query_meaning.specs.Fitting.{PlanFitsTables, bounds_in};
+ghost use Rattle.star_schema.specs.Columns.{bounds_in};
+ghost use Rattle.star_query_meaning.specs.Fitting.{PlanFitsTables};
 ghost use Rattle.star_compile_laws.specs.Compiled.{compiled};
-ghost use Rattle.star_compile_laws.specs.Judged.{AreBoundsI64, IsOverflow};
+ghost use Rattle.star_schema.specs.Columns.{AreBoundsI64};
+ghost use Rattle.star_compile_laws.specs.Judged.{IsOverflow};
 ghost use Rattle.star_compile_laws.specs.Wide.{turn_wide};
 
 /// Nothing refuses the program of a query that fits. Else lineorder's rows are over the limit on

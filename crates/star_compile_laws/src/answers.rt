@@ -12,7 +12,7 @@ ghost use Rattle.star_plan.specs.Resolved.{IsResolved};
 ghost use Rattle.star_plan.specs.Sound.{IsSoundPlan};
 ghost use Rattle.star_plan.specs.WellNamed.{IsWellNamed};
 ghost use Rattle.star_program.specs.World.{World};
-ghost use Rattle.star_world.specs.Shown.{IsWorldOf};
+ghost use Rattle.star_world.specs.RowsSeen.{IsWorldOf};
 ghost use Rattle.star_compile_laws.specs.Answers.{AnswersThePlan, AnswersTheQuery, PutsTheRows, ReportsTheQuery};
 ghost use Rattle.star_compile_laws.specs.Counts.{CountsTheRows};
 

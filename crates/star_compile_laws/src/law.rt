@@ -10,7 +10,7 @@ ghost use Rattle.star_plan.specs.Sound.{IsSoundPlan};
 ghost use Rattle.star_plan.specs.Spelled.{IsSpelledPlan};
 ghost use Rattle.star_program.specs.Code.{code_size};
 ghost use Rattle.star_program.specs.Limits.{IsWithinLimits};
-ghost use Rattle.star_program.specs.Shown.{shown_fault};
+ghost use Rattle.star_program.specs.ShowLines.{shown_fault};
 ghost use Rattle.star_program.specs.Text.Spellable.{IsSpellable};
 ghost use Rattle.star_safety.specs.Quote.{quote};
 ghost use Rattle.star_compile_laws.specs.Compiled.{compiled};

@@ -12,7 +12,7 @@ use Rattle.star_safety.specs.Admissible.{IsAdmissible}
 use Rattle.star_report.specs.Report.{report_text}
 use Rattle.star_verify.specs.declared.refusal.Refusal.{Refusal}
 use Rattle.star_verify.specs.declared.refusal.Refusal.TheVariants as why
-use Rattle.star_verify.specs.Shown.{refusal_shown}
+use Rattle.star_verify.specs.Views.{refusal_view}
 use Rattle.star_world.specs.WorldOf.{world_of}
 use Rattle.star_engine.specs.declared.fault.EngineFault.{EngineFault}
 use Rattle.star_engine.specs.declared.fault.EngineFault.TheVariants.{Program, Refused}
@@ -46,8 +46,8 @@ RefusedByNone database most program =
 refusal_of : (database : Database) (most : ℕ) (program : Parts) (refusal : Refusal)
     (shown : admissible.Refusal) → RefusedByNone database most program
     → (refusal ≡ why.OutOfMemory → ⊥) → UnlessMemory why.OutOfMemory refusal
-    (first_refusal (world_of database) most program ≡ refusal_shown refusal)
-    → refusal_shown refusal ≡ Some shown → IsRefusal database most program refusal
+    (first_refusal (world_of database) most program ≡ refusal_view refusal)
+    → refusal_view refusal ≡ Some shown → IsRefusal database most program refusal
 refusal_of database most program refusal shown none other is told =
     elim is [
       | inl memory ↦ absurd (other memory)
@@ -63,7 +63,7 @@ refusal_of database most program refusal shown none other is told =
 -- what the check tells is what refuses the program first
 pub refused : (database : Database) (most : ℕ) (program : Parts) (refusal : Refusal)
     → RefusedByNone database most program → UnlessMemory why.OutOfMemory refusal
-    (first_refusal (world_of database) most program ≡ refusal_shown refusal)
+    (first_refusal (world_of database) most program ≡ refusal_view refusal)
     → OrMemory (IsNotVerified database most program) (fault_of_refusal refusal)
 refused database most program why.OutOfMemory none is = tt
 refused database most program (why.TooCostly visits) none is =

@@ -23,9 +23,9 @@ use Rattle.star_safety.specs.Admissible as admissible
 use Rattle.star_safety.specs.Admissible.{Refused}
 use Rattle.star_verify.specs.declared.refusal.Refusal.{Refusal}
 use Rattle.star_verify.specs.declared.refusal.Refusal.TheVariants as refusal
-use Rattle.star_verify.specs.Shown.{refusal_shown}
+use Rattle.star_verify.specs.Views.{refusal_view}
 use Rattle.star_query_meaning.proofs.OneAnswer.{one_report}
-use Rattle.star_query_meaning.specs.Fitting.{bounds_in}
+use Rattle.star_schema.specs.Columns.{bounds_in}
 use Rattle.star_query_meaning.specs.Rows.{selected}
 use Rattle.star_compile_laws.specs.Counts.{lookups_of}
 use Rattle.star_compile_laws.specs.Wide.{turn_wide}
@@ -113,7 +113,7 @@ refused_same : (a b : ℕ × Reason) → a ≡ b → refusal.Refused a.0 a.1 ≡
 refused_same a b same = ap (λ (r : ℕ × Reason). refusal.Refused r.0 r.1) same
 
 -- two refusals that say the same are the same, where they say something
-shown_is_one : (a b : Refusal) (x : admissible.Refusal) → refusal_shown a ≡ Some x → refusal_shown b ≡ Some x → a ≡ b
+shown_is_one : (a b : Refusal) (x : admissible.Refusal) → refusal_view a ≡ Some x → refusal_view b ≡ Some x → a ≡ b
 shown_is_one (refusal.TooCostly u) (refusal.TooCostly v) x h k = cc
 shown_is_one (refusal.Refused at reason) (refusal.Refused other why) x h k = refused_same (at, reason) (other, why) (cc)
 shown_is_one (refusal.BadShow a) (refusal.BadShow b) x h k = cc
@@ -131,7 +131,7 @@ refusal_is_one visits database query a b h k =
     let plan = plan_is_one query h.p k.p h.meant k.meant in
     elim (at_most_or_more (fact_rows database) visits) [
       | inl few ↦ (
-          let same : refusal_shown a ≡ refusal_shown b =
+          let same : refusal_view a ≡ refusal_view b =
           h.first few
           ∙ ap (λ p. option_map Refused (turn_wide (bounds_in (rows_in database)) p)) plan
           ∙ sym (k.first few) in

@@ -12,7 +12,7 @@ use Rattle.star_report.specs.Report.{report_text}
 use Rattle.star_report.proofs.OneOrder.{one_outcome}
 use Rattle.star_outcome.specs.Yields.{Yields}
 use Rattle.star_world.specs.WorldOf.{world_of}
-use Rattle.star_program.specs.Text.FirstFaults.{FirstFault}
+use Rattle.star_program.specs.Text.FirstFaults.{FirstTextFault}
 use Rattle.star_program.specs.declared.spelling.fault.TextFault.{TextFault}
 use Rattle.star_program.proofs.Text.FirstFaultLaw.{never_both}
 use Rattle.star_verify.specs.declared.refusal.Refusal.{Refusal}
@@ -59,7 +59,7 @@ telling_is_one visits database file telling other h k =
 
 -- a text that spells a program has no fault
 no_fault : (file : List ℕ) (program : Parts) (fault : TextFault) → IsProgramOf file program
-    → FirstFault file fault → ⊥
+    → FirstTextFault file fault → ⊥
 no_fault file program fault of_file first =
     never_both file fault program first of_file.spelled of_file.limits
 

@@ -6,7 +6,7 @@ use Rattle.std.proofs.lemmas.List.{append-nil, length-append}
 use Rattle.star_schema.specs.declared.table.TableId.{TableId}
 use Rattle.star_reader.specs.Partway.{HasRead, Reading}
 use Rattle.star_engine.specs.declared.input.Input.{Input}
-use Rattle.star_engine.specs.Reading.{GoesOn, came_of, has_failed, reader_of, reads_of}
+use Rattle.star_engine.specs.Reading.{ReadingGoesOn, came_of, has_failed, reader_of, reads_of}
 use Rattle.star_engine.specs.Private.PieceSteps.{HasFed}
 
 -- known bytes that are consumed one after another
@@ -23,10 +23,10 @@ none_consumed None = tt
 none_consumed (Some a) = refl
 
 -- nothing comes behind a text
-gone_none : (reader : Reading) → GoesOn reader reader []
+gone_none : (reader : Reading) → ReadingGoesOn reader reader []
 gone_none reader = λ table most parts text h. rw (append-nil text) h
 
-gone_on : (a b c : Reading) (x y : List ℕ) → GoesOn a b x → GoesOn b c y → GoesOn a c (x ++ y)
+gone_on : (a b c : Reading) (x y : List ℕ) → ReadingGoesOn a b x → ReadingGoesOn b c y → ReadingGoesOn a c (x ++ y)
 gone_on a b c x y first next = λ table most parts text h.
     rw (← (append_assoc text x y)) (next table most parts (text ++ x) (first table most parts text h))
 
@@ -48,7 +48,7 @@ pub more : {R : Type 0} (remaining : R → Option (List ℕ)) (first old new : I
     (before mid after : Reading) (reads taken count limit : ℕ) (piece : List ℕ)
     → HasFed remaining first old before mid reads taken → length piece ≡ count
     → Consumes (remaining (reader_of old)) (remaining (reader_of new)) piece
-    → GoesOn mid after piece → 1 ≤ count → taken + count ≤ limit → limit < 2 ^ 64 - 1
+    → ReadingGoesOn mid after piece → 1 ≤ count → taken + count ≤ limit → limit < 2 ^ 64 - 1
     → came_of new ≡ min (came_of old + count) (2 ^ 64 - 1)
     → reads_of new ≤ reads_of old + 1 → has_failed new ≡ has_failed old
     → HasFed remaining first new before after (reads + 1) (taken + count)
@@ -69,10 +69,10 @@ pub whole : {R : Type 0} (remaining : R → Option (List ℕ)) (first old new : 
     (before mid after : Reading) (reads taken limit : ℕ) (piece : List ℕ)
     → HasFed remaining first old before mid reads taken → length piece ≡ 0
     → Consumes (remaining (reader_of old)) (remaining (reader_of new)) piece
-    → GoesOn mid after piece → taken ≤ limit
+    → ReadingGoesOn mid after piece → taken ≤ limit
     → (came : List ℕ) × (length came ≤ limit)
     × Consumes (remaining (reader_of first)) (remaining (reader_of new)) came
-    × GoesOn before after came
+    × ReadingGoesOn before after came
 whole remaining first old new before mid after reads taken limit piece h size gone on within = (
   h.bytes ++ piece,
   omega (arith, size, h.size, within, length-append h.bytes piece),

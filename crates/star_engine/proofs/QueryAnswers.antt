@@ -6,12 +6,12 @@ use Rattle.star_schema.specs.Database.{Database, TableTexts, rows_in}
 use Rattle.star_schema.specs.Loadable.{IsLoadable, database_of}
 use Rattle.star_plan.specs.Meaning.{Plan}
 use Rattle.star_program.specs.declared.program.Parts.{Parts}
-use Rattle.star_program.specs.Effects.{Store}
+use Rattle.star_program.specs.Effects.{State}
 use Rattle.star_program.specs.Run.{Ended, run_of}
 use Rattle.star_safety.specs.Admissible.{Refused, TooCostly, first_refusal}
 use Rattle.star_world.specs.WorldOf.{world_of}
 use Rattle.star_verify.specs.declared.refusal.Refusal.{Refusal}
-use Rattle.star_query_meaning.specs.Fitting.{bounds_in}
+use Rattle.star_schema.specs.Columns.{bounds_in}
 use Rattle.star_compile_laws.specs.Compiled.{compiled}
 use Rattle.star_compile_laws.specs.Counts.{HasCounted}
 use Rattle.star_compile_laws.specs.Judged.{IsOverflow}
@@ -38,12 +38,12 @@ pub record IsJudged (most : ℕ) (database : Database) (query : List ℕ) (p : P
   pub wide : fact_rows database ≤ most → ¬ FitsRows most database query
       → IsOverflow (first_refusal (world_of database) most (compiled p))
   pub quoted : quote_over database (compiled p) ≡ fact_rows database
-  pub printed : (s : Store) → run_of (world_of database) (compiled p) ≡ Ended s
+  pub printed : (s : State) → run_of (world_of database) (compiled p) ≡ Ended s
       → PrintsTheReport database query p s
   pub first : fact_rows database ≤ most
       → first_refusal (world_of database) most (compiled p)
       ≡ option_map Refused (turn_wide (bounds_in (rows_in database)) p)
-  pub counted : (s : Store) → run_of (world_of database) (compiled p) ≡ Ended s
+  pub counted : (s : State) → run_of (world_of database) (compiled p) ≡ Ended s
       → (meant : IsPlanOf query p) → HasCounted (rows_in database) meant.tree p s
 
 module _ (most : ℕ) (database : Database) (query : List ℕ) (p : Plan)

@@ -2,7 +2,7 @@
 use Rattle.std.proofs.Common.{◌≡◌, ◌≤◌, ℕ, List, subst}
 use Rattle.star_schema.specs.Database.{Database}
 use Rattle.star_plan.specs.Meaning.{Plan}
-use Rattle.star_program.specs.Effects.{Store}
+use Rattle.star_program.specs.Effects.{State}
 use Rattle.star_program.specs.Run.{End, Ended, Trapped, Limited, EndsWith}
 use Rattle.star_safety.specs.Laws.{EndsWithin}
 use Rattle.star_engine.specs.Queries.{fact_rows}
@@ -12,7 +12,7 @@ use Rattle.star_engine.specs.QueryRuns.{HasReported, PrintsTheReport}
 -- prints the report
 pub ends_reported : (database : Database) (query : List ℕ) (p : Plan) (quoted : ℕ) (end : End)
     → quoted ≡ fact_rows database
-    → ((s : Store) → end ≡ Ended s → PrintsTheReport database query p s)
+    → ((s : State) → end ≡ Ended s → PrintsTheReport database query p s)
     → EndsWithin quoted end → EndsWith end (HasReported database query p)
 ends_reported database query p quoted (Ended s) same prints within =
     record { visits = subst (λ n. s.visits ≤ n) same within; printed = prints s (λ i. Ended s) }

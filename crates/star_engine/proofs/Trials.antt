@@ -10,7 +10,7 @@ use Rattle.star_program.specs.Run.{bounded_run_of}
 use Rattle.star_report.specs.Report.{line_text, report_text, row_text}
 use Rattle.star_trial.specs.declared.fault.TrialFault.{TrialFault}
 use Rattle.star_trial.specs.declared.fault.TrialFault.TheVariants as trial
-use Rattle.star_trial.specs.Trials.{IsFaultOf}
+use Rattle.star_trial.specs.Trials.{IsFaultOfEnd}
 use Rattle.star_world.specs.WorldOf.{world_of}
 use Rattle.star_engine.specs.declared.fault.EngineFault.{EngineFault}
 use Rattle.star_engine.specs.declared.fault.EngineFault.TheVariants as engine
@@ -22,7 +22,7 @@ use Rattle.star_engine.specs.Trials.{IsNoTrial, IsNoTrialOver}
 -- a program whose run over loaded tables doesn't come to its end has no report
 pub no_trial : (database : Database) (file : List ℕ) (program : Parts) (visits : ℕ)
     (fault : TrialFault) → IsProgramOf file program
-    → IsFaultOf (bounded_run_of (world_of database) visits program) fault
+    → IsFaultOfEnd (bounded_run_of (world_of database) visits program) fault
     → OrMemory (IsNoTrialOver database file visits) (fault_of_trial fault)
 no_trial database file program visits trial.OutOfMemory of_file stopped = tt
 no_trial database file program visits (trial.Trap at kind) of_file stopped =

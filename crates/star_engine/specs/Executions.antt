@@ -8,7 +8,7 @@ use Rattle.star_safety.specs.Admissible as admissible
 use Rattle.star_safety.specs.Admissible.{IsAdmissible, first_refusal}
 use Rattle.star_safety.specs.Quote.{quote}
 use Rattle.star_verify.specs.declared.refusal.Refusal.{Refusal}
-use Rattle.star_verify.specs.Shown.{refusal_shown}
+use Rattle.star_verify.specs.Views.{refusal_view}
 use Rattle.star_outcome.specs.Yields.{Yields}
 use Rattle.star_report.specs.Report.{report_text}
 use Rattle.star_world.specs.WorldOf.{world_of}
@@ -37,7 +37,7 @@ pub record IsRefusal (database : Database) (most : ℕ) (program : Parts) (refus
   pub not_accepted : ¬ IsAcceptedWithin database most program
   pub shown : admissible.Refusal
   pub first : first_refusal (world_of database) most program ≡ Some shown
-  pub told : refusal_shown refusal ≡ Some shown
+  pub told : refusal_view refusal ≡ Some shown
 
 -- the printed rows of a program's run over these tables
 pub record IsRunReport (database : Database) (program : Parts) (report : List ℕ) : Type 0 where

@@ -5,12 +5,12 @@ use Rattle.star_schema.specs.declared.table.TableId.{TableId}
 use Rattle.star_schema.specs.Database.{Database, TableTexts, rows_in}
 use Rattle.star_schema.specs.Loadable.{IsLoadable, IsSound, database_of}
 use Rattle.star_schema.specs.Tables.{IsRowOf}
-use Rattle.star_catalogue.specs.ColumnBounds.{HasI64Bounds}
+use Rattle.star_schema.specs.Columns.{AreBoundsI64, bounds_in}
 use Rattle.star_catalogue.specs.Load.{load_fault}
 use Rattle.star_catalogue.specs.declared.fault.LoadFault.{LoadFault}
 use Rattle.star_program.specs.declared.program.Parts.{Parts}
 use Rattle.star_program.specs.Limits.{IsWithinLimits}
-use Rattle.star_program.specs.Text.FirstFaults.{FirstFault}
+use Rattle.star_program.specs.Text.FirstFaults.{FirstTextFault}
 use Rattle.star_program.specs.Text.Spelling.{Spells}
 use Rattle.star_engine.specs.declared.fault.EngineFault.{EngineFault}
 use Rattle.star_engine.specs.declared.fault.EngineFault.TheVariants.{Load, Program}
@@ -27,7 +27,7 @@ pub record IsLoadFault (most : ℕ) (texts : TableTexts) (fault : LoadFault)
 pub record AreLoadedRows (database : Database) : Type 0 where
   pub sound : IsSound database
   pub rows : (t : TableId) → All (IsRowOf t) (rows_in database t)
-  pub bounds : HasI64Bounds database
+  pub bounds : AreBoundsI64 (bounds_in (rows_in database))
 
 -- some five texts that can be loaded hold these rows
 abbrev pub AreOfLoadableTexts : (most : ℕ) → Database → Type 0
@@ -73,7 +73,7 @@ IsUnloaded most texts _ = ⊥
 
 -- why a file spells no program
 abbrev pub IsNoProgram : List ℕ → EngineFault → Type 0
-IsNoProgram file (Program fault) = FirstFault file fault
+IsNoProgram file (Program fault) = FirstTextFault file fault
 IsNoProgram file _ = ⊥
 
 -- why there is no program over loaded tables: the file is read first

@@ -12,8 +12,8 @@ pub record Telling : Type 0 where
   pub done : List ℕ
 
 -- the note of the quote was written and no more
-abbrev pub IsQuoted : {N : Type 0} → Change N → (List ℕ → Type 0) → Type 0
-IsQuoted notes IsQuote = (quoted : List ℕ) × IsQuote quoted × HasGained notes quoted
+abbrev pub IsQuoteNoted : {N : Type 0} → Change N → (List ℕ → Type 0) → Type 0
+IsQuoteNoted notes IsQuote = (quoted : List ℕ) × IsQuote quoted × HasGained notes quoted
 
 -- which write failed, and how many bytes of the report were sent
 pub data IsBroken {S N : Type 0} (out : Change S) (notes : Change N) (IsQuote : List ℕ → Type 0)
@@ -39,11 +39,11 @@ IsNoted out notes IsQuote IsTold IsDue (Ok answer) =
     (telling : Telling) × IsTold telling × HasGained out telling.report
     × HasGained notes (telling.quoted ++ telling.done)
 IsNoted out notes IsQuote IsTold IsDue (Err OutOfMemory) =
-    IsUntouched out × (IsUntouched notes ⊎ IsQuoted notes IsQuote)
+    IsUntouched out × (IsUntouched notes ⊎ IsQuoteNoted notes IsQuote)
 IsNoted out notes IsQuote IsTold IsDue (Err (Write sent)) =
     IsBroken out notes IsQuote IsTold sent
 IsNoted out notes IsQuote IsTold IsDue (Err (Refused refusal)) =
-    IsDue (Refused refusal) × IsUntouched out × IsQuoted notes IsQuote
+    IsDue (Refused refusal) × IsUntouched out × IsQuoteNoted notes IsQuote
 IsNoted out notes IsQuote IsTold IsDue (Err fault) =
     IsDue fault × IsUntouched out × IsUntouched notes
 
@@ -68,10 +68,10 @@ abbrev pub IsTellingRefused : {S N : Type 0} → Change S → Change N → (List
 IsTellingRefused out notes IsQuote IsDue OutOfMemory = Unit {0}
 IsTellingRefused out notes IsQuote IsDue (Write sent) = Unit {0}
 IsTellingRefused out notes IsQuote IsDue (Refused refusal) =
-    IsDue (Refused refusal) × IsUntouched out × IsQuoted notes IsQuote
+    IsDue (Refused refusal) × IsUntouched out × IsQuoteNoted notes IsQuote
 IsTellingRefused out notes IsQuote IsDue fault =
     IsDue fault × IsUntouched out × IsUntouched notes
 
 -- of want of memory: nothing of the report is written, and of the notes that of the quote at most
 abbrev pub IsTellingUntold : {S N : Type 0} → Change S → Change N → (List ℕ → Type 0) → Type 0
-IsTellingUntold out notes IsQuote = IsUntouched out × (IsUntouched notes ⊎ IsQuoted notes IsQuote)
+IsTellingUntold out notes IsQuote = IsUntouched out × (IsUntouched notes ⊎ IsQuoteNoted notes IsQuote)

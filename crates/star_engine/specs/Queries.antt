@@ -6,7 +6,7 @@ use Rattle.star_schema.specs.declared.table.TableId.TheVariants.{Lineorder}
 use Rattle.star_schema.specs.Database.{Database, TableTexts, rows_in}
 use Rattle.star_query.specs.declared.fault.QueryFault.{QueryFault}
 use Rattle.star_query.specs.declared.fault.QueryFault.TheVariants as parsing
-use Rattle.star_query.specs.Derives.{IsFirstFault, Means}
+use Rattle.star_query.specs.Derives.{IsFirstQueryFault, Means}
 use Rattle.star_query.specs.Tree.{Tree}
 use Rattle.star_plan.specs.declared.fault.PlanFault.{PlanFault}
 use Rattle.star_plan.specs.Faults.{plan_fault}
@@ -14,11 +14,12 @@ use Rattle.star_plan.specs.Meaning.{Plan}
 use Rattle.star_plan.specs.Resolved.{IsResolved}
 use Rattle.star_plan.specs.WellNamed.{IsWellNamed}
 use Rattle.star_program.specs.Text.Spelling.{Spells}
-use Rattle.star_program.specs.Text.Written.{text_of}
+use Rattle.star_program.specs.Text.Written.{program_text}
 use Rattle.star_safety.specs.Admissible.{Refused, TooCostly}
 use Rattle.star_verify.specs.declared.refusal.Refusal.{Refusal}
-use Rattle.star_verify.specs.Shown.{refusal_shown}
-use Rattle.star_query_meaning.specs.Fitting.{FitsTables, bounds_in}
+use Rattle.star_verify.specs.Views.{refusal_view}
+use Rattle.star_schema.specs.Columns.{bounds_in}
+use Rattle.star_query_meaning.specs.Fitting.{FitsTables}
 use Rattle.star_query_meaning.specs.Reports.{IsReport}
 use Rattle.star_query_meaning.specs.Rows.{selected}
 use Rattle.star_compile_laws.specs.Compiled.{compiled}
@@ -61,7 +62,7 @@ pub record FitsRows (most : ℕ) (database : Database) (query : List ℕ) : Type
 -- the first fault of a text that means no query
 pub record IsQueryFault (query : List ℕ) (fault : QueryFault) : Type 0 where
   pub not_memory : fault ≢ parsing.OutOfMemory
-  pub first : IsFirstFault query fault
+  pub first : IsFirstQueryFault query fault
 
 -- the first fault of the names of a query that a text means
 pub record IsPlanFault (query : List ℕ) (fault : PlanFault) : Type 0 where
@@ -88,10 +89,10 @@ pub record IsUnfit (most : ℕ) (database : Database) (query : List ℕ) (refusa
   pub meant : IsPlanOf query p
   pub unfit : ¬ FitsRows most database query
   pub costly : most < fact_rows database
-      → refusal_shown refusal ≡ Some (TooCostly (fact_rows database))
-  pub wide : fact_rows database ≤ most → IsOverflow (refusal_shown refusal)
+      → refusal_view refusal ≡ Some (TooCostly (fact_rows database))
+  pub wide : fact_rows database ≤ most → IsOverflow (refusal_view refusal)
   pub first : fact_rows database ≤ most
-      → refusal_shown refusal ≡ option_map Refused (turn_wide (bounds_in (rows_in database)) p)
+      → refusal_view refusal ≡ option_map Refused (turn_wide (bounds_in (rows_in database)) p)
 
 -- why a query has no report over these rows: it is read first, and then it is judged
 abbrev pub IsUnansweredOver : (visits : ℕ) → Database → (query : List ℕ) → EngineFault → Type 0
@@ -146,5 +147,5 @@ IsQueryTold rows visits texts query telling =
 pub record IsExplained (query text : List ℕ) : Type 0 where
   pub p : Plan
   pub meant : IsPlanOf query p
-  pub written : text ≡ text_of (compiled p)
+  pub written : text ≡ program_text (compiled p)
   pub spelled : Spells text (compiled p)

@@ -26,8 +26,8 @@ pub record IsFresh {R : Type 0} (input : Input R) : Type 0 where
   pub failed : has_failed input ≡ false
 
 -- a reader of a table has gone on by these bytes of the part that is open
-abbrev pub GoesOn : Reading → Reading → List ℕ → Type 0
-GoesOn old new more = (table : TableId) (most : ℕ) (parts : List (List ℕ)) (text : List ℕ)
+abbrev pub ReadingGoesOn : Reading → Reading → List ℕ → Type 0
+ReadingGoesOn old new more = (table : TableId) (most : ℕ) (parts : List (List ℕ)) (text : List ℕ)
     → HasRead old table most parts text → HasRead new table most parts (text ++ more)
 
 -- a reader of a table, between two parts, has gone on by one more part of these bytes

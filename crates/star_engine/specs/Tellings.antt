@@ -2,7 +2,7 @@
 -- before it over the rows of five tables, and its report with its notes.
 use Rattle.std.specs.Prelude.{◌≡◌, ℕ, Bool, true, false, List, string_bytes}
 use Rattle.star_schema.specs.Database.{Database}
-use Rattle.star_safety.specs.MostRows.{most_rows}
+use Rattle.star_safety.specs.MostRows.{most_report_rows}
 use Rattle.star_compile_laws.specs.Compiled.{compiled}
 use Rattle.star_plan.specs.Meaning.{Plan}
 use Rattle.star_program.specs.declared.program.Parts.{Parts}
@@ -30,7 +30,7 @@ IsReadable file = IsOfKind (is_program_file file) file
 
 -- how many rows the report of a program over these tables can have at most
 abbrev pub most_rows_over : Database → Parts → ℕ
-most_rows_over database program = most_rows (world_of database) program
+most_rows_over database program = most_report_rows (world_of database) program
 
 -- what is told before a run of a program that nothing refuses: how many visits are quoted, and how many
 -- rows its report can have

@@ -8,7 +8,7 @@ use Rattle.star_report.specs.Report.{report_text}
 use Rattle.star_trial.specs.declared.fault.TrialFault.{TrialFault}
 use Rattle.star_trial.specs.declared.fault.TrialFault.TheVariants as trial
 use Rattle.star_outcome.specs.Yields.{Yields}
-use Rattle.star_trial.specs.Trials.{IsFaultOf}
+use Rattle.star_trial.specs.Trials.{IsFaultOfEnd}
 use Rattle.star_world.specs.WorldOf.{world_of}
 use Rattle.star_engine.specs.declared.fault.EngineFault.{EngineFault}
 use Rattle.star_engine.specs.declared.fault.EngineFault.TheVariants.{Trial}
@@ -28,7 +28,7 @@ pub record IsBoundedReport (database : Database) (file : List ℕ) (visits : ℕ
 -- how a run ends that does not come to its end: trapped, or at the limit on visits
 abbrev pub IsStop : End → TrialFault → Type 0
 IsStop end trial.OutOfMemory = ⊥
-IsStop end fault = IsFaultOf end fault
+IsStop end fault = IsFaultOfEnd end fault
 
 -- why there is none: the file is read first
 abbrev pub IsNoTrialOver : Database → (file : List ℕ) → (visits : ℕ) → EngineFault → Type 0

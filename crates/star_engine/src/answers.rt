@@ -1,7 +1,7 @@
 // The answers that the program gives. Each is made whole before any of it is written.
 
 ghost use Rattle.std.specs.Prelude.{◌≤◌, ◌^◌, ℕ, List};
-ghost use Rattle.star_catalogue.specs.Load.{text_of};
+ghost use Rattle.star_catalogue.specs.Load.{texts_view};
 ghost use Rattle.star_catalogue.specs.Pieces.{AreRead};
 ghost use Rattle.star_schema.specs.Database.{TableTexts};
 ghost use Rattle.star_engine.specs.Answered.{IsAnswered, change};
@@ -148,7 +148,7 @@ pub(crate) fn check<S: Sink>(
     out: &mut S,
 ) -> Result<(), EngineFault>
     ensures { IsAnswered (change S.contents S.is_failed out.old out.new)
-        (IsListing limits.rows (text_of texts.now)) (IsUnloaded limits.rows (text_of texts.now))
+        (IsListing limits.rows (texts_view texts.now)) (IsUnloaded limits.rows (texts_view texts.now))
         result }
 {
     let read = ReadTables::of_texts(alloc, texts, limits)?;
@@ -188,8 +188,8 @@ pub(crate) fn trial_program<S: Sink>(
 ) -> Result<(), EngineFault>
     requires { visits ≤ 10 ^ 15 }
     ensures { IsAnswered (change S.contents S.is_failed out.old out.new)
-        (IsTrialReport limits.rows (text_of texts.now) file.now visits)
-        (IsNoTrial limits.rows (text_of texts.now) file.now visits) result }
+        (IsTrialReport limits.rows (texts_view texts.now) file.now visits)
+        (IsNoTrial limits.rows (texts_view texts.now) file.now visits) result }
 {
     let read = ReadTables::of_texts(alloc, texts, limits)?;
     trial_program_read(alloc, read, file, visits, limits, out)
@@ -229,9 +229,9 @@ pub(crate) fn answer_program<S: Sink, N: Sink>(
 ) -> Result<(), EngineFault>
     ensures { IsNoted (change S.contents S.is_failed out.old out.new)
         (change N.contents N.is_failed notes.old notes.new)
-        (IsQuoteOf limits.rows (text_of texts.now) file.now)
-        (IsToldOf limits.rows limits.visits (text_of texts.now) file.now)
-        (IsUntold limits.rows limits.visits (text_of texts.now) file.now) result }
+        (IsQuoteOf limits.rows (texts_view texts.now) file.now)
+        (IsToldOf limits.rows limits.visits (texts_view texts.now) file.now)
+        (IsUntold limits.rows limits.visits (texts_view texts.now) file.now) result }
 {
     let read = ReadTables::of_texts(alloc, texts, limits)?;
     answer_program_read(alloc, read, file, limits, out, notes)
@@ -266,8 +266,8 @@ pub(crate) fn quote_text<S: Sink>(
     out: &mut S,
 ) -> Result<(), EngineFault>
     ensures { IsAnswered (change S.contents S.is_failed out.old out.new)
-        (IsQuoteText limits.rows (text_of texts.now) file.now)
-        (IsUnquoted limits.rows (text_of texts.now) file.now) result }
+        (IsQuoteText limits.rows (texts_view texts.now) file.now)
+        (IsUnquoted limits.rows (texts_view texts.now) file.now) result }
 {
     let read = ReadTables::of_texts(alloc, texts, limits)?;
     quote_text_read(alloc, read, file, limits, out)

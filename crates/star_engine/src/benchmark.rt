@@ -2,7 +2,7 @@
 
 ghost use Rattle.std.specs.Prelude.{◌≡◌, ◌↔◌, IfOk, IsTrue, MatchResult};
 ghost use Rattle.star_schema.specs.Loadable.{database_of};
-ghost use Rattle.star_catalogue.specs.Load.{text_of};
+ghost use Rattle.star_catalogue.specs.Load.{texts_view};
 ghost use Rattle.star_catalogue.specs.Pieces.{AreRead};
 ghost use Rattle.star_schema.specs.Database.{TableTexts};
 ghost use Rattle.star_engine.specs.Answered.{IsAnswered, change};
@@ -206,10 +206,10 @@ pub(crate) fn bench<S: Sink>(
     out: &mut S,
 ) -> Result<bool, EngineFault>
     ensures answered { IsAnswered (change S.contents S.is_failed out.old out.new)
-        (IsBench limits.rows limits.visits (text_of texts.now))
-        (IsUnloaded limits.rows (text_of texts.now)) result }
+        (IsBench limits.rows limits.visits (texts_view texts.now))
+        (IsUnloaded limits.rows (texts_view texts.now)) result }
     ensures fits { IfOk result
-        (λ fits. IsTrue fits ↔ AllFit limits.visits (database_of (text_of texts.now))) }
+        (λ fits. IsTrue fits ↔ AllFit limits.visits (database_of (texts_view texts.now))) }
 {
     let read = ReadTables::of_texts(alloc, texts, limits)?;
     bench_read(alloc, read, limits, out)

@@ -2,7 +2,7 @@
 
 ghost use Rattle.std.specs.Prelude.{◌≡◌, ◌≤◌, ◌^◌, ◌↔◌, Err, IfErr, IfOk, IsTrue, OnOk};
 ghost use Rattle.star_schema.specs.Loadable.{database_of};
-ghost use Rattle.star_catalogue.specs.Load.{text_of};
+ghost use Rattle.star_catalogue.specs.Load.{texts_view};
 ghost use Rattle.star_engine.specs.Answered.{HasWritten, IsBrokenOff, IsRefused, IsUntouched, change};
 ghost use Rattle.star_engine.specs.Bench.{AllFit, IsBench};
 ghost use Rattle.star_engine.specs.Executions.{IsFileReport, IsQuoteOf, IsToldOf, IsUntold};
@@ -27,11 +27,11 @@ pub fn check<S: Sink>(
     out: &mut S,
 ) -> Result<(), EngineFault>
     ensures written { OnOk result (HasWritten (change S.contents S.is_failed out.old out.new)
-        (IsListing limits.rows (text_of texts.now))) }
+        (IsListing limits.rows (texts_view texts.now))) }
     ensures broken { IfErr result (IsBrokenOff (change S.contents S.is_failed out.old out.new)
-        (IsListing limits.rows (text_of texts.now))) }
+        (IsListing limits.rows (texts_view texts.now))) }
     ensures refused { IfErr result (IsRefused (change S.contents S.is_failed out.old out.new)
-        (IsUnloaded limits.rows (text_of texts.now))) }
+        (IsUnloaded limits.rows (texts_view texts.now))) }
     ensures memory { result ≡ Err EngineFault.OutOfMemory
         → IsUntouched (change S.contents S.is_failed out.old out.new) }
 {
@@ -53,22 +53,22 @@ pub fn answer_query<S: Sink, N: Sink>(
 ) -> Result<(), EngineFault>
     // The report alone, and then with its notes.
     ensures reported { OnOk result (HasWritten (change S.contents S.is_failed out.old out.new)
-        (IsReportOf limits.rows (text_of texts.now) query.now)) }
+        (IsReportOf limits.rows (texts_view texts.now) query.now)) }
     ensures noted { OnOk result (HasTold (change S.contents S.is_failed out.old out.new)
         (change N.contents N.is_failed notes.old notes.new)
-        (IsQueryTold limits.rows limits.visits (text_of texts.now) query.now)) }
+        (IsQueryTold limits.rows limits.visits (texts_view texts.now) query.now)) }
     ensures broken { IfErr result (IsTellingBrokenOff (change S.contents S.is_failed out.old out.new)
         (change N.contents N.is_failed notes.old notes.new)
-        (IsQueryQuote limits.rows (text_of texts.now) query.now)
-        (IsQueryTold limits.rows limits.visits (text_of texts.now) query.now)) }
+        (IsQueryQuote limits.rows (texts_view texts.now) query.now)
+        (IsQueryTold limits.rows limits.visits (texts_view texts.now) query.now)) }
     ensures refused { IfErr result (IsTellingRefused (change S.contents S.is_failed out.old out.new)
         (change N.contents N.is_failed notes.old notes.new)
-        (IsQueryQuote limits.rows (text_of texts.now) query.now)
-        (IsUnanswered limits.rows limits.visits (text_of texts.now) query.now)) }
+        (IsQueryQuote limits.rows (texts_view texts.now) query.now)
+        (IsUnanswered limits.rows limits.visits (texts_view texts.now) query.now)) }
     ensures memory { result ≡ Err EngineFault.OutOfMemory
         → IsTellingUntold (change S.contents S.is_failed out.old out.new)
         (change N.contents N.is_failed notes.old notes.new)
-        (IsQueryQuote limits.rows (text_of texts.now) query.now) }
+        (IsQueryQuote limits.rows (texts_view texts.now) query.now) }
 {
     queries::answer_query(alloc, texts, query, limits, out, notes)
 }
@@ -87,22 +87,22 @@ pub fn answer_program<S: Sink, N: Sink>(
 ) -> Result<(), EngineFault>
     // The report alone, and then with its notes.
     ensures reported { OnOk result (HasWritten (change S.contents S.is_failed out.old out.new)
-        (IsFileReport limits.rows (text_of texts.now) file.now)) }
+        (IsFileReport limits.rows (texts_view texts.now) file.now)) }
     ensures noted { OnOk result (HasTold (change S.contents S.is_failed out.old out.new)
         (change N.contents N.is_failed notes.old notes.new)
-        (IsToldOf limits.rows limits.visits (text_of texts.now) file.now)) }
+        (IsToldOf limits.rows limits.visits (texts_view texts.now) file.now)) }
     ensures broken { IfErr result (IsTellingBrokenOff (change S.contents S.is_failed out.old out.new)
         (change N.contents N.is_failed notes.old notes.new)
-        (IsQuoteOf limits.rows (text_of texts.now) file.now)
-        (IsToldOf limits.rows limits.visits (text_of texts.now) file.now)) }
+        (IsQuoteOf limits.rows (texts_view texts.now) file.now)
+        (IsToldOf limits.rows limits.visits (texts_view texts.now) file.now)) }
     ensures refused { IfErr result (IsTellingRefused (change S.contents S.is_failed out.old out.new)
         (change N.contents N.is_failed notes.old notes.new)
-        (IsQuoteOf limits.rows (text_of texts.now) file.now)
-        (IsUntold limits.rows limits.visits (text_of texts.now) file.now)) }
+        (IsQuoteOf limits.rows (texts_view texts.now) file.now)
+        (IsUntold limits.rows limits.visits (texts_view texts.now) file.now)) }
     ensures memory { result ≡ Err EngineFault.OutOfMemory
         → IsTellingUntold (change S.contents S.is_failed out.old out.new)
         (change N.contents N.is_failed notes.old notes.new)
-        (IsQuoteOf limits.rows (text_of texts.now) file.now) }
+        (IsQuoteOf limits.rows (texts_view texts.now) file.now) }
 {
     answers::answer_program(alloc, texts, file, limits, out, notes)
 }
@@ -119,11 +119,11 @@ pub fn quote_text<S: Sink>(
     out: &mut S,
 ) -> Result<(), EngineFault>
     ensures written { OnOk result (HasWritten (change S.contents S.is_failed out.old out.new)
-        (IsQuoteText limits.rows (text_of texts.now) file.now)) }
+        (IsQuoteText limits.rows (texts_view texts.now) file.now)) }
     ensures broken { IfErr result (IsBrokenOff (change S.contents S.is_failed out.old out.new)
-        (IsQuoteText limits.rows (text_of texts.now) file.now)) }
+        (IsQuoteText limits.rows (texts_view texts.now) file.now)) }
     ensures refused { IfErr result (IsRefused (change S.contents S.is_failed out.old out.new)
-        (IsUnquoted limits.rows (text_of texts.now) file.now)) }
+        (IsUnquoted limits.rows (texts_view texts.now) file.now)) }
     ensures memory { result ≡ Err EngineFault.OutOfMemory
         → IsUntouched (change S.contents S.is_failed out.old out.new) }
 {
@@ -157,11 +157,11 @@ pub fn trial_program<S: Sink>(
 ) -> Result<(), EngineFault>
     requires { visits ≤ 10 ^ 15 }
     ensures written { OnOk result (HasWritten (change S.contents S.is_failed out.old out.new)
-        (IsTrialReport limits.rows (text_of texts.now) file.now visits)) }
+        (IsTrialReport limits.rows (texts_view texts.now) file.now visits)) }
     ensures broken { IfErr result (IsBrokenOff (change S.contents S.is_failed out.old out.new)
-        (IsTrialReport limits.rows (text_of texts.now) file.now visits)) }
+        (IsTrialReport limits.rows (texts_view texts.now) file.now visits)) }
     ensures refused { IfErr result (IsRefused (change S.contents S.is_failed out.old out.new)
-        (IsNoTrial limits.rows (text_of texts.now) file.now visits)) }
+        (IsNoTrial limits.rows (texts_view texts.now) file.now visits)) }
     ensures memory { result ≡ Err EngineFault.OutOfMemory
         → IsUntouched (change S.contents S.is_failed out.old out.new) }
 {
@@ -179,15 +179,15 @@ pub fn bench<S: Sink>(
     out: &mut S,
 ) -> Result<bool, EngineFault>
     ensures written { OnOk result (HasWritten (change S.contents S.is_failed out.old out.new)
-        (IsBench limits.rows limits.visits (text_of texts.now))) }
+        (IsBench limits.rows limits.visits (texts_view texts.now))) }
     ensures broken { IfErr result (IsBrokenOff (change S.contents S.is_failed out.old out.new)
-        (IsBench limits.rows limits.visits (text_of texts.now))) }
+        (IsBench limits.rows limits.visits (texts_view texts.now))) }
     ensures refused { IfErr result (IsRefused (change S.contents S.is_failed out.old out.new)
-        (IsUnloaded limits.rows (text_of texts.now))) }
+        (IsUnloaded limits.rows (texts_view texts.now))) }
     ensures memory { result ≡ Err EngineFault.OutOfMemory
         → IsUntouched (change S.contents S.is_failed out.old out.new) }
     ensures fits { IfOk result
-        (λ fits. IsTrue fits ↔ AllFit limits.visits (database_of (text_of texts.now))) }
+        (λ fits. IsTrue fits ↔ AllFit limits.visits (database_of (texts_view texts.now))) }
 {
     benchmark::bench(alloc, texts, limits, out)
 }

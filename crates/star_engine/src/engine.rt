@@ -3,7 +3,7 @@
 ghost use Rattle.std.specs.Prelude.{◌≡◌, ◌≤◌, ◌^◌, ◌↔◌, Err, IfErr, IfOk, IsTrue, MatchResult, OnOk, string_bytes};
 ghost use Rattle.star_schema.specs.Database.{TableTexts};
 ghost use Rattle.star_schema.specs.Loadable.{IsLoadable};
-ghost use Rattle.star_catalogue.specs.Load.{text_of};
+ghost use Rattle.star_catalogue.specs.Load.{texts_view};
 ghost use Rattle.star_catalogue.specs.Pieces.{AreRead};
 ghost use Rattle.star_query_meaning.specs.Reports.{IsReport};
 ghost use Rattle.star_engine.specs.Answered.{HasWritten, IsBrokenOff, IsRefused, IsUntouched, OrMemory, change};
@@ -55,10 +55,10 @@ impl Engine {
     /// Loads the tables of five texts, which may be let go afterwards, under `limits`; or answers
     /// the first fault of the texts.
     pub fn load(alloc: Global, texts: &Texts<'_>, limits: Limits) -> Result<Engine, EngineFault>
-        ensures loadable { IfOk result (λ engine. IsLoadable limits.rows (text_of texts.now)) }
+        ensures loadable { IfOk result (λ engine. IsLoadable limits.rows (texts_view texts.now)) }
         ensures loaded { IfOk result
-            (λ engine. engine ≡ loaded_of limits.rows limits.visits (text_of texts.now)) }
-        ensures refused { IfErr result (OrMemory (IsUnloaded limits.rows (text_of texts.now))) }
+            (λ engine. engine ≡ loaded_of limits.rows limits.visits (texts_view texts.now)) }
+        ensures refused { IfErr result (OrMemory (IsUnloaded limits.rows (texts_view texts.now))) }
     {
         let read = ReadTables::of_texts(alloc, texts, limits)?;
         Engine::of_read(alloc, read, limits)

@@ -2,7 +2,7 @@
 
 ghost use Rattle.std.specs.Prelude.{◌≡◌, ◌≤◌, ◌<◌, ◌+◌, ◌-◌, ◌^◌, ◌⊎◌, ℕ, List, true, Err, IfOk, OnOk, length, min};
 ghost use Rattle.std.specs.Io.KnownBytes.{Consumes, IsAtEnd};
-ghost use Rattle.star_engine.specs.Reading.{GoesOn, GoesOnByPart, came_of, has_failed, reader_of, reads_of};
+ghost use Rattle.star_engine.specs.Reading.{ReadingGoesOn, GoesOnByPart, came_of, has_failed, reader_of, reads_of};
 
 use crate::input::Input;
 use crate::reading::{FileFault, room_of};
@@ -28,7 +28,7 @@ fn feed_more<R: Read>(
     ensures room { length room.new ≡ length room.old }
     ensures fed { IfOk result (λ count. (more : List ℕ) × (length more ≡ count)
         × Consumes (R.remaining (reader_of input.old)) (R.remaining (reader_of input.new)) more
-        × GoesOn reader.old reader.new more) }
+        × ReadingGoesOn reader.old reader.new more) }
     ensures within { IfOk result (λ count. count ≤ left) }
     ensures end { IfOk result (λ count. count ≡ 0 → IsAtEnd (R.remaining (reader_of input.new))) }
     ensures reads { reads_of input.new ≤ reads_of input.old + 1 }
@@ -60,7 +60,7 @@ fn feed_all<R: Read>(
     requires limit { limit < 2 ^ 64 - 1 }
     ensures bytes { OnOk result ((came : List ℕ) × (length came ≤ limit)
         × Consumes (R.remaining (reader_of input.old)) (R.remaining (reader_of input.new)) came
-        × GoesOn reader.old reader.new came) }
+        × ReadingGoesOn reader.old reader.new came) }
     ensures end { OnOk result (IsAtEnd (R.remaining (reader_of input.new))) }
     ensures unfailed { OnOk result (has_failed input.new ≡ has_failed input.old) }
     ensures failed { result ≡ Err FileFault.Failed

@@ -1,7 +1,7 @@
 // Queries: from their texts to their answers.
 
 ghost use Rattle.std.specs.Prelude.{ℕ, List, MatchResult};
-ghost use Rattle.star_catalogue.specs.Load.{text_of};
+ghost use Rattle.star_catalogue.specs.Load.{texts_view};
 ghost use Rattle.star_catalogue.specs.Pieces.{AreRead};
 ghost use Rattle.star_schema.specs.Database.{TableTexts};
 ghost use Rattle.star_engine.specs.Answered.{IsAnswered, OrMemory, change};
@@ -128,9 +128,9 @@ pub(crate) fn answer_query<S: Sink, N: Sink>(
 ) -> Result<(), EngineFault>
     ensures { IsNoted (change S.contents S.is_failed out.old out.new)
         (change N.contents N.is_failed notes.old notes.new)
-        (IsQueryQuote limits.rows (text_of texts.now) query.now)
-        (IsQueryTold limits.rows limits.visits (text_of texts.now) query.now)
-        (IsUnanswered limits.rows limits.visits (text_of texts.now) query.now) result }
+        (IsQueryQuote limits.rows (texts_view texts.now) query.now)
+        (IsQueryTold limits.rows limits.visits (texts_view texts.now) query.now)
+        (IsUnanswered limits.rows limits.visits (texts_view texts.now) query.now) result }
 {
     let read = ReadTables::of_texts(alloc, texts, limits)?;
     answer_query_read(alloc, read, query, limits, out, notes)

@@ -7,12 +7,12 @@ ghost use Rattle.star_query.specs.Derives.{Means};
 ghost use Rattle.star_query.specs.Tree.{Tree};
 ghost use Rattle.star_plan.specs.Meaning.{Plan};
 ghost use Rattle.star_plan.specs.WellNamed.{IsWellNamed};
-ghost use Rattle.star_program.specs.Effects.{Store};
+ghost use Rattle.star_program.specs.Effects.{State};
 ghost use Rattle.star_program.specs.Run.{Ended, EndsWith, run_of};
 ghost use Rattle.star_program.specs.Text.Spellable.{IsSpellable};
 ghost use Rattle.star_safety.specs.Admissible.{Refused, TooCostly, first_refusal};
 ghost use Rattle.star_world.specs.WorldOf.{world_of};
-ghost use Rattle.star_query_meaning.specs.Fitting.{bounds_in};
+ghost use Rattle.star_schema.specs.Columns.{bounds_in};
 ghost use Rattle.star_compile_laws.specs.Compiled.{compiled};
 ghost use Rattle.star_compile_laws.specs.Counts.{HasCounted};
 ghost use Rattle.star_compile_laws.specs.Judged.{IsOverflow};
@@ -81,11 +81,11 @@ pub fn programs_of_queries_report_them()
     ensures quoted { (database : Database) (p : Plan)
         → quote_over database (compiled p) ≡ fact_rows database }
     ensures spelled { (query : List ℕ) (p : Plan) → IsPlanOf query p → IsSpellable (compiled p) }
-    ensures printed { (database : Database) (query : List ℕ) (p : Plan) (s : Store)
+    ensures printed { (database : Database) (query : List ℕ) (p : Plan) (s : State)
         → AreLoadedRows database → IsPlanOf query p
         → run_of (world_of database) (compiled p) ≡ Ended s
         → PrintsTheReport database query p s }
-    ensures counted { (database : Database) (query : List ℕ) (p : Plan) (s : Store)
+    ensures counted { (database : Database) (query : List ℕ) (p : Plan) (s : State)
         → AreLoadedRows database → (meant : IsPlanOf query p)
         → run_of (world_of database) (compiled p) ≡ Ended s
         → HasCounted (rows_in database) meant.tree p s }

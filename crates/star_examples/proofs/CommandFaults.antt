@@ -22,7 +22,7 @@ statuses : map fault_status (Refused (TooCostly 10) ∷ Trial Limit ∷ Load (Du
 statuses = refl
 
 lines : map fault_line (Load (DuplicateKey Lineorder 5) ∷ Write 10 ∷ OutOfMemory ∷ []) ≡ codes "load 8 DuplicateKey table lineorder record 5\n" ∷ codes "write 10\n" ∷ codes "memory\n" ∷ []
-unfolding fault_line engine_fault_text of_load.record_text table_name digits
+unfolding fault_line engine_fault_text of_load.record_fault_text table_name digits
 lines = refl
 
 -- ---- a text is told whole, or its first bytes by a sink that fails, and nothing is written of no text

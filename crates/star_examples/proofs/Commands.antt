@@ -5,7 +5,7 @@ use Rattle.star_schema.specs.declared.limits.Limits.{Limits}
 use Rattle.star_schema.specs.Most.{most_rows, most_visits}
 use Rattle.star_schema.specs.Database.{TableTexts}
 use Rattle.star_schema.specs.Loadable.{database_of}
-use Rattle.star_catalogue.specs.Load.{text_of}
+use Rattle.star_catalogue.specs.Load.{texts_view}
 use Rattle.star_engine.specs.declared.fault.EngineFault.{EngineFault}
 use Rattle.star_engine.specs.declared.fault.EngineFault.TheVariants as engine
 use Rattle.star_engine.specs.Answered.{Change, IsAnswered}
@@ -80,28 +80,28 @@ module _ {S N : Type 0} (out : Change S) (notes : Change N) (texts : TableTexts)
 -- ---- what the engine is asked for
 
 module _ {S N : Type 0} (bytes : Bytes) (out : Change S) (notes : Change N) (result : Result Bool EngineFault) where
-  without_words : IsListedAndBenched out (text_of bytes.texts) result → notes.new ≡ notes.old → IsGiven Sample bytes out notes result
+  without_words : IsListedAndBenched out (texts_view bytes.texts) result → notes.new ≡ notes.old → IsGiven Sample bytes out notes result
   without_words answer same = (answer, same)
 
-  without_words_and_no_more : IsGiven Sample bytes out notes result → IsListedAndBenched out (text_of bytes.texts) result
+  without_words_and_no_more : IsGiven Sample bytes out notes result → IsListedAndBenched out (texts_view bytes.texts) result
   without_words_and_no_more given = given.0
 
   without_words_without_notes : IsGiven Sample bytes out notes result → notes.new ≡ notes.old
   without_words_without_notes given = given.1
 
-  checked : (folder : _) → IsWhole (IsListed out (text_of bytes.texts)) result → notes.new ≡ notes.old → IsGiven (Check folder) bytes out notes result
+  checked : (folder : _) → IsWhole (IsListed out (texts_view bytes.texts)) result → notes.new ≡ notes.old → IsGiven (Check folder) bytes out notes result
   checked folder answer same = (answer, same)
 
-  checked_and_no_more : (folder : _) → IsGiven (Check folder) bytes out notes result → IsWhole (IsListed out (text_of bytes.texts)) result
+  checked_and_no_more : (folder : _) → IsGiven (Check folder) bytes out notes result → IsWhole (IsListed out (texts_view bytes.texts)) result
   checked_and_no_more folder given = given.0
 
   checked_without_notes : (folder : _) → IsGiven (Check folder) bytes out notes result → notes.new ≡ notes.old
   checked_without_notes folder given = given.1
 
-  benched : (folder : _) → IsBenched out (text_of bytes.texts) result → notes.new ≡ notes.old → IsGiven (Bench folder) bytes out notes result
+  benched : (folder : _) → IsBenched out (texts_view bytes.texts) result → notes.new ≡ notes.old → IsGiven (Bench folder) bytes out notes result
   benched folder answer same = (answer, same)
 
-  benched_and_no_more : (folder : _) → IsGiven (Bench folder) bytes out notes result → IsBenched out (text_of bytes.texts) result
+  benched_and_no_more : (folder : _) → IsGiven (Bench folder) bytes out notes result → IsBenched out (texts_view bytes.texts) result
   benched_and_no_more folder given = given.0
 
   benched_without_notes : (folder : _) → IsGiven (Bench folder) bytes out notes result → notes.new ≡ notes.old
@@ -116,30 +116,30 @@ module _ {S N : Type 0} (bytes : Bytes) (out : Change S) (notes : Change N) (res
   explained_without_notes : (file : _) → IsGiven (Explain file) bytes out notes result → notes.new ≡ notes.old
   explained_without_notes file given = given.1
 
-  quoted : (folder file : _) → IsWhole (IsQuoted out (text_of bytes.texts) bytes.file.now) result → notes.new ≡ notes.old → IsGiven (Quote folder file) bytes out notes result
+  quoted : (folder file : _) → IsWhole (IsQuoted out (texts_view bytes.texts) bytes.file.now) result → notes.new ≡ notes.old → IsGiven (Quote folder file) bytes out notes result
   quoted folder file answer same = (answer, same)
 
-  quoted_and_no_more : (folder file : _) → IsGiven (Quote folder file) bytes out notes result → IsWhole (IsQuoted out (text_of bytes.texts) bytes.file.now) result
+  quoted_and_no_more : (folder file : _) → IsGiven (Quote folder file) bytes out notes result → IsWhole (IsQuoted out (texts_view bytes.texts) bytes.file.now) result
   quoted_and_no_more folder file given = given.0
 
   quoted_without_notes : (folder file : _) → IsGiven (Quote folder file) bytes out notes result → notes.new ≡ notes.old
   quoted_without_notes folder file given = given.1
 
-  tried : (folder file : _) (limits : Limits) → IsWhole (IsTried limits out (text_of bytes.texts) bytes.file.now) result → notes.new ≡ notes.old
+  tried : (folder file : _) (limits : Limits) → IsWhole (IsTried limits out (texts_view bytes.texts) bytes.file.now) result → notes.new ≡ notes.old
       → IsGiven (Trial folder file limits) bytes out notes result
   tried folder file limits answer same = (answer, same)
 
-  tried_and_no_more : (folder file : _) (limits : Limits) → IsGiven (Trial folder file limits) bytes out notes result → IsWhole (IsTried limits out (text_of bytes.texts) bytes.file.now) result
+  tried_and_no_more : (folder file : _) (limits : Limits) → IsGiven (Trial folder file limits) bytes out notes result → IsWhole (IsTried limits out (texts_view bytes.texts) bytes.file.now) result
   tried_and_no_more folder file limits given = given.0
 
   tried_without_notes : (folder file : _) (limits : Limits) → IsGiven (Trial folder file limits) bytes out notes result → notes.new ≡ notes.old
   tried_without_notes folder file limits given = given.1
 
   -- the report goes to the one sink and the notes to the other
-  queried : (folder file : _) → IsWhole (IsQueried out notes (text_of bytes.texts) bytes.file.now) result → IsGiven (Query folder file) bytes out notes result
+  queried : (folder file : _) → IsWhole (IsQueried out notes (texts_view bytes.texts) bytes.file.now) result → IsGiven (Query folder file) bytes out notes result
   queried folder file answer = answer
 
-  executed : (folder file : _) → IsWhole (IsExecuted out notes (text_of bytes.texts) bytes.file.now) result → IsGiven (Exec folder file) bytes out notes result
+  executed : (folder file : _) → IsWhole (IsExecuted out notes (texts_view bytes.texts) bytes.file.now) result → IsGiven (Exec folder file) bytes out notes result
   executed folder file answer = answer
 
 -- ---- the exit status

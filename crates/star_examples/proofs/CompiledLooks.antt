@@ -10,7 +10,7 @@ use Rattle.star_query.specs.declared.token.Relation.TheVariants.{Equal, Greater}
 use Rattle.star_query.specs.Tree.{column}
 use Rattle.star_plan.specs.Meaning.{Plan, Tables, plan_rows}
 use Rattle.star_compile_laws.proofs.PlanWords.{compare, greatest}
-use Rattle.star_program.specs.Effects.{Store}
+use Rattle.star_program.specs.Effects.{State}
 use Rattle.star_program.specs.Run.{Ended, run_while}
 use Rattle.star_program.specs.World.{World}
 use Rattle.star_safety.specs.Admissible.{Refused}
@@ -46,7 +46,7 @@ rows_found = refl
 
 -- ---- what a run puts, it puts to the group that is reported
 
-puts_to_the_first_group : (ts : Tables) (w : World) (p : Plan) → PutsTheRows ts w p → (may : ℕ → Bool) (s : Store) → run_while w may (compiled p) ≡ Ended s
+puts_to_the_first_group : (ts : Tables) (w : World) (p : Plan) → PutsTheRows ts w p → (may : ℕ → Bool) (s : State) → run_while w may (compiled p) ≡ Ended s
     → s.updates_of (compiled p).report ≡ reverse (map (update_of_row w p) (plan_rows ts p))
 puts_to_the_first_group ts w p puts may s ended = puts may s ended
 

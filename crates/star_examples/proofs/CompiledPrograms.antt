@@ -15,7 +15,7 @@ use Rattle.star_plan.specs.Meaning.{Plan}
 use Rattle.star_compile_laws.proofs.PlanWords.{between, compare, greatest, summed}
 use Rattle.star_program.specs.Text.Keywords.{shape_name, aggregate_name, mnemonic_name, direction_name}
 use Rattle.star_program.specs.Text.Statements.{lines_of_code}
-use Rattle.star_program.specs.Text.Written.{text_of, line_text, op_text, assigned_text, register_text, target_text, group_text, key_text, column_text, show_text, sort_text}
+use Rattle.star_program.specs.Text.Written.{program_text, written_line, op_text, assigned_text, register_text, target_text, group_text, key_text, written_column, show_text, sort_text}
 use Rattle.star_compile_laws.specs.Compiled.{compiled}
 use Rattle.star_examples.proofs.Sample.{number, text, by_order, of_customer}
 
@@ -42,7 +42,7 @@ asked = record {
 abbrev as_lines : List (List ℕ) → List ℕ
 as_lines lines = flat_map (λ l. l ++ 10 ∷ []) lines
 
-explained : text_of (compiled asked)
+explained : program_text (compiled asked)
     ≡ as_lines (
     codes "star program 1"
     ∷ codes "registers 33"
@@ -93,5 +93,5 @@ explained : text_of (compiled asked)
     ∷ codes "show max2 aggregate 1"
     ∷ codes "show count3 aggregate 2"
     ∷ codes "sort key 0 descending" ∷ [])
-unfolding column_of table_name text_of line_text lines_of_code register_text target_text assigned_text op_text key_text group_text column_text show_text sort_text digits quoted shape_name aggregate_name mnemonic_name direction_name
+unfolding column_of table_name program_text written_line lines_of_code register_text target_text assigned_text op_text key_text group_text written_column show_text sort_text digits quoted shape_name aggregate_name mnemonic_name direction_name
 explained = refl

@@ -5,7 +5,7 @@ use Rattle.star_schema.specs.declared.column.ColumnId.TheVariants.{DYear}
 use Rattle.star_schema.specs.declared.column.Kind.TheVariants as kind
 use Rattle.star_schema.specs.Schema.{column_of, place_of}
 use Rattle.star_schema.specs.Tables.{Number, Text}
-use Rattle.star_plan.specs.Meaning.{number_of, value_in}
+use Rattle.star_plan.specs.Meaning.{value_number, value_in}
 use Rattle.star_plan.specs.Names.{is_of}
 
 -- a name that is no column's has no wrong kind: that it is no column's is told before
@@ -17,5 +17,5 @@ no_value : value_in DYear [] ≡ Number (pos 0)
 unfolding column_of place_of
 no_value = refl
 
-number_of_a_text : number_of (Text (codes "7")) ≡ pos 0
+number_of_a_text : value_number (Text (codes "7")) ≡ pos 0
 number_of_a_text = refl

@@ -8,13 +8,13 @@ use Rattle.star_schema.specs.Loadable.{IsLoadable, database_of}
 use Rattle.star_query.specs.declared.fault.QueryFault.{QueryFault}
 use Rattle.star_plan.specs.declared.fault.PlanFault.{PlanFault}
 use Rattle.star_plan.specs.Meaning.{Plan}
-use Rattle.star_program.specs.Effects.{Store}
+use Rattle.star_program.specs.Effects.{State}
 use Rattle.star_catalogue.specs.declared.fault.LoadFault.{LoadFault}
 use Rattle.star_safety.specs.Admissible.{Refused, TooCostly}
 use Rattle.star_verify.specs.declared.refusal.Refusal.{Refusal}
-use Rattle.star_verify.specs.Shown.{refusal_shown}
+use Rattle.star_verify.specs.Views.{refusal_view}
 use Rattle.star_query_meaning.specs.Reports.{IsReport}
-use Rattle.star_query_meaning.specs.Fitting.{bounds_in}
+use Rattle.star_schema.specs.Columns.{bounds_in}
 use Rattle.star_compile_laws.specs.Counts.{HasCounted}
 use Rattle.star_compile_laws.specs.Judged.{IsOverflow}
 use Rattle.star_compile_laws.specs.Wide.{turn_wide}
@@ -68,7 +68,7 @@ module _ (rows : ℕ) (texts : TableTexts) (query : List ℕ) where
 module _ (most : ℕ) (database : Database) (query : List ℕ) (refusal : Refusal) where
   -- as many rows as may be visited are not too many
   as_many_rows_as_may_be : (p : Plan) → IsPlanOf query p → (FitsRows most database query → ⊥) → fact_rows database ≡ most
-      → IsOverflow (refusal_shown refusal) → refusal_shown refusal ≡ option_map Refused (turn_wide (bounds_in (rows_in database)) p)
+      → IsOverflow (refusal_view refusal) → refusal_view refusal ≡ option_map Refused (turn_wide (bounds_in (rows_in database)) p)
       → IsUnfit most database query refusal
   as_many_rows_as_may_be p meant unfit many wide first = record {
     p = p;
@@ -79,10 +79,10 @@ module _ (most : ℕ) (database : Database) (query : List ℕ) (refusal : Refusa
     first = λ less. first;
   }
 
-  then_a_range_is_too_wide : fact_rows database ≡ most → IsUnfit most database query refusal → IsOverflow (refusal_shown refusal)
+  then_a_range_is_too_wide : fact_rows database ≡ most → IsUnfit most database query refusal → IsOverflow (refusal_view refusal)
   then_a_range_is_too_wide many unfit = unfit.wide (omega arith)
 
-  one_row_more_is_too_many : fact_rows database ≡ most + 1 → IsUnfit most database query refusal → refusal_shown refusal ≡ Some (TooCostly (fact_rows database))
+  one_row_more_is_too_many : fact_rows database ≡ most + 1 → IsUnfit most database query refusal → refusal_view refusal ≡ Some (TooCostly (fact_rows database))
   one_row_more_is_too_many many unfit = unfit.costly (omega arith)
 
 module _ (rows visits : ℕ) (texts : TableTexts) (query : List ℕ) where
@@ -106,7 +106,7 @@ module _ (rows visits : ℕ) (texts : TableTexts) (query : List ℕ) where
 module _ (visits : ℕ) (database : Database) (query : List ℕ) where
   -- each row of lineorder may be visited, and the counts are told in their order
   every_row_visited : FitsRows visits database query → (report : List ℕ) → IsReport database query report → (p : Plan) → (meant : IsPlanOf query p)
-      → (s : Store) → HasCounted (rows_in database) meant.tree p s
+      → (s : State) → HasCounted (rows_in database) meant.tree p s
       → IsQueryToldOver visits database query (record { quoted = quote_line (fact_rows database); report = report; done = counts_line s.visits s.lookups s.updates })
   every_row_visited fitting report reported p meant s counted = record {
     fitting = fitting;
@@ -121,6 +121,6 @@ module _ (visits : ℕ) (database : Database) (query : List ℕ) where
   no_load_fault_over_loaded_rows : (fault : LoadFault) → IsUnansweredOver visits database query (engine.Load fault) → ⊥
   no_load_fault_over_loaded_rows fault due = due
 
-every_row_visited_of_a_report : (database : Database) (query : List ℕ) (p : Plan) (s : Store) → s.visits ≡ fact_rows database
+every_row_visited_of_a_report : (database : Database) (query : List ℕ) (p : Plan) (s : State) → s.visits ≡ fact_rows database
     → PrintsTheReport database query p s → HasReported database query p s
 every_row_visited_of_a_report database query p s all printed = record { visits = omega arith; printed = printed }

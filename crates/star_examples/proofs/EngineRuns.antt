@@ -6,7 +6,7 @@ use Rattle.star_program.specs.declared.outcome.Outcome.{Outcome}
 use Rattle.star_program.specs.declared.program.Parts.{Parts}
 use Rattle.star_program.specs.declared.spelling.fault.TextFault.{TextFault}
 use Rattle.star_program.specs.Run.{End, bounded_run_of, run_of}
-use Rattle.star_program.specs.Text.FirstFaults.{FirstFault}
+use Rattle.star_program.specs.Text.FirstFaults.{FirstTextFault}
 use Rattle.star_catalogue.specs.declared.fault.LoadFault.{LoadFault}
 use Rattle.star_safety.specs.Admissible.{IsAdmissible}
 use Rattle.star_world.specs.WorldOf.{world_of}
@@ -14,7 +14,7 @@ use Rattle.star_verify.specs.declared.refusal.Refusal.{Refusal}
 use Rattle.star_trial.specs.declared.fault.TrialFault.{TrialFault}
 use Rattle.star_trial.specs.declared.fault.TrialFault.TheVariants as trial
 use Rattle.star_outcome.specs.Yields.{Yields}
-use Rattle.star_trial.specs.Trials.{IsFaultOf}
+use Rattle.star_trial.specs.Trials.{IsFaultOfEnd}
 use Rattle.star_report.specs.Report.{report_text}
 use Rattle.star_engine.specs.declared.fault.EngineFault.TheVariants.{Load, Program, Refused, Trial}
 use Rattle.star_engine.specs.Executions.{IsAcceptedWithin, IsProgramTold, IsRefusalOver, IsUntold, IsUntoldOver, quote_over}
@@ -61,7 +61,7 @@ module _ (texts : TableTexts) (file : List ℕ) where
       → IsUntold rows visits texts file (Refused refusal)
   a_refused_program rows visits refusal refused = refused
 
-  a_file_that_spells_no_program : (rows visits : ℕ) (fault : TextFault) → FirstFault file fault → IsUntold rows visits texts file (Program fault)
+  a_file_that_spells_no_program : (rows visits : ℕ) (fault : TextFault) → FirstTextFault file fault → IsUntold rows visits texts file (Program fault)
   a_file_that_spells_no_program rows visits fault first = first
 
   -- ---- a trial
@@ -80,11 +80,11 @@ module _ (texts : TableTexts) (file : List ℕ) where
       → IsNoTrial rows texts file visits (Trial fault) → ⊥
   no_stop_of_a_trial_that_ends rows visits fault none no_trial = none no_trial.holds.program no_trial.holds.of_file no_trial.holds.holds
 
-  no_trial_of_no_program : (rows visits : ℕ) (fault : TextFault) → FirstFault file fault → IsNoTrial rows texts file visits (Program fault)
+  no_trial_of_no_program : (rows visits : ℕ) (fault : TextFault) → FirstTextFault file fault → IsNoTrial rows texts file visits (Program fault)
   no_trial_of_no_program rows visits fault first = first
 
 no_run_stops_for_memory : (end : End) → IsStop end trial.OutOfMemory → ⊥
 no_run_stops_for_memory end stop = stop
 
-a_run_stops_at_the_limit : (end : End) → IsFaultOf end trial.Limit → IsStop end trial.Limit
+a_run_stops_at_the_limit : (end : End) → IsFaultOfEnd end trial.Limit → IsStop end trial.Limit
 a_run_stops_at_the_limit end at_the_limit = at_the_limit

@@ -10,7 +10,7 @@ use Rattle.star_schema.specs.Schema.{column_of, place_of, table_name}
 use Rattle.star_schema.specs.Database.{Database, TableTexts}
 use Rattle.star_schema.specs.Loadable.{IsLoadable, database_of}
 use Rattle.star_program.specs.declared.spelling.fault.TextFault.{TextFault}
-use Rattle.star_program.specs.Text.FirstFaults.{FirstFault}
+use Rattle.star_program.specs.Text.FirstFaults.{FirstTextFault}
 use Rattle.star_query.specs.declared.fault.QueryFault.{QueryFault}
 use Rattle.star_verify.specs.declared.refusal.Refusal.{Refusal}
 use Rattle.star_verify.specs.declared.refusal.Refusal.TheVariants.{TooCostly}
@@ -101,7 +101,7 @@ module _ (rows : ℕ) (texts : TableTexts) where
   the_quote_over_texts : (file text : List ℕ) → IsLoadable rows texts → IsQuoteTextOver (database_of texts) file text → IsQuoteText rows texts file text
   the_quote_over_texts file text loadable quoted = record { loadable = loadable; holds = quoted }
 
-  no_quote_of_no_program : (fault : TextFault) → FirstFault a_program fault → IsUnquoted rows texts a_program (engine.Program fault)
+  no_quote_of_no_program : (fault : TextFault) → FirstTextFault a_program fault → IsUnquoted rows texts a_program (engine.Program fault)
   no_quote_of_no_program fault first = first
 
   no_quote_of_no_query : (fault : QueryFault) → IsQueryFault (codes "select") fault → IsUnquoted rows texts (codes "select") (engine.Query fault)

@@ -9,7 +9,7 @@ use Rattle.star_interval.specs.Range.{Range, is_i64, only}
 use Rattle.star_query.specs.Tree.{Expression, column, constant, add, sub, mul, count, Measure}
 use Rattle.star_plan.specs.Meaning.{Plan}
 use Rattle.star_compile_laws.proofs.PlanWords.{summed, least, greatest}
-use Rattle.star_plan.specs.Fits.{Fits, range_of, nodes_fit, measure_fits}
+use Rattle.star_plan.specs.Fits.{Fits, expression_range, nodes_fit, measure_fits}
 use Rattle.star_examples.proofs.Sample.{revenue, cost, tax, discount}
 
 -- ---- ranges
@@ -26,24 +26,24 @@ bounds _ = only (pos 0)
 abbrev minus : ℕ → Expression ColumnId
 minus n = constant (neg_ℤ (pos n))
 
-range_of_operands : map (range_of bounds) (revenue ∷ minus 7 ∷ []) ≡ record { low = pos 495; high = pos 3000 } ∷ record { low = neg_ℤ (pos 7); high = neg_ℤ (pos 7) } ∷ []
+range_of_operands : map (expression_range bounds) (revenue ∷ minus 7 ∷ []) ≡ record { low = pos 495; high = pos 3000 } ∷ record { low = neg_ℤ (pos 7); high = neg_ℤ (pos 7) } ∷ []
 range_of_operands = refl
 
-range_of_a_sum : range_of bounds (add revenue tax) ≡ record { low = pos 492; high = pos 3004 }
+range_of_a_sum : expression_range bounds (add revenue tax) ≡ record { low = pos 492; high = pos 3004 }
 range_of_a_sum = refl
 
-range_of_a_difference : range_of bounds (sub revenue cost) ≡ record { low = neg_ℤ (pos 705); high = pos 2900 }
+range_of_a_difference : expression_range bounds (sub revenue cost) ≡ record { low = neg_ℤ (pos 705); high = pos 2900 }
 range_of_a_difference = refl
 
 -- the ends are products of unlike ends
-range_of_a_product : range_of bounds (mul tax discount) ≡ record { low = neg_ℤ (pos 15); high = pos 20 }
+range_of_a_product : expression_range bounds (mul tax discount) ≡ record { low = neg_ℤ (pos 15); high = pos 20 }
 range_of_a_product = refl
 
 -- a column is read twice, so a square may be below 0
-range_of_a_square : range_of bounds (mul tax tax) ≡ record { low = neg_ℤ (pos 12); high = pos 16 }
+range_of_a_square : expression_range bounds (mul tax tax) ≡ record { low = neg_ℤ (pos 12); high = pos 16 }
 range_of_a_square = refl
 
-range_of_a_tree : range_of bounds (sub (mul tax discount) (add cost (minus 100))) ≡ record { low = neg_ℤ (pos 1115); high = pos 20 }
+range_of_a_tree : expression_range bounds (sub (mul tax discount) (add cost (minus 100))) ≡ record { low = neg_ℤ (pos 1115); high = pos 20 }
 range_of_a_tree = refl
 
 -- ---- the nodes of an expression
@@ -80,7 +80,7 @@ unfolding is_i64
 constants_fit = refl
 
 -- the whole fits, and the product inside it doesn't
-an_inner_product : map (range_of bounds) (add product (minus 1) ∷ add (minus 1) product ∷ sub product (constant (pos 1)) ∷ sub (constant (pos 0)) product ∷ mul product (constant (pos 0)) ∷ mul (constant (pos 0)) product ∷ [])
+an_inner_product : map (expression_range bounds) (add product (minus 1) ∷ add (minus 1) product ∷ sub product (constant (pos 1)) ∷ sub (constant (pos 0)) product ∷ mul product (constant (pos 0)) ∷ mul (constant (pos 0)) product ∷ [])
     ≡ only (pos 9223372036854775807) ∷ only (pos 9223372036854775807) ∷ only (pos 9223372036854775807) ∷ only (neg_ℤ (pos 9223372036854775808)) ∷ only (pos 0) ∷ only (pos 0) ∷ []
 an_inner_product = refl
 

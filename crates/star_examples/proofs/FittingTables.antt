@@ -8,14 +8,15 @@ use Rattle.star_schema.specs.Bounds.{greatest, least, numbers_at}
 use Rattle.star_schema.specs.Records.{pieces}
 use Rattle.star_schema.specs.Schema.{column_of, columns_of, place_of}
 use Rattle.star_interval.specs.Range.{is_i64}
-use Rattle.star_plan.specs.Fits.{range_of}
+use Rattle.star_plan.specs.Fits.{expression_range}
 use Rattle.star_schema.specs.declared.column.ColumnId.{ColumnId}
 use Rattle.star_query.specs.declared.token.Fold.TheVariants.{Sum, Max}
 use Rattle.star_query.specs.Tree.{Expression, column, constant, mul, sub, Measure, Name, Tree, aggregate, count, fold}
 use Rattle.star_plan.specs.Meaning.{Plan}
 use Rattle.star_compile_laws.proofs.PlanWords.{greatest as greatest_of, summed}
 use Rattle.star_plan.specs.Names.{column_called}
-use Rattle.star_query_meaning.specs.Fitting.{FitsTables, PlanFitsTables, bounds_in, range_named}
+use Rattle.star_schema.specs.Columns.{bounds_in}
+use Rattle.star_query_meaning.specs.Fitting.{FitsTables, PlanFitsTables, range_named}
 use Rattle.star_examples.proofs.Sample.{sample}
 
 abbrev asking : List (Measure ColumnId) → Plan
@@ -30,7 +31,7 @@ unfolding column_of columns_of place_of pieces greatest least numbers_at
 bounds_of_columns = refl
 
 -- no line has this profit or that: each end is of two lines
-range_of_profits : range_of (bounds_in sample) profit ≡ record { low = neg_ℤ (pos 705); high = pos 2900 }
+range_of_profits : expression_range (bounds_in sample) profit ≡ record { low = neg_ℤ (pos 705); high = pos 2900 }
 unfolding column_of columns_of place_of pieces greatest least numbers_at
 range_of_profits = refl
 

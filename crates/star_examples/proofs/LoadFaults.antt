@@ -16,7 +16,7 @@ use Rattle.star_reader.specs.Faults as reader
 use Rattle.star_reader.specs.Faults.{part_fault, parts_fault, record_fault, records_fault, text_fault}
 use Rattle.star_common.specs.First.{first_answer}
 use Rattle.star_catalogue.specs.declared.fault.LoadFault.TheVariants as load
-use Rattle.star_catalogue.specs.Load.{absent_fault, cell_fault, fault_of_read, first_repeat, load_fault, same_key, tables_fault}
+use Rattle.star_catalogue.specs.Load.{absent_fault, foreign_key_fault, fault_of_read, first_repeat, load_fault, same_key, tables_fault}
 
 unfoldable as_many : ℕ → List ℕ
 as_many zero = []
@@ -188,7 +188,7 @@ unfolding tables_fault absent_fault keys_of foreign_keys first_repeat part_fault
 limits = refl
 
 -- a column that refers to no table is never absent
-foreign : map (λ c. cell_fault (database_of (with_lines good)) 4 [] c) (LoTax ∷ LoOrderdate ∷ [])
+foreign : map (λ c. foreign_key_fault (database_of (with_lines good)) 4 [] c) (LoTax ∷ LoOrderdate ∷ [])
     ≡ None ∷ Some (load.AbsentKey 4 LoOrderdate) ∷ []
 unfolding keys_of column_of columns_of place_of pieces
 foreign = refl

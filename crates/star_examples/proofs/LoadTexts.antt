@@ -5,7 +5,7 @@ use Rattle.std.specs.Prelude.{codes, map}
 use Rattle.star_schema.specs.declared.table.TableId.TheVariants.{Date, Customer, Supplier, Part, Lineorder}
 use Rattle.star_schema.specs.declared.column.ColumnId.TheVariants.{LoCommitdate}
 use Rattle.star_schema.specs.Schema.{column_of, table_name}
-use Rattle.star_catalogue.specs.FaultTexts.{cell_text, load_fault_text, record_text, table_text}
+use Rattle.star_catalogue.specs.FaultTexts.{cell_fault_text, load_fault_text, record_fault_text, table_fault_text}
 use Rattle.star_catalogue.specs.declared.fault.LoadFault.TheVariants.{OutOfMemory, ByteOrderMark, TooManyRows, FieldCount, CellTooLong, BadByte, BadNumber, DuplicateKey, AbsentKey}
 
 lines_of_faults : map load_fault_text
@@ -20,5 +20,5 @@ lines_of_faults : map load_fault_text
     ∷ codes "8 DuplicateKey table lineorder record 5"
     ∷ codes "9 AbsentKey table lineorder record 1 column lo_commitdate"
     ∷ []
-unfolding table_text record_text cell_text digits column_of table_name
+unfolding table_fault_text record_fault_text cell_fault_text digits column_of table_name
 lines_of_faults = refl

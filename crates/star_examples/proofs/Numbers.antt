@@ -11,7 +11,7 @@ use Rattle.star_schema.specs.Records.{pieces}
 use Rattle.star_schema.specs.Schema.{column_of, place_of, columns_of}
 use Rattle.star_schema.specs.Tables.{Value, row_of}
 use Rattle.star_query.specs.Tree.{constant, add, sub, mul, count}
-use Rattle.star_plan.specs.Meaning.{Joined, Plan, only_row, value_of, expression_number, measured, aggregate_of, entry_of, plan_rows}
+use Rattle.star_plan.specs.Meaning.{Joined, Plan, only_row, joined_value, expression_number, measured, aggregate_of, entry_of, plan_rows}
 use Rattle.star_compile_laws.proofs.PlanWords.{summed, least, greatest}
 use Rattle.star_examples.proofs.Sample.{number, sample, by_order, revenue, cost, discount}
 
@@ -37,7 +37,7 @@ nested = refl
 
 -- ---- aggregates
 
-measures_of_a_line : map (measured (λ c. value_of c line)) (count ∷ summed revenue ∷ least cost ∷ greatest (sub revenue cost) ∷ []) ≡ pos 1 ∷ pos 980 ∷ pos 600 ∷ pos 380 ∷ []
+measures_of_a_line : map (measured (λ c. joined_value c line)) (count ∷ summed revenue ∷ least cost ∷ greatest (sub revenue cost) ∷ []) ≡ pos 1 ∷ pos 980 ∷ pos 600 ∷ pos 380 ∷ []
 unfolding column_of columns_of place_of pieces
 measures_of_a_line = refl
 

@@ -11,7 +11,7 @@ use Rattle.star_query.specs.declared.token.Relation.TheVariants.{Greater}
 use Rattle.star_schema.specs.declared.group.Shape.TheVariants.{Plain}
 use Rattle.star_query.specs.Tree as tree
 use Rattle.star_query.specs.Tree.{Name, Condition, and, or, not, Tree, Test}
-use Rattle.star_plan.specs.Meaning.{Joined, value_of}
+use Rattle.star_plan.specs.Meaning.{Joined, joined_value}
 use Rattle.star_plan.specs.Names.{column_called, table_called}
 use Rattle.star_query_meaning.specs.Rows.{product, selected, tables_of}
 use Rattle.star_examples.proofs.Sample.{number, sample}
@@ -22,7 +22,7 @@ called word = record { text = word; place = 0 }
 
 -- the values of some columns of each row
 abbrev seen : List ColumnId → List Joined → List (List Value)
-seen columns rows = map (λ row. map (λ c. value_of c row) columns) rows
+seen columns rows = map (λ row. map (λ c. joined_value c row) columns) rows
 
 -- ---- the product
 

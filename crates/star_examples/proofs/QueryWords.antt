@@ -7,7 +7,7 @@ use Rattle.star_query.specs.declared.fault.QueryFault.TheVariants as faults
 use Rattle.star_query.specs.declared.token.Relation.TheVariants.{AtLeast, Less}
 use Rattle.star_query.specs.Symbols.{Placed, Symbol, symbols, number, relation}
 use Rattle.star_query.specs.Cut.{cut_from, cut_of}
-use Rattle.star_query.specs.Derives.{Breaks, IsFirstFault, IsTooDeep, IsTooMany, place_of}
+use Rattle.star_query.specs.Derives.{Breaks, IsFirstQueryFault, IsTooDeep, IsTooMany, first_place}
 use Rattle.star_query.specs.Grammar.{ascending, cube, descending, grouped, groups_tree, hiding, key_tree, one, rollup, ungrouped, unmarked}
 use Rattle.star_query.specs.Maxima.{most_bytes}
 use Rattle.star_query.specs.Tree as tree
@@ -36,30 +36,30 @@ in_64_kibibytes : most_bytes ≡ 64 * 1024
 in_64_kibibytes = refl
 
 module _ (bytes : List ℕ) where
-  want_of_memory : IsFirstFault bytes faults.OutOfMemory
+  want_of_memory : IsFirstQueryFault bytes faults.OutOfMemory
   want_of_memory = tt
 
-  as_long_as_may_be : length bytes ≡ most_bytes → IsFirstFault bytes faults.TooLong → ⊥
+  as_long_as_may_be : length bytes ≡ most_bytes → IsFirstQueryFault bytes faults.TooLong → ⊥
   as_long_as_may_be long over = omega (arith, long, over)
 
   -- of no text that is too long, and where the rest begins
-  unexpected_within : (place : ℕ) → IsFirstFault bytes (faults.Unexpected place) → length bytes ≤ most_bytes
+  unexpected_within : (place : ℕ) → IsFirstQueryFault bytes (faults.Unexpected place) → length bytes ≤ most_bytes
   unexpected_within place first = first.1.short
 
-  unexpected_there : (place : ℕ) (first : IsFirstFault bytes (faults.Unexpected place)) → place ≡ place_of first.0 (length bytes)
+  unexpected_there : (place : ℕ) (first : IsFirstQueryFault bytes (faults.Unexpected place)) → place ≡ first_place first.0 (length bytes)
   unexpected_there place first = first.2
 
-  too_deep : (first : IsFirstFault bytes faults.TooDeep) → Breaks IsTooDeep first.1.first.front (symbols first.0)
+  too_deep : (first : IsFirstQueryFault bytes faults.TooDeep) → Breaks IsTooDeep first.1.first.front (symbols first.0)
   too_deep first = first.1.first.fails
 
-  too_many : (first : IsFirstFault bytes faults.TooMany) → Breaks IsTooMany first.1.first.front (symbols first.0)
+  too_many : (first : IsFirstQueryFault bytes faults.TooMany) → Breaks IsTooMany first.1.first.front (symbols first.0)
   too_many first = first.1.first.fails
 
-  a_bad_byte : length bytes ≡ most_bytes → cut_of bytes ≡ Err (faults.BadCharacter 3) → IsFirstFault bytes (faults.BadCharacter 3)
+  a_bad_byte : length bytes ≡ most_bytes → cut_of bytes ≡ Err (faults.BadCharacter 3) → IsFirstQueryFault bytes (faults.BadCharacter 3)
   a_bad_byte long cut = (omega (arith, long), cut)
 
-  a_bad_byte_of_a_longer_text : most_bytes < length bytes → IsFirstFault bytes (faults.BadCharacter 3) → ⊥
+  a_bad_byte_of_a_longer_text : most_bytes < length bytes → IsFirstQueryFault bytes (faults.BadCharacter 3) → ⊥
   a_bad_byte_of_a_longer_text long first = omega (arith, long, first.0)
 
-  no_bad_byte : (cut_of bytes ≡ Err (faults.BadCharacter 3) → ⊥) → IsFirstFault bytes (faults.BadCharacter 3) → ⊥
+  no_bad_byte : (cut_of bytes ≡ Err (faults.BadCharacter 3) → ⊥) → IsFirstQueryFault bytes (faults.BadCharacter 3) → ⊥
   no_bad_byte other first = other first.1

@@ -12,13 +12,13 @@ use Rattle.star_schema.specs.Tables.{Value, row_of}
 use Rattle.star_query.specs.declared.token.Relation.TheVariants.{Equal, Less}
 use Rattle.star_plan.specs.declared.tree.Join.{Join}
 use Rattle.star_query.specs.Tree.{column, sub, mul, count, Measure}
-use Rattle.star_plan.specs.Meaning.{Tables, Plan, value_of, joined_rows, plan_rows, entry_of, RowCondition}
+use Rattle.star_plan.specs.Meaning.{Tables, Plan, joined_value, joined_rows, plan_rows, entry_of, RowCondition}
 use Rattle.star_compile_laws.proofs.PlanWords.{compare, between, summed}
 use Rattle.star_examples.proofs.Sample.{number, text, lines, sample, by_order, by_commit, of_customer, of_part, of_supplier, revenue, cost}
 
 -- the values of some columns of each joined row
 abbrev seen : Tables → List Join → List ColumnId → List (List Value)
-seen ts js columns = map (λ row. map (λ c. value_of c row) columns) (joined_rows ts js)
+seen ts js columns = map (λ row. map (λ c. joined_value c row) columns) (joined_rows ts js)
 
 -- ---- joined rows
 
@@ -90,7 +90,7 @@ first_query =
     [] (summed (mul (column LoExtendedprice) (column LoDiscount)) ∷ [])
 
 -- the second line is of 1993 and its discount is 3, but its quantity isn't below 25
-one_conjunct_fails : map (λ row. value_of LoQuantity row) (plan_rows sample first_query) ≡ number 10 ∷ []
+one_conjunct_fails : map (λ row. joined_value LoQuantity row) (plan_rows sample first_query) ≡ number 10 ∷ []
 unfolding column_of columns_of place_of pieces
 one_conjunct_fails = refl
 

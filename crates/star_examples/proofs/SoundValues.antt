@@ -15,8 +15,8 @@ use Rattle.star_program.specs.Run.{Limited, Trapped}
 use Rattle.star_trial.specs.declared.fault.TrialFault.TheVariants as fault
 use Rattle.star_outcome.specs.Sound.{IsSoundValue}
 use Rattle.star_outcome.specs.SoundKeys.{AreSoundKeys, IsSoundKey}
-use Rattle.star_trial.specs.Trials.{IsFaultOf}
-use Rattle.star_world.specs.WorldOf.{column_dictionary}
+use Rattle.star_trial.specs.Trials.{IsFaultOfEnd}
+use Rattle.star_schema.specs.Columns.{column_dictionary}
 
 not_below : (n : ℕ) → n < n → ⊥
 not_below n h = omega (arith, h)
@@ -56,11 +56,11 @@ second_of_two database are = are.1.0
 
 -- ---- how a trial ends
 
-its_trap : IsFaultOf (Trapped 3 AbsentKey) (fault.Trap 3 AbsentKey)
+its_trap : IsFaultOfEnd (Trapped 3 AbsentKey) (fault.Trap 3 AbsentKey)
 its_trap = refl
 
-no_limit : IsFaultOf (Trapped 3 AbsentKey) fault.Limit → ⊥
+no_limit : IsFaultOfEnd (Trapped 3 AbsentKey) fault.Limit → ⊥
 no_limit is = absurd (cc is)
 
-no_trap : IsFaultOf Limited (fault.Trap 3 AbsentKey) → ⊥
+no_trap : IsFaultOfEnd Limited (fault.Trap 3 AbsentKey) → ⊥
 no_trap is = absurd (cc is)

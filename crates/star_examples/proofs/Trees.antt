@@ -7,7 +7,7 @@ use Rattle.star_schema.specs.declared.group.Shape.TheVariants.{Plain}
 use Rattle.star_schema.specs.declared.group.Direction.TheVariants.{Ascending}
 use Rattle.star_query.specs.Tree.{Name, number, text, Expression, column, constant, add, sub, mul, Condition, or, and, not, Measure, fold, count, Item, plain, aggregate, Tree, Test}
 use Rattle.star_query.specs.Limits.{IsQueryWithinLimits, operands_of, comparisons_of, where_comparisons}
-use Rattle.star_query.specs.Spelled.{IsSpelledQuery, is_name, is_number, is_text, expression_is_spelled, condition_is_spelled, item_is_spelled}
+use Rattle.star_query.specs.Spelled.{IsSpelledQuery, is_name, has_few_digits, is_printable_text, expression_is_spelled, condition_is_spelled, item_is_spelled}
 use Rattle.star_examples.proofs.QueryTests.{pair, compare, between}
 
 abbrev called : List ℕ → Name
@@ -84,7 +84,7 @@ long = constant (pos 1000000000000000000)
 
 expressions_spelled : map expression_is_spelled (column a ∷ column hyphened ∷ long ∷ add (column a) long ∷ add long (column a) ∷ sub (column a) long ∷ sub long (column a) ∷ mul (column a) long ∷ mul long (column a) ∷ [])
     ≡ true ∷ false ∷ false ∷ false ∷ false ∷ false ∷ false ∷ false ∷ false ∷ []
-unfolding is_name is_number
+unfolding is_name has_few_digits
 expressions_spelled = refl
 
 abbrev bad : Condition Test
@@ -93,28 +93,28 @@ bad = compare a Equal (text (10 ∷ []))
 comparisons_spelled : map condition_is_spelled
     (good ∷ bad ∷ compare hyphened Equal (number (pos 1)) ∷ pair a a ∷ pair hyphened a ∷ pair a hyphened ∷ between a (number (pos 1)) (text (10 ∷ [])) ∷ between a (text (10 ∷ [])) (number (pos 1)) ∷ between hyphened (number (pos 1)) (number (pos 1)) ∷ [])
     ≡ true ∷ false ∷ false ∷ true ∷ false ∷ false ∷ false ∷ false ∷ false ∷ []
-unfolding is_name is_number is_text
+unfolding is_name has_few_digits is_printable_text
 comparisons_spelled = refl
 
 conditions_spelled : map condition_is_spelled (or good good ∷ or bad good ∷ or good bad ∷ and bad good ∷ and good bad ∷ not bad ∷ [])
     ≡ true ∷ false ∷ false ∷ false ∷ false ∷ false ∷ []
-unfolding is_name is_number is_text
+unfolding is_name has_few_digits is_printable_text
 conditions_spelled = refl
 
 items_spelled : map item_is_spelled (plain a ∷ plain hyphened ∷ item count ∷ item (fold Sum long) ∷ aggregate (record { measure = count; place = 0; name = Some hyphened }) ∷ [])
     ≡ true ∷ false ∷ true ∷ false ∷ false ∷ []
-unfolding is_name is_number
+unfolding is_name has_few_digits
 items_spelled = refl
 
 abbrev small : Tree
 small = record { items = plain a ∷ []; tables = a ∷ []; condition = Some good; grouping = record { shape = Plain; columns = a ∷ [] }; keys = record { name = a; direction = Ascending } ∷ [] }
 
 small_spelled : IsSpelledQuery small
-unfolding is_name is_number
+unfolding is_name has_few_digits
 small_spelled = record { items = refl; tables = refl; condition = refl; columns = refl; keys = refl }
 
 with_no_condition : IsSpelledQuery (record small { condition = None })
-unfolding is_name is_number
+unfolding is_name has_few_digits
 with_no_condition = record { items = refl; tables = refl; condition = refl; columns = refl; keys = refl }
 
 item_with_a_hyphen : IsSpelledQuery (record small { items = plain a ∷ plain hyphened ∷ [] }) → ⊥
@@ -126,7 +126,7 @@ unfolding is_name
 table_with_a_hyphen spelled = let broken : false ≡ true = spelled.tables in cc
 
 text_with_a_line_end : IsSpelledQuery (record small { condition = Some bad }) → ⊥
-unfolding is_name is_number is_text
+unfolding is_name has_few_digits is_printable_text
 text_with_a_line_end spelled = let broken : false ≡ true = spelled.condition in cc
 
 column_with_a_hyphen : IsSpelledQuery (record small { grouping = record { shape = Plain; columns = hyphened ∷ [] } }) → ⊥

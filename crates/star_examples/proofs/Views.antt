@@ -23,7 +23,7 @@ use Rattle.star_query.specs.Tree as tree
 use Rattle.star_query.specs.Tree.{Tree, column, constant, add, sub, mul, or, and, not, count}
 use Rattle.star_query.specs.Views.{literal_view, expression_view, test_view, condition_view, measure_view, item_view, name_view}
 use Rattle.star_compile_laws.proofs.PlanWords.{compare, between, summed, least, greatest}
-use Rattle.star_plan.specs.Shown.{condition_shown, expression_shown, measure_shown}
+use Rattle.star_plan.specs.Views.{row_condition_view, column_expression_view, column_measure_view}
 
 abbrev value : ℕ → Value
 value n = of_table.Number (pos n)
@@ -64,15 +64,15 @@ items_viewed n = refl
 
 -- ---- the trees of plans
 
-plan_conditions_shown : (p q : _) → map condition_shown (Or' p one_tax q some_taxes ∷ And' p one_tax q some_taxes ∷ Not' p one_tax ∷ one_tax ∷ some_taxes ∷ [])
+plan_conditions_shown : (p q : _) → map row_condition_view (Or' p one_tax q some_taxes ∷ And' p one_tax q some_taxes ∷ Not' p one_tax ∷ one_tax ∷ some_taxes ∷ [])
     ≡ or (compare LoTax Less (value 1)) (between LoTax (value 1) (value 2)) ∷ and (compare LoTax Less (value 1)) (between LoTax (value 1) (value 2))
     ∷ not (compare LoTax Less (value 1)) ∷ compare LoTax Less (value 1) ∷ between LoTax (value 1) (value 2) ∷ []
 plan_conditions_shown p q = refl
 
-plan_expressions_shown : (p q : _) → map expression_shown (Column LoTax ∷ Number (pos 1) ∷ Add' p (Column LoTax) q (Number (pos 1)) ∷ Sub' p (Column LoTax) q (Number (pos 1)) ∷ Mul' p (Column LoTax) q (Number (pos 1)) ∷ [])
+plan_expressions_shown : (p q : _) → map column_expression_view (Column LoTax ∷ Number (pos 1) ∷ Add' p (Column LoTax) q (Number (pos 1)) ∷ Sub' p (Column LoTax) q (Number (pos 1)) ∷ Mul' p (Column LoTax) q (Number (pos 1)) ∷ [])
     ≡ column LoTax ∷ constant (pos 1) ∷ add (column LoTax) (constant (pos 1)) ∷ sub (column LoTax) (constant (pos 1)) ∷ mul (column LoTax) (constant (pos 1)) ∷ []
 plan_expressions_shown p q = refl
 
-plan_measures_shown : map measure_shown (measure.Count ∷ measure.Fold Sum (Number (pos 1)) ∷ measure.Fold Min (Number (pos 2)) ∷ measure.Fold Max (Number (pos 3)) ∷ [])
+plan_measures_shown : map column_measure_view (measure.Count ∷ measure.Fold Sum (Number (pos 1)) ∷ measure.Fold Min (Number (pos 2)) ∷ measure.Fold Max (Number (pos 3)) ∷ [])
     ≡ count ∷ summed (constant (pos 1)) ∷ least (constant (pos 2)) ∷ greatest (constant (pos 3)) ∷ []
 plan_measures_shown = refl

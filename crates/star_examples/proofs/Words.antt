@@ -5,7 +5,7 @@ use Rattle.star_schema.specs.declared.column.ColumnId.TheVariants.{LoTax, LoShip
 use Rattle.star_schema.specs.declared.group.Shape.TheVariants.{Plain}
 use Rattle.star_schema.specs.declared.column.ColumnId.{ColumnId}
 use Rattle.star_query.specs.declared.token.Relation.TheVariants.{Equal}
-use Rattle.star_query.specs.Spelled.{is_name, is_number, is_text}
+use Rattle.star_query.specs.Spelled.{is_name, has_few_digits, is_printable_text}
 use Rattle.star_query.specs.Tree.{Expression, column, constant, add, sub, mul, or, and, not, count}
 use Rattle.star_plan.specs.Meaning.{Plan, RowCondition}
 use Rattle.star_compile_laws.proofs.PlanWords.{compare, between, summed, least, greatest}
@@ -20,14 +20,14 @@ unfolding is_name
 names_spelled = refl
 
 -- 18 digits and 19, of either sign
-numbers_spelled : map is_number (pos 0 ∷ pos 999999999999999999 ∷ neg_ℤ (pos 999999999999999999) ∷ pos 1000000000000000000 ∷ neg_ℤ (pos 1000000000000000000) ∷ [])
+numbers_spelled : map has_few_digits (pos 0 ∷ pos 999999999999999999 ∷ neg_ℤ (pos 999999999999999999) ∷ pos 1000000000000000000 ∷ neg_ℤ (pos 1000000000000000000) ∷ [])
     ≡ true ∷ true ∷ true ∷ false ∷ false ∷ []
-unfolding is_number
+unfolding has_few_digits
 numbers_spelled = refl
 
 -- from the space to the tilde
-texts_spelled : map is_text ([] ∷ (32 ∷ 126 ∷ []) ∷ (97 ∷ 31 ∷ []) ∷ (127 ∷ []) ∷ (9 ∷ []) ∷ []) ≡ true ∷ true ∷ false ∷ false ∷ false ∷ []
-unfolding is_text
+texts_spelled : map is_printable_text ([] ∷ (32 ∷ 126 ∷ []) ∷ (97 ∷ 31 ∷ []) ∷ (127 ∷ []) ∷ (9 ∷ []) ∷ []) ≡ true ∷ true ∷ false ∷ false ∷ false ∷ []
+unfolding is_printable_text
 texts_spelled = refl
 
 -- ---- plans
@@ -41,13 +41,13 @@ bad = compare LoShipmode Equal (text (10 ∷ []))
 conditions_spelled : map condition_is_spelled
     (good ∷ compare LoTax Equal (number 1000000000000000000) ∷ bad ∷ or good bad ∷ or bad good ∷ or good good ∷ and good bad ∷ and bad good ∷ and good good ∷ not bad ∷ not good ∷ [])
     ≡ true ∷ false ∷ false ∷ false ∷ false ∷ true ∷ false ∷ false ∷ true ∷ false ∷ true ∷ []
-unfolding is_number is_text
+unfolding has_few_digits is_printable_text
 conditions_spelled = refl
 
 betweens_spelled : map condition_is_spelled
     (between LoTax (number 1) (number 2) ∷ between LoTax (number 1) (number 1000000000000000000) ∷ between LoTax (number 1000000000000000000) (number 1) ∷ [])
     ≡ true ∷ false ∷ false ∷ []
-unfolding is_number is_text
+unfolding has_few_digits is_printable_text
 betweens_spelled = refl
 
 abbrev one : Expression ColumnId
@@ -59,18 +59,18 @@ long = constant (pos 1000000000000000000)
 expressions_spelled : map expression_is_spelled
     (column LoTax ∷ one ∷ long ∷ add one one ∷ add one long ∷ add long one ∷ sub one long ∷ sub long one ∷ mul one long ∷ mul long one ∷ [])
     ≡ true ∷ true ∷ false ∷ true ∷ false ∷ false ∷ false ∷ false ∷ false ∷ false ∷ []
-unfolding is_number
+unfolding has_few_digits
 expressions_spelled = refl
 
 measures_spelled : map measure_is_spelled (count ∷ summed one ∷ summed long ∷ least long ∷ greatest long ∷ []) ≡ true ∷ true ∷ false ∷ false ∷ false ∷ []
-unfolding is_number
+unfolding has_few_digits
 measures_spelled = refl
 
 abbrev ones : Plan
 ones = record { joins = []; conjuncts = good ∷ []; shape = Plain; keys = []; measures = summed one ∷ []; names = codes "sum1" ∷ []; items = []; sorts = [] }
 
 ones_spelled : IsSpelledPlan ones
-unfolding is_name is_number is_text
+unfolding is_name has_few_digits is_printable_text
 ones_spelled = record { names = refl; conjuncts = refl; measures = refl }
 
 name_with_a_hyphen : IsSpelledPlan (record ones { names = codes "sum1" ∷ codes "a-b" ∷ [] }) → ⊥
@@ -78,9 +78,9 @@ unfolding is_name
 name_with_a_hyphen spelled = let broken : false ≡ true = spelled.names in cc
 
 text_with_a_line_end : IsSpelledPlan (record ones { conjuncts = good ∷ bad ∷ [] }) → ⊥
-unfolding is_number is_text
+unfolding has_few_digits is_printable_text
 text_with_a_line_end spelled = let broken : false ≡ true = spelled.conjuncts in cc
 
 number_too_long : IsSpelledPlan (record ones { measures = summed long ∷ [] }) → ⊥
-unfolding is_number
+unfolding has_few_digits
 number_too_long spelled = let broken : false ≡ true = spelled.measures in cc

@@ -14,16 +14,17 @@ use Rattle.star_schema.specs.declared.group.Shape.TheVariants.{Plain, Cube, Roll
 use Rattle.star_schema.specs.Groups.{is_grouping, numbers_for}
 use Rattle.star_program.specs.declared.key.KeyValue.{KeyValue}
 use Rattle.star_group.specs.declared.keyed.key.KeyPart.{KeyPart}
-use Rattle.star_group.specs.Base.{HasAggregates, HasBaseWithRoom, IsBase, IsRowOver, row_at}
+use Rattle.star_group.specs.Base.{HasAggregates, HasBaseWithRoom, IsBase, IsRowOver, row_found}
 use Rattle.star_group.specs.Cells.{held}
-use Rattle.star_group.specs.Held.{Holds, IsRow, changes, has_puts, puts_at}
+use Rattle.star_group.specs.Held.{HoldsPuts, IsRow, changes, has_puts, puts_at}
 use Rattle.star_group.specs.Eager.{with_total}
 use Rattle.star_group.specs.OwnKeys.{is_of_put, key_eq, padded, vary}
 use Rattle.star_group.specs.Private.Coarser.{AreOnce, IsRolledUp, IsRolledUpWithRoom, first_hidden, is_among, keys_from, shown_entries}
 use Rattle.star_group.specs.Private.Given.{if_given, row_given, rows_given}
 use Rattle.star_group.specs.Private.BasePut.{group_with}
-use Rattle.star_group.specs.Shown.{AreRows}
-use Rattle.star_group.specs.Stores.{Group, Put, aggregate_at}
+use Rattle.star_group.specs.StoreRows.{AreRows}
+use Rattle.star_program.specs.Puts.{Update, aggregate_at}
+use Rattle.star_group.specs.Stores.{Group}
 use Rattle.star_group.proofs.GivenGroups.{given_are_rows, is_given}
 use Rattle.star_group.proofs.GroupKeys.{key_decides, key_equiv, own_grouping, plain_among}
 use Rattle.star_group.proofs.OwnKeyLemmas.{vary-start}
@@ -47,10 +48,10 @@ base_among s count q ks fits few =
     by true e = ap (λ b. b && true) (ap (λ k. is_grouping s (take count k)) ((key_decides q (padded 6 ks)).0 e) ∙ own_grouping s ks count fits few)
     by false e = and-false (is_grouping s (take count q))
 
-pub base_rolled : (d : Group) (es : List (List KeyPart × List (Option ℤ))) (all : List (Option ℤ)) (us : List Put) → d.count ≤ 6 → IsBase d es all us → IsRolledUp d d.count es us
+pub base_rolled : (d : Group) (es : List (List KeyPart × List (Option ℤ))) (all : List (Option ℤ)) (us : List Update) → d.count ≤ 6 → IsBase d es all us → IsRolledUp d d.count es us
 base_rolled d es all us few base = record {
   fit = base.fit;
-  rows = λ q. subst (λ ps. IsRowOver d ps (row_at es q))
+  rows = λ q. subst (λ ps. IsRowOver d ps (row_found es q))
       (filter_same (λ u. key_eq q (padded 6 u.keys)) (λ u. is_among d.shape d.count d.count q u.keys) us
       (of_each (λ u. key_eq q (padded 6 u.keys) ≡ is_among d.shape d.count d.count q u.keys) us
       (λ u c. sym (base_among d.shape d.count q u.keys (at_each (λ w. length w.keys ≡ d.count) us u base.fit c) few))))
@@ -73,7 +74,7 @@ cube_keys count ks =
     let all : count - 0 ≡ count = omega arith in
     rw all (map-id (vary count (padded 6 ks)))
 
-same_rows : (d : Group) (q : List (Option KeyValue)) (u : Put) → length u.keys ≡ d.count → d.count ≤ 6 → key_eq q (padded 6 []) ≡ false → is_among d.shape (first_hidden d.shape d.count) d.count q u.keys ≡ changes d q u
+same_rows : (d : Group) (q : List (Option KeyValue)) (u : Update) → length u.keys ≡ d.count → d.count ≤ 6 → key_eq q (padded 6 []) ≡ false → is_among d.shape (first_hidden d.shape d.count) d.count q u.keys ≡ changes d q u
 same_rows d q u fits few other =
     by d.shape
     ∙ ap (λ n. is_grouping d.shape (take n q) && list_any (key_eq q) (vary n (padded 6 u.keys))) (sym fits)
@@ -87,25 +88,25 @@ same_rows d q u fits few other =
 
 -- ---- the total beside the others
 
-module _ (d : Group) (us : List Put) (es : List (List KeyPart × List (Option ℤ))) (total : List (Option ℤ)) (few : d.count ≤ 6) (rolled : IsRolledUp d (first_hidden d.shape d.count) es us) (sums : HasAggregates d us total) where
+module _ (d : Group) (us : List Update) (es : List (List KeyPart × List (Option ℤ))) (total : List (Option ℤ)) (few : d.count ≤ 6) (rolled : IsRolledUp d (first_hidden d.shape d.count) es us) (sums : HasAggregates d us total) where
   same_puts : (q : List (Option KeyValue)) → key_eq q (padded 6 []) ≡ false → filter (λ u. is_among d.shape (first_hidden d.shape d.count) d.count q u.keys) us ≡ puts_at d q us
   same_puts q other = filter_same (λ u. is_among d.shape (first_hidden d.shape d.count) d.count q u.keys) (changes d q) us
       (of_each (λ u. is_among d.shape (first_hidden d.shape d.count) d.count q u.keys ≡ changes d q u) us
       (λ u c. same_rows d q u (at_each (λ w. length w.keys ≡ d.count) us u rolled.fit c) few other))
 
-  pub holds_all : Holds d (with_total total (row_at es)) us
+  pub holds_all : HoldsPuts d (with_total total (row_found es)) us
   holds_all = record { fit = rolled.fit; rows = λ q. by q (key_eq q (padded 6 [])) refl }
     where
       other_row : (q : List (Option KeyValue)) → key_eq q (padded 6 []) ≡ false → (found : Option (List (Option ℤ))) → IsRowOver d (puts_at d q us) found → IsRow d us q found
       other_row q e None none = ap (λ b. b || has_puts (puts_at d q us)) e ∙ none
       other_row q e (Some row) is = record { due = ap (λ b. b || has_puts (puts_at d q us)) e ∙ is.0; cells = is.1 }
 
-      by : (q : List (Option KeyValue)) (b : Bool) → key_eq q (padded 6 []) ≡ b → IsRow d us q (cond b (Some total) (row_at es q))
+      by : (q : List (Option KeyValue)) (b : Bool) → key_eq q (padded 6 []) ≡ b → IsRow d us q (cond b (Some total) (row_found es q))
       by q true e = record {
         due = ap (λ b. b || has_puts (puts_at d q us)) e;
-        cells = λ place h. sums place h ∙ ap (λ ps. held (aggregate_at d place) (numbers_for place ps)) (sym (ap (λ k. puts_at d k us) ((key_decides q (padded 6 [])).0 e) ∙ all_rows d us));
+        cells = λ place h. sums place h ∙ ap (λ ps. held (aggregate_at d.aggregates place) (numbers_for place ps)) (sym (ap (λ k. puts_at d k us) ((key_decides q (padded 6 [])).0 e) ∙ all_rows d us));
       }
-      by q false e = other_row q e (row_at es q) (subst (λ ps. IsRowOver d ps (row_at es q)) (same_puts q e) (rolled.rows q))
+      by q false e = other_row q e (row_found es q) (subst (λ ps. IsRowOver d ps (row_found es q)) (same_puts q e) (rolled.rows q))
 
 -- ---- the rows that are given
 
@@ -117,7 +118,7 @@ filter_twice p r (x ∷ xs) = by (p x) (filter_twice p r xs)
     by true rest = λ i. cond (r x) (x ∷ rest i) (rest i)
     by false rest = rest
 
-module _ (d : Group) (us : List Put) (es : List (List KeyPart × List (Option ℤ))) (total : List (Option ℤ)) where
+module _ (d : Group) (us : List Update) (es : List (List KeyPart × List (Option ℤ))) (total : List (Option ℤ)) where
   abbrev all : List (Option KeyValue)
   all = padded 6 []
 
@@ -128,10 +129,10 @@ module _ (d : Group) (us : List Put) (es : List (List KeyPart × List (Option �
   abbrev beside : List (List (Option KeyValue) × List (Option ℤ))
   beside = (all, total) ∷ filter shows (shown_entries es)
 
-  look_beside : (q : List (Option KeyValue)) → with_total total (row_at es) q ≡ lookup (key_eq q) beside
+  look_beside : (q : List (Option KeyValue)) → with_total total (row_found es) q ≡ lookup (key_eq q) beside
   look_beside q = by (key_eq q all) refl
     where
-      by : (b : Bool) → key_eq q all ≡ b → cond b (Some total) (row_at es q) ≡ cond b (Some total) (lookup (key_eq q) (filter shows (shown_entries es)))
+      by : (b : Bool) → key_eq q all ≡ b → cond b (Some total) (row_found es q) ≡ cond b (Some total) (lookup (key_eq q) (filter shows (shown_entries es)))
       by true e = refl
       by false e = sym (lookup-filter-keys (key_eq q) (λ k. not (key_eq k all)) true (λ k own. ap not (ap (λ k. key_eq k all) (sym ((key_decides q k).0 own)) ∙ e)) (shown_entries es) ∙ shown_lookup q es)
 
@@ -158,5 +159,5 @@ module _ (d : Group) (us : List Put) (es : List (List KeyPart × List (Option �
       by true = refl
       by false = refl
 
-  pub are_rows : d.count ≤ 6 → AreOnce es → Holds d (with_total total (row_at es)) us → AreRows d us (rows_given d.shape d.count d.aggregates total (shown_entries es))
-  are_rows few once holds = subst (AreRows d us) given_beside (given_are_rows d us beside few (subst (λ look. Holds d look us) (λ i q. look_beside q i) holds) (once_beside once))
+  pub are_rows : d.count ≤ 6 → AreOnce es → HoldsPuts d (with_total total (row_found es)) us → AreRows d us (rows_given d.shape d.count d.aggregates total (shown_entries es))
+  are_rows few once holds = subst (AreRows d us) given_beside (given_are_rows d us beside few (subst (λ look. HoldsPuts d look us) (λ i q. look_beside q i) holds) (once_beside once))

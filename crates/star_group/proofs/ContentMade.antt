@@ -12,20 +12,21 @@ use Rattle.star_schema.specs.declared.group.Aggregate.TheVariants.{Sum, Count, M
 use Rattle.star_schema.specs.Groups.{aggregate, joined, numbers_for}
 use Rattle.star_program.specs.declared.key.KeyValue.{KeyValue}
 use Rattle.star_program.specs.Keys.{same_keys}
-use Rattle.star_group.specs.Stores.{Put, Group, aggregate_at, IsContent, key_lists, number_at, puts_of}
+use Rattle.star_program.specs.Puts.{Update, aggregate_at}
+use Rattle.star_group.specs.Stores.{Group, IsContent, key_lists, put_number, puts_of}
 use Rattle.star_group.proofs.JoinedParts.{joined_more, more}
 use Rattle.star_group.proofs.KeyLists.{keys_decide, keys_equiv, some_put}
 
 -- ---- each key list once
 
-abbrev once_lists : List Put → List (List KeyValue)
+abbrev once_lists : List Update → List (List KeyValue)
 once_lists [] = []
 once_lists (u ∷ us) = cond (list_any (same_keys u.keys) (once_lists us)) (once_lists us) (u.keys ∷ once_lists us)
 
 none_same : (ks : List KeyValue) (kss : List (List KeyValue)) → list_any (same_keys ks) kss ≡ false → AllByRecursion (λ ls. same_keys ks ls ≡ false) kss
 none_same ks kss h = of_each (λ ls. same_keys ks ls ≡ false) kss (λ ls c. false_from_ne_true (same_keys ks ls) (λ e. true≢false (sym (list_any-from_Any (same_keys ks) kss (c.0, ls, c.1, c.2, e)) ∙ h)))
 
-once_distinct : (us : List Put) → IsDistinct same_keys (once_lists us)
+once_distinct : (us : List Update) → IsDistinct same_keys (once_lists us)
 unfolding IsDistinct
 once_distinct [] = tt
 once_distinct (u ∷ us) = by (list_any (same_keys u.keys) (once_lists us)) refl (once_distinct us)
@@ -34,7 +35,7 @@ once_distinct (u ∷ us) = by (list_any (same_keys u.keys) (once_lists us)) refl
     by true e rest = rest
     by false e rest = (none_same u.keys (once_lists us) e, rest)
 
-once_are : (us : List Put) (ks : List KeyValue) → list_any (same_keys ks) (once_lists us) ≡ list_any (same_keys ks) (key_lists us)
+once_are : (us : List Update) (ks : List KeyValue) → list_any (same_keys ks) (once_lists us) ≡ list_any (same_keys ks) (key_lists us)
 once_are [] ks = refl
 once_are (u ∷ us) ks = by (list_any (same_keys u.keys) (once_lists us)) refl (once_are us ks)
   where
@@ -49,11 +50,11 @@ once_are (u ∷ us) ks = by (list_any (same_keys u.keys) (once_lists us)) refl (
 
 -- ---- and its aggregates
 
-abbrev numbers_from : List Aggregate → ℕ → List Put → List ℤ
+abbrev numbers_from : List Aggregate → ℕ → List Update → List ℤ
 numbers_from [] place us = []
 numbers_from (g ∷ gs) place us = unwrap_or (aggregate g (numbers_for place us)) (pos 0) ∷ numbers_from gs (place + 1) us
 
-number_from : (gs : List Aggregate) (p : ℕ) (us : List Put) (a : ℕ) → a < length gs → get_or (numbers_from gs p us) a (pos 0) ≡ unwrap_or (aggregate (get_or gs a Count) (numbers_for (p + a) us)) (pos 0)
+number_from : (gs : List Aggregate) (p : ℕ) (us : List Update) (a : ℕ) → a < length gs → get_or (numbers_from gs p us) a (pos 0) ≡ unwrap_or (aggregate (get_or gs a Count) (numbers_for (p + a) us)) (pos 0)
 number_from [] p us a h = absurd (omega (arith, h))
 number_from (g ∷ gs) p us zero h = let here : p ≡ p + 0 = omega arith in ap (λ n. unwrap_or (aggregate g (numbers_for n us)) (pos 0)) here
 number_from (g ∷ gs) p us (suc a) h =
@@ -73,26 +74,26 @@ some_total Sum z zs = some_joined (λ x y. x +ℤ y) z zs
 some_total Min z zs = some_joined int_min z zs
 some_total Max z zs = some_joined int_max z zs
 
-module _ (d : Group) (us : List Put) where
-  abbrev entry : List KeyValue → Put
+module _ (d : Group) (us : List Update) where
+  abbrev entry : List KeyValue → Update
   entry ks = record { keys = ks; values = numbers_from d.aggregates 0 (puts_of ks us) }
 
   lists_of : (kss : List (List KeyValue)) → key_lists (map entry kss) ≡ kss
   lists_of [] = refl
   lists_of (ks ∷ kss) = ap (λ r. ks ∷ r) (lists_of kss)
 
-  entry_total : (ks : List KeyValue) → list_any (same_keys ks) (key_lists us) ≡ true → (place : ℕ) → place < length d.aggregates → aggregate (aggregate_at d place) (numbers_for place (puts_of ks us)) ≡ Some (number_at place (entry ks))
+  entry_total : (ks : List KeyValue) → list_any (same_keys ks) (key_lists us) ≡ true → (place : ℕ) → place < length d.aggregates → aggregate (aggregate_at d.aggregates place) (numbers_for place (puts_of ks us)) ≡ Some (put_number place (entry ks))
   entry_total ks there place h =
       let some = some_put ks us there in
       let zeros : 0 + place ≡ place = omega arith in
-      ap (λ ws. aggregate (aggregate_at d place) (numbers_for place ws)) some.2 ∙ some_total (aggregate_at d place) (number_at place some.0) (numbers_for place some.1)
-      ∙ ap (λ ws. Some (unwrap_or (aggregate (aggregate_at d place) (numbers_for place ws)) (pos 0))) (sym some.2)
-      ∙ ap Some (sym (number_from d.aggregates 0 (puts_of ks us) place h ∙ ap (λ n. unwrap_or (aggregate (aggregate_at d place) (numbers_for n (puts_of ks us))) (pos 0)) zeros))
+      ap (λ ws. aggregate (aggregate_at d.aggregates place) (numbers_for place ws)) some.2 ∙ some_total (aggregate_at d.aggregates place) (put_number place some.0) (numbers_for place some.1)
+      ∙ ap (λ ws. Some (unwrap_or (aggregate (aggregate_at d.aggregates place) (numbers_for place ws)) (pos 0))) (sym some.2)
+      ∙ ap Some (sym (number_from d.aggregates 0 (puts_of ks us) place h ∙ ap (λ n. unwrap_or (aggregate (aggregate_at d.aggregates place) (numbers_for n (puts_of ks us))) (pos 0)) zeros))
 
-  abbrev Told : Put → Type 0
-  Told e = (place : ℕ) → place < length d.aggregates → aggregate (aggregate_at d place) (numbers_for place (puts_of e.keys us)) ≡ Some (number_at place e)
+  abbrev Told : Update → Type 0
+  Told e = (place : ℕ) → place < length d.aggregates → aggregate (aggregate_at d.aggregates place) (numbers_for place (puts_of e.keys us)) ≡ Some (put_number place e)
 
-  abbrev pub made : List Put
+  abbrev pub made : List Update
   made = map entry (once_lists us)
 
   pub made_content : IsContent d us made

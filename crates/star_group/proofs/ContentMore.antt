@@ -7,8 +7,9 @@ use Rattle.star_schema.specs.Groups.{aggregate, numbers_for}
 use Rattle.star_program.specs.declared.key.KeyValue.{KeyValue}
 use Rattle.star_program.specs.Keys.{same_keys}
 use Rattle.star_group.specs.Cells.{held, step}
-use Rattle.star_group.specs.OneMore.{number_of, IsWithPut}
-use Rattle.star_group.specs.Stores.{Put, Group, aggregate_at, IsContent, key_lists, number_at, puts_of}
+use Rattle.star_group.specs.OneMore.{group_aggregate, IsWithPut}
+use Rattle.star_program.specs.Puts.{Update, aggregate_at}
+use Rattle.star_group.specs.Stores.{Group, IsContent, key_lists, put_number, puts_of}
 use Rattle.star_group.proofs.KeyLists.{keys_decide, keys_equiv, some_put}
 use Rattle.star_group.proofs.ContentByKeys.{all_more}
 use Rattle.star_group.proofs.Totals.{some_aggregate}
@@ -16,26 +17,26 @@ use Rattle.star_group.proofs.Totals.{some_aggregate}
 -- ---- look-ups
 
 -- one entry more
-first_number : (keys : List KeyValue) (place : ℕ) (e : Put) (es : List Put) (b : Bool)
-    → same_keys keys e.keys ≡ b → number_of keys place (e ∷ es)
-    ≡ (if b then Some (number_at place e) else number_of keys place es)
-unfolding number_of
+first_number : (keys : List KeyValue) (place : ℕ) (e : Update) (es : List Update) (b : Bool)
+    → same_keys keys e.keys ≡ b → group_aggregate keys place (e ∷ es)
+    ≡ (if b then Some (put_number place e) else group_aggregate keys place es)
+unfolding group_aggregate
 first_number keys place e es b h =
-    ap (λ c. if c then Some (number_at place e) else number_of keys place es) h
+    ap (λ c. if c then Some (put_number place e) else group_aggregate keys place es) h
 
-absent : (keys : List KeyValue) (place : ℕ) (es : List Put)
-    → list_any (same_keys keys) (key_lists es) ≡ false → number_of keys place es ≡ None
-unfolding number_of
+absent : (keys : List KeyValue) (place : ℕ) (es : List Update)
+    → list_any (same_keys keys) (key_lists es) ≡ false → group_aggregate keys place es ≡ None
+unfolding group_aggregate
 absent keys place [] h = refl
 absent keys place (e ∷ es) h = by (same_keys keys e.keys) h (absent keys place es)
   where
     by : (b : Bool) → (b || list_any (same_keys keys) (key_lists es)) ≡ false
-        → (list_any (same_keys keys) (key_lists es) ≡ false → number_of keys place es ≡ None)
-        → (if b then Some (number_at place e) else number_of keys place es) ≡ None
+        → (list_any (same_keys keys) (key_lists es) ≡ false → group_aggregate keys place es ≡ None)
+        → (if b then Some (put_number place e) else group_aggregate keys place es) ≡ None
     by true p later = absurd (true≢false p)
     by false p later = later p
 
-no_puts : (keys : List KeyValue) (us : List Put)
+no_puts : (keys : List KeyValue) (us : List Update)
     → list_any (same_keys keys) (key_lists us) ≡ false → puts_of keys us ≡ []
 no_puts keys [] h = refl
 no_puts keys (u ∷ us) h = by (same_keys keys u.keys) h (no_puts keys us)
@@ -47,11 +48,11 @@ no_puts keys (u ∷ us) h = by (same_keys keys u.keys) h (no_puts keys us)
     by false p later = later p
 
 -- what holds of each entry's numbers holds of the number that is found
-found : (Told : List KeyValue → ℤ → Type 0) (keys : List KeyValue) (place : ℕ) (es : List Put)
+found : (Told : List KeyValue → ℤ → Type 0) (keys : List KeyValue) (place : ℕ) (es : List Update)
     → list_any (same_keys keys) (key_lists es) ≡ true
-    → AllByRecursion (λ e. Told e.keys (number_at place e)) es
-    → (z : ℤ) × (number_of keys place es ≡ Some z) × Told keys z
-unfolding number_of
+    → AllByRecursion (λ e. Told e.keys (put_number place e)) es
+    → (z : ℤ) × (group_aggregate keys place es ≡ Some z) × Told keys z
+unfolding group_aggregate
 found Told keys place [] h told = absurd (true≢false (sym h))
 found Told keys place (e ∷ es) h told =
     by (same_keys keys e.keys) refl h (λ p. found Told keys place es p told.1)
@@ -59,19 +60,19 @@ found Told keys place (e ∷ es) h told =
     by : (b : Bool) → same_keys keys e.keys ≡ b
         → (b || list_any (same_keys keys) (key_lists es)) ≡ true
         → (list_any (same_keys keys) (key_lists es) ≡ true
-        → (z : ℤ) × (number_of keys place es ≡ Some z) × Told keys z)
-        → (z : ℤ) × ((if b then Some (number_at place e) else number_of keys place es) ≡ Some z)
+        → (z : ℤ) × (group_aggregate keys place es ≡ Some z) × Told keys z)
+        → (z : ℤ) × ((if b then Some (put_number place e) else group_aggregate keys place es) ≡ Some z)
         × Told keys z
     by true p there later = (
-      number_at place e,
+      put_number place e,
       refl,
-      subst (λ ks. Told ks (number_at place e)) (sym ((keys_decide keys e.keys).0 p)) told.0,
+      subst (λ ks. Told ks (put_number place e)) (sym ((keys_decide keys e.keys).0 p)) told.0,
     )
     by false p there later = later there
 
 -- each entry is found by its key list
-own_numbers : (place : ℕ) (es : List Put) → IsDistinct same_keys (key_lists es)
-    → AllByRecursion (λ e. number_of e.keys place es ≡ Some (number_at place e)) es
+own_numbers : (place : ℕ) (es : List Update) → IsDistinct same_keys (key_lists es)
+    → AllByRecursion (λ e. group_aggregate e.keys place es ≡ Some (put_number place e)) es
 unfolding IsDistinct
 own_numbers place [] once = tt
 own_numbers place (e ∷ es) once = (
@@ -79,9 +80,9 @@ own_numbers place (e ∷ es) once = (
   behind es once.0 (own_numbers place es once.1),
 )
   where
-    behind : (rest : List Put) → AllByRecursion (λ ks. same_keys e.keys ks ≡ false) (key_lists rest)
-        → AllByRecursion (λ f. number_of f.keys place es ≡ Some (number_at place f)) rest
-        → AllByRecursion (λ f. number_of f.keys place (e ∷ es) ≡ Some (number_at place f)) rest
+    behind : (rest : List Update) → AllByRecursion (λ ks. same_keys e.keys ks ≡ false) (key_lists rest)
+        → AllByRecursion (λ f. group_aggregate f.keys place es ≡ Some (put_number place f)) rest
+        → AllByRecursion (λ f. group_aggregate f.keys place (e ∷ es) ≡ Some (put_number place f)) rest
     behind [] apart told = tt
     behind (f ∷ rest) apart told = (
       first_number f.keys place e es false (other (same_keys f.keys e.keys) refl) ∙ told.0,
@@ -102,26 +103,26 @@ unfolding held
 held_aggregate g [] z e = absurd (cc)
 held_aggregate g (v ∷ vs) z e = sym (some_aggregate g v vs) ∙ e
 
-module _ (d : Group) (us es : List Put) (is : IsContent d us es) (place : ℕ)
+module _ (d : Group) (us es : List Update) (is : IsContent d us es) (place : ℕ)
     (declared : place < length d.aggregates) where
-  number_is : (keys : List KeyValue) → number_of keys place es
-      ≡ held (aggregate_at d place) (numbers_for place (puts_of keys us))
+  number_is : (keys : List KeyValue) → group_aggregate keys place es
+      ≡ held (aggregate_at d.aggregates place) (numbers_for place (puts_of keys us))
   unfolding held
   number_is keys = by (list_any (same_keys keys) (key_lists es)) refl
     where
-      by : (b : Bool) → list_any (same_keys keys) (key_lists es) ≡ b → number_of keys place es
-          ≡ held (aggregate_at d place) (numbers_for place (puts_of keys us))
+      by : (b : Bool) → list_any (same_keys keys) (key_lists es) ≡ b → group_aggregate keys place es
+          ≡ held (aggregate_at d.aggregates place) (numbers_for place (puts_of keys us))
       by false e =
           absent keys place es e
-          ∙ ap (λ ps. held (aggregate_at d place) (numbers_for place ps))
+          ∙ ap (λ ps. held (aggregate_at d.aggregates place) (numbers_for place ps))
           (sym (no_puts keys us (sym (is.keys keys) ∙ e)))
       by true e =
           let some = some_put keys us (sym (is.keys keys) ∙ e) in
-          let at = found (λ ks z. aggregate (aggregate_at d place) (numbers_for place (puts_of ks us)) ≡ Some z) keys place es e (all_more _ _ (λ f told. told place declared) es is.numbers) in
+          let at = found (λ ks z. aggregate (aggregate_at d.aggregates place) (numbers_for place (puts_of ks us)) ≡ Some z) keys place es e (all_more _ _ (λ f told. told place declared) es is.numbers) in
           at.1 ∙ sym at.2
-          ∙ ap (λ ps. aggregate (aggregate_at d place) (numbers_for place ps)) some.2
-          ∙ sym (some_aggregate (aggregate_at d place) _ _)
-          ∙ ap (λ ps. held (aggregate_at d place) (numbers_for place ps)) (sym some.2)
+          ∙ ap (λ ps. aggregate (aggregate_at d.aggregates place) (numbers_for place ps)) some.2
+          ∙ sym (some_aggregate (aggregate_at d.aggregates place) _ _)
+          ∙ ap (λ ps. held (aggregate_at d.aggregates place) (numbers_for place ps)) (sym some.2)
 
 -- ---- one put more
 
@@ -129,7 +130,7 @@ held_more : (g : Aggregate) (v : ℤ) (vs : List ℤ) → Some (step g v (held g
 unfolding held
 held_more g v vs = refl
 
-pub content_more : (d : Group) (us es after : List Put) (u : Put) → IsContent d us es
+pub content_more : (d : Group) (us es after : List Update) (u : Update) → IsContent d us es
     → IsWithPut d u es after → IsContent d (u ∷ us) after
 content_more d us es after u is more = record {
   keys = λ keys. more.keys keys ∙ ap (λ b. same_keys keys u.keys || b) (is.keys keys);
@@ -138,38 +139,38 @@ content_more d us es after u is more = record {
 }
   where
     value : (keys : List KeyValue) (place : ℕ) → place < length d.aggregates
-        → number_of keys place after
-        ≡ held (aggregate_at d place) (numbers_for place (puts_of keys (u ∷ us)))
+        → group_aggregate keys place after
+        ≡ held (aggregate_at d.aggregates place) (numbers_for place (puts_of keys (u ∷ us)))
     value keys place declared = by (same_keys keys u.keys) refl
       where
-        by : (b : Bool) → same_keys keys u.keys ≡ b → number_of keys place after
-            ≡ held (aggregate_at d place)
+        by : (b : Bool) → same_keys keys u.keys ≡ b → group_aggregate keys place after
+            ≡ held (aggregate_at d.aggregates place)
             (numbers_for place (cond (same_keys keys u.keys) (u ∷ puts_of keys us) (puts_of keys us)))
         by false p =
             more.others keys p place declared
             ∙ number_is d us es is place declared keys
-            ∙ ap (λ b. held (aggregate_at d place)
+            ∙ ap (λ b. held (aggregate_at d.aggregates place)
             (numbers_for place (cond b (u ∷ puts_of keys us) (puts_of keys us)))) (sym p)
         by true p =
-            ap (λ ks. number_of ks place after) ((keys_decide keys u.keys).0 p)
+            ap (λ ks. group_aggregate ks place after) ((keys_decide keys u.keys).0 p)
             ∙ more.own place declared
-            ∙ ap (λ o. Some (step (aggregate_at d place) (number_at place u) o))
-            (ap (λ ks. number_of ks place es) (sym ((keys_decide keys u.keys).0 p))
+            ∙ ap (λ o. Some (step (aggregate_at d.aggregates place) (put_number place u) o))
+            (ap (λ ks. group_aggregate ks place es) (sym ((keys_decide keys u.keys).0 p))
             ∙ number_is d us es is place declared keys)
-            ∙ held_more (aggregate_at d place) (number_at place u)
+            ∙ held_more (aggregate_at d.aggregates place) (put_number place u)
             (numbers_for place (puts_of keys us))
-            ∙ ap (λ b. held (aggregate_at d place)
+            ∙ ap (λ b. held (aggregate_at d.aggregates place)
             (numbers_for place (cond b (u ∷ puts_of keys us) (puts_of keys us)))) (sym p)
 
-    all_numbers : (rest : List Put)
-        → ((place : ℕ) → AllByRecursion (λ e. number_of e.keys place after ≡ Some (number_at place e)) rest)
+    all_numbers : (rest : List Update)
+        → ((place : ℕ) → AllByRecursion (λ e. group_aggregate e.keys place after ≡ Some (put_number place e)) rest)
         → AllByRecursion (λ e. (place : ℕ) → place < length d.aggregates
-        → aggregate (aggregate_at d place) (numbers_for place (puts_of e.keys (u ∷ us)))
-        ≡ Some (number_at place e)) rest
+        → aggregate (aggregate_at d.aggregates place) (numbers_for place (puts_of e.keys (u ∷ us)))
+        ≡ Some (put_number place e)) rest
     all_numbers [] own = tt
     all_numbers (e ∷ rest) own = (
-      λ place declared. held_aggregate (aggregate_at d place)
-          (numbers_for place (puts_of e.keys (u ∷ us))) (number_at place e)
+      λ place declared. held_aggregate (aggregate_at d.aggregates place)
+          (numbers_for place (puts_of e.keys (u ∷ us))) (put_number place e)
           (sym (value e.keys place declared) ∙ (own place).0),
       all_numbers rest (λ place. (own place).1),
     )

@@ -9,7 +9,7 @@ use Rattle.star_program.specs.Rows.{cut}
 use Rattle.star_program.proofs.Rows.{cut_at, cut_past}
 use Rattle.star_group.specs.declared.group_row.GroupRow.{GroupRow}
 use Rattle.star_group.specs.Private.FlatRows.{AreParts, Fits, rows_of}
-use Rattle.star_group.specs.Shown.{row_at}
+use Rattle.star_group.specs.StoreRows.{row_at}
 
 pub rows_length : (k a n : ℕ) (keys : List (Option KeyValue)) (numbers : List (Option ℤ)) → length (rows_of k a n keys numbers) ≡ n
 unfolding rows_of

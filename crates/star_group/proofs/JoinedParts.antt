@@ -8,7 +8,8 @@ use Rattle.std.proofs.lemmas.Map.Keys.{IsDistinct-head, IsDistinct-tail}
 use Rattle.star_schema.specs.Groups.{joined}
 use Rattle.star_program.specs.declared.key.KeyValue.{KeyValue}
 use Rattle.star_program.specs.Keys.{same_keys}
-use Rattle.star_group.specs.Stores.{Put, key_lists}
+use Rattle.star_program.specs.Puts.{Update}
+use Rattle.star_group.specs.Stores.{key_lists}
 use Rattle.star_group.proofs.KeyLists.{keys_decide, keys_equiv}
 use Rattle.star_group.proofs.Totals.{joined_none, joined_some}
 
@@ -41,21 +42,21 @@ module _ (f : ℤ → ℤ → ℤ) where
   both (Some x) r = more x r
 
   -- the numbers of the puts that pass
-  abbrev pub over : (Put → ℤ) → (Put → Bool) → List Put → Option ℤ
+  abbrev pub over : (Update → ℤ) → (Update → Bool) → List Update → Option ℤ
   over number t us = joined f (map number (filter t us))
 
-  pub over_more : (number : Put → ℤ) (t : Put → Bool) (u : Put) (us : List Put) → over number t (u ∷ us) ≡ cond (t u) (more (number u) (over number t us)) (over number t us)
+  pub over_more : (number : Update → ℤ) (t : Update → Bool) (u : Update) (us : List Update) → over number t (u ∷ us) ≡ cond (t u) (more (number u) (over number t us)) (over number t us)
   over_more number t u us = by (t u)
     where
       by : (b : Bool) → joined f (map number (cond b (u ∷ filter t us) (filter t us))) ≡ cond b (more (number u) (over number t us)) (over number t us)
       by true = joined_more (number u) (map number (filter t us))
       by false = refl
 
-  none_over : (number : Put → ℤ) (us : List Put) → over number (λ u. false) us ≡ None
+  none_over : (number : Update → ℤ) (us : List Update) → over number (λ u. false) us ≡ None
   none_over number [] = refl
   none_over number (u ∷ us) = none_over number us
 
-  covered : (number : Put → ℤ) (t p : Put → Bool) (us : List Put) → AllByRecursion (λ u. t u ≡ true) us → over number (λ u. t u && p u) us ≡ over number p us
+  covered : (number : Update → ℤ) (t p : Update → Bool) (us : List Update) → AllByRecursion (λ u. t u ≡ true) us → over number (λ u. t u && p u) us ≡ over number p us
   covered number t p [] h = refl
   covered number t p (u ∷ us) h = over_more number (λ w. t w && p w) u us
       ∙ (λ i. cond (h.0 i && p u) (more (number u) (covered number t p us h.1 i)) (covered number t p us h.1 i))
@@ -74,7 +75,7 @@ module _ (f : ℤ → ℤ → ℤ) (comm : (x y : ℤ) → f x y ≡ f y x) (ass
   more_right x (Some y) (Some z) = ap Some (sym (assoc x y z) ∙ ap (λ w. f w z) (comm x y) ∙ assoc y x z)
 
   -- the puts that pass one of two tests, of which none passes both
-  apart : (number : Put → ℤ) (a b c : Put → Bool) (us : List Put) → ((u : Put) → c u ≡ (a u || b u)) → ((u : Put) → (a u && b u) ≡ false) → over f number c us ≡ both f (over f number a us) (over f number b us)
+  apart : (number : Update → ℤ) (a b c : Update → Bool) (us : List Update) → ((u : Update) → c u ≡ (a u || b u)) → ((u : Update) → (a u && b u) ≡ false) → over f number c us ≡ both f (over f number a us) (over f number b us)
   apart number a b c [] either no_both = refl
   apart number a b c (u ∷ us) either no_both =
       over_more f number c u us ∙ ap (λ t. cond t (more f (number u) (over f number c us)) (over f number c us)) (either u)
@@ -89,7 +90,7 @@ module _ (f : ℤ → ℤ → ℤ) (comm : (x y : ℤ) → f x y ≡ f y x) (ass
       by false true never e = ap (more f (number u)) e ∙ more_right (number u) (over f number a us) (over f number b us)
       by false false never e = e
 
-  module _ (number : Put → ℤ) (p : List KeyValue → Bool) (us : List Put) where
+  module _ (number : Update → ℤ) (p : List KeyValue → Bool) (us : List Update) where
     -- the puts of each key list that passes
     abbrev whole : List (List KeyValue) → Option ℤ
     whole [] = None
@@ -122,7 +123,7 @@ module _ (f : ℤ → ℤ → ℤ) (comm : (x y : ℤ) → f x y ≡ f y x) (ass
             (λ u. apart_from u.keys (same_keys k u.keys) (list_any (same_keys u.keys) kss) (no_two k kss first u.keys)))
         by false e rest = rest ∙ ap (λ t. over f number t us) (λ i u. sym (ap (λ b. b && p u.keys) (flipped k kss first u.keys) ∙ left_out e u.keys (same_keys k u.keys) refl) i)
 
-    of_entries : (num : Put → ℤ) (es : List Put) → AllByRecursion (λ e. over f number (λ u. same_keys e.keys u.keys) us ≡ Some (num e)) es → over f num (λ e. p e.keys) es ≡ whole (key_lists es)
+    of_entries : (num : Update → ℤ) (es : List Update) → AllByRecursion (λ e. over f number (λ u. same_keys e.keys u.keys) us ≡ Some (num e)) es → over f num (λ e. p e.keys) es ≡ whole (key_lists es)
     of_entries num [] h = refl
     of_entries num (e ∷ es) h = over_more f num (λ x. p x.keys) e es ∙ by (p e.keys) (of_entries num es h.1)
       where
@@ -132,6 +133,6 @@ module _ (f : ℤ → ℤ → ℤ) (comm : (x y : ℤ) → f x y ≡ f y x) (ass
         by false rest = rest
 
     -- entries that have the puts of their key lists joined, joined, are all puts joined
-    pub joined_by_parts : (num : Put → ℤ) (es : List Put) → IsDistinct same_keys (key_lists es) → AllByRecursion (λ u. list_any (same_keys u.keys) (key_lists es) ≡ true) us
+    pub joined_by_parts : (num : Update → ℤ) (es : List Update) → IsDistinct same_keys (key_lists es) → AllByRecursion (λ u. list_any (same_keys u.keys) (key_lists es) ≡ true) us
         → AllByRecursion (λ e. over f number (λ u. same_keys e.keys u.keys) us ≡ Some (num e)) es → over f num (λ e. p e.keys) es ≡ over f number (λ u. p u.keys) us
     joined_by_parts num es once all each = of_entries num es each ∙ by_key_lists (key_lists es) once ∙ covered f number (λ u. list_any (same_keys u.keys) (key_lists es)) (λ u. p u.keys) us all

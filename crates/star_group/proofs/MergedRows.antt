@@ -12,7 +12,7 @@ use Rattle.star_group.specs.declared.keyed.key.KeyPart.{KeyPart}
 use Rattle.star_group.specs.declared.keyed.KeyedRows.{KeyedRows}
 use Rattle.star_group.specs.declared.keyed.trie.Place.{Place}
 use Rattle.star_group.specs.declared.keyed.trie.Place.TheVariants.{Held, Missing}
-use Rattle.star_group.specs.Base.{key_of, row_at}
+use Rattle.star_group.specs.Base.{key_view, row_found}
 use Rattle.star_group.specs.Entries.{entries_of}
 use Rattle.star_group.specs.Keyed.{filled}
 use Rattle.star_group.specs.OwnKeys.{key_eq}
@@ -39,11 +39,11 @@ fresh_at (x ∷ xs) (suc j) d distinct h =
     let apart : key_eq x k ≡ false = apart_from_distinct key_eq (x ∷ xs) 0 (suc j) d distinct (omega arith) h in
     ap (λ b. b || list_any (key_eq k) (take j xs)) (key_equiv.symm k x ∙ apart) ∙ fresh_at xs j d (IsDistinct-tail key_eq x xs distinct) (omega (arith, h))
 
-pub key_here : (own : List (List KeyPart)) (i : ℕ) → i < length own → get_or (map key_of own) i (key_of (get_or own i [])) ≡ key_of (get_or own i [])
-key_here own i h = get_or-map key_of own i [] (key_of (get_or own i [])) h
+pub key_here : (own : List (List KeyPart)) (i : ℕ) → i < length own → get_or (map key_view own) i (key_view (get_or own i [])) ≡ key_view (get_or own i [])
+key_here own i h = get_or-map key_view own i [] (key_view (get_or own i [])) h
 
-pub key_within : (own : List (List KeyPart)) (i : ℕ) → i < length own → i < length (map key_of own)
-key_within own i h = omega (arith, h, length-map own key_of)
+pub key_within : (own : List (List KeyPart)) (i : ℕ) → i < length own → i < length (map key_view own)
+key_within own i h = omega (arith, h, length-map own key_view)
 
 module _ (own : List (List (Option KeyValue))) (i : ℕ) (key : List (Option KeyValue)) (within : i < length own) (here : get_or own i key ≡ key) where
   among_here : list_any (key_eq key) own ≡ true
@@ -81,14 +81,14 @@ module _ (own : List (List (Option KeyValue))) (i : ℕ) (key : List (Option Key
     stays_found None h = tt
     stays_found (Some row) h = h
 
-    module _ (distinct : IsDistinct key_eq own) (old : List (Option KeyValue) → Option (List (Option ℤ))) (es : List (List KeyPart × List (Option ℤ))) (so_far : MergesAll (among (take i own)) gs more old (row_at es)) where
-      found_here : row_at es key ≡ old key
+    module _ (distinct : IsDistinct key_eq own) (old : List (Option KeyValue) → Option (List (Option ℤ))) (es : List (List KeyPart × List (Option ℤ))) (so_far : MergesAll (among (take i own)) gs more old (row_found es)) where
+      found_here : row_found es key ≡ old key
       found_here = so_far.same key (fresh distinct)
 
-      pub stays_here : AllStay old (among own) gs more → RowsStay gs (row_at es key) more
+      pub stays_here : AllStay old (among own) gs more → RowsStay gs (row_found es key) more
       stays_here all = subst (λ found. RowsStay gs found more) (sym found_here) (stays_found (old key) (all.stay key among_here))
 
-      pub merges_more : (fs : List (List KeyPart × List (Option ℤ))) → IsMergedAt gs key more es fs → MergesAll (among (take (i + 1) own)) gs more old (row_at fs)
+      pub merges_more : (fs : List (List KeyPart × List (Option ℤ))) → IsMergedAt gs key more es fs → MergesAll (among (take (i + 1) own)) gs more old (row_found fs)
       merges_more fs at = record {
         changed = λ q e. by q (split q e);
         same = λ q none. let both = not_among q none in other_row gs key more es fs at q both.1 ∙ so_far.same q both.0;
@@ -101,9 +101,9 @@ module _ (own : List (List (Option KeyValue))) (i : ℕ) (key : List (Option Key
               is false e = e
               is true e = absurd (true≢false (sym earlier ∙ ap (λ k. list_any (key_eq k) (take i own)) ((key_decides q key).0 e) ∙ fresh distinct))
 
-          by : (q : List (Option KeyValue)) → (list_any (key_eq q) (take i own) ≡ true) ⊎ (q ≡ key) → IsMergedInto gs more (old q) (row_at fs q)
+          by : (q : List (Option KeyValue)) → (list_any (key_eq q) (take i own) ≡ true) ⊎ (q ≡ key) → IsMergedInto gs more (old q) (row_found fs q)
           by q (inl earlier) = subst (IsMergedInto gs more (old q)) (sym (other_row gs key more es fs at q (apart q earlier))) (so_far.changed q earlier)
-          by q (inr same) = subst (λ k. IsMergedInto gs more (old k) (row_at fs k)) (sym same) (subst (λ found. IsMergedInto gs more found (row_at fs key)) found_here (own_row gs key more es fs at key refl))
+          by q (inr same) = subst (λ k. IsMergedInto gs more (old k) (row_found fs k)) (sym same) (subst (λ found. IsMergedInto gs more found (row_found fs key)) found_here (own_row gs key more es fs at key refl))
 
 -- ---- places of rows
 

@@ -8,7 +8,8 @@ use Rattle.star_group.specs.Base.{HasAggregates, IsRowOver}
 use Rattle.star_group.specs.Cells.{held, step}
 use Rattle.star_group.specs.Held.{has_puts}
 use Rattle.star_group.specs.Private.Merged.{both, cell_of, merged, IsMerged, IsMergedInto, IsRowOf}
-use Rattle.star_group.specs.Stores.{Put, Group, aggregate_at, number_at}
+use Rattle.star_program.specs.Puts.{Update, aggregate_at}
+use Rattle.star_group.specs.Stores.{Group, put_number}
 use Rattle.star_group.proofs.ContentByKeys.{plus_comm, plus_assoc, least_comm, least_assoc, greatest_comm, greatest_assoc}
 
 -- ---- the operations
@@ -59,7 +60,7 @@ held_none g = refl
 
 -- ---- puts that pass a test
 
-pub any_filter : (t : Put → Bool) (us : List Put) → has_puts (filter t us) ≡ list_any t us
+pub any_filter : (t : Update → Bool) (us : List Update) → has_puts (filter t us) ≡ list_any t us
 any_filter t [] = refl
 any_filter t (u ∷ us) = by (t u) (any_filter t us)
   where
@@ -68,10 +69,10 @@ any_filter t (u ∷ us) = by (t u) (any_filter t us)
     by false e = e
 
 -- the puts that pass a test are those that pass one of two, and none passes both
-abbrev pub AreSplit : (Put → Bool) → (Put → Bool) → (Put → Bool) → List Put → Type 0
+abbrev pub AreSplit : (Update → Bool) → (Update → Bool) → (Update → Bool) → List Update → Type 0
 AreSplit ta tb tc us = AllByRecursion (λ u. (tc u ≡ (ta u || tb u)) × ((ta u && tb u) ≡ false)) us
 
-pub held_parts : (g : Aggregate) (place : ℕ) (ta tb tc : Put → Bool) (us : List Put) → AreSplit ta tb tc us
+pub held_parts : (g : Aggregate) (place : ℕ) (ta tb tc : Update → Bool) (us : List Update) → AreSplit ta tb tc us
     → held g (numbers_for place (filter tc us)) ≡ merged g (held g (numbers_for place (filter ta us))) (held g (numbers_for place (filter tb us)))
 held_parts g place ta tb tc [] parts = held_none g ∙ (λ i. merged g (sym (held_none g) i) (sym (held_none g) i))
 held_parts g place ta tb tc (u ∷ us) parts =
@@ -79,13 +80,13 @@ held_parts g place ta tb tc (u ∷ us) parts =
     ∙ by (ta u) (tb u) parts.0.1 (held_parts g place ta tb tc us parts.1)
   where
     one : Option ℤ
-    one = Some (cell_of g (number_at place u))
+    one = Some (cell_of g (put_number place u))
 
-    over : (Put → Bool) → Option ℤ
+    over : (Update → Bool) → Option ℤ
     over t = held g (numbers_for place (filter t us))
 
-    more : (t : Put → Bool) → held g (numbers_for place (u ∷ filter t us)) ≡ merged g one (over t)
-    more t = held_one g (number_at place u) (numbers_for place (filter t us))
+    more : (t : Update → Bool) → held g (numbers_for place (u ∷ filter t us)) ≡ merged g one (over t)
+    more t = held_one g (put_number place u) (numbers_for place (filter t us))
 
     by : (x y : Bool) → (x && y) ≡ false → over tc ≡ merged g (over ta) (over tb)
         → held g (numbers_for place (cond (x || y) (u ∷ filter tc us) (filter tc us)))
@@ -100,16 +101,16 @@ held_parts g place ta tb tc (u ∷ us) parts =
 -- ---- rows
 
 -- the row of one put
-pub row_of_one : (d : Group) (u : Put) (row : List (Option ℤ)) → IsRowOf d.aggregates u.values row → HasAggregates d (u ∷ []) row
-row_of_one d u row is = λ place h. is place h ∙ sym (held_one (aggregate_at d place) (number_at place u) [] ∙ ap (merged (aggregate_at d place) (Some (cell_of (aggregate_at d place) (number_at place u)))) (held_none (aggregate_at d place)))
+pub row_of_one : (d : Group) (u : Update) (row : List (Option ℤ)) → IsRowOf d.aggregates u.values row → HasAggregates d (u ∷ []) row
+row_of_one d u row is = λ place h. is place h ∙ sym (held_one (aggregate_at d.aggregates place) (put_number place u) [] ∙ ap (merged (aggregate_at d.aggregates place) (Some (cell_of (aggregate_at d.aggregates place) (put_number place u)))) (held_none (aggregate_at d.aggregates place)))
 
 -- one put more
-pub merged_more : (d : Group) (u : Put) (us : List Put) (held_row row new : List (Option ℤ)) → IsRowOf d.aggregates u.values row → HasAggregates d us held_row → IsMerged d.aggregates held_row row new → HasAggregates d (u ∷ us) new
+pub merged_more : (d : Group) (u : Update) (us : List Update) (held_row row new : List (Option ℤ)) → IsRowOf d.aggregates u.values row → HasAggregates d us held_row → IsMerged d.aggregates held_row row new → HasAggregates d (u ∷ us) new
 merged_more d u us held_row row new one so_far is = λ place h.
-    let g = aggregate_at d place in
-    is place h ∙ (λ i. merged g (so_far place h i) (one place h i)) ∙ merged_comm g (held g (numbers_for place us)) (Some (cell_of g (number_at place u))) ∙ sym (held_one g (number_at place u) (numbers_for place us))
+    let g = aggregate_at d.aggregates place in
+    is place h ∙ (λ i. merged g (so_far place h i) (one place h i)) ∙ merged_comm g (held g (numbers_for place us)) (Some (cell_of g (put_number place u))) ∙ sym (held_one g (put_number place u) (numbers_for place us))
 
-pub no_puts : (us : List Put) → has_puts us ≡ false → us ≡ []
+pub no_puts : (us : List Update) → has_puts us ≡ false → us ≡ []
 no_puts [] h = refl
 no_puts (u ∷ us) h = absurd (true≢false h)
 
@@ -117,7 +118,7 @@ or_right : (a b : Bool) → b ≡ true → (a || b) ≡ true
 or_right true b h = refl
 or_right false b h = h
 
-any_parts : (ta tb tc : Put → Bool) (us : List Put) → AreSplit ta tb tc us → list_any tb us ≡ true → list_any tc us ≡ true
+any_parts : (ta tb tc : Update → Bool) (us : List Update) → AreSplit ta tb tc us → list_any tb us ≡ true → list_any tc us ≡ true
 any_parts ta tb tc [] parts h = h
 any_parts ta tb tc (u ∷ us) parts h = ap (λ b. b || list_any tc us) parts.0.0 ∙ by (ta u) (tb u) h (any_parts ta tb tc us parts.1)
   where
@@ -127,7 +128,7 @@ any_parts ta tb tc (u ∷ us) parts h = ap (λ b. b || list_any tc us) parts.0.0
     by false false h later = later h
 
 -- a row over some puts, with one over others merged into it
-pub over_parts : (d : Group) (us : List Put) (ta tb tc : Put → Bool) (found new : Option (List (Option ℤ))) (more : List (Option ℤ)) → AreSplit ta tb tc us
+pub over_parts : (d : Group) (us : List Update) (ta tb tc : Update → Bool) (found new : Option (List (Option ℤ))) (more : List (Option ℤ)) → AreSplit ta tb tc us
     → IsRowOver d (filter ta us) found → IsRowOver d (filter tb us) (Some more) → IsMergedInto d.aggregates more found new → IsRowOver d (filter tc us) new
 over_parts d us ta tb tc found new more parts was adds merges = by found was merges
   where
@@ -137,11 +138,11 @@ over_parts d us ta tb tc found new more parts was adds merges = by found was mer
     by : (found : Option (List (Option ℤ))) → IsRowOver d (filter ta us) found → IsMergedInto d.aggregates more found new → IsRowOver d (filter tc us) new
     by None was m = subst (IsRowOver d (filter tc us)) (sym m.1) (
       there,
-      λ place h. m.2 place h ∙ adds.1 place h ∙ sym (held_parts (aggregate_at d place) place ta tb tc us parts
-          ∙ ap (λ ps. merged (aggregate_at d place) (held (aggregate_at d place) (numbers_for place ps)) (held (aggregate_at d place) (numbers_for place (filter tb us)))) (no_puts (filter ta us) was)
-          ∙ ap (λ r. merged (aggregate_at d place) r (held (aggregate_at d place) (numbers_for place (filter tb us)))) (held_none (aggregate_at d place))),
+      λ place h. m.2 place h ∙ adds.1 place h ∙ sym (held_parts (aggregate_at d.aggregates place) place ta tb tc us parts
+          ∙ ap (λ ps. merged (aggregate_at d.aggregates place) (held (aggregate_at d.aggregates place) (numbers_for place ps)) (held (aggregate_at d.aggregates place) (numbers_for place (filter tb us)))) (no_puts (filter ta us) was)
+          ∙ ap (λ r. merged (aggregate_at d.aggregates place) r (held (aggregate_at d.aggregates place) (numbers_for place (filter tb us)))) (held_none (aggregate_at d.aggregates place))),
     )
     by (Some row) was m = subst (IsRowOver d (filter tc us)) (sym m.1) (
       there,
-      λ place h. m.2 place h ∙ (λ i. merged (aggregate_at d place) (was.1 place h i) (adds.1 place h i)) ∙ sym (held_parts (aggregate_at d place) place ta tb tc us parts),
+      λ place h. m.2 place h ∙ (λ i. merged (aggregate_at d.aggregates place) (was.1 place h i) (adds.1 place h i)) ∙ sym (held_parts (aggregate_at d.aggregates place) place ta tb tc us parts),
     )

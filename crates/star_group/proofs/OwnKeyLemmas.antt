@@ -14,7 +14,7 @@ use Rattle.std.proofs.lemmas.List.{map-append, map-set}
 use Rattle.star_program.specs.declared.key.KeyValue.{KeyValue}
 use Rattle.star_group.specs.declared.keyed.key.KeyPart.{KeyPart}
 use Rattle.star_group.specs.declared.keyed.key.KeyPart.TheVariants.{All}
-use Rattle.star_group.specs.Base.{key_of, value_of}
+use Rattle.star_group.specs.Base.{key_view, key_value_view}
 use Rattle.star_group.specs.OwnKeys.{key_eq, padded, vary}
 
 pub padded-set : (n : ℕ) (ks : List KeyValue) (i : ℕ) (d : KeyValue) → i < length ks → length ks ≤ n → set (padded n (take i ks)) i (Some (get_or ks i d)) ≡ padded n (take (suc i) ks)
@@ -70,19 +70,19 @@ all_padded = refl
 
 -- ---- keys of rows
 
-pub length-key : (key : List KeyPart) → length (key_of key) ≡ length key
+pub length-key : (key : List KeyPart) → length (key_view key) ≡ length key
 length-key [] = refl
 length-key (part ∷ key) = ap suc (length-key key)
 
 -- some part is shown where the key is not that of all puts
-pub shows_key : (n : ℕ) (key : List KeyPart) → length key ≡ n → list_any (λ part. is_some (value_of part)) key ≡ not (key_eq (key_of key) (padded n []))
+pub shows_key : (n : ℕ) (key : List KeyPart) → length key ≡ n → list_any (λ part. is_some (key_value_view part)) key ≡ not (key_eq (key_view key) (padded n []))
 unfolding padded
 shows_key zero [] long = refl
 shows_key zero (part ∷ key) long = absurd (omega (arith, long))
 shows_key (suc n) [] long = absurd (omega (arith, long))
-shows_key (suc n) (part ∷ key) long = by (value_of part) (shows_key n key (omega (arith, long)))
+shows_key (suc n) (part ∷ key) long = by (key_value_view part) (shows_key n key (omega (arith, long)))
   where
-    by : (v : Option KeyValue) → list_any (λ p. is_some (value_of p)) key ≡ not (key_eq (key_of key) (padded n [])) → (is_some v || list_any (λ p. is_some (value_of p)) key) ≡ not (key_eq (v ∷ key_of key) (None ∷ padded n []))
+    by : (v : Option KeyValue) → list_any (λ p. is_some (key_value_view p)) key ≡ not (key_eq (key_view key) (padded n [])) → (is_some v || list_any (λ p. is_some (key_value_view p)) key) ≡ not (key_eq (v ∷ key_view key) (None ∷ padded n []))
     by None rest = rest
     by (Some k) rest = refl
 
@@ -100,21 +100,21 @@ next_hidden P p i xs now d h e =
     ∙ ap (map (λ key. set key p All)) (sym (take-suc xs i d h) ∙ ap (λ n. take n xs) (sym next))))
 
 module _ (G : List (Option KeyValue) → Bool) (p : ℕ) where
-  hidden_keys : (xs : List (List KeyPart)) → map key_of (filter (λ key. G (key_of key)) (map (λ key. set key p All) xs)) ≡ filter G (map (λ key. set key p None) (map key_of xs))
+  hidden_keys : (xs : List (List KeyPart)) → map key_view (filter (λ key. G (key_view key)) (map (λ key. set key p All) xs)) ≡ filter G (map (λ key. set key p None) (map key_view xs))
   hidden_keys [] = refl
-  hidden_keys (x ∷ xs) = by (G (key_of (set x p All))) (hidden_keys xs) ∙ (λ i. cond (G (map-set value_of x p All i)) (map-set value_of x p All i ∷ rest) rest)
+  hidden_keys (x ∷ xs) = by (G (key_view (set x p All))) (hidden_keys xs) ∙ (λ i. cond (G (map-set key_value_view x p All i)) (map-set key_value_view x p All i ∷ rest) rest)
     where
       rest : List (List (Option KeyValue))
-      rest = filter G (map (λ key. set key p None) (map key_of xs))
+      rest = filter G (map (λ key. set key p None) (map key_view xs))
 
-      by : (b : Bool) → map key_of (filter (λ key. G (key_of key)) (map (λ key. set key p All) xs)) ≡ filter G (map (λ key. set key p None) (map key_of xs))
-          → map key_of (cond b (set x p All ∷ filter (λ key. G (key_of key)) (map (λ key. set key p All) xs)) (filter (λ key. G (key_of key)) (map (λ key. set key p All) xs)))
-          ≡ cond b (key_of (set x p All) ∷ filter G (map (λ key. set key p None) (map key_of xs))) (filter G (map (λ key. set key p None) (map key_of xs)))
-      by true e = ap (λ l. key_of (set x p All) ∷ l) e
+      by : (b : Bool) → map key_view (filter (λ key. G (key_view key)) (map (λ key. set key p All) xs)) ≡ filter G (map (λ key. set key p None) (map key_view xs))
+          → map key_view (cond b (set x p All ∷ filter (λ key. G (key_view key)) (map (λ key. set key p All) xs)) (filter (λ key. G (key_view key)) (map (λ key. set key p All) xs)))
+          ≡ cond b (key_view (set x p All) ∷ filter G (map (λ key. set key p None) (map key_view xs))) (filter G (map (λ key. set key p None) (map key_view xs)))
+      by true e = ap (λ l. key_view (set x p All) ∷ l) e
       by false e = e
 
-  pub doubled : (xs ys : List (List KeyPart)) → ys ≡ xs ++ filter (λ key. G (key_of key)) (map (λ key. set key p All) xs) → map key_of ys ≡ map key_of xs ++ filter G (map (λ key. set key p None) (map key_of xs))
-  doubled xs ys e = ap (map key_of) e ∙ map-append key_of xs _ ∙ ap (λ zs. map key_of xs ++ zs) (hidden_keys xs)
+  pub doubled : (xs ys : List (List KeyPart)) → ys ≡ xs ++ filter (λ key. G (key_view key)) (map (λ key. set key p All) xs) → map key_view ys ≡ map key_view xs ++ filter G (map (λ key. set key p None) (map key_view xs))
+  doubled xs ys e = ap (map key_view) e ∙ map-append key_view xs _ ∙ ap (λ zs. map key_view xs ++ zs) (hidden_keys xs)
 
 module _ {A : Type 0} where
   -- what the filter left out, the filter leaves out after this step, too
@@ -142,13 +142,13 @@ shown_more hides false (Some k) ms e h = absurd (true≢false (sym e))
 shown_more true false None ms e h = refl
 shown_more false false None ms e h = refl
 
-pub part_more : (parts : List KeyPart) (i : ℕ) (d : KeyPart) (hides shown : Bool) → i < length parts → shown ≡ is_some (value_of (get_or parts i d)) → (shown ≡ true → hides ≡ false)
-    → goes_on hides (key_of (drop i parts)) ≡ is_grouping Rollup (key_of parts) → goes_on (not shown) (key_of (drop (i + 1) parts)) ≡ is_grouping Rollup (key_of parts)
+pub part_more : (parts : List KeyPart) (i : ℕ) (d : KeyPart) (hides shown : Bool) → i < length parts → shown ≡ is_some (key_value_view (get_or parts i d)) → (shown ≡ true → hides ≡ false)
+    → goes_on hides (key_view (drop i parts)) ≡ is_grouping Rollup (key_view parts) → goes_on (not shown) (key_view (drop (i + 1) parts)) ≡ is_grouping Rollup (key_view parts)
 part_more parts i d hides shown within e h so_far =
     let next : i + 1 ≡ suc i = omega arith in
-    let rest : List (Option KeyValue) = key_of (drop (i + 1) parts) in
-    let here : key_of (drop i parts) ≡ value_of (get_or parts i d) ∷ rest = ap key_of (drop-cons parts i d within) ∙ ap (λ n. value_of (get_or parts i d) ∷ key_of (drop n parts)) (sym next) in
-    shown_more hides shown (value_of (get_or parts i d)) rest e h ∙ sym (ap (goes_on hides) here) ∙ so_far
+    let rest : List (Option KeyValue) = key_view (drop (i + 1) parts) in
+    let here : key_view (drop i parts) ≡ key_value_view (get_or parts i d) ∷ rest = ap key_view (drop-cons parts i d within) ∙ ap (λ n. key_value_view (get_or parts i d) ∷ key_view (drop n parts)) (sym next) in
+    shown_more hides shown (key_value_view (get_or parts i d)) rest e h ∙ sym (ap (goes_on hides) here) ∙ so_far
 
 -- ---- the keys are distinct
 

@@ -10,26 +10,26 @@ use Rattle.star_schema.specs.declared.group.Aggregate.TheVariants.{Sum, Count, M
 use Rattle.star_schema.specs.Groups.{numbers_for}
 use Rattle.star_interval.specs.Range.{is_i64}
 use Rattle.star_program.specs.declared.key.KeyValue.{KeyValue}
-use Rattle.star_program.specs.Puts.{leaves}
+use Rattle.star_program.specs.Puts.{leaves, Update, aggregate_at}
 use Rattle.star_group.specs.declared.placed.span.Span.{Span}
-use Rattle.star_group.specs.Batches.{after}
+use Rattle.star_group.specs.Batches.{puts_after}
 use Rattle.star_group.specs.Cells.{held, step}
 use Rattle.star_group.specs.Held.{has_puts}
 use Rattle.star_group.specs.ByPlace.{AreAt, cell_over, neutral}
-use Rattle.star_group.specs.Places.{is_at, place_of}
+use Rattle.star_group.specs.Places.{is_at, cell_place}
 use Rattle.star_group.specs.Private.Taken.{AreWithin, CanTake, after_rows, column_after, taking}
-use Rattle.star_group.specs.Stores.{Group, HasRoom, Put, aggregate_at, number_at}
+use Rattle.star_group.specs.Stores.{Group, HasRoom, put_number}
 use Rattle.star_group.proofs.Rooms.{held_stays}
 
 -- ---- the puts at a place
 
-pub at_here : (spans : List Span) (keys : List KeyValue) (p q : ℕ) → place_of spans keys ≡ Some q → is_at spans p keys ≡ nat_eq q p
+pub at_here : (spans : List Span) (keys : List KeyValue) (p q : ℕ) → cell_place spans keys ≡ Some q → is_at spans p keys ≡ nat_eq q p
 at_here spans keys p q e = ap (λ r. option_eq nat_eq r (Some p)) e
 
-abbrev pub puts_there : List Span → ℕ → List Put → List Put
+abbrev pub puts_there : List Span → ℕ → List Update → List Update
 puts_there spans p us = filter (λ w. is_at spans p w.keys) us
 
-pub there_more : (spans : List Span) (u : Put) (us : List Put) (p : ℕ) (b : Bool) → is_at spans p u.keys ≡ b → puts_there spans p (u ∷ us) ≡ cond b (u ∷ puts_there spans p us) (puts_there spans p us)
+pub there_more : (spans : List Span) (u : Update) (us : List Update) (p : ℕ) (b : Bool) → is_at spans p u.keys ≡ b → puts_there spans p (u ∷ us) ≡ cond b (u ∷ puts_there spans p us) (puts_there spans p us)
 there_more spans u us p b e = ap (λ c. cond c (u ∷ puts_there spans p us) (puts_there spans p us)) e
 
 -- ---- rows, one after another
@@ -39,9 +39,9 @@ unfolding after_rows
 length-after_rows none change at items zero = refl
 length-after_rows none change at items (suc row) = length-set _ _ _ ∙ length-after_rows none change at items row
 
-module _ {A : Type 0} (none : A) (value : List Put → A) (change : ℕ → A → A) (spans : List Span) (u : ℕ → Put) (at : List ℕ) where
+module _ {A : Type 0} (none : A) (value : List Update → A) (change : ℕ → A → A) (spans : List Span) (u : ℕ → Update) (at : List ℕ) where
   -- one row more
-  pub at_more : (row : ℕ) (items : List A) (us : List Put) → ((ws : List Put) → change row (value ws) ≡ value (u row ∷ ws)) → place_of spans (u row).keys ≡ Some (get_or at row 0)
+  pub at_more : (row : ℕ) (items : List A) (us : List Update) → ((ws : List Update) → change row (value ws) ≡ value (u row ∷ ws)) → cell_place spans (u row).keys ≡ Some (get_or at row 0)
       → AreAt none value spans items us → AreAt none value spans (set items (get_or at row 0) (change row (get_or items (get_or at row 0) none))) (u row ∷ us)
   at_more row items us changes is are p h = by (nat_eq q p) refl
     where
@@ -67,12 +67,12 @@ module _ {A : Type 0} (none : A) (value : List Put → A) (change : ℕ → A �
           ∙ are p within
           ∙ ap value (sym (there_more spans (u row) us p false (at_here spans (u row).keys p (get_or at row 0) is ∙ e)))
 
-  pub at_after : (items : List A) (us : List Put) (rows : ℕ) → ((row : ℕ) → row < rows → (ws : List Put) → change row (value ws) ≡ value (u row ∷ ws)) → ((row : ℕ) → row < rows → place_of spans (u row).keys ≡ Some (get_or at row 0))
-      → AreAt none value spans items us → AreAt none value spans (after_rows none change at items rows) (after u us rows)
+  pub at_after : (items : List A) (us : List Update) (rows : ℕ) → ((row : ℕ) → row < rows → (ws : List Update) → change row (value ws) ≡ value (u row ∷ ws)) → ((row : ℕ) → row < rows → cell_place spans (u row).keys ≡ Some (get_or at row 0))
+      → AreAt none value spans items us → AreAt none value spans (after_rows none change at items rows) (puts_after u us rows)
   unfolding after_rows
   at_after items us zero changes is are = are
   at_after items us (suc row) changes is are =
-      at_more row (after_rows none change at items row) (after u us row) (changes row (omega arith)) (is row (omega arith))
+      at_more row (after_rows none change at items row) (puts_after u us row) (changes row (omega arith)) (is row (omega arith))
       (at_after items us row (λ r h. changes r (omega (arith, h))) (λ r h. is r (omega (arith, h))) are)
 
 -- ---- cells
@@ -88,40 +88,40 @@ neutral_step Max (pos n) None h = let l = ltb-true n (2 ^ 63) h in omega (arith,
 neutral_step Max (negsuc n) None h = let l = ltb-true n (2 ^ 63) h in omega (arith, ints, int_max_is (negsuc n) (negsuc (2 ^ 63 - 1)), l)
 
 -- a lane has the numbers of some rows' puts for an aggregate
-pub record IsLane (a : ℕ) (u : ℕ → Put) (lane : List ℤ) (rows : ℕ) : Type 0 where
-  pub is : (row : ℕ) → row < rows → get_or lane row (pos 0) ≡ number_at a (u row)
-  pub narrow : (row : ℕ) → row < rows → is_i64 (number_at a (u row)) ≡ true
+pub record IsLane (a : ℕ) (u : ℕ → Update) (lane : List ℤ) (rows : ℕ) : Type 0 where
+  pub is : (row : ℕ) → row < rows → get_or lane row (pos 0) ≡ put_number a (u row)
+  pub narrow : (row : ℕ) → row < rows → is_i64 (put_number a (u row)) ≡ true
 
-module _ (d : Group) (a : ℕ) (spans : List Span) (u : ℕ → Put) (at : List ℕ) (lane : List ℤ) (rows : ℕ) (are : IsLane a u lane rows)
-    (is : (row : ℕ) → row < rows → place_of spans (u row).keys ≡ Some (get_or at row 0)) where
+module _ (d : Group) (a : ℕ) (spans : List Span) (u : ℕ → Update) (at : List ℕ) (lane : List ℤ) (rows : ℕ) (are : IsLane a u lane rows)
+    (is : (row : ℕ) → row < rows → cell_place spans (u row).keys ≡ Some (get_or at row 0)) where
   abbrev g : Aggregate
-  g = aggregate_at d a
+  g = aggregate_at d.aggregates a
 
-  held_more : (row : ℕ) → row < rows → (ws : List Put) → Some (taking g lane row (cell_over d a ws)) ≡ held g (numbers_for a (u row ∷ ws))
+  held_more : (row : ℕ) → row < rows → (ws : List Update) → Some (taking g lane row (cell_over d a ws)) ≡ held g (numbers_for a (u row ∷ ws))
   unfolding held
-  held_more row h ws = ap Some (ap (λ v. step g v (Some (cell_over d a ws))) (are.is row h) ∙ neutral_step g (number_at a (u row)) (held g (numbers_for a ws)) (are.narrow row h))
+  held_more row h ws = ap Some (ap (λ v. step g v (Some (cell_over d a ws))) (are.is row h) ∙ neutral_step g (put_number a (u row)) (held g (numbers_for a ws)) (are.narrow row h))
 
-  cell_more : (row : ℕ) → row < rows → (ws : List Put) → taking g lane row (cell_over d a ws) ≡ cell_over d a (u row ∷ ws)
+  cell_more : (row : ℕ) → row < rows → (ws : List Update) → taking g lane row (cell_over d a ws) ≡ cell_over d a (u row ∷ ws)
   cell_more row h ws = ap (λ r. unwrap_or r (neutral g)) (held_more row h ws)
 
-  pub column_at : (cells : List ℤ) (us : List Put) (n : ℕ) → n ≤ rows → AreAt (pos 0) (cell_over d a) spans cells us → AreAt (pos 0) (cell_over d a) spans (column_after g lane at cells n) (after u us n)
+  pub column_at : (cells : List ℤ) (us : List Update) (n : ℕ) → n ≤ rows → AreAt (pos 0) (cell_over d a) spans cells us → AreAt (pos 0) (cell_over d a) spans (column_after g lane at cells n) (puts_after u us n)
   column_at cells us n few = at_after (pos 0) (cell_over d a) (taking g lane) spans u at cells us n (λ row h. cell_more row (omega (arith, h, few))) (λ row h. is row (omega (arith, h, few)))
 
-  pub can_take : (cells : List ℤ) (us : List Put) → length at ≡ rows → a < length d.aggregates → AreWithin at (length cells) → ((row : ℕ) → row < rows → HasRoom d (u row ∷ after u us row)) → AreAt (pos 0) (cell_over d a) spans cells us → CanTake g lane at cells
+  pub can_take : (cells : List ℤ) (us : List Update) → length at ≡ rows → a < length d.aggregates → AreWithin at (length cells) → ((row : ℕ) → row < rows → HasRoom d (u row ∷ puts_after u us row)) → AreAt (pos 0) (cell_over d a) spans cells us → CanTake g lane at cells
   can_take cells us long declared within room so_far row h =
       let few : row < rows = omega (arith, h, long) in
       let q : ℕ = get_or at row 0 in
       let there : q < length (column_after g lane at cells row) = omega (arith, within row h, length-after_rows (pos 0) (taking g lane) at cells row) in
       let cell = column_at cells us row (omega (arith, few)) so_far q there in
       ap (λ z. leaves g (Some (taking g lane row z))) cell
-      ∙ ap (leaves g) (held_more row few (puts_there spans q (after u us row)))
-      ∙ ap (λ ws. leaves g (held g (numbers_for a ws))) (sym (there_more spans (u row) (after u us row) q true (at_here spans (u row).keys q q (is row few) ∙ eq-eqb q q refl)))
-      ∙ held_stays d (u row ∷ after u us row) (room row few) (is_at spans q) a declared
+      ∙ ap (leaves g) (held_more row few (puts_there spans q (puts_after u us row)))
+      ∙ ap (λ ws. leaves g (held g (numbers_for a ws))) (sym (there_more spans (u row) (puts_after u us row) q true (at_here spans (u row).keys q q (is row few) ∙ eq-eqb q q refl)))
+      ∙ held_stays d (u row ∷ puts_after u us row) (room row few) (is_at spans q) a declared
 
 -- ---- which places have puts
 
-pub seen_at : (spans : List Span) (u : ℕ → Put) (at : List ℕ) (seen : List Bool) (us : List Put) (rows : ℕ) → ((row : ℕ) → row < rows → place_of spans (u row).keys ≡ Some (get_or at row 0))
-    → AreAt false has_puts spans seen us → AreAt false has_puts spans (after_rows false (λ row was. true) at seen rows) (after u us rows)
+pub seen_at : (spans : List Span) (u : ℕ → Update) (at : List ℕ) (seen : List Bool) (us : List Update) (rows : ℕ) → ((row : ℕ) → row < rows → cell_place spans (u row).keys ≡ Some (get_or at row 0))
+    → AreAt false has_puts spans seen us → AreAt false has_puts spans (after_rows false (λ row was. true) at seen rows) (puts_after u us rows)
 seen_at spans u at seen us rows is = at_after false has_puts (λ row was. true) spans u at seen us rows (λ row h ws. refl) is
 
 -- ---- numbers of 64 bits

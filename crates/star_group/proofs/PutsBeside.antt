@@ -8,7 +8,7 @@ use Rattle.star_schema.specs.declared.group.Shape.TheVariants.{Plain}
 use Rattle.star_schema.specs.Groups.{is_grouping}
 use Rattle.star_program.specs.declared.key.KeyValue.{KeyValue}
 use Rattle.star_group.specs.declared.keyed.key.KeyPart.{KeyPart}
-use Rattle.star_group.specs.Base.{row_at}
+use Rattle.star_group.specs.Base.{row_found}
 use Rattle.star_group.specs.Eager.{with_total}
 use Rattle.star_group.specs.OwnKeys.{key_eq, padded, vary}
 use Rattle.star_group.specs.Private.Merged.{IsMerged, IsMergedAt, IsMergedInto, MergeLeaves, MergeStays}
@@ -19,13 +19,13 @@ use Rattle.star_group.proofs.GroupKeys.{key_decides, key_equiv, plain_among}
 -- ---- the row of one key
 
 module _ (gs : List Aggregate) (key : List (Option KeyValue)) (more : List (Option ℤ)) (es : List (List KeyPart × List (Option ℤ))) where
-  pub one_put : (fs : List (List KeyPart × List (Option ℤ))) → MergeStays gs (unwrap_or (row_at es key) []) more → IsMergedAt gs key more es fs → PutsRows (λ q. key_eq q key) gs more (row_at es) (row_at fs)
+  pub one_put : (fs : List (List KeyPart × List (Option ℤ))) → MergeStays gs (unwrap_or (row_found es key) []) more → IsMergedAt gs key more es fs → PutsRows (λ q. key_eq q key) gs more (row_found es) (row_found fs)
   one_put fs stays at = record {
     merges = record { changed = λ q e. own_row gs key more es fs at q ((key_decides q key).0 e); same = other_row gs key more es fs at };
-    stay = record { stay = λ q e. subst (λ k. MergeStays gs (unwrap_or (row_at es k) []) more) (sym ((key_decides q key).0 e)) stays };
+    stay = record { stay = λ q e. subst (λ k. MergeStays gs (unwrap_or (row_found es k) []) more) (sym ((key_decides q key).0 e)) stays };
   }
 
-  pub one_leaves : MergeLeaves gs (unwrap_or (row_at es key) []) more → SomeLeaves (row_at es) (λ q. key_eq q key) gs more
+  pub one_leaves : MergeLeaves gs (unwrap_or (row_found es key) []) more → SomeLeaves (row_found es) (λ q. key_eq q key) gs more
   one_leaves over = record { key = key; among = key_equiv.refl key; leaves = over }
 
 -- where no row is told of nothing changes

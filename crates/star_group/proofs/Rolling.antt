@@ -11,7 +11,7 @@ use Rattle.std.proofs.lemmas.Map.Views.{list_any-from_Contains}
 use Rattle.star_common.proofs.Members.{at_each, of_each}
 use Rattle.star_program.specs.declared.key.KeyValue.{KeyValue}
 use Rattle.star_group.specs.declared.keyed.key.KeyPart.{KeyPart}
-use Rattle.star_group.specs.Base.{IsRowOver, key_of, row_at}
+use Rattle.star_group.specs.Base.{IsRowOver, key_view, row_found}
 use Rattle.star_group.specs.Held.{has_puts}
 use Rattle.star_group.specs.OwnKeys.{key_eq, padded, vary}
 use Rattle.star_group.specs.Private.Coarser.{IsMergedWhere, IsRolledUp, IsRolledUpWithRoom, NoneCoarser, RollsUp, first_finer, is_among, keys_from}
@@ -27,7 +27,8 @@ use Rattle.std.proofs.Math.Logic.{∥∥₁_elim, ∥∥₁_map}
 use Rattle.std.proofs.Math.Bool.{Bool-set, and-or_distrib_left}
 use Rattle.std.proofs.Math.Seq.{take-length}
 use Rattle.std.proofs.lemmas.Bool.{and_parts}
-use Rattle.star_group.specs.Stores.{Put, Group}
+use Rattle.star_program.specs.Puts.{Update}
+use Rattle.star_group.specs.Stores.{Group}
 use Rattle.star_group.proofs.GivenGroups.{mapped}
 use Rattle.star_group.proofs.GroupKeys.{bool_same, key_decides, key_equiv}
 use Rattle.star_group.proofs.KeyedRows.{row_there}
@@ -135,13 +136,13 @@ shown_key (suc n) (k ∷ ks) (suc p) h few e = shown_key n ks p (omega (arith, h
 in_keys : (s : Shape) (place count : ℕ) (q : List (Option KeyValue)) (ks : List KeyValue) → is_among s place count q ks ≡ true → list_any (key_eq q) (keys_from place count ks) ≡ true
 in_keys s place count q ks h = (and_parts (is_grouping s (take count q)) (list_any (key_eq q) (keys_from place count ks)) h).1
 
-pub keys_apart : (s : Shape) (us : List Put) (place count : ℕ) → place < count → count ≤ 6 → AllByRecursion (λ u. length u.keys ≡ count) us → AreApart us (λ q ks. is_among s (place + 1) count q ks) (hide place)
+pub keys_apart : (s : Shape) (us : List Update) (place count : ℕ) → place < count → count ≤ 6 → AllByRecursion (λ u. length u.keys ≡ count) us → AreApart us (λ q ks. is_among s (place + 1) count q ks) (hide place)
 keys_apart s us place count within few fit = record {
   differ = λ u c k l in_k in_l same. differ u c k l (in_keys s (place + 1) count k u.keys in_k) (in_keys s (place + 1) count l u.keys in_l) same;
   new = λ u c k in_k in_hidden. new u c k (in_keys s (place + 1) count k u.keys in_k) (in_keys s (place + 1) count (hide place k) u.keys in_hidden);
 }
   where
-    differ : (u : Put) → Contains us u → (k l : List (Option KeyValue)) → list_any (key_eq k) (keys_from (place + 1) count u.keys) ≡ true → list_any (key_eq l) (keys_from (place + 1) count u.keys) ≡ true → hide place k ≡ hide place l → k ≡ l
+    differ : (u : Update) → Contains us u → (k l : List (Option KeyValue)) → list_any (key_eq k) (keys_from (place + 1) count u.keys) ≡ true → list_any (key_eq l) (keys_from (place + 1) count u.keys) ≡ true → hide place k ≡ hide place l → k ≡ l
     differ u c k l in_k in_l same =
         let b = begins place count u.keys within few k in_k in
         let d = begins place count u.keys within few l in_l in
@@ -150,7 +151,7 @@ keys_apart s us place count within few fit = record {
         let rests : b.rest ≡ d.rest = cc tails in
         b.is ∙ ap (λ r. take (suc place) (padded 6 u.keys) ++ r) rests ∙ sym d.is
 
-    new : (u : Put) → Contains us u → (k : List (Option KeyValue)) → list_any (key_eq k) (keys_from (place + 1) count u.keys) ≡ true → list_any (key_eq (hide place k)) (keys_from (place + 1) count u.keys) ≡ true → ⊥
+    new : (u : Update) → Contains us u → (k : List (Option KeyValue)) → list_any (key_eq k) (keys_from (place + 1) count u.keys) ≡ true → list_any (key_eq (hide place k)) (keys_from (place + 1) count u.keys) ≡ true → ⊥
     new u c k in_k in_hidden =
         let b = begins place count u.keys within few k in_k in
         let d = begins place count u.keys within few (hide place k) in_hidden in
@@ -176,7 +177,7 @@ gap (suc n) (suc count) (suc p) (k ∷ ks) rest h few within = gap n count p ks 
 
 -- ---- all rows merged in
 
-module _ (d : Group) (us : List Put) (place : ℕ) (within : place < d.count) (few : d.count ≤ 6) (es : List (List KeyPart × List (Option ℤ))) (rolled : IsRolledUp d (place + 1) es us) where
+module _ (d : Group) (us : List Update) (place : ℕ) (within : place < d.count) (few : d.count ≤ 6) (es : List (List KeyPart × List (Option ℤ))) (rolled : IsRolledUp d (place + 1) es us) where
   abbrev In : List (Option KeyValue) → List KeyValue → Bool
   In q ks = is_among d.shape (place + 1) d.count q ks
 
@@ -184,22 +185,22 @@ module _ (d : Group) (us : List Put) (place : ℕ) (within : place < d.count) (f
   Made q = is_grouping d.shape (take d.count q)
 
   -- a put's row is there
-  there : (u : Put) → Contains us u → (k : List (Option KeyValue)) → In k u.keys ≡ true → (i : ℕ) × (e : List KeyPart × List (Option ℤ)) × (slice_get es i ≡ Some e) × (k ≡ key_of e.0)
-  there u c k in_row = by (row_at es k) refl (rolled.rows k)
+  there : (u : Update) → Contains us u → (k : List (Option KeyValue)) → In k u.keys ≡ true → (i : ℕ) × (e : List KeyPart × List (Option ℤ)) × (slice_get es i ≡ Some e) × (k ≡ key_view e.0)
+  there u c k in_row = by (row_found es k) refl (rolled.rows k)
     where
       some : has_puts (filter (λ w. In k w.keys) us) ≡ true
       some = any_filter (λ w. In k w.keys) us ∙ list_any-from_Any (λ w. In k w.keys) us (c.0, u, c.1, c.2, in_row)
 
-      by : (found : Option (List (Option ℤ))) → row_at es k ≡ found → IsRowOver d (filter (λ w. In k w.keys) us) found → (i : ℕ) × (e : List KeyPart × List (Option ℤ)) × (slice_get es i ≡ Some e) × (k ≡ key_of e.0)
+      by : (found : Option (List (Option ℤ))) → row_found es k ≡ found → IsRowOver d (filter (λ w. In k w.keys) us) found → (i : ℕ) × (e : List KeyPart × List (Option ℤ)) × (slice_get es i ≡ Some e) × (k ≡ key_view e.0)
       by None e is = absurd (true≢false (sym some ∙ is))
       by (Some row) e is =
-          let at = place_from_lookup (λ parts. key_eq k (key_of parts)) es row e in
-          (at.0, (at.1, row), at.2, (key_decides k (key_of at.1)).0 at.3)
+          let at = place_from_lookup (λ parts. key_eq k (key_view parts)) es row e in
+          (at.0, (at.1, row), at.2, (key_decides k (key_view at.1)).0 at.3)
 
-  fits_at : (u : Put) → Contains us u → length u.keys ≡ d.count
+  fits_at : (u : Update) → Contains us u → length u.keys ≡ d.count
   fits_at u c = at_each (λ w. length w.keys ≡ d.count) us u rolled.fit c
 
-  now_in : (q : List (Option KeyValue)) (u : Put) → Contains us u → so_far In Made (hide place) es (length es) q u.keys ≡ is_among d.shape place d.count q u.keys
+  now_in : (q : List (Option KeyValue)) (u : Update) → Contains us u → so_far In Made (hide place) es (length es) q u.keys ≡ is_among d.shape place d.count q u.keys
   now_in q u c =
       ap (λ fs. In q u.keys || list_any (comes In Made (hide place) q u.keys) fs) (take-length es)
       ∙ ap (λ b. In q u.keys || b) (bool_same _ _ forth back)
@@ -213,13 +214,13 @@ module _ (d : Group) (us : List Put) (place : ℕ) (within : place < d.count) (f
       forth : list_any (comes In Made (hide place) q u.keys) es ≡ true → (Made q && list_any (key_eq q) (map (hide place) own)) ≡ true
       forth h =
           let some = some_at (comes In Made (hide place) q u.keys) es h in
-          let made = and_parts (Made (hide place (key_of some.1.0))) (key_eq q (hide place (key_of some.1.0)) && In (key_of some.1.0) u.keys) some.3 in
-          let both = and_parts (key_eq q (hide place (key_of some.1.0))) (In (key_of some.1.0) u.keys) made.1 in
-          let mine = some_at (key_eq (key_of some.1.0)) own (in_keys d.shape (place + 1) d.count (key_of some.1.0) u.keys both.1) in
-          let is : q ≡ hide place (key_of some.1.0) = (key_decides q (hide place (key_of some.1.0))).0 both.0 in
+          let made = and_parts (Made (hide place (key_view some.1.0))) (key_eq q (hide place (key_view some.1.0)) && In (key_view some.1.0) u.keys) some.3 in
+          let both = and_parts (key_eq q (hide place (key_view some.1.0))) (In (key_view some.1.0) u.keys) made.1 in
+          let mine = some_at (key_eq (key_view some.1.0)) own (in_keys d.shape (place + 1) d.count (key_view some.1.0) u.keys both.1) in
+          let is : q ≡ hide place (key_view some.1.0) = (key_decides q (hide place (key_view some.1.0))).0 both.0 in
           ap (λ b. b && list_any (key_eq q) (map (hide place) own)) (ap Made is ∙ made.0)
           ∙ any_mapped (hide place) (key_eq q) own
-          ∙ any_passes_from_place (λ k. key_eq q (hide place k)) own mine.0 mine.1 mine.2 (ap (λ k. key_eq q (hide place k)) (sym ((key_decides (key_of some.1.0) mine.1).0 mine.3)) ∙ both.0)
+          ∙ any_passes_from_place (λ k. key_eq q (hide place k)) own mine.0 mine.1 mine.2 (ap (λ k. key_eq q (hide place k)) (sym ((key_decides (key_view some.1.0) mine.1).0 mine.3)) ∙ both.0)
 
       back : (Made q && list_any (key_eq q) (map (hide place) own)) ≡ true → list_any (comes In Made (hide place) q u.keys) es ≡ true
       back h =
@@ -239,25 +240,25 @@ module _ (d : Group) (us : List Put) (place : ℕ) (within : place < d.count) (f
   pub all_merged : (fs : List (List KeyPart × List (Option ℤ))) → AreOver d us (so_far In Made (hide place) es (length es)) fs → IsRolledUp d place fs us
   all_merged fs over = record {
     fit = rolled.fit;
-    rows = λ q. subst (λ ps. IsRowOver d ps (row_at fs q))
+    rows = λ q. subst (λ ps. IsRowOver d ps (row_found fs q))
         (filter_same (λ u. so_far In Made (hide place) es (length es) q u.keys) (λ u. is_among d.shape place d.count q u.keys) us (of_each (λ u. so_far In Made (hide place) es (length es) q u.keys ≡ is_among d.shape place d.count q u.keys) us (now_in q)))
         (over q);
   }
 
   -- each row is over its puts
-  pub row_over : IsOnceAt es → (j : ℕ) (e : List KeyPart × List (Option ℤ)) → slice_get es j ≡ Some e → IsRowOver d (filter (λ u. In (key_of e.0) u.keys) us) (Some e.1)
-  row_over once j e at = subst (IsRowOver d (filter (λ u. In (key_of e.0) u.keys) us)) (row_there es once j e at) (rolled.rows (key_of e.0))
+  pub row_over : IsOnceAt es → (j : ℕ) (e : List KeyPart × List (Option ℤ)) → slice_get es j ≡ Some e → IsRowOver d (filter (λ u. In (key_view e.0) u.keys) us) (Some e.1)
+  row_over once j e at = subst (IsRowOver d (filter (λ u. In (key_view e.0) u.keys) us)) (row_there es once j e at) (rolled.rows (key_view e.0))
 
   -- in a rollup no row has a coarser key with ALL one place before: the key at this place is shown
-  pub shows_next : IsOnceAt es → (p : ℕ) → p + 1 ≡ place → (j : ℕ) (e : List KeyPart × List (Option ℤ)) → slice_get es j ≡ Some e → is_grouping Rollup (take d.count (hide p (key_of e.0))) ≡ false
+  pub shows_next : IsOnceAt es → (p : ℕ) → p + 1 ≡ place → (j : ℕ) (e : List KeyPart × List (Option ℤ)) → slice_get es j ≡ Some e → is_grouping Rollup (take d.count (hide p (key_view e.0))) ≡ false
   shows_next once p next j e at =
-      let some = Any-from_list_any (λ u. In (key_of e.0) u.keys) us (sym (any_filter (λ u. In (key_of e.0) u.keys) us) ∙ (row_over once j e at).0) in
+      let some = Any-from_list_any (λ u. In (key_view e.0) u.keys) us (sym (any_filter (λ u. In (key_view e.0) u.keys) us) ∙ (row_over once j e at).0) in
       let ks = some.1.keys in
       let fits : length ks ≡ d.count = at_each (λ w. length w.keys ≡ d.count) us some.1 rolled.fit (some.0, some.2, some.3) in
-      let b = begins place d.count ks within few (key_of e.0) (in_keys d.shape (place + 1) d.count (key_of e.0) ks some.4) in
+      let b = begins place d.count ks within few (key_view e.0) (in_keys d.shape (place + 1) d.count (key_view e.0) ks some.4) in
       let same : place ≡ suc p = omega (arith, next) in
       let long : suc p < length (padded 6 ks) = omega (arith, length-padded 6 ks, within, few, same) in
-      let hidden : hide p (key_of e.0) ≡ take p (padded 6 ks) ++ (None ∷ get_or (padded 6 ks) (suc p) None ∷ b.rest) =
+      let hidden : hide p (key_view e.0) ≡ take p (padded 6 ks) ++ (None ∷ get_or (padded 6 ks) (suc p) None ∷ b.rest) =
       ap (hide p) (b.is ∙ ap (λ n. take (suc n) (padded 6 ks) ++ b.rest) same ∙ one_more (padded 6 ks) (suc p) None b.rest long)
       ∙ set_there (padded 6 ks) p None (get_or (padded 6 ks) (suc p) None ∷ b.rest) (omega (arith, long)) in
       ap (λ k. is_grouping Rollup (take d.count k)) hidden ∙ gap 6 d.count p ks b.rest (omega (arith, within, same, fits)) (omega (arith, few, fits)) (omega (arith, within, same))
@@ -269,7 +270,7 @@ IsMade shape count q = is_grouping shape (take count q)
 
 -- the first j rows are merged in
 abbrev pub IsMergedSoFar : Shape → ℕ → List Aggregate → ℕ → List (List KeyPart × List (Option ℤ)) → ℕ → List (List KeyPart × List (Option ℤ)) → Type 0
-IsMergedSoFar shape count gs place es j rows = (puts : List Put) → place + 1 ≤ count → count ≤ 6
+IsMergedSoFar shape count gs place es j rows = (puts : List Update) → place + 1 ≤ count → count ≤ 6
     → IsRolledUp (group_with shape count gs) (place + 1) es puts
     → AreOver (group_with shape count gs) puts (so_far (is_among shape (place + 1) count) (IsMade shape count) (hide place) es j) rows
 
@@ -298,18 +299,18 @@ module _ (shape : Shape) (count : ℕ) (gs : List Aggregate) (place : ℕ) (es :
       let here = subst (λ xs. IsRolledUp d (place + 1) xs puts) (sym same) rolled in
       all_merged d puts place (omega (arith, below)) few es here after (over puts below few here)
 
-  module _ (j : ℕ) (e : List KeyPart × List (Option ℤ)) (at : slice_get es j ≡ Some e) (before : List (List KeyPart × List (Option ℤ))) (key : List KeyPart) (is_key : key_of key ≡ set (key_of e.0) place None) (over : IsMergedSoFar shape count gs place es j before) where
-    pub turn_stays : ∥ IsRolledUpWithRoom shape count gs (place + 1) es ∥₁ → is_grouping shape (take count (key_of key)) ≡ true → RowsStay gs (row_at before (key_of key)) e.1
-    turn_stays room grouping = ∥∥₁_elim room (stay_prop gs (row_at before (key_of key)) e.1) by
+  module _ (j : ℕ) (e : List KeyPart × List (Option ℤ)) (at : slice_get es j ≡ Some e) (before : List (List KeyPart × List (Option ℤ))) (key : List KeyPart) (is_key : key_view key ≡ set (key_view e.0) place None) (over : IsMergedSoFar shape count gs place es j before) where
+    pub turn_stays : ∥ IsRolledUpWithRoom shape count gs (place + 1) es ∥₁ → is_grouping shape (take count (key_view key)) ≡ true → RowsStay gs (row_found before (key_view key)) e.1
+    turn_stays room grouping = ∥∥₁_elim room (stay_prop gs (row_found before (key_view key)) e.1) by
       where
-        by : IsRolledUpWithRoom shape count gs (place + 1) es → RowsStay gs (row_at before (key_of key)) e.1
+        by : IsRolledUpWithRoom shape count gs (place + 1) es → RowsStay gs (row_found before (key_view key)) e.1
         by r =
             let within : place < count = omega (arith, r.below) in
             stays_one r.puts (is_among shape (place + 1) count) (IsMade shape count) (hide place) es (keys_apart shape r.puts place count within r.few r.rows.fit) once j e at d (ap (IsMade shape count) (sym is_key) ∙ grouping)
             (row_over d r.puts place within r.few es r.rows once j e at) before key is_key r.room (over r.puts r.below r.few r.rows)
 
-    pub turn_merges : (after : List (List KeyPart × List (Option ℤ))) → IsMergedWhere shape count gs (key_of key) e.1 before after → IsMergedSoFar shape count gs place es (j + 1) after
-    turn_merges after merges puts below few rolled = by (is_grouping shape (take count (key_of key))) refl merges
+    pub turn_merges : (after : List (List KeyPart × List (Option ℤ))) → IsMergedWhere shape count gs (key_view key) e.1 before after → IsMergedSoFar shape count gs place es (j + 1) after
+    turn_merges after merges puts below few rolled = by (is_grouping shape (take count (key_view key))) refl merges
       where
         within : place < count
         within = omega (arith, below)
@@ -317,7 +318,7 @@ module _ (shape : Shape) (count : ℕ) (gs : List Aggregate) (place : ℕ) (es :
         apart : AreApart puts (is_among shape (place + 1) count) (hide place)
         apart = keys_apart shape puts place count within few rolled.fit
 
-        by : (b : Bool) → is_grouping shape (take count (key_of key)) ≡ b → MatchBool b (IsMergedAt gs (key_of key) e.1 before after) (after ≡ before)
+        by : (b : Bool) → is_grouping shape (take count (key_view key)) ≡ b → MatchBool b (IsMergedAt gs (key_view key) e.1 before after) (after ≡ before)
             → AreOver d puts (so_far (is_among shape (place + 1) count) (IsMade shape count) (hide place) es (j + 1)) after
         by true grouping merged =
             merged_one puts (is_among shape (place + 1) count) (IsMade shape count) (hide place) es apart once j e at d (ap (IsMade shape count) (sym is_key) ∙ grouping)
@@ -334,8 +335,8 @@ pub next_none : (shape : Shape) (count : ℕ) (gs : List Aggregate) (place : ℕ
 next_none Plain count gs place es fs once within room keys p next number h = absurd (omega (arith, h))
 next_none Cube count gs place es fs once within room keys p next number h = absurd (omega (arith, h))
 next_none Rollup count gs place es fs once within room keys p next number h =
-    ap (λ key. is_grouping Rollup (take count (hide p (key_of key)))) (keys number h)
-    ∙ ∥∥₁_elim room (let prop : IsProp (is_grouping Rollup (take count (hide p (key_of (get_or es number ([], [])).0))) ≡ false) = hlevel Bool-set in prop) (λ r.
+    ap (λ key. is_grouping Rollup (take count (hide p (key_view key)))) (keys number h)
+    ∙ ∥∥₁_elim room (let prop : IsProp (is_grouping Rollup (take count (hide p (key_view (get_or es number ([], [])).0))) ≡ false) = hlevel Bool-set in prop) (λ r.
     shows_next (group_with Rollup count gs) r.puts place within r.few es r.rows once p next number (get_or es number ([], [])) (slice_get-get_or es number ([], []) h))
 
 pub room_there : (shape : Shape) (count : ℕ) (gs : List Aggregate) (place : ℕ) (es fs : List (List KeyPart × List (Option ℤ))) → place ≤ count → RollsUp shape count gs count es place fs → ∥ IsRolledUpWithRoom shape count gs count es ∥₁ → ∥ IsRolledUpWithRoom shape count gs place fs ∥₁

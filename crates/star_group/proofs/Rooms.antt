@@ -10,10 +10,10 @@ use Rattle.star_schema.specs.Groups.{aggregate, belongs, joined, numbers_for}
 use Rattle.star_interval.specs.Range.{is_i64, is_i128}
 use Rattle.star_program.specs.declared.key.KeyValue.{KeyValue}
 use Rattle.star_program.specs.Keys.{key_value_cmp}
-use Rattle.star_program.specs.Puts.{leaves}
+use Rattle.star_program.specs.Puts.{leaves, Update, overflows, aggregate_at}
 use Rattle.star_program.proofs.OwnGroups.{overflow_somewhere}
 use Rattle.star_group.specs.Cells.{held}
-use Rattle.star_group.specs.Stores.{Put, Group, aggregate_at, number_at, overflows, above_zero, below_zero, HasRoom}
+use Rattle.star_group.specs.Stores.{Group, put_number, above_zero, below_zero, HasRoom}
 use Rattle.star_group.proofs.ContentByKeys.{length-numbers, sums}
 use Rattle.star_group.proofs.ContentMade.{made, made_content}
 use Rattle.star_group.proofs.Contents.{declared}
@@ -55,13 +55,13 @@ unfolding above_zero below_zero
 fewer_without (pos n) vs ws h = record { above = omega arith; below = h.below }
 fewer_without (negsuc n) vs ws h = record { above = h.above; below = omega arith }
 
-fewer_kept : (p : Put → Bool) (place : ℕ) (es : List Put) → Fewer (numbers_for place (filter p es)) (numbers_for place es)
+fewer_kept : (p : Update → Bool) (place : ℕ) (es : List Update) → Fewer (numbers_for place (filter p es)) (numbers_for place es)
 fewer_kept p place [] = record { above = omega arith; below = omega arith }
 fewer_kept p place (e ∷ es) = by (p e) (fewer_kept p place es)
   where
-    by : (b : Bool) → Fewer (numbers_for place (filter p es)) (numbers_for place es) → Fewer (numbers_for place (cond b (e ∷ filter p es) (filter p es))) (number_at place e ∷ numbers_for place es)
-    by true h = fewer_with (number_at place e) _ _ h
-    by false h = fewer_without (number_at place e) _ _ h
+    by : (b : Bool) → Fewer (numbers_for place (filter p es)) (numbers_for place es) → Fewer (numbers_for place (cond b (e ∷ filter p es) (filter p es))) (put_number place e ∷ numbers_for place es)
+    by true h = fewer_with (put_number place e) _ _ h
+    by false h = fewer_without (put_number place e) _ _ h
 
 fits_between : (z : ℤ) (m n : ℕ) → z ≤ℤ pos m → pos 0 ≤ℤ (z +ℤ pos n) → m < 2 ^ 127 → n ≤ 2 ^ 127 → is_i128 z ≡ true
 unfolding is_i128
@@ -76,8 +76,8 @@ count_small n h = lt-ltb n (2 ^ 63) h
 
 -- ---- the puts whose key lists pass a test
 
-module _ (d : Group) (us : List Put) (room : HasRoom d us) (p : List KeyValue → Bool) (place : ℕ) (declared : place < length d.aggregates) where
-  sum_fits : aggregate_at d place ≡ Sum → (z : ℤ) → joined (λ x y. x +ℤ y) (numbers_for place (filter (λ w. p w.keys) us)) ≡ Some z → is_i128 z ≡ true
+module _ (d : Group) (us : List Update) (room : HasRoom d us) (p : List KeyValue → Bool) (place : ℕ) (declared : place < length d.aggregates) where
+  sum_fits : aggregate_at d.aggregates place ≡ Sum → (z : ℤ) → joined (λ x y. x +ℤ y) (numbers_for place (filter (λ w. p w.keys) us)) ≡ Some z → is_i128 z ≡ true
   sum_fits same z e =
       let es = made d us in
       let zs = numbers_for place (filter (λ w. p w.keys) es) in
@@ -87,13 +87,13 @@ module _ (d : Group) (us : List Put) (room : HasRoom d us) (p : List KeyValue �
       let r = bounded zs in
       ap is_i128 (sum_is zs z whole) ∙ fits_between (all_of zs) _ _ r.0 r.1 (omega (arith, less.above, up.above)) (omega (arith, less.below, up.below))
 
-  stays_at : (g : Aggregate) → aggregate_at d place ≡ g → leaves g (aggregate g (numbers_for place (filter (λ w. p w.keys) us))) ≡ false
+  stays_at : (g : Aggregate) → aggregate_at d.aggregates place ≡ g → leaves g (aggregate g (numbers_for place (filter (λ w. p w.keys) us))) ≡ false
   stays_at Sum same = by (joined (λ x y. x +ℤ y) (numbers_for place (filter (λ w. p w.keys) us))) refl
     where
       by : (r : Option ℤ) → joined (λ x y. x +ℤ y) (numbers_for place (filter (λ w. p w.keys) us)) ≡ r → leaves Sum r ≡ false
       by None e = refl
       by (Some z) e = ap not (sum_fits same z e)
-  stays_at Count same = ap not (count_small _ (omega (arith, length-numbers place (filter (λ w. p w.keys) us), length-filter (λ (w : Put). p w.keys) us, count_by-le-length (λ (w : Put). p w.keys) us, room.counts place declared same)))
+  stays_at Count same = ap not (count_small _ (omega (arith, length-numbers place (filter (λ w. p w.keys) us), length-filter (λ (w : Update). p w.keys) us, count_by-le-length (λ (w : Update). p w.keys) us, room.counts place declared same)))
   stays_at Min same = by (aggregate Min (numbers_for place (filter (λ w. p w.keys) us)))
     where
       by : (r : Option ℤ) → leaves Min r ≡ false
@@ -106,9 +106,9 @@ module _ (d : Group) (us : List Put) (room : HasRoom d us) (p : List KeyValue �
       by (Some z) = refl
 
 -- what is held of them doesn't leave its bits
-pub held_stays : (d : Group) (us : List Put) → HasRoom d us → (p : List KeyValue → Bool) (place : ℕ) → place < length d.aggregates → leaves (aggregate_at d place) (held (aggregate_at d place) (numbers_for place (filter (λ w. p w.keys) us))) ≡ false
+pub held_stays : (d : Group) (us : List Update) → HasRoom d us → (p : List KeyValue → Bool) (place : ℕ) → place < length d.aggregates → leaves (aggregate_at d.aggregates place) (held (aggregate_at d.aggregates place) (numbers_for place (filter (λ w. p w.keys) us))) ≡ false
 unfolding held
-held_stays d us room p place declared = by (aggregate_at d place) (numbers_for place (filter (λ w. p w.keys) us)) (stays_at d us room p place declared (aggregate_at d place) refl)
+held_stays d us room p place declared = by (aggregate_at d.aggregates place) (numbers_for place (filter (λ w. p w.keys) us)) (stays_at d us room p place declared (aggregate_at d.aggregates place) refl)
   where
     by : (g : Aggregate) (vs : List ℤ) → leaves g (aggregate g vs) ≡ false → leaves g (held g vs) ≡ false
     by Sum [] h = refl
@@ -117,7 +117,7 @@ held_stays d us room p place declared = by (aggregate_at d place) (numbers_for p
     by Max [] h = refl
     by g (v ∷ vs) h = ap (leaves g) (some_aggregate g v vs) ∙ h
 
-pub room_stays : (d : Group) (us : List Put) (u : Put) → HasRoom d (u ∷ us) → overflows d us u ≡ false
-room_stays d us u room = false_from_ne_true (overflows d us u) (λ over.
+pub room_stays : (d : Group) (us : List Update) (u : Update) → HasRoom d (u ∷ us) → overflows d.shape d.aggregates us u ≡ false
+room_stays d us u room = false_from_ne_true (overflows d.shape d.aggregates us u) (λ over.
     let l = overflow_somewhere (declared d) us u over in
-    true≢false (sym l.leaves_there ∙ stays_at d (u ∷ us) room (belongs key_value_cmp l.group) l.place l.declared (aggregate_at d l.place) refl))
+    true≢false (sym l.leaves_there ∙ stays_at d (u ∷ us) room (belongs key_value_cmp l.group) l.place l.declared (aggregate_at d.aggregates l.place) refl))

@@ -12,7 +12,8 @@ use Rattle.star_schema.specs.Groups.{joined, numbers_for}
 use Rattle.star_interval.specs.Range.{is_i64}
 use Rattle.star_program.specs.declared.key.KeyValue.{KeyValue}
 use Rattle.star_program.specs.Keys.{same_keys}
-use Rattle.star_group.specs.Stores.{Put, Group, aggregate_at, IsContent, key_lists, number_at, puts_of, above_zero, below_zero, AddUp, HasRoom}
+use Rattle.star_program.specs.Puts.{Update, aggregate_at}
+use Rattle.star_group.specs.Stores.{Group, IsContent, key_lists, put_number, puts_of, above_zero, below_zero, AddUp, HasRoom}
 use Rattle.star_group.proofs.ContentByKeys.{all_more, sums, told}
 use Rattle.star_group.proofs.ContentMade.{made, made_content}
 use Rattle.star_group.proofs.KeyLists.{keys_decide}
@@ -21,7 +22,7 @@ use Rattle.star_group.proofs.JoinedParts.{flipped, more, no_two, over, over_more
 -- ---- a measure of numbers of which a sum has no more than its parts
 
 -- the measures of the numbers of the puts that pass, added
-abbrev weight : (ℤ → ℕ) → (Put → ℤ) → (Put → Bool) → List Put → ℕ
+abbrev weight : (ℤ → ℕ) → (Update → ℤ) → (Update → Bool) → List Update → ℕ
 weight size number t [] = 0
 weight size number t (u ∷ us) = cond (t u) (size (number u)) 0 + weight size number t us
 
@@ -29,8 +30,8 @@ abbrev size_of : (ℤ → ℕ) → Option ℤ → ℕ
 size_of size None = 0
 size_of size (Some z) = size z
 
-module _ (size : ℤ → ℕ) (less : (x y : ℤ) → size (x +ℤ y) ≤ size x + size y) (number : Put → ℤ) where
-  sum_less : (t : Put → Bool) (us : List Put) → size_of size (over (λ x y. x +ℤ y) number t us) ≤ weight size number t us
+module _ (size : ℤ → ℕ) (less : (x y : ℤ) → size (x +ℤ y) ≤ size x + size y) (number : Update → ℤ) where
+  sum_less : (t : Update → Bool) (us : List Update) → size_of size (over (λ x y. x +ℤ y) number t us) ≤ weight size number t us
   sum_less t [] = omega arith
   sum_less t (u ∷ us) = subst (λ r. size_of size r ≤ weight size number t (u ∷ us)) (sym (over_more (λ x y. x +ℤ y) number t u us)) (by (t u) (over (λ x y. x +ℤ y) number t us) (sum_less t us))
     where
@@ -39,7 +40,7 @@ module _ (size : ℤ → ℕ) (less : (x y : ℤ) → size (x +ℤ y) ≤ size x
       by true (Some y) h = omega (arith, h, less (number u) y)
       by false r h = omega (arith, h)
 
-  apart : (a b c : Put → Bool) (us : List Put) → ((u : Put) → c u ≡ (a u || b u)) → ((u : Put) → (a u && b u) ≡ false) → weight size number c us ≡ weight size number a us + weight size number b us
+  apart : (a b c : Update → Bool) (us : List Update) → ((u : Update) → c u ≡ (a u || b u)) → ((u : Update) → (a u && b u) ≡ false) → weight size number c us ≡ weight size number a us + weight size number b us
   apart a b c [] either no_both = refl
   apart a b c (u ∷ us) either no_both = ap (λ t. cond t (size (number u)) 0 + weight size number c us) (either u) ∙ by (a u) (b u) (no_both u) (apart a b c us either no_both)
     where
@@ -50,7 +51,7 @@ module _ (size : ℤ → ℕ) (less : (x y : ℤ) → size (x +ℤ y) ≤ size x
       by false true never e = omega (arith, e)
       by false false never e = omega (arith, e)
 
-  at_most : (t : Put → Bool) (us : List Put) → weight size number t us ≤ weight size number (λ u. true) us
+  at_most : (t : Update → Bool) (us : List Update) → weight size number t us ≤ weight size number (λ u. true) us
   at_most t [] = omega arith
   at_most t (u ∷ us) = by (t u) (at_most t us)
     where
@@ -59,7 +60,7 @@ module _ (size : ℤ → ℕ) (less : (x y : ℤ) → size (x +ℤ y) ≤ size x
       by false h = omega (arith, h)
 
   -- entries that have the sums of their key lists
-  by_key_lists : (us es : List Put) → IsDistinct same_keys (key_lists es) → AllByRecursion (λ e. over (λ x y. x +ℤ y) number (λ u. same_keys e.keys u.keys) us ≡ Some (number e)) es
+  by_key_lists : (us es : List Update) → IsDistinct same_keys (key_lists es) → AllByRecursion (λ e. over (λ x y. x +ℤ y) number (λ u. same_keys e.keys u.keys) us ≡ Some (number e)) es
       → weight size number (λ e. true) es ≤ weight size number (λ u. list_any (same_keys u.keys) (key_lists es)) us
   by_key_lists us [] once each = omega arith
   by_key_lists us (e ∷ es) once each =
@@ -70,7 +71,7 @@ module _ (size : ℤ → ℕ) (less : (x y : ℤ) → size (x +ℤ y) ≤ size x
       (λ u. flipped e.keys (key_lists es) first u.keys) (λ u. no_two e.keys (key_lists es) first u.keys) in
       omega (arith, here, rest, parts)
 
-  pub entries_less : (us es : List Put) → IsDistinct same_keys (key_lists es) → AllByRecursion (λ e. over (λ x y. x +ℤ y) number (λ u. same_keys e.keys u.keys) us ≡ Some (number e)) es
+  pub entries_less : (us es : List Update) → IsDistinct same_keys (key_lists es) → AllByRecursion (λ e. over (λ x y. x +ℤ y) number (λ u. same_keys e.keys u.keys) us ≡ Some (number e)) es
       → weight size number (λ e. true) es ≤ weight size number (λ u. true) us
   entries_less us es once each = omega (arith, by_key_lists us es once each, at_most (λ u. list_any (same_keys u.keys) (key_lists es)) us)
 
@@ -106,26 +107,26 @@ unfolding above_zero below_zero
 one_more (pos n) zs up down e = (ap (λ m. n + m) e.0, omega (arith, e.1))
 one_more (negsuc n) zs up down e = (omega (arith, e.0), omega (arith, e.1))
 
-sides : (place : ℕ) (us : List Put) → AreSides (numbers_for place us) (weight above (number_at place) (λ u. true) us) (weight below (number_at place) (λ u. true) us)
+sides : (place : ℕ) (us : List Update) → AreSides (numbers_for place us) (weight above (put_number place) (λ u. true) us) (weight below (put_number place) (λ u. true) us)
 unfolding above_zero below_zero
 sides place [] = (refl, refl)
-sides place (u ∷ us) = one_more (number_at place u) (numbers_for place us) _ _ (sides place us)
+sides place (u ∷ us) = one_more (put_number place u) (numbers_for place us) _ _ (sides place us)
 
-pub small_room : (d : Group) (us : List Put) → ((place : ℕ) → place < length d.aggregates → aggregate_at d place ≡ Sum → AddUp (numbers_for place us)) → length us < 2 ^ 63 → HasRoom d us
+pub small_room : (d : Group) (us : List Update) → ((place : ℕ) → place < length d.aggregates → aggregate_at d.aggregates place ≡ Sum → AddUp (numbers_for place us)) → length us < 2 ^ 63 → HasRoom d us
 small_room d us small few = record { sums = sums; counts = λ place h same. few }
   where
-    sums : (es : List Put) → IsContent d us es → (place : ℕ) → place < length d.aggregates → aggregate_at d place ≡ Sum → AddUp (numbers_for place es)
+    sums : (es : List Update) → IsContent d us es → (place : ℕ) → place < length d.aggregates → aggregate_at d.aggregates place ≡ Sum → AddUp (numbers_for place es)
     sums es is place h same =
         let each = told d us es is place h Sum same in
         let up = small place h same in
         record {
-          above = omega (arith, (sides place es).0, (sides place us).0, up.above, entries_less above (λ x y. above_sum x y (x +ℤ y) refl) (number_at place) us es is.once each);
-          below = omega (arith, (sides place es).1, (sides place us).1, up.below, entries_less below (λ x y. below_sum x y (x +ℤ y) refl) (number_at place) us es is.once each);
+          above = omega (arith, (sides place es).0, (sides place us).0, up.above, entries_less above (λ x y. above_sum x y (x +ℤ y) refl) (put_number place) us es is.once each);
+          below = omega (arith, (sides place es).1, (sides place us).1, up.below, entries_less below (λ x y. below_sum x y (x +ℤ y) refl) (put_number place) us es is.once each);
         }
 
 -- ---- the puts whose key lists pass a test
 
-kept_of : (p : List KeyValue → Bool) (keys : List KeyValue) (us : List Put) (b : Bool) → p keys ≡ b → puts_of keys (filter (λ u. p u.keys) us) ≡ cond b (puts_of keys us) []
+kept_of : (p : List KeyValue → Bool) (keys : List KeyValue) (us : List Update) (b : Bool) → p keys ≡ b → puts_of keys (filter (λ u. p u.keys) us) ≡ cond b (puts_of keys us) []
 kept_of p keys [] true is = refl
 kept_of p keys [] false is = refl
 kept_of p keys (u ∷ us) b is = by (same_keys keys u.keys) (p u.keys) refl refl (kept_of p keys us b is)
@@ -146,29 +147,29 @@ kept_of p keys (u ∷ us) b is = by (same_keys keys u.keys) (p u.keys) refl refl
     by false false own passes rest = rest
 
 -- where there is room for some puts, there is room for those whose key lists pass
-pub room_kept : (d : Group) (us : List Put) (p : List KeyValue → Bool) → HasRoom d us → HasRoom d (filter (λ u. p u.keys) us)
+pub room_kept : (d : Group) (us : List Update) (p : List KeyValue → Bool) → HasRoom d us → HasRoom d (filter (λ u. p u.keys) us)
 room_kept d us p room = record {
   sums = sums_kept;
-  counts = λ place h same. omega (arith, room.counts place h same, length-filter (λ (u : Put). p u.keys) us, count_by-le-length (λ (u : Put). p u.keys) us);
+  counts = λ place h same. omega (arith, room.counts place h same, length-filter (λ (u : Update). p u.keys) us, count_by-le-length (λ (u : Update). p u.keys) us);
 }
   where
-    sums_kept : (es : List Put) → IsContent d (filter (λ u. p u.keys) us) es → (place : ℕ) → place < length d.aggregates → aggregate_at d place ≡ Sum → AddUp (numbers_for place es)
+    sums_kept : (es : List Update) → IsContent d (filter (λ u. p u.keys) us) es → (place : ℕ) → place < length d.aggregates → aggregate_at d.aggregates place ≡ Sum → AddUp (numbers_for place es)
     sums_kept es is place h same =
         let up = room.sums (made d us) (made_content d us) place h same in
         record {
-          above = omega (arith, (sides place es).0, (sides place (made d us)).0, up.above, entries_less above (λ x y. above_sum x y (x +ℤ y) refl) (number_at place) (made d us) es is.once each);
-          below = omega (arith, (sides place es).1, (sides place (made d us)).1, up.below, entries_less below (λ x y. below_sum x y (x +ℤ y) refl) (number_at place) (made d us) es is.once each);
+          above = omega (arith, (sides place es).0, (sides place (made d us)).0, up.above, entries_less above (λ x y. above_sum x y (x +ℤ y) refl) (put_number place) (made d us) es is.once each);
+          below = omega (arith, (sides place es).1, (sides place (made d us)).1, up.below, entries_less below (λ x y. below_sum x y (x +ℤ y) refl) (put_number place) (made d us) es is.once each);
         }
       where
-        found : (e : Put) → joined (λ x y. x +ℤ y) (numbers_for place (puts_of e.keys (filter (λ u. p u.keys) us))) ≡ Some (number_at place e)
-            → over (λ x y. x +ℤ y) (number_at place) (λ u. same_keys e.keys u.keys) (made d us) ≡ Some (number_at place e)
+        found : (e : Update) → joined (λ x y. x +ℤ y) (numbers_for place (puts_of e.keys (filter (λ u. p u.keys) us))) ≡ Some (put_number place e)
+            → over (λ x y. x +ℤ y) (put_number place) (λ u. same_keys e.keys u.keys) (made d us) ≡ Some (put_number place e)
         found e told = sums d us (made d us) (made_content d us) place h (same_keys e.keys) same ∙ by (p e.keys) refl
           where
-            by : (b : Bool) → p e.keys ≡ b → joined (λ x y. x +ℤ y) (numbers_for place (puts_of e.keys us)) ≡ Some (number_at place e)
+            by : (b : Bool) → p e.keys ≡ b → joined (λ x y. x +ℤ y) (numbers_for place (puts_of e.keys us)) ≡ Some (put_number place e)
             by true passes = ap (λ ws. joined (λ x y. x +ℤ y) (numbers_for place ws)) (sym (kept_of p e.keys us true passes)) ∙ told
-            by false fails = absurd (let none : Some (number_at place e) ≡ None = sym told ∙ ap (λ ws. joined (λ x y. x +ℤ y) (numbers_for place ws)) (kept_of p e.keys us false fails) in let no : ⊥ = cc none in no)
+            by false fails = absurd (let none : Some (put_number place e) ≡ None = sym told ∙ ap (λ ws. joined (λ x y. x +ℤ y) (numbers_for place ws)) (kept_of p e.keys us false fails) in let no : ⊥ = cc none in no)
 
-        each : AllByRecursion (λ e. over (λ x y. x +ℤ y) (number_at place) (λ u. same_keys e.keys u.keys) (made d us) ≡ Some (number_at place e)) es
+        each : AllByRecursion (λ e. over (λ x y. x +ℤ y) (put_number place) (λ u. same_keys e.keys u.keys) (made d us) ≡ Some (put_number place e)) es
         each = all_more _ _ found es (told d (filter (λ u. p u.keys) us) es is place h Sum same)
 
 -- ---- few numbers of 64 bits
@@ -185,17 +186,17 @@ narrow_at place [] all = refl
 narrow_at zero (v ∷ vs) all = All-head (λ z. is_i64 z ≡ true) v vs all
 narrow_at (suc place) (v ∷ vs) all = narrow_at place vs (All-tail (λ z. is_i64 z ≡ true) v vs all)
 
-few_sides : (place : ℕ) (us : List Put) → All (λ u. All (λ z. is_i64 z ≡ true) u.values) us
+few_sides : (place : ℕ) (us : List Update) → All (λ u. All (λ z. is_i64 z ≡ true) u.values) us
     → (above_zero (numbers_for place us) ≤ length us * 2 ^ 63) × (below_zero (numbers_for place us) ≤ length us * 2 ^ 63)
 unfolding above_zero below_zero
 few_sides place [] all = (omega arith, omega arith)
 few_sides place (u ∷ us) all =
-    let here = narrow_sides (number_at place u) (narrow_at place u.values (All-head (λ (u : Put). All (λ z. is_i64 z ≡ true) u.values) u us all)) in
-    let rest = few_sides place us (All-tail (λ (u : Put). All (λ z. is_i64 z ≡ true) u.values) u us all) in
-    let sides = one_more (number_at place u) (numbers_for place us) _ _ (refl, refl) in
+    let here = narrow_sides (put_number place u) (narrow_at place u.values (All-head (λ (u : Update). All (λ z. is_i64 z ≡ true) u.values) u us all)) in
+    let rest = few_sides place us (All-tail (λ (u : Update). All (λ z. is_i64 z ≡ true) u.values) u us all) in
+    let sides = one_more (put_number place u) (numbers_for place us) _ _ (refl, refl) in
     (omega (arith, here.0, rest.0, sides.0), omega (arith, here.1, rest.1, sides.1))
 
-pub few_room : (d : Group) (us : List Put) → All (λ u. All (λ z. is_i64 z ≡ true) u.values) us → length us < 2 ^ 63 → HasRoom d us
+pub few_room : (d : Group) (us : List Update) → All (λ u. All (λ z. is_i64 z ≡ true) u.values) us → length us < 2 ^ 63 → HasRoom d us
 few_room d us all few =
     small_room d us
     (λ place h same. let sides = few_sides place us all in

@@ -8,12 +8,12 @@ use Rattle.star_program.specs.declared.group.GroupKey.TheVariants as declared
 use Rattle.star_program.specs.declared.key.KeyValue.{KeyValue}
 use Rattle.star_program.specs.declared.key.KeyValue.TheVariants.{Number, Code}
 use Rattle.star_group.specs.declared.placed.span.Span.{Span}
-use Rattle.star_group.specs.Batches.{IsKeyWord, key_word, keys_of}
-use Rattle.star_group.specs.Places.{IsOf, above, offset_of, place_of, places, up_to}
+use Rattle.star_group.specs.Batches.{IsKeyWord, key_word, batch_keys}
+use Rattle.star_group.specs.Places.{IsOf, above, offset_of, cell_place, places, place_up_to}
 
 -- ---- how many places there are
 
-up_to_last : (last n : ℕ) (z : ℤ) → up_to last z ≡ Some n → n ≤ last
+up_to_last : (last n : ℕ) (z : ℤ) → place_up_to last z ≡ Some n → n ≤ last
 up_to_last last n (pos m) e = by (nat_lt last m) refl e
   where
     by : (b : Bool) → nat_lt last m ≡ b → cond b None (Some m) ≡ Some n → n ≤ last
@@ -24,12 +24,12 @@ up_to_last last n (negsuc m) e = absurd (let no : ⊥ = cc e in no)
 pub offset_last : (s : Span) (k : KeyValue) (n : ℕ) → offset_of s k ≡ Some n → n ≤ s.last
 offset_last s (Number z) n e = by s.is_code e
   where
-    by : (b : Bool) → cond b None (up_to s.last (z -ℤ s.low)) ≡ Some n → n ≤ s.last
+    by : (b : Bool) → cond b None (place_up_to s.last (z -ℤ s.low)) ≡ Some n → n ≤ s.last
     by true f = absurd (let no : ⊥ = cc f in no)
     by false f = up_to_last s.last n (z -ℤ s.low) f
 offset_last s (Code c) n e = by s.is_code e
   where
-    by : (b : Bool) → cond b (up_to s.last (pos c -ℤ s.low)) None ≡ Some n → n ≤ s.last
+    by : (b : Bool) → cond b (place_up_to s.last (pos c -ℤ s.low)) None ≡ Some n → n ≤ s.last
     by true f = up_to_last s.last n (pos c -ℤ s.low) f
     by false f = absurd (let no : ⊥ = cc f in no)
 
@@ -44,19 +44,19 @@ above_parts (Some n) size (Some q) p e = (n, refl, record { behind = q; is_rest 
 above_parts (Some n) size None p e = absurd (let no : ⊥ = cc e in no)
 above_parts None size r p e = absurd (let no : ⊥ = cc e in no)
 
-pub within : (ss : List Span) (ks : List KeyValue) (p : ℕ) → place_of ss ks ≡ Some p → p < places ss
+pub within : (ss : List Span) (ks : List KeyValue) (p : ℕ) → cell_place ss ks ≡ Some p → p < places ss
 within [] [] p e = let is : 0 ≡ p = cc e in omega (arith, is)
 within [] (k ∷ ks) p e = absurd (let no : ⊥ = cc e in no)
 within (s ∷ ss) [] p e = absurd (let no : ⊥ = cc e in no)
 within (s ∷ ss) (k ∷ ks) p e =
-    let parts = above_parts (offset_of s k) (s.last + 1) (place_of ss ks) p e in
+    let parts = above_parts (offset_of s k) (s.last + 1) (cell_place ss ks) p e in
     let q = parts.2.behind in
     let few = offset_last s k parts.0 parts.1 in
     let less = within ss ks q parts.2.is_rest in
     let most = mul-le-mul_left (s.last + 1) (let l : q + 1 ≤ places ss = omega (arith, less) in l) in
     omega (arith, few, most, parts.2.is)
 
-pub if_within : (ss : List Span) (ks : List KeyValue) (r : Option ℕ) → r ≡ place_of ss ks → IfSome r (λ p. p < places ss)
+pub if_within : (ss : List Span) (ks : List KeyValue) (r : Option ℕ) → r ≡ cell_place ss ks → IfSome r (λ p. p < places ss)
 if_within ss ks None e = tt
 if_within ss ks (Some p) e = within ss ks p (sym e)
 
@@ -65,23 +65,23 @@ fewer ss zero = omega arith
 fewer [] (suc i) = omega arith
 fewer (s ∷ ss) (suc i) = omega (arith, fewer ss i)
 
-pub small : (ss : List Span) (ks : List KeyValue) (i j most : ℕ) → places ss ≤ most → MatchOption (place_of (drop i ss) (drop j ks)) (Unit {0}) (λ p. p < most)
-small ss ks i j most h = by (place_of (drop i ss) (drop j ks)) refl
+pub small : (ss : List Span) (ks : List KeyValue) (i j most : ℕ) → places ss ≤ most → MatchOption (cell_place (drop i ss) (drop j ks)) (Unit {0}) (λ p. p < most)
+small ss ks i j most h = by (cell_place (drop i ss) (drop j ks)) refl
   where
-    by : (r : Option ℕ) → place_of (drop i ss) (drop j ks) ≡ r → MatchOption r (Unit {0}) (λ p. p < most)
+    by : (r : Option ℕ) → cell_place (drop i ss) (drop j ks) ≡ r → MatchOption r (Unit {0}) (λ p. p < most)
     by None e = tt
     by (Some p) e = omega (arith, h, fewer ss i, within (drop i ss) (drop j ks) p e)
 
 -- ---- one key more in front
 
 pub more : (ss : List Span) (ks : List KeyValue) (i : ℕ) (s : Span) (k : KeyValue) → i < length ss → i < length ks
-    → place_of (drop i ss) (drop i ks) ≡ above (offset_of (get_or ss i s) (get_or ks i k)) ((get_or ss i s).last + 1) (place_of (drop (suc i) ss) (drop (suc i) ks))
+    → cell_place (drop i ss) (drop i ks) ≡ above (offset_of (get_or ss i s) (get_or ks i k)) ((get_or ss i s).last + 1) (cell_place (drop (suc i) ss) (drop (suc i) ks))
 more [] ks i s k h l = absurd (omega (arith, h))
 more (t ∷ ss) [] i s k h l = absurd (omega (arith, l))
 more (t ∷ ss) (j ∷ ks) zero s k h l = refl
 more (t ∷ ss) (j ∷ ks) (suc i) s k h l = more ss ks i s k (omega (arith, h)) (omega (arith, l))
 
-pub none_left : (ss : List Span) (ks : List KeyValue) → length ks ≡ length ss → place_of (drop (length ss) ss) (drop (length ss) ks) ≡ Some 0
+pub none_left : (ss : List Span) (ks : List KeyValue) → length ks ≡ length ss → cell_place (drop (length ss) ss) (drop (length ss) ks) ≡ Some 0
 none_left [] [] e = refl
 none_left [] (k ∷ ks) e = absurd (omega (arith, e))
 none_left (s ∷ ss) [] e = absurd (omega (arith, e))
@@ -94,12 +94,12 @@ pub record HasFirst (s : Span) (ss : List Span) (p : ℕ) (ks : List KeyValue) :
   pub keys : List KeyValue
   pub are : ks ≡ key ∷ keys
   pub offset : offset_of s key ≡ Some (p % (s.last + 1))
-  pub behind : place_of ss keys ≡ Some (p / (s.last + 1))
+  pub behind : cell_place ss keys ≡ Some (p / (s.last + 1))
 
-pub first_of : (s : Span) (ss : List Span) (ks : List KeyValue) (p : ℕ) → place_of (s ∷ ss) ks ≡ Some p → HasFirst s ss p ks
+pub first_of : (s : Span) (ss : List Span) (ks : List KeyValue) (p : ℕ) → cell_place (s ∷ ss) ks ≡ Some p → HasFirst s ss p ks
 first_of s ss [] p e = absurd (let no : ⊥ = cc e in no)
 first_of s ss (k ∷ ks) p e =
-    let parts = above_parts (offset_of s k) (s.last + 1) (place_of ss ks) p e in
+    let parts = above_parts (offset_of s k) (s.last + 1) (cell_place ss ks) p e in
     let q = parts.2.behind in
     let size = s.last + 1 in
     let few : parts.0 < size = omega (arith, offset_last s k parts.0 parts.1) in
@@ -108,11 +108,11 @@ first_of s ss (k ∷ ks) p e =
     let left : p % size ≡ parts.0 = omega (arith, turned, div-add-mod' p size, ap (λ n. n * size) over) in
     record { key = k; keys = ks; are = refl; offset = parts.1 ∙ ap Some (sym left); behind = parts.2.is_rest ∙ ap Some (sym over) }
 
-pub next_place : (ss : List Span) (i : ℕ) (s : Span) (ks : List KeyValue) (p : ℕ) → i < length ss → s ≡ get_or ss i s → place_of (drop i ss) (drop i ks) ≡ Some p
+pub next_place : (ss : List Span) (i : ℕ) (s : Span) (ks : List KeyValue) (p : ℕ) → i < length ss → s ≡ get_or ss i s → cell_place (drop i ss) (drop i ks) ≡ Some p
     → HasFirst s (drop (suc i) ss) p (drop i ks)
 next_place ss i s ks p h is e =
     let here : drop i ss ≡ s ∷ drop (suc i) ss = drop-cons ss i s h ∙ ap (λ t. t ∷ drop (suc i) ss) (sym is) in
-    first_of s (drop (suc i) ss) (drop i ks) p (ap (λ ts. place_of ts (drop i ks)) (sym here) ∙ e)
+    first_of s (drop (suc i) ss) (drop i ks) p (ap (λ ts. cell_place ts (drop i ks)) (sym here) ∙ e)
 
 -- what is behind the first key
 pub behind_first : (ks : List KeyValue) (i : ℕ) (k : KeyValue) (rest : List KeyValue) → drop i ks ≡ k ∷ rest → (drop (suc i) ks ≡ rest) × (take (suc i) ks ≡ take i ks ++ (k ∷ []))
@@ -121,7 +121,7 @@ behind_first [] (suc i) k rest e = absurd (let no : ⊥ = cc e in no)
 behind_first (j ∷ ks) zero k rest e = ((let f : ks ≡ rest = cc e in f), ap (λ x. x ∷ []) (let f : j ≡ k = cc e in f))
 behind_first (j ∷ ks) (suc i) k rest e = let r = behind_first ks i k rest e in (r.0, ap (λ x. j ∷ x) r.1)
 
-pub all_kept : (ss : List Span) (ks : List KeyValue) (p : ℕ) → place_of (drop (length ss) ss) (drop (length ss) ks) ≡ Some p → take (length ss) ks ≡ ks
+pub all_kept : (ss : List Span) (ks : List KeyValue) (p : ℕ) → cell_place (drop (length ss) ss) (drop (length ss) ks) ≡ Some p → take (length ss) ks ≡ ks
 all_kept [] [] p e = refl
 all_kept [] (k ∷ ks) p e = absurd (let no : ⊥ = cc e in no)
 all_kept (s ∷ ss) [] p e = refl
@@ -154,38 +154,38 @@ few_values ss i s h is few =
     let most = mul-le-mul_left (s.last + 1) (let l : 1 ≤ places (drop (suc i) ss) = omega (arith, one) in l) in
     omega (arith, most, places_from ss i s h is, fewer ss i, few)
 
-pub few_places : (ss : List Span) (i : ℕ) (s : Span) (ks : List KeyValue) (p : ℕ) → i < length ss → s ≡ get_or ss i s → places ss ≤ 65536 → place_of (drop (suc i) ss) (drop (suc i) ks) ≡ Some p → s.last + (s.last + 1) * p < 2 ^ 32
+pub few_places : (ss : List Span) (i : ℕ) (s : Span) (ks : List KeyValue) (p : ℕ) → i < length ss → s ≡ get_or ss i s → places ss ≤ 65536 → cell_place (drop (suc i) ss) (drop (suc i) ks) ≡ Some p → s.last + (s.last + 1) * p < 2 ^ 32
 few_places ss i s ks p h is few e =
     let less = within (drop (suc i) ss) (drop (suc i) ks) p e in
     let most = mul-le-mul_left (s.last + 1) (let l : p + 1 ≤ places (drop (suc i) ss) = omega (arith, less) in l) in
     omega (arith, most, places_from ss i s h is, fewer ss i, few)
 
-pub length-keys_of : (kinds : List GroupKey) (zs : List ℤ) → length kinds ≡ length zs → length (keys_of kinds zs) ≡ length zs
+pub length-keys_of : (kinds : List GroupKey) (zs : List ℤ) → length kinds ≡ length zs → length (batch_keys kinds zs) ≡ length zs
 length-keys_of [] [] e = refl
 length-keys_of [] (z ∷ zs) e = absurd (omega (arith, e))
 length-keys_of (k ∷ kinds) [] e = refl
 length-keys_of (k ∷ kinds) (z ∷ zs) e = ap suc (length-keys_of kinds zs (omega (arith, e)))
 
-key_there : (kinds : List GroupKey) (zs : List ℤ) (i : ℕ) (k : KeyValue) → i < length kinds → i < length zs → get_or (keys_of kinds zs) i k ≡ key_word (get_or kinds i declared.Number) (get_or zs i (pos 0))
+key_there : (kinds : List GroupKey) (zs : List ℤ) (i : ℕ) (k : KeyValue) → i < length kinds → i < length zs → get_or (batch_keys kinds zs) i k ≡ key_word (get_or kinds i declared.Number) (get_or zs i (pos 0))
 key_there [] zs i k h l = absurd (omega (arith, h))
 key_there (g ∷ kinds) [] i k h l = absurd (omega (arith, l))
 key_there (g ∷ kinds) (z ∷ zs) zero k h l = refl
 key_there (g ∷ kinds) (z ∷ zs) (suc i) k h l = key_there kinds zs i k (omega (arith, h)) (omega (arith, l))
 
-offset_word : (s : Span) (g : GroupKey) (z : ℤ) → IsOf s g → IsKeyWord g z → offset_of s (key_word g z) ≡ up_to s.last (z -ℤ s.low)
-offset_word s declared.Number z own fits = ap (λ b. cond b None (up_to s.last (z -ℤ s.low))) own
-offset_word s (declared.Text c) (pos n) own fits = ap (λ b. cond b (up_to s.last (pos n -ℤ s.low)) None) own
+offset_word : (s : Span) (g : GroupKey) (z : ℤ) → IsOf s g → IsKeyWord g z → offset_of s (key_word g z) ≡ place_up_to s.last (z -ℤ s.low)
+offset_word s declared.Number z own fits = ap (λ b. cond b None (place_up_to s.last (z -ℤ s.low))) own
+offset_word s (declared.Text c) (pos n) own fits = ap (λ b. cond b (place_up_to s.last (pos n -ℤ s.low)) None) own
 offset_word s (declared.Text c) (negsuc n) own fits = absurd (let e = fits.2 in let no : ⊥ = cc e in no)
 
 pub batch_place : (ss : List Span) (s : Span) (i : ℕ) (kinds : List GroupKey) (zs : List ℤ) (z : ℤ) (p q : ℕ) → i < length ss → length kinds ≡ length ss → length zs ≡ length ss → s ≡ get_or ss i s
     → IsOf s (get_or kinds i declared.Number) → IsKeyWord (get_or kinds i declared.Number) (get_or zs i (pos 0)) → get_or zs i (pos 0) ≡ z
-    → place_of (drop (suc i) ss) (drop (suc i) (keys_of kinds zs)) ≡ Some p → above (up_to s.last (z -ℤ s.low)) (s.last + 1) (Some p) ≡ Some q → place_of (drop i ss) (drop i (keys_of kinds zs)) ≡ Some q
+    → cell_place (drop (suc i) ss) (drop (suc i) (batch_keys kinds zs)) ≡ Some p → above (place_up_to s.last (z -ℤ s.low)) (s.last + 1) (Some p) ≡ Some q → cell_place (drop i ss) (drop i (batch_keys kinds zs)) ≡ Some q
 batch_place ss s i kinds zs z p q h many wide is own fits same behind next =
-    let here : i < length (keys_of kinds zs) = omega (arith, h, many, wide, length-keys_of kinds zs (omega (arith, many, wide))) in
+    let here : i < length (batch_keys kinds zs) = omega (arith, h, many, wide, length-keys_of kinds zs (omega (arith, many, wide))) in
     let g = get_or kinds i declared.Number in
-    more ss (keys_of kinds zs) i s (Number (pos 0)) h here
+    more ss (batch_keys kinds zs) i s (Number (pos 0)) h here
     ∙ (λ j. above (offset_of (sym is j) (key_there kinds zs i (Number (pos 0)) (omega (arith, h, many)) (omega (arith, h, wide)) j)) ((sym is j).last + 1) (behind j))
-    ∙ ap (λ o. above o (s.last + 1) (Some p)) (offset_word s g (get_or zs i (pos 0)) own fits ∙ ap (λ w. up_to s.last (w -ℤ s.low)) same)
+    ∙ ap (λ o. above o (s.last + 1) (Some p)) (offset_word s g (get_or zs i (pos 0)) own fits ∙ ap (λ w. place_up_to s.last (w -ℤ s.low)) same)
     ∙ next
 
 pub word_there : (f : ℕ → ℤ) (rs : List ℕ) (i : ℕ) → i < length rs → get_or (map f rs) i (pos 0) ≡ f (get_or rs i 0)

@@ -9,22 +9,23 @@ use Rattle.star_program.specs.declared.key.KeyValue.TheVariants.{Number}
 use Rattle.star_program.specs.Keys.{same_keys}
 use Rattle.std.specs.Prelude.{if◌then◌else◌}
 use Rattle.star_group.specs.Cells.{step}
-use Rattle.star_group.specs.OneMore.{number_of, IsWithPut}
-use Rattle.star_group.specs.Stores.{Put, Group, aggregate_at, IsContent, combined, number_at, puts_of}
+use Rattle.star_group.specs.OneMore.{group_aggregate, IsWithPut}
+use Rattle.star_program.specs.Puts.{Update, aggregate_at}
+use Rattle.star_group.specs.Stores.{Group, IsContent, combined, put_number, puts_of}
 
 abbrev sales : Group
 sales = record { shape = Cube; count = 1; aggregates = Sum ∷ Count ∷ Min ∷ [] }
 
-abbrev one : ℤ → Put
+abbrev one : ℤ → Update
 one z = record { keys = Number (pos 1) ∷ []; values = z ∷ pos 1 ∷ z ∷ [] }
 
-abbrev two : ℤ → Put
+abbrev two : ℤ → Update
 two z = record { keys = Number (pos 2) ∷ []; values = z ∷ pos 1 ∷ z ∷ [] }
 
-abbrev puts : List Put
+abbrev puts : List Update
 puts = one (pos 4) ∷ two (pos 5) ∷ one (pos 3) ∷ []
 
-abbrev ones : Put
+abbrev ones : Update
 ones = record { keys = Number (pos 1) ∷ []; values = pos 7 ∷ pos 2 ∷ pos 3 ∷ [] }
 
 either : (a b : Bool) → (a || (b || false)) ≡ (a || (b || (a || false)))
@@ -32,8 +33,8 @@ either true b = refl
 either false true = refl
 either false false = refl
 
-abbrev HasAt : Put → ℕ → Type 0
-HasAt entry place = aggregate (aggregate_at sales place) (numbers_for place (puts_of entry.keys puts)) ≡ Some (number_at place entry)
+abbrev HasAt : Update → ℕ → Type 0
+HasAt entry place = aggregate (aggregate_at sales.aggregates place) (numbers_for place (puts_of entry.keys puts)) ≡ Some (put_number place entry)
 
 at_ones : (place : ℕ) → place < 3 → HasAt ones place
 at_ones zero h = refl
@@ -72,12 +73,12 @@ no_counts_are_none = refl
 
 -- ---- with one put more
 
-abbrev twos : ℤ → Put
+abbrev twos : ℤ → Update
 twos count = record { keys = Number (pos 2) ∷ []; values = pos 7 ∷ count ∷ pos 2 ∷ [] }
 
 -- two puts of 5 and 2: they add up to 7, there are two, and the least is 2
 worked_more : IsWithPut sales (two (pos 2)) (ones ∷ two (pos 5) ∷ []) (ones ∷ twos (pos 2) ∷ [])
-unfolding IsDistinct number_of
+unfolding IsDistinct group_aggregate
 worked_more = record {
   keys = λ ks. swapped (same_keys ks (Number (pos 1) ∷ [])) (same_keys ks (Number (pos 2) ∷ []));
   once = ((refl, tt), (tt, tt));
@@ -91,9 +92,9 @@ worked_more = record {
     swapped false true = refl
     swapped false false = refl
 
-    own : (place : ℕ) → place < 3 → number_of (Number (pos 2) ∷ []) place (ones ∷ twos (pos 2) ∷ [])
-        ≡ Some (step (aggregate_at sales place) (number_at place (two (pos 2)))
-        (number_of (Number (pos 2) ∷ []) place (ones ∷ two (pos 5) ∷ [])))
+    own : (place : ℕ) → place < 3 → group_aggregate (Number (pos 2) ∷ []) place (ones ∷ twos (pos 2) ∷ [])
+        ≡ Some (step (aggregate_at sales.aggregates place) (put_number place (two (pos 2)))
+        (group_aggregate (Number (pos 2) ∷ []) place (ones ∷ two (pos 5) ∷ [])))
     own zero h = refl
     own (suc zero) h = refl
     own (suc (suc zero)) h = refl
@@ -107,14 +108,14 @@ worked_more = record {
     kept false true x y z e = absurd (true≢false e)
 
     others : (ks : List KeyValue) → same_keys ks (Number (pos 2) ∷ []) ≡ false
-        → (place : ℕ) → place < 3 → number_of ks place (ones ∷ twos (pos 2) ∷ [])
-        ≡ number_of ks place (ones ∷ two (pos 5) ∷ [])
+        → (place : ℕ) → place < 3 → group_aggregate ks place (ones ∷ twos (pos 2) ∷ [])
+        ≡ group_aggregate ks place (ones ∷ two (pos 5) ∷ [])
     others ks other place h = kept (same_keys ks (Number (pos 1) ∷ []))
-        (same_keys ks (Number (pos 2) ∷ [])) (number_at place ones) (number_at place (twos (pos 2)))
-        (number_at place (two (pos 5))) other
+        (same_keys ks (Number (pos 2) ∷ [])) (put_number place ones) (put_number place (twos (pos 2)))
+        (put_number place (two (pos 5))) other
 
 -- a COUNT grows by 1, and not by what is put
 no_greater_count : IsWithPut sales (two (pos 2)) (ones ∷ two (pos 5) ∷ [])
     (ones ∷ twos (pos 3) ∷ []) → ⊥
-unfolding number_of
+unfolding group_aggregate
 no_greater_count h = let e = h.own 1 (omega arith) in absurd (cc)

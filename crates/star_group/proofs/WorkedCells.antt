@@ -11,7 +11,8 @@ use Rattle.star_program.specs.declared.key.KeyValue.{KeyValue}
 use Rattle.star_program.specs.declared.key.KeyValue.TheVariants.{Number, Code}
 use Rattle.star_group.specs.Cells.{step, held}
 use Rattle.star_group.specs.OwnKeys.{is_of_put, padded, vary}
-use Rattle.star_group.specs.Stores.{Put, Group, group_declared, aggregate_at, total_of, overflows, number_at, IsContent, combined, above_zero, below_zero, AddUp, HasRoom}
+use Rattle.star_program.specs.Puts.{Update, aggregate_at, overflows, total_over}
+use Rattle.star_group.specs.Stores.{Group, group_declared, put_number, IsContent, combined, above_zero, below_zero, AddUp, HasRoom}
 
 abbrev all_four : List Aggregate
 all_four = Sum ∷ Count ∷ Min ∷ Max ∷ []
@@ -98,7 +99,7 @@ no_keys = refl
 
 -- ---- puts
 
-abbrev put : List KeyValue → List ℤ → Put
+abbrev put : List KeyValue → List ℤ → Update
 put keys values = record { keys = keys; values = values }
 
 abbrev summed : Group
@@ -110,11 +111,11 @@ counted = record { shape = Plain; count = 1; aggregates = Count ∷ [] }
 declared_group : group_declared (record { shape = Cube; keys = declared.Number ∷ declared.Number ∷ []; aggregates = Min ∷ [] }) ≡ record { shape = Cube; count = 2; aggregates = Min ∷ [] }
 declared_group = refl
 
-totals : map (total_of (record { shape = Plain; count = 1; aggregates = all_four }) (put (Code 1 ∷ []) (pos 4 ∷ pos 1 ∷ pos 4 ∷ pos 4 ∷ []) ∷ put (Code 2 ∷ []) (pos 6 ∷ pos 1 ∷ pos 6 ∷ pos 6 ∷ []) ∷ [])) (0 ∷ 1 ∷ 2 ∷ 3 ∷ []) ≡ Some (pos 10) ∷ Some (pos 2) ∷ Some (pos 4) ∷ Some (pos 6) ∷ []
+totals : map (λ place. total_over all_four place (put (Code 1 ∷ []) (pos 4 ∷ pos 1 ∷ pos 4 ∷ pos 4 ∷ []) ∷ put (Code 2 ∷ []) (pos 6 ∷ pos 1 ∷ pos 6 ∷ pos 6 ∷ []) ∷ [])) (0 ∷ 1 ∷ 2 ∷ 3 ∷ []) ≡ Some (pos 10) ∷ Some (pos 2) ∷ Some (pos 4) ∷ Some (pos 6) ∷ []
 totals = refl
 
 -- a put that lacks a number has 0 there
-numbers_of_puts : map (λ place. number_at place (put [] (pos 4 ∷ pos 9 ∷ []))) (0 ∷ 1 ∷ 2 ∷ []) ≡ pos 4 ∷ pos 9 ∷ pos 0 ∷ []
+numbers_of_puts : map (λ place. put_number place (put [] (pos 4 ∷ pos 9 ∷ []))) (0 ∷ 1 ∷ 2 ∷ []) ≡ pos 4 ∷ pos 9 ∷ pos 0 ∷ []
 numbers_of_puts = refl
 
 numbers_combined : map (λ g. combined g (pos 4 ∷ pos 6 ∷ [])) all_four ≡ Some (pos 10) ∷ Some (pos 10) ∷ Some (pos 4) ∷ Some (pos 6) ∷ []
@@ -125,21 +126,21 @@ numbers_combined = refl
 abbrev greatest : ℤ
 greatest = pos 170141183460469231731687303715884105727
 
-sum_leaves : overflows summed (put (Code 1 ∷ []) (greatest ∷ []) ∷ []) (put (Code 1 ∷ []) (pos 1 ∷ [])) ≡ true
+sum_leaves : overflows summed.shape summed.aggregates (put (Code 1 ∷ []) (greatest ∷ []) ∷ []) (put (Code 1 ∷ []) (pos 1 ∷ [])) ≡ true
 unfolding is_i128
 sum_leaves = refl
 
 -- the total of all puts leaves them too
-total_leaves : overflows summed (put (Code 1 ∷ []) (greatest ∷ []) ∷ []) (put (Code 2 ∷ []) (pos 1 ∷ [])) ≡ true
+total_leaves : overflows summed.shape summed.aggregates (put (Code 1 ∷ []) (greatest ∷ []) ∷ []) (put (Code 2 ∷ []) (pos 1 ∷ [])) ≡ true
 unfolding is_i128
 total_leaves = refl
 
 -- a sum of 64 bits and one more
-sum_past_64_bits : overflows summed (put (Code 1 ∷ []) (pos 9223372036854775807 ∷ []) ∷ []) (put (Code 1 ∷ []) (pos 1 ∷ [])) ≡ false
+sum_past_64_bits : overflows summed.shape summed.aggregates (put (Code 1 ∷ []) (pos 9223372036854775807 ∷ []) ∷ []) (put (Code 1 ∷ []) (pos 1 ∷ [])) ≡ false
 unfolding is_i128
 sum_past_64_bits = refl
 
-sum_stays : overflows summed (put (Code 1 ∷ []) (greatest ∷ []) ∷ []) (put (Code 1 ∷ []) (pos 0 ∷ [])) ≡ false
+sum_stays : overflows summed.shape summed.aggregates (put (Code 1 ∷ []) (greatest ∷ []) ∷ []) (put (Code 1 ∷ []) (pos 0 ∷ [])) ≡ false
 unfolding is_i128
 sum_stays = refl
 
@@ -160,29 +161,29 @@ unfolding below_zero
 too_small h = let p = h.below in omega (arith, p)
 
 -- as many puts as a COUNT has room for, and one more
-most_puts : (puts : List Put) → length puts ≡ 9223372036854775807 → HasRoom counted puts
+most_puts : (puts : List Update) → length puts ≡ 9223372036854775807 → HasRoom counted puts
 most_puts puts e = record { sums = sums; counts = counts }
   where
-    sums : (content : List Put) → IsContent counted puts content
-        → (place : ℕ) → place < 1 → aggregate_at counted place ≡ Sum → AddUp (map (number_at place) content)
+    sums : (content : List Update) → IsContent counted puts content
+        → (place : ℕ) → place < 1 → aggregate_at counted.aggregates place ≡ Sum → AddUp (map (put_number place) content)
     sums content is zero h same = absurd (let no : ⊥ = cc same in no)
     sums content is (suc place) h same = absurd (omega (arith, h))
 
-    counts : (place : ℕ) → place < 1 → aggregate_at counted place ≡ Count → length puts < 2 ^ 63
+    counts : (place : ℕ) → place < 1 → aggregate_at counted.aggregates place ≡ Count → length puts < 2 ^ 63
     counts place h same = omega (arith, e)
 
-too_many_puts : (puts : List Put) → length puts ≡ 9223372036854775808 → HasRoom counted puts → ⊥
+too_many_puts : (puts : List Update) → length puts ≡ 9223372036854775808 → HasRoom counted puts → ⊥
 too_many_puts puts e h = let p = h.counts 0 (omega arith) refl in omega (arith, e, p)
 
 -- one put of too great a number: it is its own content
-abbrev too_great_a_put : List Put
+abbrev too_great_a_put : List Update
 too_great_a_put = put (Code 1 ∷ []) (pos 170141183460469231731687303715884105728 ∷ []) ∷ []
 
 its_own : IsContent summed too_great_a_put too_great_a_put
 unfolding IsDistinct
 its_own = record { keys = λ ks. refl; once = (tt, tt); numbers = (number, tt) }
   where
-    number : (place : ℕ) → place < 1 → aggregate (aggregate_at summed place) (numbers_for place too_great_a_put) ≡ Some (number_at place (put (Code 1 ∷ []) (pos 170141183460469231731687303715884105728 ∷ [])))
+    number : (place : ℕ) → place < 1 → aggregate (aggregate_at summed.aggregates place) (numbers_for place too_great_a_put) ≡ Some (put_number place (put (Code 1 ∷ []) (pos 170141183460469231731687303715884105728 ∷ [])))
     number zero h = refl
     number (suc place) h = absurd (omega (arith, h))
 

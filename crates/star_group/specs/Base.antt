@@ -9,43 +9,44 @@ use Rattle.star_group.specs.declared.keyed.key.KeyPart.{KeyPart}
 use Rattle.star_group.specs.declared.keyed.key.KeyPart.TheVariants.{All, Number, Code}
 use Rattle.star_group.specs.Cells.{held}
 use Rattle.star_group.specs.OwnKeys.{key_eq, padded}
-use Rattle.star_group.specs.Stores.{Put, Group, HasRoom, aggregate_at}
+use Rattle.star_program.specs.Puts.{Update, aggregate_at}
+use Rattle.star_group.specs.Stores.{Group, HasRoom}
 use Rattle.star_group.specs.Held.{has_puts}
 
 -- what stands in a place of a key, None for ALL
-abbrev pub value_of : KeyPart → Option KeyValue
-value_of All = None
-value_of (Number x) = Some (NumberKey x)
-value_of (Code n) = Some (CodeKey n)
+abbrev pub key_value_view : KeyPart → Option KeyValue
+key_value_view All = None
+key_value_view (Number x) = Some (NumberKey x)
+key_value_view (Code n) = Some (CodeKey n)
 
-abbrev pub key_of : List KeyPart → List (Option KeyValue)
-key_of parts = map value_of parts
+abbrev pub key_view : List KeyPart → List (Option KeyValue)
+key_view parts = map key_value_view parts
 
 -- the row with a key
-abbrev pub row_at : List (List KeyPart × List (Option ℤ)) → List (Option KeyValue) → Option (List (Option ℤ))
-row_at entries q = lookup (λ parts. key_eq q (key_of parts)) entries
+abbrev pub row_found : List (List KeyPart × List (Option ℤ)) → List (Option KeyValue) → Option (List (Option ℤ))
+row_found entries q = lookup (λ parts. key_eq q (key_view parts)) entries
 
 -- the row has each aggregate over these puts
-abbrev pub HasAggregates : Group → List Put → List (Option ℤ) → Type 0
+abbrev pub HasAggregates : Group → List Update → List (Option ℤ) → Type 0
 HasAggregates d puts row = (place : ℕ) → place < length d.aggregates
-    → slice_index_or row place None ≡ held (aggregate_at d place) (numbers_for place puts)
+    → slice_index_or row place None ≡ held (aggregate_at d.aggregates place) (numbers_for place puts)
 
 -- a row is there exactly where it has a put, and has the aggregates over its puts
-abbrev pub IsRowOver : Group → List Put → Option (List (Option ℤ)) → Type 0
+abbrev pub IsRowOver : Group → List Update → Option (List (Option ℤ)) → Type 0
 IsRowOver d puts None = has_puts puts ≡ false
 IsRowOver d puts (Some row) = (has_puts puts ≡ true) × HasAggregates d puts row
 
 -- the puts with these keys
-abbrev pub puts_with : List (Option KeyValue) → List Put → List Put
+abbrev pub puts_with : List (Option KeyValue) → List Update → List Update
 puts_with q puts = filter (λ put. key_eq q (padded 6 put.keys)) puts
 
 -- a row for each key list that was put, and the total
-pub record IsBase (d : Group) (entries : List (List KeyPart × List (Option ℤ))) (all : List (Option ℤ)) (puts : List Put) : Type 0 where
+pub record IsBase (d : Group) (entries : List (List KeyPart × List (Option ℤ))) (all : List (Option ℤ)) (puts : List Update) : Type 0 where
   pub fit : AllByRecursion (λ put. length put.keys ≡ d.count) puts
-  pub rows : (q : List (Option KeyValue)) → IsRowOver d (puts_with q puts) (row_at entries q)
+  pub rows : (q : List (Option KeyValue)) → IsRowOver d (puts_with q puts) (row_found entries q)
   pub total : HasAggregates d puts all
 
 -- they are those of some puts that have room: the positive sums of the rows add up within 128 bits, and so do
 -- the negative ones and the counts
 abbrev pub HasBaseWithRoom : Group → List (List KeyPart × List (Option ℤ)) → List (Option ℤ) → Type 0
-HasBaseWithRoom d entries all = ∥ ((puts : List Put) × IsBase d entries all puts × HasRoom d puts) ∥₁
+HasBaseWithRoom d entries all = ∥ ((puts : List Update) × IsBase d entries all puts × HasRoom d puts) ∥₁

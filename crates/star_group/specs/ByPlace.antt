@@ -12,7 +12,8 @@ use Rattle.star_group.specs.Base.{IsBase}
 use Rattle.star_group.specs.Cells.{held}
 use Rattle.star_group.specs.Held.{has_puts}
 use Rattle.star_group.specs.Places.{is_at, is_outside}
-use Rattle.star_group.specs.Stores.{Group, HasRoom, Put, aggregate_at}
+use Rattle.star_program.specs.Puts.{Update, aggregate_at}
+use Rattle.star_group.specs.Stores.{Group, HasRoom}
 
 -- what a cell has of an aggregate over no numbers: no number of 64 bits changes by it
 abbrev pub neutral : Aggregate → ℤ
@@ -22,11 +23,11 @@ neutral Min = pos (2 ^ 63 - 1)
 neutral Max = negsuc (2 ^ 63 - 1)
 
 -- what it has over some puts
-abbrev pub cell_over : Group → ℕ → List Put → ℤ
-cell_over d a puts = unwrap_or (held (aggregate_at d a) (numbers_for a puts)) (neutral (aggregate_at d a))
+abbrev pub cell_over : Group → ℕ → List Update → ℤ
+cell_over d a puts = unwrap_or (held (aggregate_at d.aggregates a) (numbers_for a puts)) (neutral (aggregate_at d.aggregates a))
 
 -- what stands at each place is told by the puts there
-abbrev pub AreAt : {A : Type 0} → A → (List Put → A) → List Span → List A → List Put → Type 0
+abbrev pub AreAt : {A : Type 0} → A → (List Update → A) → List Span → List A → List Update → Type 0
 AreAt none value spans items puts = (place : ℕ) → place < length items
     → slice_index_or items place none ≡ value (filter (λ put. is_at spans place put.keys) puts)
 
@@ -36,7 +37,7 @@ column d seen cells a = slice_index_or (cut (length seen) (length d.aggregates) 
 
 -- which places have puts, and their cells; and the base rows of the puts whose keys have no place
 pub record IsPlaced (d : Group) (spans : List Span) (seen : List Bool) (cells : List ℤ)
-    (entries : List (List KeyPart × List (Option ℤ))) (all : List (Option ℤ)) (puts : List Put)
+    (entries : List (List KeyPart × List (Option ℤ))) (all : List (Option ℤ)) (puts : List Update)
     : Type 0 where
   pub fit : AllByRecursion (λ put. length put.keys ≡ d.count) puts
   pub seen_at : AreAt false has_puts spans seen puts
@@ -46,4 +47,4 @@ pub record IsPlaced (d : Group) (spans : List Span) (seen : List Bool) (cells : 
 
 -- they are those of some puts that have room
 abbrev pub IsPlacedWithRoom : Group → List Span → List Bool → List ℤ → List (List KeyPart × List (Option ℤ)) → List (Option ℤ) → Type 0
-IsPlacedWithRoom d spans seen cells entries all = ∥ ((puts : List Put) × IsPlaced d spans seen cells entries all puts × HasRoom d puts) ∥₁
+IsPlacedWithRoom d spans seen cells entries all = ∥ ((puts : List Update) × IsPlaced d spans seen cells entries all puts × HasRoom d puts) ∥₁

@@ -3,11 +3,12 @@ use Rattle.std.specs.Prelude.{List}
 use Rattle.star_group.specs.declared.deferred.DeferredStore.{DeferredStore}
 use Rattle.star_group.specs.Base.{IsBase}
 use Rattle.star_group.specs.Entries.{entries_of}
-use Rattle.star_group.specs.Stores.{Put, Group}
+use Rattle.star_program.specs.Puts.{Update}
+use Rattle.star_group.specs.Stores.{Group}
 
-abbrev pub group_of : DeferredStore → Group
-group_of s = record { shape = s.shape; count = s.count; aggregates = s.aggregates.items }
+abbrev pub group_view : DeferredStore → Group
+group_view s = record { shape = s.shape; count = s.count; aggregates = s.aggregates.items }
 
 -- the store has the content of these puts
-abbrev pub Has : DeferredStore → List Put → Type 0
-Has s puts = IsBase (group_of s) (entries_of s.rows) s.total puts
+abbrev pub Has : DeferredStore → List Update → Type 0
+Has s puts = IsBase (group_view s) (entries_of s.rows) s.total puts

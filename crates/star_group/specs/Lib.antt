@@ -13,5 +13,5 @@ pub mod Deferred
 pub mod Places
 pub mod ByPlace
 pub mod Placed
-pub mod Shown
+pub mod StoreRows
 pub mod Private

@@ -4,21 +4,22 @@ use Rattle.std.specs.List.{list_any, IsDistinct}
 use Rattle.star_program.specs.declared.key.KeyValue.{KeyValue}
 use Rattle.star_program.specs.Keys.{same_keys}
 use Rattle.star_group.specs.Cells.{step}
-use Rattle.star_group.specs.Stores.{Put, Group, aggregate_at, key_lists, number_at}
+use Rattle.star_program.specs.Puts.{Update, aggregate_at}
+use Rattle.star_group.specs.Stores.{Group, key_lists, put_number}
 
 -- what a content has for a key list and an aggregate, where it has the key list
-unfoldable pub number_of : List KeyValue → ℕ → List Put → Option ℤ
-number_of keys place [] = None
-number_of keys place (entry ∷ rest) =
-    if same_keys keys entry.keys then Some (number_at place entry) else number_of keys place rest
+unfoldable pub group_aggregate : List KeyValue → ℕ → List Update → Option ℤ
+group_aggregate keys place [] = None
+group_aggregate keys place (entry ∷ rest) =
+    if same_keys keys entry.keys then Some (put_number place entry) else group_aggregate keys place rest
 
 -- the put's key list has its numbers with those that it had, and the others have what they had
-pub record IsWithPut (d : Group) (put : Put) (content after : List Put) : Type 0 where
+pub record IsWithPut (d : Group) (put : Update) (content after : List Update) : Type 0 where
   pub keys : (keys : List KeyValue) → list_any (same_keys keys) (key_lists after)
       ≡ (same_keys keys put.keys || list_any (same_keys keys) (key_lists content))
   pub once : IsDistinct same_keys (key_lists after)
-  pub own : (place : ℕ) → place < length d.aggregates → number_of put.keys place after
-      ≡ Some (step (aggregate_at d place) (number_at place put) (number_of put.keys place content))
+  pub own : (place : ℕ) → place < length d.aggregates → group_aggregate put.keys place after
+      ≡ Some (step (aggregate_at d.aggregates place) (put_number place put) (group_aggregate put.keys place content))
   pub others : (keys : List KeyValue) → same_keys keys put.keys ≡ false
       → (place : ℕ) → place < length d.aggregates
-      → number_of keys place after ≡ number_of keys place content
+      → group_aggregate keys place after ≡ group_aggregate keys place content

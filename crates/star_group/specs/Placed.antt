@@ -4,11 +4,12 @@ use Rattle.star_group.specs.declared.placed.PlacedStore.{PlacedStore}
 use Rattle.star_group.specs.ByPlace.{IsPlaced}
 use Rattle.star_group.specs.Deferred as deferred
 use Rattle.star_group.specs.Entries.{entries_of}
-use Rattle.star_group.specs.Stores.{Group, Put}
+use Rattle.star_program.specs.Puts.{Update}
+use Rattle.star_group.specs.Stores.{Group}
 
-abbrev pub group_of : PlacedStore → Group
-group_of s = deferred.group_of s.rest
+abbrev pub group_view : PlacedStore → Group
+group_view s = deferred.group_view s.rest
 
 -- the store has the content of these puts
-abbrev pub Has : PlacedStore → List Put → Type 0
-Has s puts = IsPlaced (group_of s) s.spans.items s.seen.items s.cells.items (entries_of s.rest.rows) s.rest.total puts
+abbrev pub Has : PlacedStore → List Update → Type 0
+Has s puts = IsPlaced (group_view s) s.spans.items s.seen.items s.cells.items (entries_of s.rest.rows) s.rest.total puts

@@ -8,14 +8,14 @@ use Rattle.star_program.specs.declared.key.KeyValue.TheVariants.{Number, Code}
 use Rattle.star_group.specs.declared.placed.span.Span.{Span}
 
 -- a number that is at most the last one
-abbrev pub up_to : ℕ → ℤ → Option ℕ
-up_to last (pos n) = if nat_lt last n then None else Some n
-up_to last (negsuc n) = None
+abbrev pub place_up_to : ℕ → ℤ → Option ℕ
+place_up_to last (pos n) = if nat_lt last n then None else Some n
+place_up_to last (negsuc n) = None
 
 -- where a key lies in its range, from 0
 abbrev pub offset_of : Span → KeyValue → Option ℕ
-offset_of s (Number z) = if s.is_code then None else up_to s.last (z -ℤ s.low)
-offset_of s (Code n) = if s.is_code then up_to s.last (pos n -ℤ s.low) else None
+offset_of s (Number z) = if s.is_code then None else place_up_to s.last (z -ℤ s.low)
+offset_of s (Code n) = if s.is_code then place_up_to s.last (pos n -ℤ s.low) else None
 
 -- the place of a key in front of others, of which each place has so many
 abbrev pub above : Option ℕ → ℕ → Option ℕ → Option ℕ
@@ -24,11 +24,11 @@ above (Some offset) size None = None
 above None size rest = None
 
 -- the place of a key list; none where a key lies outside of its range
-abbrev pub place_of : List Span → List KeyValue → Option ℕ
-place_of [] [] = Some 0
-place_of [] (k ∷ ks) = None
-place_of (s ∷ ss) [] = None
-place_of (s ∷ ss) (k ∷ ks) = above (offset_of s k) (s.last + 1) (place_of ss ks)
+abbrev pub cell_place : List Span → List KeyValue → Option ℕ
+cell_place [] [] = Some 0
+cell_place [] (k ∷ ks) = None
+cell_place (s ∷ ss) [] = None
+cell_place (s ∷ ss) (k ∷ ks) = above (offset_of s k) (s.last + 1) (cell_place ss ks)
 
 -- how many places there are
 abbrev pub places : List Span → ℕ
@@ -36,10 +36,10 @@ places [] = 1
 places (s ∷ ss) = (s.last + 1) * places ss
 
 abbrev pub is_at : List Span → ℕ → List KeyValue → Bool
-is_at spans place keys = option_eq nat_eq (place_of spans keys) (Some place)
+is_at spans place keys = option_eq nat_eq (cell_place spans keys) (Some place)
 
 abbrev pub is_outside : List Span → List KeyValue → Bool
-is_outside spans keys = is_none (place_of spans keys)
+is_outside spans keys = is_none (cell_place spans keys)
 
 -- the range is one of such keys
 abbrev pub IsOf : Span → GroupKey → Type 0

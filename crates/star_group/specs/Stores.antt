@@ -1,4 +1,4 @@
--- What a store of groups promises, in puts: the newest put comes first.
+-- What a store of groups promises, in puts: each puts an update, and the newest put comes first.
 use Rattle.std.specs.Prelude.{◌≡◌, ◌↔◌, ℕ, suc, ◌+◌, ◌<◌, ◌≤◌, ◌^◌, Bool, ℤ, pos, negsuc, List, [], ◌∷◌, Option, Some, filter, length, map, slice_index_or}
 use Rattle.std.specs.List.{list_any, AllByRecursion, IsDistinct}
 use Rattle.std.specs.Option.{unwrap_or}
@@ -9,11 +9,7 @@ use Rattle.star_schema.specs.Groups.{Entry, IsGroup, members, aggregate, numbers
 use Rattle.star_program.specs.declared.group.GroupDecl.{GroupDecl}
 use Rattle.star_program.specs.declared.key.KeyValue.{KeyValue}
 use Rattle.star_program.specs.Keys.{key_value_cmp, same_keys}
-use Rattle.star_program.specs.Puts.{own_groups, some_leaves}
-
--- one put: its keys, and a number for each aggregate (of a COUNT it does not matter which)
-abbrev pub Put : Type 0
-Put = Entry KeyValue
+use Rattle.star_program.specs.Puts.{Update, aggregate_at}
 
 -- what a store is made for: a shape, so many keys, and its aggregates
 pub record Group : Type 0 where
@@ -24,38 +20,27 @@ pub record Group : Type 0 where
 abbrev pub group_declared : GroupDecl → Group
 group_declared d = record { shape = d.shape; count = length d.keys; aggregates = d.aggregates }
 
-abbrev pub aggregate_at : Group → ℕ → Aggregate
-aggregate_at d place = slice_index_or d.aggregates place Count
-
--- an aggregate over all puts
-abbrev pub total_of : Group → List Put → ℕ → Option ℤ
-total_of d puts place = aggregate (aggregate_at d place) (numbers_for place puts)
-
--- with this put after those a SUM or a COUNT over one of its groups, or over all of them, leaves its bits
-abbrev pub overflows : Group → List Put → Put → Bool
-overflows d puts put = list_any (λ keys. some_leaves d.aggregates 0 (members key_value_cmp keys (put ∷ puts))) (own_groups d.shape put.keys)
-
 -- ---- the content of puts, as a finite map from key lists
 
-abbrev pub key_lists : List Put → List (List KeyValue)
+abbrev pub key_lists : List Update → List (List KeyValue)
 key_lists puts = map (λ put. put.keys) puts
 
 -- the puts with this key list
-abbrev pub puts_of : List KeyValue → List Put → List Put
+abbrev pub puts_of : List KeyValue → List Update → List Update
 puts_of keys puts = filter (λ put. same_keys keys put.keys) puts
 
 -- a put's number for an aggregate
-abbrev pub number_at : ℕ → Put → ℤ
-number_at place put = slice_index_or put.values place (pos 0)
+abbrev pub put_number : ℕ → Update → ℤ
+put_number place put = slice_index_or put.values place (pos 0)
 
 -- each key list that was put, once, with the aggregates over its puts
-pub record IsContent (d : Group) (puts content : List Put) : Type 0 where
+pub record IsContent (d : Group) (puts content : List Update) : Type 0 where
   pub keys : (keys : List KeyValue)
       → list_any (same_keys keys) (key_lists content) ≡ list_any (same_keys keys) (key_lists puts)
   pub once : IsDistinct same_keys (key_lists content)
   pub numbers : AllByRecursion (λ entry. (place : ℕ) → place < length d.aggregates
-      → aggregate (aggregate_at d place) (numbers_for place (puts_of entry.keys puts))
-      ≡ Some (number_at place entry)) content
+      → aggregate (aggregate_at d.aggregates place) (numbers_for place (puts_of entry.keys puts))
+      ≡ Some (put_number place entry)) content
 
 -- an aggregate over puts from those of their key lists: counts are added
 -- (distributive aggregates: Gray et al. 1997, section 5)
@@ -64,12 +49,12 @@ combined Count counts = Some (unwrap_or (aggregate Sum counts) (pos 0))
 combined g numbers = aggregate g numbers
 
 -- the groups of the puts are those of the content's key lists, and their aggregates are combined from it
-pub record AreOfContent (d : Group) (puts content : List Put) : Type 0 where
+pub record AreOfContent (d : Group) (puts content : List Update) : Type 0 where
   pub groups : (keys : List (Option KeyValue))
       → IsGroup d.shape d.count puts keys ↔ IsGroup d.shape d.count content keys
   pub aggregates : (keys : List (Option KeyValue)) (place : ℕ) → place < length d.aggregates
-      → aggregate (aggregate_at d place) (numbers_for place (members key_value_cmp keys puts))
-      ≡ combined (aggregate_at d place) (numbers_for place (members key_value_cmp keys content))
+      → aggregate (aggregate_at d.aggregates place) (numbers_for place (members key_value_cmp keys puts))
+      ≡ combined (aggregate_at d.aggregates place) (numbers_for place (members key_value_cmp keys content))
 
 -- ---- the condition of a put
 
@@ -91,9 +76,9 @@ pub record AddUp (zs : List ℤ) : Type 0 where
   pub below : below_zero zs ≤ 2 ^ 127
 
 -- the sums of each SUM by key list add up; a COUNT, which is at most the number of puts, stays within 64 bits
-pub record HasRoom (d : Group) (puts : List Put) : Type 0 where
-  pub sums : (content : List Put) → IsContent d puts content
-      → (place : ℕ) → place < length d.aggregates → aggregate_at d place ≡ Sum
+pub record HasRoom (d : Group) (puts : List Update) : Type 0 where
+  pub sums : (content : List Update) → IsContent d puts content
+      → (place : ℕ) → place < length d.aggregates → aggregate_at d.aggregates place ≡ Sum
       → AddUp (numbers_for place content)
-  pub counts : (place : ℕ) → place < length d.aggregates → aggregate_at d place ≡ Count
+  pub counts : (place : ℕ) → place < length d.aggregates → aggregate_at d.aggregates place ≡ Count
       → length puts < 2 ^ 63

@@ -3,7 +3,7 @@
 ghost use Rattle.std.specs.Prelude.{◌≡◌, ◌<◌, ◌+◌, ◌*◌, ◌++◌, ◌∷◌, [], List, None, length, slice_index_or, take, drop, if◌then◌else◌, nat_lt, IfOk, OnOk, ℕ};
 ghost use Rattle.star_program.specs.Rows.{cut};
 ghost use Rattle.star_group.specs.Private.FlatRows.{AreParts, Fits};
-ghost use Rattle.star_group.specs.Shown.{row_at};
+ghost use Rattle.star_group.specs.StoreRows.{row_at};
 ghost use Rattle.star_group.specs.declared.group_row.GroupRow.{GroupRow as Row};
 
 use crate::cell::Held;

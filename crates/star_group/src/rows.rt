@@ -4,7 +4,7 @@ ghost use Rattle.std.specs.Prelude.{◌≡◌, ◌<◌, ◌+◌, ℕ, true, List
 ghost use Rattle.std.specs.List.{list_any, IsDistinct};
 ghost use Rattle.std.specs.Option.{unwrap_or};
 ghost use Rattle.star_common.specs.Memory.{TellsMemory, UnlessMemory};
-ghost use Rattle.star_group.specs.Base.{key_of, row_at};
+ghost use Rattle.star_group.specs.Base.{key_view, row_found};
 ghost use Rattle.star_group.specs.Entries.{entries_of};
 ghost use Rattle.star_group.specs.OwnKeys.{key_eq};
 ghost use Rattle.star_group.specs.Private.Merged.{IsMergedAt, MergeLeaves, MergeStays, RowsStay};
@@ -65,9 +65,9 @@ pub(crate) fn stays_at(
     ensures { (key : List KeyPart) → length key ≡ 6 → IsNarrow rows.now.trie.width key
         → IsPlace rows.now key place → MatchBool result
         (MergeStays aggregates.now
-        (unwrap_or (row_at (entries_of rows.now) (key_of key)) []) more.now)
+        (unwrap_or (row_found (entries_of rows.now) (key_view key)) []) more.now)
         (MergeLeaves aggregates.now
-        (unwrap_or (row_at (entries_of rows.now) (key_of key)) []) more.now) }
+        (unwrap_or (row_found (entries_of rows.now) (key_view key)) []) more.now) }
 {
     match place {
         Place::Held(number) => row_stays(aggregates, Some(rows.row(number)), more),
@@ -88,8 +88,8 @@ fn all_stay_at(
     requires places { ArePlaces rows.now own.now places.now }
     requires fits { FitsIn rows.now aggregates.now more.now }
     ensures { MatchBool result
-        (AllStay (row_at (entries_of rows.now)) (is_one_of own.now) aggregates.now more.now)
-        (SomeLeaves (row_at (entries_of rows.now)) (is_one_of own.now) aggregates.now more.now) }
+        (AllStay (row_found (entries_of rows.now)) (is_one_of own.now) aggregates.now more.now)
+        (SomeLeaves (row_found (entries_of rows.now)) (is_one_of own.now) aggregates.now more.now) }
 {
     for index in 0..own.len() {
         if !stays_at(rows, places[index], aggregates, more) {
@@ -112,9 +112,9 @@ fn merge_at(
     requires place { IsPlaceAmong rows.old count key.now place }
     requires fits { FitsIn rows.old aggregates.now more.now }
     requires stays { RowsStay aggregates.now
-        (row_at (entries_of rows.old) (key_of key.now)) more.now }
+        (row_found (entries_of rows.old) (key_view key.now)) more.now }
     requires space { is_missing place ≡ true → HasSpace rows.old 1 }
-    ensures rows { IsMergedAt aggregates.now (key_of key.now) more.now
+    ensures rows { IsMergedAt aggregates.now (key_view key.now) more.now
         (entries_of rows.old) (entries_of rows.new) }
     ensures space { (count : ℕ) → HasSpace rows.old (count + 1) → HasSpace rows.new count }
     ensures grown { IsGrown rows.old rows.new }
@@ -136,12 +136,12 @@ fn merge_all_at(
 )
     requires narrow { AreNarrow rows.old.trie.width own.now }
     requires places { ArePlaces rows.old own.now places.now }
-    requires distinct { IsDistinct key_eq (map key_of own.now) }
+    requires distinct { IsDistinct key_eq (map key_view own.now) }
     requires fits { FitsIn rows.old aggregates.now more.now }
-    requires stay { AllStay (row_at (entries_of rows.old)) (is_one_of own.now) aggregates.now more.now }
+    requires stay { AllStay (row_found (entries_of rows.old)) (is_one_of own.now) aggregates.now more.now }
     requires space { list_any is_missing places.now ≡ true → HasSpace rows.old (length own.now) }
     ensures rows { MergesAll (is_one_of own.now) aggregates.now more.now
-        (row_at (entries_of rows.old)) (row_at (entries_of rows.new)) }
+        (row_found (entries_of rows.old)) (row_found (entries_of rows.new)) }
     ensures widths { AreAsWide rows.old rows.new }
 {
     let count = rows.len();
@@ -168,13 +168,13 @@ pub(crate) fn put_rows(
     more: &[Held],
 ) -> Result<(), PutFault>
     requires narrow { AreNarrow rows.old.trie.width own.now }
-    requires distinct { IsDistinct key_eq (map key_of own.now) }
+    requires distinct { IsDistinct key_eq (map key_view own.now) }
     requires fits { FitsIn rows.old aggregates.now more.now }
     ensures ok { OnOk result (PutsRows (is_one_of own.now) aggregates.now more.now
-        (row_at (entries_of rows.old)) (row_at (entries_of rows.new))) }
+        (row_found (entries_of rows.old)) (row_found (entries_of rows.new))) }
     ensures refused { OnErr result (entries_of rows.new ≡ entries_of rows.old) }
     ensures overflow { IfErr result (λ fault. UnlessMemory PutFault.OutOfMemory fault
-        (SomeLeaves (row_at (entries_of rows.old)) (is_one_of own.now) aggregates.now
+        (SomeLeaves (row_found (entries_of rows.old)) (is_one_of own.now) aggregates.now
         more.now)) }
     ensures widths { AreAsWide rows.old rows.new }
 {

@@ -2,9 +2,10 @@
 
 ghost use Rattle.std.specs.Prelude.{◌≡◌, ◌≤◌, ◌<◌, ℕ, List, ◌∷◌, [], length, true, false, OnOk, OnErr, IfErr, IfOk};
 ghost use Rattle.star_common.specs.Memory.{UnlessMemory};
-ghost use Rattle.star_group.specs.Batches.{HasRoomForRows, IsPutBatch, after, put_in};
-ghost use Rattle.star_group.specs.Stores.{Put, Group, HasRoom, group_declared, overflows, total_of};
-ghost use Rattle.star_group.specs.Shown.{AreRows};
+ghost use Rattle.star_group.specs.Batches.{HasRoomForRows, IsPutBatch, puts_after, put_in};
+ghost use Rattle.star_program.specs.Puts.{Update, overflows, total_over};
+ghost use Rattle.star_group.specs.Stores.{Group, HasRoom, group_declared};
+ghost use Rattle.star_group.specs.StoreRows.{AreRows};
 
 use crate::batch::PutBatch;
 use crate::rows::PutFault;
@@ -20,7 +21,7 @@ pub trait GroupStore: Drop {
     ghost group: { Self → Group };
 
     // The store has the content of these puts, the newest first.
-    ghost has: { Self → List Put → Type 0 };
+    ghost has: { Self → List Update → Type 0 };
 
     /// A store of no puts for a group of at most 6 keys and 8 aggregates.
     fn new(alloc: Global, declared: &GroupDecl) -> Result<Self, AllocError>
@@ -51,11 +52,11 @@ pub trait GroupStore: Drop {
     fn put(&mut self, keys: &[KeyValue], values: &[i64]) -> Result<(), AllocError>
         requires keys { length keys.now ≡ (group self.old).count }
         requires values { length values.now ≡ length (group self.old).aggregates }
-        requires room { (puts : List Put) × has self.old puts
+        requires room { (puts : List Update) × has self.old puts
             × HasRoom (group self.old) (record { keys = keys.now; values = values.now } ∷ puts) }
-        ensures ok { OnOk result ((puts : List Put) → has self.old puts
+        ensures ok { OnOk result ((puts : List Update) → has self.old puts
             → has self.new (record { keys = keys.now; values = values.now } ∷ puts)) }
-        ensures refused { OnErr result ((puts : List Put) → has self.old puts → has self.new puts) }
+        ensures refused { OnErr result ((puts : List Update) → has self.old puts → has self.new puts) }
         ensures group { group self.new ≡ group self.old };
 
     // The condition is asked row by row: that there is room for all rows together gives no room for
@@ -65,12 +66,12 @@ pub trait GroupStore: Drop {
     fn put_batch(&mut self, batch: &PutBatch<'_>) -> Result<(), AllocError>
         requires declared { group_declared batch.now.declared.now ≡ group self.old }
         requires batch { IsPutBatch batch.now }
-        requires room { (puts : List Put) × has self.old puts
+        requires room { (puts : List Update) × has self.old puts
             × HasRoomForRows (group self.old) (put_in batch.now) puts batch.now.rows }
-        ensures ok { OnOk result ((puts : List Put) → has self.old puts
-            → has self.new (after (put_in batch.now) puts batch.now.rows)) }
-        ensures refused { OnErr result ((puts : List Put) → has self.old puts
-            → (rows : ℕ) × has self.new (after (put_in batch.now) puts rows)) }
+        ensures ok { OnOk result ((puts : List Update) → has self.old puts
+            → has self.new (puts_after (put_in batch.now) puts batch.now.rows)) }
+        ensures refused { OnErr result ((puts : List Update) → has self.old puts
+            → (rows : ℕ) × has self.new (puts_after (put_in batch.now) puts rows)) }
         ensures group { group self.new ≡ group self.old }
     {
         for row in 0..batch.rows {
@@ -87,12 +88,12 @@ pub trait GroupStore: Drop {
     /// An aggregate, by its number from 0, over all puts; `None` is NULL. Takes no memory.
     fn total(&self, aggregate: usize) -> Option<i128>
         requires { aggregate < length (group self.now).aggregates }
-        ensures { (puts : List Put) → has self.now puts
-            → result ≡ total_of (group self.now) puts aggregate };
+        ensures { (puts : List Update) → has self.now puts
+            → result ≡ total_over (group self.now).aggregates aggregate puts };
 
     /// The groups of the puts with their aggregates, each once, in any order.
     fn into_rows(self) -> Result<GroupRows, AllocError>
-        ensures { IfOk result (λ rows. (puts : List Put) → has self puts
+        ensures { IfOk result (λ rows. (puts : List Update) → has self puts
             → AreRows (group self) puts rows) };
 }
 
@@ -105,16 +106,16 @@ pub trait TryPut: GroupStore {
     fn try_put(&mut self, keys: &[KeyValue], values: &[i64]) -> Result<(), PutFault>
         requires keys { length keys.now ≡ (Self.group self.old).count }
         requires values { length values.now ≡ length (Self.group self.old).aggregates }
-        ensures has { OnOk result ((puts : List Put) → Self.has self.old puts
+        ensures has { OnOk result ((puts : List Update) → Self.has self.old puts
             → Self.has self.new (record { keys = keys.now; values = values.now } ∷ puts)) }
-        ensures stays { OnOk result ((puts : List Put) → Self.has self.old puts
-            → overflows (Self.group self.old) puts (record { keys = keys.now; values = values.now })
+        ensures stays { OnOk result ((puts : List Update) → Self.has self.old puts
+            → overflows (Self.group self.old).shape (Self.group self.old).aggregates puts (record { keys = keys.now; values = values.now })
             ≡ false) }
         ensures overflow { IfErr result (λ fault. UnlessMemory PutFault.OutOfMemory fault
-            ((puts : List Put) → Self.has self.old puts
-            → overflows (Self.group self.old) puts (record { keys = keys.now; values = values.now })
+            ((puts : List Update) → Self.has self.old puts
+            → overflows (Self.group self.old).shape (Self.group self.old).aggregates puts (record { keys = keys.now; values = values.now })
             ≡ true)) }
-        ensures refused { OnErr result ((puts : List Put) → Self.has self.old puts
+        ensures refused { OnErr result ((puts : List Update) → Self.has self.old puts
             → Self.has self.new puts) }
         ensures group { Self.group self.new ≡ Self.group self.old };
 }

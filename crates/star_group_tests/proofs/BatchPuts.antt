@@ -9,14 +9,14 @@ use Rattle.star_program.specs.declared.group.GroupKey.{GroupKey}
 use Rattle.star_program.specs.declared.group.GroupKey.TheVariants.{Number}
 use Rattle.star_program.specs.declared.group.GroupDecl.{GroupDecl}
 use Rattle.star_program.specs.Faults.{value_count}
-use Rattle.star_program.specs.Puts.{aligned}
+use Rattle.star_program.specs.Puts.{aligned, Update}
 use Rattle.star_group.specs.declared.batch.PutBatch.{PutBatch}
-use Rattle.star_group.specs.Batches.{HasRoomForRows, IsKeyWord, IsPutBatch, after, put_in, word_in}
-use Rattle.star_group.specs.Stores.{Group, Put, group_declared}
+use Rattle.star_group.specs.Batches.{HasRoomForRows, IsKeyWord, IsPutBatch, puts_after, put_in, word_in}
+use Rattle.star_group.specs.Stores.{Group, group_declared}
 use Rattle.star_group_tests.specs.Few.{AreFew, IsOfNumbers, IsOfRows, IsOfTests}
 use Rattle.star_group_tests.proofs.FewPuts.{has_room, of_one}
 
-abbrev IsNarrow : Put → Type 0
+abbrev IsNarrow : Update → Type 0
 IsNarrow put = All (λ z. is_i64 z ≡ true) put.values
 
 pub of_tests : (d : GroupDecl) (g : Group) → IsOfNumbers d → g ≡ group_declared d → IsOfTests g
@@ -65,20 +65,20 @@ narrow_row b is narrow row =
     ∙ ap (λ vs. aligned (pos 1) (Sum ∷ Count ∷ Min ∷ Max ∷ []) (map (word_in b.lanes.now row) vs)) is.values))
     (of_one (word_in b.lanes.now row 2) (narrow (2 * 1024 + row)))
 
-few_after : (put : ℕ → Put) (made : ℕ) (puts : List Put) (rows : ℕ) → ((row : ℕ) → All (λ z. is_i64 z ≡ true) (put row).values) → AreFew made puts → AreFew (made + rows) (after put puts rows)
+few_after : (put : ℕ → Update) (made : ℕ) (puts : List Update) (rows : ℕ) → ((row : ℕ) → All (λ z. is_i64 z ≡ true) (put row).values) → AreFew made puts → AreFew (made + rows) (puts_after put puts rows)
 few_after put made puts zero narrow few = subst (λ n. AreFew n puts) (sym (add-zero made)) few
 few_after put made puts (suc rows) narrow few =
     let rest = few_after put made puts rows narrow few in
     record {
       many = omega (arith, rest.many);
-      small = All-cons IsNarrow (put rows) (after put puts rows) (narrow rows) rest.small;
+      small = All-cons IsNarrow (put rows) (puts_after put puts rows) (narrow rows) rest.small;
     }
 
-module _ (b : PutBatch) (is : IsOfRows b) (narrow : (at : ℕ) → is_i64 (slice_index_or b.lanes.now at (pos 0)) ≡ true) (made : ℕ) (puts : List Put) (few : AreFew made puts) where
-  pub rows_few : AreFew (made + b.rows) (after (put_in b) puts b.rows)
+module _ (b : PutBatch) (is : IsOfRows b) (narrow : (at : ℕ) → is_i64 (slice_index_or b.lanes.now at (pos 0)) ≡ true) (made : ℕ) (puts : List Update) (few : AreFew made puts) where
+  pub rows_few : AreFew (made + b.rows) (puts_after (put_in b) puts b.rows)
   rows_few = few_after (put_in b) made puts b.rows (narrow_row b is narrow) few
 
   pub rows_room : (d : Group) → made < 2 ^ 31 → HasRoomForRows d (put_in b) puts b.rows
   rows_room d less row h =
-      has_room d (made + row) (after (put_in b) puts row) (put_in b row) (omega (arith, less, h, is.few))
+      has_room d (made + row) (puts_after (put_in b) puts row) (put_in b row) (omega (arith, less, h, is.few))
       (few_after (put_in b) made puts row (narrow_row b is narrow) few) (narrow_row b is narrow row)

@@ -4,14 +4,15 @@ use Rattle.std.specs.List.{All}
 use Rattle.std.proofs.lemmas.List.Elements.{All-cons, All-nil}
 use Rattle.star_interval.specs.Range.{is_i64}
 use Rattle.star_interval.proofs.Ranges.{is_i64_fits}
-use Rattle.star_group.specs.Stores.{Group, HasRoom, Put}
+use Rattle.star_program.specs.Puts.{Update}
+use Rattle.star_group.specs.Stores.{Group, HasRoom}
 use Rattle.star_group.proofs.SmallNumbers.{few_room}
 use Rattle.star_group_tests.specs.Few.{AreFew}
 
 abbrev Narrow : ℤ → Type 0
 Narrow z = is_i64 z ≡ true
 
-abbrev IsNarrow : Put → Type 0
+abbrev IsNarrow : Update → Type 0
 IsNarrow put = All Narrow put.values
 
 -- the numbers of a put: one number, and a 1 for the count
@@ -26,12 +27,12 @@ of_one z here =
 pub four_narrow : (z : ℤ) → FitsSigned w64 z → All (λ z. is_i64 z ≡ true) (z ∷ pos 1 ∷ z ∷ z ∷ [])
 four_narrow z fits = of_one z ((is_i64_fits z).1 fits)
 
-pub one_more : (count : ℕ) (puts : List Put) (put : Put) → AreFew count puts → All (λ z. is_i64 z ≡ true) put.values → AreFew (count + 1) (put ∷ puts)
+pub one_more : (count : ℕ) (puts : List Update) (put : Update) → AreFew count puts → All (λ z. is_i64 z ≡ true) put.values → AreFew (count + 1) (put ∷ puts)
 one_more count puts put few narrow = record {
   many = omega (arith, few.many);
   small = All-cons IsNarrow put puts narrow few.small;
 }
 
-pub has_room : (d : Group) (count : ℕ) (puts : List Put) (put : Put) → count < 2 ^ 32 → AreFew count puts → All (λ z. is_i64 z ≡ true) put.values → HasRoom d (put ∷ puts)
+pub has_room : (d : Group) (count : ℕ) (puts : List Update) (put : Update) → count < 2 ^ 32 → AreFew count puts → All (λ z. is_i64 z ≡ true) put.values → HasRoom d (put ∷ puts)
 has_room d count puts put less few narrow =
     few_room d (put ∷ puts) (All-cons IsNarrow put puts narrow few.small) (omega (arith, less, few.many))

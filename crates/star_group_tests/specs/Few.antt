@@ -5,7 +5,8 @@ use Rattle.star_program.specs.declared.group.GroupDecl.{GroupDecl}
 use Rattle.star_program.specs.declared.group.GroupKey.TheVariants.{Number}
 use Rattle.star_interval.specs.Range.{is_i64}
 use Rattle.star_group.specs.declared.batch.PutBatch.{PutBatch}
-use Rattle.star_group.specs.Stores.{Group, Put}
+use Rattle.star_program.specs.Puts.{Update}
+use Rattle.star_group.specs.Stores.{Group}
 
 pub record IsOfTests (d : Group) : Type 0 where
   pub keys : d.count ≡ 2
@@ -25,10 +26,10 @@ pub record IsOfRows (b : PutBatch) : Type 0 where
   pub values : b.values.now ≡ 2 ∷ 2 ∷ 2 ∷ []
 
 -- so many puts, of numbers of 64 bits
-pub record AreFew (count : ℕ) (puts : List Put) : Type 0 where
+pub record AreFew (count : ℕ) (puts : List Update) : Type 0 where
   pub many : length puts ≡ count
   pub small : All (λ put. All (λ z. is_i64 z ≡ true) put.values) puts
 
 -- what has the content of some puts has that of so many such puts
-abbrev pub HasFew : (List Put → Type 0) → ℕ → Type 0
-HasFew has count = (puts : List Put) × has puts × AreFew count puts
+abbrev pub HasFew : (List Update → Type 0) → ℕ → Type 0
+HasFew has count = (puts : List Update) × has puts × AreFew count puts

@@ -5,8 +5,8 @@ use Rattle.star_program.specs.declared.value.Kind.{Kind}
 use Rattle.star_program.specs.Faults.{Kinds}
 
 -- the kinds of registers, by their numbers; None of those that are not there
-abbrev pub kinds_of : {R : Type 0} → (R → Option Kind) → List R → Kinds
-kinds_of kind registers r = slice_index_or (map kind registers) r None
+abbrev pub register_kinds : {R : Type 0} → (R → Option Kind) → List R → Kinds
+register_kinds kind registers r = slice_index_or (map kind registers) r None
 
 -- Ok where there is no fault, else the fault
 abbrev pub Answers : Result (Unit {0}) Fault → Option Fault → Type 0

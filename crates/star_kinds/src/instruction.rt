@@ -4,7 +4,7 @@ ghost use Rattle.std.specs.Prelude.{◌≡◌, ◌<◌, Bool, None, length};
 ghost use Rattle.std.specs.Option.{option_or};
 ghost use Rattle.star_program.specs.Faults as faults;
 ghost use Rattle.star_program.specs.Faults.{fault_of};
-ghost use Rattle.star_kinds.specs.Kinds.{Answers, kinds_of};
+ghost use Rattle.star_kinds.specs.Kinds.{Answers, register_kinds};
 
 use crate::operands::{Wanted, check_keys, check_numbers, check_operand, check_operation};
 use crate::place::{check_place, check_target};
@@ -21,9 +21,9 @@ fn check_put<R: Kinded>(
     requires there { group < length parts.now.groups }
     requires keys { length keys.now ≡ length (faults.group_at parts.now group).keys }
     ensures { Answers result (option_or
-        (faults.keys_fault (length registers.now) (kinds_of R.kind registers.now)
+        (faults.keys_fault (length registers.now) (register_kinds R.kind registers.now)
         (faults.group_at parts.now group).keys keys.now)
-        (faults.numbers_fault (length registers.now) (kinds_of R.kind registers.now)
+        (faults.numbers_fault (length registers.now) (register_kinds R.kind registers.now)
         values.now)) }
 {
     check_keys(registers, parts.group_at(group).keys.as_slice(), keys)?;
@@ -35,7 +35,7 @@ fn check_operands<R: Kinded>(parts: &Parts, registers: &[R], op: &Op) -> Result<
     requires wide { length registers.now ≡ parts.now.registers }
     requires placed { (inside : Bool) × (faults.place_fault parts.now inside op.now ≡ None) }
     ensures { Answers result
-        (faults.operands_fault parts.now (kinds_of R.kind registers.now) op.now) }
+        (faults.operands_fault parts.now (register_kinds R.kind registers.now) op.now) }
 {
     match op {
         Op::Assign { operation, .. } => check_operation(registers, operation),
@@ -70,7 +70,7 @@ pub fn check<R: Kinded>(
 ) -> Result<(), Fault>
     requires wide { length registers.now ≡ parts.now.registers }
     ensures { Answers result
-        (fault_of parts.now inside target_fault (kinds_of R.kind registers.now) op.now) }
+        (fault_of parts.now inside target_fault (register_kinds R.kind registers.now) op.now) }
 {
     check_place(parts, inside, op)?;
     check_target(parts, op)?;

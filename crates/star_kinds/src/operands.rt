@@ -6,7 +6,7 @@ ghost use Rattle.star_schema.specs.Schema as schema;
 ghost use Rattle.star_program.specs.declared.fault.Fault.TheVariants.{BadColumn};
 ghost use Rattle.star_program.specs.World as world;
 ghost use Rattle.star_program.specs.Faults as faults;
-ghost use Rattle.star_kinds.specs.Kinds.{Answers, kinds_of};
+ghost use Rattle.star_kinds.specs.Kinds.{Answers, register_kinds};
 ghost use Rattle.star_kinds.specs.Private.Taken.{taken};
 
 use crate::register::{Kinded, kind_at};
@@ -66,7 +66,7 @@ pub(crate) fn check_operand<R: Kinded>(
     number: u16,
 ) -> Result<(), Fault>
     ensures { Answers result (faults.operand_fault (length registers.now)
-        (kinds_of R.kind registers.now) (taken wanted) number) }
+        (register_kinds R.kind registers.now) (taken wanted) number) }
 {
     if number as usize >= registers.len() {
         return Err(Fault::BadRegister);
@@ -85,7 +85,7 @@ fn check_both<R: Kinded>(
     right: u16,
 ) -> Result<(), Fault>
     ensures { Answers result (faults.both_fault (length registers.now)
-        (kinds_of R.kind registers.now) (taken wanted) left right) }
+        (register_kinds R.kind registers.now) (taken wanted) left right) }
 {
     check_operand(registers, wanted, left)?;
     check_operand(registers, wanted, right)
@@ -93,7 +93,7 @@ fn check_both<R: Kinded>(
 
 fn check_comparison<R: Kinded>(registers: &[R], left: u16, right: u16) -> Result<(), Fault>
     ensures { Answers result (faults.compare_fault (length registers.now)
-        (kinds_of R.kind registers.now) left right) }
+        (register_kinds R.kind registers.now) left right) }
 {
     check_operand(registers, Wanted::Ordered, left)?;
     check_operand(registers, Wanted::Like(kind_at(registers, left)), right)
@@ -101,9 +101,9 @@ fn check_comparison<R: Kinded>(registers: &[R], left: u16, right: u16) -> Result
 
 fn check_within<R: Kinded>(registers: &[R], value: u16, from: u16, below: u16) -> Result<(), Fault>
     ensures { Answers result (option_or
-        (faults.compare_fault (length registers.now) (kinds_of R.kind registers.now) value from)
-        (faults.operand_fault (length registers.now) (kinds_of R.kind registers.now)
-        (faults.compares_with (kinds_of R.kind registers.now value)) below)) }
+        (faults.compare_fault (length registers.now) (register_kinds R.kind registers.now) value from)
+        (faults.operand_fault (length registers.now) (register_kinds R.kind registers.now)
+        (faults.compares_with (register_kinds R.kind registers.now value)) below)) }
 {
     check_comparison(registers, value, from)?;
     check_operand(registers, Wanted::Like(kind_at(registers, value)), below)
@@ -124,7 +124,7 @@ pub(crate) fn check_keys<R: Kinded>(
 ) -> Result<(), Fault>
     requires { length keys.now ≡ length declared.now }
     ensures { Answers result (faults.keys_fault (length registers.now)
-        (kinds_of R.kind registers.now) declared.now keys.now) }
+        (register_kinds R.kind registers.now) declared.now keys.now) }
 {
     for place in 0..keys.len() {
         let key = entry_at(declared, place);
@@ -137,7 +137,7 @@ pub(crate) fn check_keys<R: Kinded>(
 // The values of a put.
 pub(crate) fn check_numbers<R: Kinded>(registers: &[R], values: &[u16]) -> Result<(), Fault>
     ensures { Answers result (faults.numbers_fault (length registers.now)
-        (kinds_of R.kind registers.now) values.now) }
+        (register_kinds R.kind registers.now) values.now) }
 {
     for value in values {
         check_operand(registers, Wanted::Number, *value)?;
@@ -147,10 +147,10 @@ pub(crate) fn check_numbers<R: Kinded>(registers: &[R], values: &[u16]) -> Resul
 
 fn check_load<R: Kinded>(registers: &[R], column: ColumnId, row: u16) -> Result<(), Fault>
     ensures { Answers result (option_or
-        (faults.operand_fault (length registers.now) (kinds_of R.kind registers.now)
-        faults.is_row row)
+        (faults.operand_fault (length registers.now) (register_kinds R.kind registers.now)
+        faults.is_row_kind row)
         (faults.unless (faults.is_row_of (schema.table_of column)
-        (kinds_of R.kind registers.now row)) BadColumn)) }
+        (register_kinds R.kind registers.now row)) BadColumn)) }
 {
     check_operand(registers, Wanted::Row, row)?;
     match kind_at(registers, row) {
@@ -176,7 +176,7 @@ fn check_binary<R: Kinded>(
     right: u16,
 ) -> Result<(), Fault>
     ensures { Answers result (faults.binary_fault (length registers.now)
-        (kinds_of R.kind registers.now) operator left right) }
+        (register_kinds R.kind registers.now) operator left right) }
 {
     match operator {
         Operator::Add | Operator::Sub | Operator::Mul => {
@@ -195,7 +195,7 @@ pub(crate) fn check_operation<R: Kinded>(
     operation: &Operation,
 ) -> Result<(), Fault>
     ensures { Answers result (faults.operation_fault (length registers.now)
-        (kinds_of R.kind registers.now) operation.now) }
+        (register_kinds R.kind registers.now) operation.now) }
 {
     match operation {
         Operation::Const { .. } | Operation::Read { .. } => Ok(()),

@@ -3,8 +3,8 @@
 ghost use Rattle.std.specs.Prelude.{◌≡◌, Option};
 ghost use Rattle.std.specs.Option.{option_map};
 ghost use Rattle.star_program.specs.declared.value.Kind.{Kind};
-ghost use Rattle.star_program.specs.Values.{kind_of_value};
-ghost use Rattle.star_kinds.specs.Kinds.{kinds_of};
+ghost use Rattle.star_program.specs.Values.{register_kind};
+ghost use Rattle.star_kinds.specs.Kinds.{register_kinds};
 
 use star_program::{Kind, Value};
 
@@ -19,7 +19,7 @@ pub trait Kinded {
 }
 
 fn kind_of(value: Value) -> Kind
-    ensures { result ≡ kind_of_value value }
+    ensures { result ≡ register_kind value }
 {
     match value {
         Value::Number(_) => Kind::Number,
@@ -32,7 +32,7 @@ fn kind_of(value: Value) -> Kind
 
 // What a run's register holds: a value, or nothing.
 impl Kinded for Option<Value> {
-    ghost kind = { option_map kind_of_value };
+    ghost kind = { option_map register_kind };
 
     fn kind(&self) -> Option<Kind> {
         match *self {
@@ -44,7 +44,7 @@ impl Kinded for Option<Value> {
 
 // The kind of what stands in a register of this number.
 pub(crate) fn kind_at<R: Kinded>(registers: &[R], number: u16) -> Option<Kind>
-    ensures { result ≡ kinds_of R.kind registers.now number }
+    ensures { result ≡ register_kinds R.kind registers.now number }
 {
     match registers.get(number as usize) {
         Some(register) => register.kind(),

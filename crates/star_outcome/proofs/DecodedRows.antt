@@ -27,7 +27,8 @@ use Rattle.star_program.specs.Outcome.{decoded, decoded_keys, decoded_row}
 use Rattle.star_program.specs.Puts.{Update}
 use Rattle.star_outcome.specs.Private.Decoded.{AreDecodable, IsDecodable}
 use Rattle.star_outcome.specs.SoundKeys.{AreSoundKeys, IsSoundKey}
-use Rattle.star_world.specs.WorldOf.{column_dictionary, column_texts, world_of}
+use Rattle.star_world.specs.WorldOf.{world_of}
+use Rattle.star_schema.specs.Columns.{column_dictionary, column_texts}
 use Rattle.star_outcome.proofs.SortedRows.{sorted_mapped}
 
 -- ---- keys as declared

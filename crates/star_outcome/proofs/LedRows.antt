@@ -29,7 +29,7 @@ use Rattle.star_program.specs.declared.key.KeyValue.{KeyValue}
 use Rattle.star_program.specs.declared.key.KeyValue.TheVariants as key
 use Rattle.star_program.specs.Keys.{key_value_cmp}
 use Rattle.star_group.specs.declared.group_row.GroupRow.{GroupRow}
-use Rattle.star_group.specs.Shown.{row_at, row_shown}
+use Rattle.star_group.specs.StoreRows.{row_at, row_view}
 use Rattle.star_outcome.specs.declared.outcome.leads.Lead.{Lead}
 use Rattle.star_outcome.specs.declared.outcome.leads.Led.{Led}
 use Rattle.star_outcome.specs.Private.RowOrder.{AllHaveSameNulls, AreApart, column_order, directed_order, row_order, sort_order}
@@ -269,8 +269,8 @@ finer sorts a b =
 
 led_finer : (sorts : List SortKey) (rows : List GroupRow) (i j : ℕ) → led_cmp sorts rows (led_at sorts rows i) (led_at sorts rows j) ≡ number_cmp sorts rows i j
 led_finer sorts rows i j =
-    let a = row_shown (row_at rows i) in
-    let b = row_shown (row_at rows j) in
+    let a = row_view (row_at rows i) in
+    let b = row_view (row_at rows j) in
     ap (λ o. ordering_then (ordering_then o (lead_cmp (next_beside sorts a) (next_beside sorts b))) (row_order sorts a b)) (in_direction_cmp sorts (lead_of sorts a) (lead_of sorts b))
     ∙ finer sorts a b
 
@@ -309,7 +309,7 @@ module _ (sorts : List SortKey) (rows : List GroupRow) (ns : List ℕ) (all : Li
 -- the numbers of rows that were sorted by what leads them
 pub in_order : (sorts : List SortKey) (rows : List GroupRow) (all : List Led) (numbers : List ℕ) → AreApart rows → AllHaveSameNulls rows → IsPermutation (map (led_at sorts rows) (range_with_len 0 (length rows))) all
     → IsSortedBy (λ a b. is_lt (led_cmp sorts rows a b)) all → numbers ≡ map number_of all
-    → IsPermutation rows (map (row_at rows) numbers) × AreInOrder key_value_cmp sorts (map row_shown (map (row_at rows) numbers))
+    → IsPermutation rows (map (row_at rows) numbers) × AreInOrder key_value_cmp sorts (map row_view (map (row_at rows) numbers))
 in_order sorts rows all numbers apart nulls moved up is =
     let all_numbers = range_with_len 0 (length rows) in
     let by_number : IsPermutation all_numbers numbers = subst (λ ns. IsPermutation all_numbers ns) (sym is) (numbers_moved sorts rows all_numbers all moved) in

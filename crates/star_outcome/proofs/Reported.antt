@@ -15,13 +15,13 @@ use Rattle.star_program.specs.declared.outcome.Outcome.{Outcome}
 use Rattle.star_program.specs.declared.program.Parts.{Parts}
 use Rattle.star_program.specs.declared.program.Show.{Show}
 use Rattle.star_program.specs.declared.key.KeyValue.{KeyValue}
-use Rattle.star_program.specs.Effects.{Store}
+use Rattle.star_program.specs.Effects.{State}
 use Rattle.star_program.specs.Faults.{group_at}
-use Rattle.star_program.specs.Outcome.{AreRows, IsOutcome, decoded_row, shown_cells}
+use Rattle.star_program.specs.Outcome.{AreReportRows, IsOutcome, decoded_row, shown_cells}
 use Rattle.star_program.specs.Puts.{Update}
 use Rattle.star_group.specs.declared.group_row.GroupRow.{GroupRow}
-use Rattle.star_group.specs.Shown.{AreRows as AreGroupRows, row_at, row_shown}
-use Rattle.star_group.specs.Stores.{Group, Put, group_declared}
+use Rattle.star_group.specs.StoreRows.{AreRows as AreGroupRows, row_at, row_view}
+use Rattle.star_group.specs.Stores.{Group, group_declared}
 use Rattle.star_outcome.specs.Private.Decoded.{AreDecodable, AreSortedGroups, row_cells}
 use Rattle.star_outcome.specs.Done.{HasDone}
 use Rattle.star_outcome.specs.SoundKeys.{AreSoundKeys}
@@ -35,13 +35,13 @@ use Rattle.star_common.proofs.Members.{contains_mapped}
 -- ---- the rows have keys as declared
 
 groups_decodable : (db : Database) (d : GroupDecl) (sorts : List SortKey) (updates : List Update) (rows : List GroupRow) → AllByRecursion (λ u. AreSoundKeys db d.keys u.keys) updates → AreSortedGroups (group_declared d) sorts updates rows
-    → (group : Row KeyValue) → Contains (map row_shown rows) group → AreDecodable db d.keys group.keys
+    → (group : Row KeyValue) → Contains (map row_view rows) group → AreDecodable db d.keys group.keys
 groups_decodable db d sorts updates rows sound are group c = group_decodable db d.shape d.keys updates group.keys sound (are.groups.each group c).0
 
 pub rows_decodable : (db : Database) (d : GroupDecl) (sorts : List SortKey) (updates : List Update) (rows : List GroupRow) → AllByRecursion (λ u. AreSoundKeys db d.keys u.keys) updates → AreSortedGroups (group_declared d) sorts updates rows
     → All (λ row. AreDecodable db d.keys row.keys) rows
 rows_decodable db d sorts updates rows sound are = λ k row within.
-    groups_decodable db d sorts updates rows sound are (row_shown (get_or rows k row)) (contains_mapped row_shown rows (get_or rows k row) (Contains-get_or rows k row within))
+    groups_decodable db d sorts updates rows sound are (row_view (get_or rows k row)) (contains_mapped row_view rows (get_or rows k row) (Contains-get_or rows k row within))
 
 pub decodable_by_number : (db : Database) (ds : List GroupKey) (left : List GroupRow) (numbers : List ℕ) → All (λ row. AreDecodable db ds row.keys) (map (row_at left) numbers)
     → All (λ number. AreDecodable db ds (row_at left number).keys) numbers
@@ -62,13 +62,13 @@ sound_counts : (db : Database) (ds : List GroupKey) (us : List Update) → AllBy
 sound_counts db ds [] h = tt
 sound_counts db ds (u ∷ us) h = (sound_count db ds u.keys h.0, sound_counts db ds us h.1)
 
-pub left_counts : (db : Database) (parts : Parts) (s : Store) (rows : List GroupRow) (counts : Counts) → IsLeft db parts s rows counts
+pub left_counts : (db : Database) (parts : Parts) (s : State) (rows : List GroupRow) (counts : Counts) → IsLeft db parts s rows counts
     → AllByRecursion (λ u. length u.keys ≡ length (group_at parts parts.report).keys) (s.updates_of parts.report)
 left_counts db parts s rows counts left = sound_counts db (group_at parts parts.report).keys (s.updates_of parts.report) left.sound
 
 -- what a run has done leaves the rows of its reported store
-pub is_left : {S : Type 0} (group : S → Group) (has : S → List Put → Type 0) (db : Database) (parts : Parts) (work : Work S) (s : Store) (store : S) (rows : List GroupRow) → HasDone group has db parts work s
-    → slice_get work.stores.items parts.report ≡ Some store → ((updates : List Put) → has store updates → AreGroupRows (group store) updates rows)
+pub is_left : {S : Type 0} (group : S → Group) (has : S → List Update → Type 0) (db : Database) (parts : Parts) (work : Work S) (s : State) (store : S) (rows : List GroupRow) → HasDone group has db parts work s
+    → slice_get work.stores.items parts.report ≡ Some store → ((updates : List Update) → has store updates → AreGroupRows (group store) updates rows)
     → IsLeft db parts s rows (record { visits = work.visits; lookups = work.lookups; updates = work.updates })
 is_left group has db parts work s store rows done at are =
     let is = done.stores.each parts.report store at in record {
@@ -80,7 +80,7 @@ is_left group has db parts work s store rows done at are =
     }
 
 -- the sorted rows, in the words of the group's declaration
-module _ (db : Database) (parts : Parts) (s : Store) (left : List GroupRow) (counts : Counts) (d : GroupDecl) (sorts : List SortKey) (rows : List GroupRow) (is : IsLeft db parts s left counts) (is_group : d ≡ group_at parts parts.report)
+module _ (db : Database) (parts : Parts) (s : State) (left : List GroupRow) (counts : Counts) (d : GroupDecl) (sorts : List SortKey) (rows : List GroupRow) (is : IsLeft db parts s left counts) (is_group : d ≡ group_at parts parts.report)
     (sorted : (e : Group) (updates : List Update) → AreGroupRows e updates left → AreSortedGroups e sorts updates rows) where
   sound : AllByRecursion (λ u. AreSoundKeys db d.keys u.keys) (s.updates_of parts.report)
   sound = subst (λ e. AllByRecursion (λ u. AreSoundKeys db e.keys u.keys) (s.updates_of parts.report)) (sym is_group) is.sound
@@ -96,16 +96,16 @@ module _ (db : Database) (parts : Parts) (s : Store) (left : List GroupRow) (cou
       → outcome.visits ≡ counts.visits → outcome.lookups ≡ counts.lookups → outcome.updates ≡ counts.updates → IsOutcome (world_of db) parts s outcome
   is_outcome xs shows outcome is_rows is_sorts is_shows names cells visits lookups updates = record {
     names = names ∙ ap (map (λ show. show.name)) is_shows;
-    rows = map (decoded_row (world_of db) d) (map row_shown rows);
-    reported = subst (λ e. AreRows (world_of db) parts e (s.updates_of parts.report) (map (decoded_row (world_of db) d) (map row_shown rows))) is_group (record {
-      groups = map row_shown rows;
+    rows = map (decoded_row (world_of db) d) (map row_view rows);
+    reported = subst (λ e. AreReportRows (world_of db) parts e (s.updates_of parts.report) (map (decoded_row (world_of db) d) (map row_view rows))) is_group (record {
+      groups = map row_view rows;
       each_group = groups.groups;
       decoded = refl;
-      in_order = subst (λ keys. AreInOrder value_cmp keys (map (decoded_row (world_of db) d) (map row_shown rows))) is_sorts
-          (decoded_in_order db d sorts (map row_shown rows) (groups_decodable db d sorts (s.updates_of parts.report) rows sound groups) groups.in_order);
+      in_order = subst (λ keys. AreInOrder value_cmp keys (map (decoded_row (world_of db) d) (map row_view rows))) is_sorts
+          (decoded_in_order db d sorts (map row_view rows) (groups_decodable db d sorts (s.updates_of parts.report) rows sound groups) groups.in_order);
     });
     cells = cells ∙ (λ i. map (row_cells (world_of db) d (is_shows i)) (is_rows i))
-        ∙ sym (map-map (shown_cells parts) (decoded_row (world_of db) d) (map row_shown rows) ∙ map-map (λ row. shown_cells parts (decoded_row (world_of db) d row)) row_shown rows);
+        ∙ sym (map-map (shown_cells parts) (decoded_row (world_of db) d) (map row_view rows) ∙ map-map (λ row. shown_cells parts (decoded_row (world_of db) d row)) row_view rows);
     visits = visits ∙ is.visits;
     lookups = lookups ∙ is.lookups;
     updates = updates ∙ is.updates;

@@ -8,7 +8,7 @@ use Rattle.star_program.specs.declared.group.GroupDecl.{GroupDecl}
 use Rattle.star_program.specs.declared.program.Parts.{Parts}
 use Rattle.star_program.specs.declared.program.Show.{Show}
 use Rattle.star_program.specs.Faults.{group_at}
-use Rattle.star_program.specs.Shown.{first_unshown, has_column, named_columns, reports, shown_fault}
+use Rattle.star_program.specs.ShowLines.{first_unshown, has_column, named_columns, reports, shown_fault}
 
 if_none : (b : Bool) (o : Option ℕ) (line : ℕ) → (if b then o else Some line) ≡ None → (b ≡ true) × (o ≡ None)
 if_none true o line e = (refl, e)

@@ -24,7 +24,7 @@ use Rattle.star_program.specs.declared.key.KeyValue.{KeyValue}
 use Rattle.star_program.specs.Keys.{key_value_cmp}
 use Rattle.star_group.specs.declared.group_row.GroupRow.{GroupRow}
 use Rattle.star_group.specs.OwnKeys.{key_eq}
-use Rattle.star_group.specs.Shown.{row_at, row_shown}
+use Rattle.star_group.specs.StoreRows.{row_at, row_view}
 use Rattle.star_group.proofs.GroupKeys.{key_decides, key_equiv}
 use Rattle.star_outcome.specs.Private.RowOrder.{AllHaveSameNulls, AreApart, keys_of_row, row_order}
 use Rattle.star_outcome.proofs.RowOrders.{row_total, rows_level, same_order}
@@ -50,10 +50,10 @@ sorted_mapped f R S (x ∷ xs) agree up = (
 
 -- rows by their order
 abbrev pub shown_cmp : List SortKey → GroupRow → GroupRow → Ordering
-shown_cmp sorts a b = row_order sorts (row_shown a) (row_shown b)
+shown_cmp sorts a b = row_order sorts (row_view a) (row_view b)
 
 pub shown_total : (sorts : List SortKey) → IsTotalOrder (shown_cmp sorts)
-shown_total sorts = on_total row_shown (row_total sorts)
+shown_total sorts = on_total row_view (row_total sorts)
 
 before_next : (sorts : List SortKey) (a b : Row KeyValue) → is_lt (row_order sorts b a) ≡ false → (a.keys ≡ b.keys → ⊥) → row_order sorts a b ≡ Less
 before_next sorts a b not_after apart = by (row_order sorts b a) refl
@@ -67,7 +67,7 @@ strictly : (sorts : List SortKey) (rows : List GroupRow) → IsSortedBy (λ a b.
 unfolding IsStrictlySortedBy
 strictly sorts [] up apart = tt
 strictly sorts (row ∷ rows) up apart = sorted_from_all_adjacent (shown_total sorts) (row ∷ rows) row (λ k next.
-    before_next sorts (row_shown (get_or (row ∷ rows) k row)) (row_shown (get_or (row ∷ rows) (k + 1) row)) (up k row (omega arith) next) (differ k next))
+    before_next sorts (row_view (get_or (row ∷ rows) k row)) (row_view (get_or (row ∷ rows) (k + 1) row)) (up k row (omega arith) next) (differ k next))
   where
     differ : (k : ℕ) → k + 1 < length (row ∷ rows) → (get_or (row ∷ rows) k row).keys ≡ (get_or (row ∷ rows) (k + 1) row).keys → ⊥
     differ k next same =
@@ -86,11 +86,11 @@ sorted_under f lt (x ∷ xs) up = λ k d from next.
     (λ i. lt (second i) (first i)) ∙ up k x from within
 
 sorted_rows : (sorts : List SortKey) (old new : List GroupRow) → AreApart old → AllHaveSameNulls old → IsPermutation old new → IsSortedBy (λ a b. is_lt (shown_cmp sorts a b)) new
-    → AreInOrder key_value_cmp sorts (map row_shown new)
+    → AreInOrder key_value_cmp sorts (map row_view new)
 sorted_rows sorts old new apart nulls moved up =
     let back = IsPermutation-sym old new moved in
-    sorted_mapped row_shown (shown_cmp sorts) (row_cmp key_value_cmp sorts) new
-    (λ a b in_a in_b. same_order sorts (row_shown a) (row_shown b) (nulls.each a b (Contains-permutation new old a back in_a) (Contains-permutation new old b back in_b)))
+    sorted_mapped row_view (shown_cmp sorts) (row_cmp key_value_cmp sorts) new
+    (λ a b in_a in_b. same_order sorts (row_view a) (row_view b) (nulls.each a b (Contains-permutation new old a back in_a) (Contains-permutation new old b back in_b)))
     (strictly sorts new up (IsDistinct-IsPermutation key_eq key_equiv.symm (map keys_of_row old) (map keys_of_row new) (IsPermutation-map keys_of_row old new moved) apart))
 
 -- ---- by number
@@ -114,6 +114,6 @@ pub number_total : (sorts : List SortKey) (rows : List GroupRow) → IsTotalOrde
 number_total sorts rows = on_total (row_at rows) (shown_total sorts)
 
 pub sorted_by_number : (sorts : List SortKey) (rows : List GroupRow) (numbers : List ℕ) → AreApart rows → AllHaveSameNulls rows → IsPermutation (range_with_len 0 (length rows)) numbers
-    → IsSortedBy (λ i j. is_lt (number_cmp sorts rows i j)) numbers → AreInOrder key_value_cmp sorts (map row_shown (map (row_at rows) numbers))
+    → IsSortedBy (λ i j. is_lt (number_cmp sorts rows i j)) numbers → AreInOrder key_value_cmp sorts (map row_view (map (row_at rows) numbers))
 sorted_by_number sorts rows numbers apart nulls moved up =
     sorted_rows sorts rows (map (row_at rows) numbers) apart nulls (rows_moved rows numbers moved) (sorted_under (row_at rows) (λ a b. is_lt (shown_cmp sorts a b)) numbers up)

@@ -8,7 +8,8 @@ ghost use Rattle.star_program.specs.Effects.{loaded};
 ghost use Rattle.star_program.specs.declared.value.Value.TheVariants.{Place};
 ghost use Rattle.star_program.specs.World as world;
 ghost use Rattle.star_outcome.specs.Sound.{IsSoundValue};
-ghost use Rattle.star_world.specs.WorldOf.{world_of, column_dictionary};
+ghost use Rattle.star_world.specs.WorldOf.{world_of};
+ghost use Rattle.star_schema.specs.Columns.{column_dictionary};
 
 use star_catalogue::Catalogue;
 use star_program::{Edge, Text, Value};

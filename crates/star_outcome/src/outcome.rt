@@ -3,13 +3,13 @@
 
 ghost use Rattle.std.specs.Prelude.{◌≡◌, List, IfOk, None, length, map};
 ghost use Rattle.std.specs.List.{AllByRecursion};
-ghost use Rattle.star_group.specs.Shown.{AreRows, row_at};
+ghost use Rattle.star_group.specs.StoreRows.{AreRows, row_at};
 ghost use Rattle.star_group.specs.Stores.{Group};
-ghost use Rattle.star_program.specs.Effects.{Store};
+ghost use Rattle.star_program.specs.Effects.{State};
 ghost use Rattle.star_program.specs.Limits.{IsWithinLimits};
 ghost use Rattle.star_program.specs.Outcome.{IsOutcome};
 ghost use Rattle.star_program.specs.Puts.{Update};
-ghost use Rattle.star_program.specs.Shown.{shown_fault};
+ghost use Rattle.star_program.specs.ShowLines.{shown_fault};
 ghost use Rattle.star_outcome.specs.Private.Decoded.{AreSortedGroups};
 ghost use Rattle.star_outcome.specs.Private.LeftRows.{IsLeft};
 ghost use Rattle.star_world.specs.WorldOf.{world_of};
@@ -58,8 +58,8 @@ pub(crate) fn outcome_of_rows(
 ) -> Result<Outcome, AllocError>
     requires limits { IsWithinLimits parts.now }
     requires shown { shown_fault parts.now ≡ None }
-    requires left { (s : Store) × IsLeft catalogue.now parts.now s rows counts }
-    ensures { (s : Store) → IsLeft catalogue.now parts.now s rows counts
+    requires left { (s : State) × IsLeft catalogue.now parts.now s rows counts }
+    ensures { (s : State) → IsLeft catalogue.now parts.now s rows counts
         → IfOk result (IsOutcome (world_of catalogue.now) parts.now s) }
 {
     let declared = parts.group_at(parts.report);

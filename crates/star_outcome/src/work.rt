@@ -3,13 +3,13 @@
 ghost use Rattle.std.specs.Prelude.{◌≡◌, ◌<◌, ℕ, All, IfOk, List, None, Some, length, slice_get};
 ghost use Rattle.star_schema.specs.Database.{Database};
 ghost use Rattle.star_program.specs.declared.program.Parts.{Parts as Declared};
-ghost use Rattle.star_program.specs.Effects.{Store, empty_store};
+ghost use Rattle.star_program.specs.Effects.{State, empty_state};
 ghost use Rattle.star_program.specs.Faults.{group_at};
 ghost use Rattle.star_program.specs.Limits.{IsSmall, IsWithinLimits};
 ghost use Rattle.star_program.specs.Outcome.{IsOutcome};
 ghost use Rattle.star_program.specs.Puts as puts;
 ghost use Rattle.star_program.specs.Puts.{Update};
-ghost use Rattle.star_program.specs.Shown.{shown_fault};
+ghost use Rattle.star_program.specs.ShowLines.{shown_fault};
 ghost use Rattle.star_outcome.specs.Done.{AreStores, HasDone};
 ghost use Rattle.star_world.specs.WorldOf.{world_of};
 
@@ -47,7 +47,7 @@ fn empty_stores<S: GroupStore>(
     requires { All IsSmall groups.now }
     ensures { IfOk result
         (λ stores. (parts : Declared) → parts.groups ≡ groups.now
-        → AreStores S.group S.has parts stores.items empty_store.updates_of) }
+        → AreStores S.group S.has parts stores.items empty_state.updates_of) }
 {
     let mut stores = Vec::with_capacity(alloc, groups.len())?;
     for declared in groups {
@@ -75,7 +75,7 @@ impl<S: GroupStore> Work<S> {
     ) -> Result<Work<S>, AllocError>
         requires { All IsSmall parts.now.groups }
         ensures { IfOk result (λ work. (database : Database)
-            → HasDone S.group S.has database parts.now work empty_store) }
+            → HasDone S.group S.has database parts.now work empty_state) }
     {
         Ok(Work {
             stores: empty_stores(alloc, parts.groups.as_slice(), ranges)?,
@@ -92,7 +92,7 @@ impl<S: GroupStore> Work<S> {
             → aggregate < length (S.group store).aggregates }
         ensures { (parts : Declared) (updates_of : ℕ → List Update)
             → AreStores S.group S.has parts self.now.stores.items updates_of
-            → result ≡ puts.total (group_at parts group) aggregate (updates_of group) }
+            → result ≡ puts.total_over (group_at parts group).aggregates aggregate (updates_of group) }
     {
         self.stores[group as usize].total(aggregate as usize)
     }
@@ -107,8 +107,8 @@ impl<S: GroupStore> Work<S> {
     ) -> Result<Outcome, AllocError>
         requires limits { IsWithinLimits parts.now }
         requires shown { shown_fault parts.now ≡ None }
-        requires done { (s : Store) × HasDone S.group S.has catalogue.now parts.now self s }
-        ensures { (s : Store) → HasDone S.group S.has catalogue.now parts.now self s
+        requires done { (s : State) × HasDone S.group S.has catalogue.now parts.now self s }
+        ensures { (s : State) → HasDone S.group S.has catalogue.now parts.now self s
             → IfOk result (IsOutcome (world_of catalogue.now) parts.now s) }
     {
         let Work {

@@ -4,7 +4,7 @@ use Rattle.std.proofs.lemmas.List.{length-map, take-map}
 use Rattle.star_query.specs.Tree.{Item, Name, aggregate, plain}
 use Rattle.star_plan.specs.Faults.{item_fault, item_fault_after}
 use Rattle.star_plan.proofs.Viewed.{BesideSoFar, beside_passed}
-use Rattle.star_plan.specs.Naming.{aggregate_name, aggregate_names, names_from}
+use Rattle.star_plan.specs.Naming.{name_of_aggregate, aggregate_names, names_from}
 
 names_then : (n : ℕ) (items : List Item) (i : ℕ) (x : Item) → i < length items → x ≡ get_or items i x
     → names_from n (take i items) ++ names_from (n + length (names_from n (take i items))) (x ∷ []) ≡ names_from n (take (i + 1) items)
@@ -15,7 +15,7 @@ names_then n (plain y ∷ ys) (suc i) x within at =
 names_then n (aggregate y ∷ ys) (suc i) x within at =
     let next : suc i + 1 ≡ suc (i + 1) = omega arith in
     let later : n + suc (length (names_from (n + 1) (take i ys))) ≡ n + 1 + length (names_from (n + 1) (take i ys)) = omega arith in
-    rw (next, later) (ap (λ names. aggregate_name n y ∷ names) (names_then (n + 1) ys i x (omega arith) at))
+    rw (next, later) (ap (λ names. name_of_aggregate n y ∷ names) (names_then (n + 1) ys i x (omega arith) at))
 
 at_viewed : {X Y : Type 0} (v : X → Y) (xs : List X) (i : ℕ) (x : X) → i < length xs → x ≡ get_or xs i x
     → v x ≡ get_or (map v xs) i (v x)

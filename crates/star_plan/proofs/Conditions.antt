@@ -17,8 +17,8 @@ use Rattle.star_plan.specs.First.{first_after, first_beside}
 use Rattle.star_plan.specs.Names.{has_name, table_at}
 use Rattle.star_plan.specs.Uses.{uses_of}
 use Rattle.star_plan.specs.Joins.{Pair, is_joined, joins, joins_of, where_pairs}
-use Rattle.star_plan.specs.Naming.{aggregate_name, aggregate_names, has_text, names_from}
-use Rattle.star_plan.specs.Faults.{aggregates_fault, fact_fault, group_fault, item_fault, item_fault_after, key_fault, kind_fault, missing_fault, of_column, of_missing, of_pair, of_table, order_fault, pair_fault, plan_fault, scope_fault, table_fault}
+use Rattle.star_plan.specs.Naming.{name_of_aggregate, aggregate_names, has_text, names_from}
+use Rattle.star_plan.specs.Faults.{aggregates_fault, fact_fault, group_fault, item_fault, item_fault_after, key_fault, use_kind_fault, missing_fault, of_column, of_missing, of_pair, of_table, order_fault, pair_fault, plan_fault, scope_fault, from_table_fault}
 use Rattle.star_plan.specs.Sound.{are_distinct}
 use Rattle.star_plan.specs.WellNamed.{IsThere, IsWellNamed, is_grouped, is_in_from, is_reached, same_name, same_text}
 use Rattle.star_plan.proofs.Known.{each_none, named_of}
@@ -137,14 +137,14 @@ of_table_none : (at : ℕ) (b : Bool) (o : Option TableId) → b ≡ false → I
 of_table_none at b None e there = absurd (let wrong = there.1 in cc)
 of_table_none at b (Some t) e there = some_from b _ e
 
-table_there : (before : List Name) (n : Name) → table_fault before n ≡ None → IsThere (table_at n)
+table_there : (before : List Name) (n : Name) → from_table_fault before n ≡ None → IsThere (table_at n)
 table_there before n e = of_table_there n.place (has_name before n.text) (table_at n) e
 
-table_fresh : (before : List Name) (n : Name) → table_fault before n ≡ None → IsFresh same_name before n
+table_fresh : (before : List Name) (n : Name) → from_table_fault before n ≡ None → IsFresh same_name before n
 unfolding has_name
 table_fresh before n e = of_table_fresh n.place (has_name before n.text) (table_at n) e
 
-table_none : (before : List Name) (n : Name) → IsFresh same_name before n → IsThere (table_at n) → table_fault before n ≡ None
+table_none : (before : List Name) (n : Name) → IsFresh same_name before n → IsThere (table_at n) → from_table_fault before n ≡ None
 unfolding has_name
 table_none before n fresh there = of_table_none n.place (has_name before n.text) (table_at n) fresh there
 
@@ -237,20 +237,20 @@ each_unit (x ∷ xs) = (tt, each_unit xs)
 -- the names of the aggregates with one more item
 abbrev more_names : List (List ℕ) → Item → List (List ℕ)
 more_names names (plain n) = names
-more_names names (aggregate a) = names ++ aggregate_name (length names + 1) a ∷ []
+more_names names (aggregate a) = names ++ name_of_aggregate (length names + 1) a ∷ []
 
 names_last : (n : ℕ) (before : List Item) (i : Item) → names_from n (before ++ i ∷ []) ≡ names_from n before ++ names_from (n + length (names_from n before)) (i ∷ [])
 names_last n [] i = let none : n + 0 ≡ n = omega arith in rw none refl
 names_last n (plain y ∷ ys) i = names_last n ys i
 names_last n (aggregate y ∷ ys) i =
     let later : n + suc (length (names_from (n + 1) ys)) ≡ n + 1 + length (names_from (n + 1) ys) = omega arith in
-    rw later (ap (λ names. aggregate_name n y ∷ names) (names_last (n + 1) ys i))
+    rw later (ap (λ names. name_of_aggregate n y ∷ names) (names_last (n + 1) ys i))
 
 names_more : (before : List Item) (i : Item) → aggregate_names (before ++ i ∷ []) ≡ more_names (aggregate_names before) i
 names_more before (plain n) = names_last 1 before (plain n) ∙ append-nil (aggregate_names before)
 names_more before (aggregate a) =
     let number : 1 + length (aggregate_names before) ≡ length (aggregate_names before) + 1 = omega arith in
-    names_last 1 before (aggregate a) ∙ ap (λ k. aggregate_names before ++ aggregate_name k a ∷ []) number
+    names_last 1 before (aggregate a) ∙ ap (λ k. aggregate_names before ++ name_of_aggregate k a ∷ []) number
 
 -- the first fault of items after aggregates of these names
 abbrev items_fault : List Name → List (List ℕ) → List Item → Option PlanFault
@@ -289,7 +289,7 @@ items_to groups names (plain n ∷ is') e =
     let rest = items_to groups names is' parts.1 in
     record { grouped = (named_of (has_name groups n.text) _ parts.0, rest.grouped); free = rest.free; fresh = rest.fresh; apart = rest.apart }
 items_to groups names (aggregate a ∷ is') e =
-    let name = aggregate_name (length names + 1) a in
+    let name = name_of_aggregate (length names + 1) a in
     let parts = or_none (item_fault_after groups names (aggregate a)) (items_fault groups (names ++ name ∷ []) is') e in
     let neither = or_parts (has_text names name) (has_name groups name) (some_to _ _ parts.0) in
     let rest = subst (λ k. AreShown groups (names ++ name ∷ []) (names_from (k + 1) is') is') (one_longer names name) (items_to groups (names ++ name ∷ []) is' parts.1) in
@@ -307,7 +307,7 @@ items_none groups names (plain n ∷ is') shown =
     none_or (item_fault_after groups names (plain n)) (items_fault groups names is') (none_from (has_name groups n.text) _ shown.grouped.0)
     (items_none groups names is' (record { grouped = shown.grouped.1; free = shown.free; fresh = shown.fresh; apart = shown.apart }))
 items_none groups names (aggregate a ∷ is') shown =
-    let name = aggregate_name (length names + 1) a in
+    let name = name_of_aggregate (length names + 1) a in
     let own = names_from (length names + 1 + 1) is' in
     let rest : AreShown groups (names ++ name ∷ []) own is' =
     record { grouped = shown.grouped.1; free = shown.free.1; fresh = fresh_after same_text names name own shown.fresh.1 shown.apart.0; apart = shown.apart.1 } in
@@ -333,12 +333,12 @@ well_named t none =
     let ps = where_pairs t.condition in
     let are_shown = items_to groups [] t.items (sym (same_faults groups [] t.items) ∙ p.shown) in
     record {
-      tables = each_after table_fault (λ n. IsThere (table_at n)) table_there [] t.tables p.tables;
-      tables_once = (apart_to table_fault same_name table_fresh [] t.tables p.tables).apart;
+      tables = each_after from_table_fault (λ n. IsThere (table_at n)) table_there [] t.tables p.tables;
+      tables_once = (apart_to from_table_fault same_name table_fresh [] t.tables p.tables).apart;
       fact = named_of (has_name t.tables (table_name Lineorder)) _ p.fact;
       columns = each (λ u. scope_fault t.tables u ≡ None) (λ u. IsThere u.column) (λ u e. of_column_there t.tables u.at u.column e) uses p.scoped;
       scope = each (λ u. scope_fault t.tables u ≡ None) (λ u. is_in_from t.tables u.column ≡ true) (λ u e. of_column_in t.tables u.at u.column e) uses p.scoped;
-      kinds = each (λ u. kind_fault u ≡ None) (λ u. u.fits ≡ true) (λ u e. named_of u.fits _ e) uses p.fit;
+      kinds = each (λ u. use_kind_fault u ≡ None) (λ u. u.fits ≡ true) (λ u e. named_of u.fits _ e) uses p.fit;
       joins = p.pairs;
       joined_once = p.apart;
       joined = each (λ n. missing_fault ps n ≡ None) (λ n. is_reached ps (table_at n) ≡ true) (λ n e. of_missing_reached ps n.place (table_at n) e) t.tables (each_none (missing_fault ps) t.tables p.joined);
@@ -357,14 +357,14 @@ no_fault t w =
     let items = t.items in
     let uses = uses_of t in
     let ps = where_pairs t.condition in
-    let named : first_beside table_fault tables ≡ None = apart_from table_fault same_name (λ n. IsThere (table_at n)) table_none [] tables (fresh_first same_name tables) w.tables_once w.tables in
+    let named : first_beside from_table_fault tables ≡ None = apart_from from_table_fault same_name (λ n. IsThere (table_at n)) table_none [] tables (fresh_first same_name tables) w.tables_once w.tables in
     let fact : fact_fault tables ≡ None = none_from (has_name tables (table_name Lineorder)) _ w.fact in
     let columns : first_answer (scope_fault tables) uses ≡ None =
     none_each (scope_fault tables) uses (each_two (λ u. IsThere u.column) (λ u. is_in_from tables u.column ≡ true) (λ u. scope_fault tables u ≡ None) (λ u there e. of_column_none tables u.at u.column there e) uses w.columns w.scope) in
     let pairs : first_beside pair_fault ps ≡ None = pairs_none [] ps w.joins (nothing_joined (joins_of ps)) w.joined_once in
     let missing : first_answer (missing_fault ps) tables ≡ None =
     none_each (missing_fault ps) tables (each (λ n. is_reached ps (table_at n) ≡ true) (λ n. missing_fault ps n ≡ None) (λ n e. of_missing_none ps n.place (table_at n) e) tables w.joined) in
-    let kinds : first_answer kind_fault uses ≡ None = none_each kind_fault uses (each (λ u. u.fits ≡ true) (λ u. kind_fault u ≡ None) (λ u e. none_from u.fits _ e) uses w.kinds) in
+    let kinds : first_answer use_kind_fault uses ≡ None = none_each use_kind_fault uses (each (λ u. u.fits ≡ true) (λ u. use_kind_fault u ≡ None) (λ u e. none_from u.fits _ e) uses w.kinds) in
     let once : first_beside group_fault groups ≡ None = apart_from group_fault same_name (λ n. Unit {0}) group_none [] groups (fresh_first same_name groups) w.groups_once (each_unit groups) in
     let shown : first_beside (item_fault groups) items ≡ None =
     same_faults groups [] items ∙ items_none groups [] items (record { grouped = w.grouped; free = w.names_free; fresh = fresh_first same_text (aggregate_names items); apart = w.names_once }) in

@@ -12,9 +12,9 @@ use Rattle.star_query.specs.Spelled.{is_name}
 use Rattle.star_plan.specs.Joins.{is_foreign, joins_of, where_pairs}
 use Rattle.star_plan.specs.Meaning.{Plan}
 use Rattle.star_plan.specs.Names.{column_at}
-use Rattle.star_plan.specs.Naming.{aggregate_names}
+use Rattle.star_plan.specs.Naming.{aggregate_names, resolved_key}
 use Rattle.star_plan.specs.Faults.{plan_fault}
-use Rattle.star_plan.specs.Resolved.{IsResolved, resolved_key}
+use Rattle.star_plan.specs.Resolved.{IsResolved}
 use Rattle.star_plan.specs.Sound.{are_distinct, condition_is_sound, in_scope, is_group_column, measure_is_sound, IsSoundPlan}
 use Rattle.star_plan.specs.Limits.{IsPlanWithinLimits}
 use Rattle.star_plan.specs.Spelled.{IsSpelledPlan}

@@ -15,8 +15,8 @@ use Rattle.star_query.specs.Tree.{Item, Name, SortKey, Expression, column, const
 use Rattle.star_query.specs.Limits as asked
 use Rattle.star_plan.specs.Meaning.{RowCondition}
 use Rattle.star_plan.specs.Names.{column_at}
-use Rattle.star_plan.specs.Naming.{names_from}
-use Rattle.star_plan.specs.Resolved.{aggregate_column, conjuncts_of, item_column, items_from, key_column, measures_of, option_all, resolved_condition, resolved_expression, resolved_key, resolved_measure, resolved_test, where_conjuncts}
+use Rattle.star_plan.specs.Naming.{names_from, aggregate_column, key_column, resolved_key}
+use Rattle.star_plan.specs.Resolved.{conjuncts_of, item_column, items_from, resolved_measures, option_all, resolved_condition, resolved_expression, resolved_measure, resolved_test, where_conjuncts}
 use Rattle.star_query.specs.Limits.{comparisons_of, measure_operands, operands_of}
 use Rattle.star_plan.specs.Sound.{is_group_column}
 use Rattle.star_plan.proofs.Options.{both_gave, first_or_second, mapped_gave}
@@ -86,20 +86,20 @@ where_comparisons (Some q) xs e = conjuncts_comparisons q xs e
 
 -- ---- aggregates
 
-pub measures_counted : (is' : List Item) (ms : List (Measure ColumnId)) → measures_of is' ≡ Some ms → length ms ≡ sum_by asked.aggregates_in is'
+pub measures_counted : (is' : List Item) (ms : List (Measure ColumnId)) → resolved_measures is' ≡ Some ms → length ms ≡ sum_by asked.aggregates_in is'
 measures_counted [] ms e = let none : [] ≡ ms = cc in ap length (sym none)
 measures_counted (tree.plain n ∷ is') ms e =
     omega (arith, measures_counted is' ms e, sum_by-cons asked.aggregates_in (tree.plain n) is')
 measures_counted (tree.aggregate a ∷ is') ms e =
-    let g = both_gave (λ m ms'. m ∷ ms') (resolved_measure a.measure) (measures_of is') ms e in
+    let g = both_gave (λ m ms'. m ∷ ms') (resolved_measure a.measure) (resolved_measures is') ms e in
     ap length (sym g.made) ∙ omega (arith, measures_counted is' g.right g.second, sum_by-cons asked.aggregates_in (tree.aggregate a) is')
 
-pub operands_counted : (is' : List Item) (ms : List (Measure ColumnId)) → measures_of is' ≡ Some ms → sum_by measure_operands ms ≡ sum_by asked.item_operands is'
+pub operands_counted : (is' : List Item) (ms : List (Measure ColumnId)) → resolved_measures is' ≡ Some ms → sum_by measure_operands ms ≡ sum_by asked.item_operands is'
 operands_counted [] ms e = let none : [] ≡ ms = cc in ap (sum_by measure_operands) (sym none)
 operands_counted (tree.plain n ∷ is') ms e =
     omega (arith, operands_counted is' ms e, sum_by-cons asked.item_operands (tree.plain n) is')
 operands_counted (tree.aggregate a ∷ is') ms e =
-    let g = both_gave (λ m ms'. m ∷ ms') (resolved_measure a.measure) (measures_of is') ms e in
+    let g = both_gave (λ m ms'. m ∷ ms') (resolved_measure a.measure) (resolved_measures is') ms e in
     ap (sum_by measure_operands) (sym g.made)
     ∙ omega (arith, sum_by-cons measure_operands g.left g.right, resolved_operands a.measure g.left g.first, operands_counted is' g.right g.second, sum_by-cons asked.item_operands (tree.aggregate a) is')
 

@@ -17,8 +17,8 @@ use Rattle.star_query.specs.Spelled as asked
 use Rattle.star_query.specs.Spelled.{is_name}
 use Rattle.star_plan.specs.Meaning.{RowCondition}
 use Rattle.star_plan.specs.Names.{column_at, literal_value}
-use Rattle.star_plan.specs.Naming.{aggregate_name, default_name, function_word, names_from}
-use Rattle.star_plan.specs.Resolved.{conjuncts_of, measures_of, option_both, resolved_condition, resolved_expression, resolved_measure, resolved_test, where_conjuncts}
+use Rattle.star_plan.specs.Naming.{name_of_aggregate, default_name, function_word, names_from}
+use Rattle.star_plan.specs.Resolved.{conjuncts_of, resolved_measures, option_both, resolved_condition, resolved_expression, resolved_measure, resolved_test, where_conjuncts}
 use Rattle.star_plan.specs.Spelled.{condition_is_spelled, expression_is_spelled, measure_is_spelled, value_is_spelled}
 use Rattle.star_plan.proofs.Options.{both_gave, mapped_gave}
 
@@ -53,12 +53,12 @@ resolved_spelled (tree.fold f y) x e good =
     let g = mapped_gave (folds f) (resolved_expression y) x e in
     ap measure_is_spelled (sym g.2) ∙ expression_spelled y g.0 g.1 good
 
-pub measures_spelled : (is' : List Item) (ms : List (Measure ColumnId)) → measures_of is' ≡ Some ms → list_all asked.item_is_spelled is' ≡ true → list_all measure_is_spelled ms ≡ true
+pub measures_spelled : (is' : List Item) (ms : List (Measure ColumnId)) → resolved_measures is' ≡ Some ms → list_all asked.item_is_spelled is' ≡ true → list_all measure_is_spelled ms ≡ true
 measures_spelled [] ms e good = let none : [] ≡ ms = cc in ap (list_all measure_is_spelled) (sym none)
 measures_spelled (tree.plain n ∷ is') ms e good =
     let parts = and_parts (is_name n.text) (list_all asked.item_is_spelled is') good in measures_spelled is' ms e parts.1
 measures_spelled (tree.aggregate a ∷ is') ms e good =
-    let g = both_gave (λ m ms'. m ∷ ms') (resolved_measure a.measure) (measures_of is') ms e in
+    let g = both_gave (λ m ms'. m ∷ ms') (resolved_measure a.measure) (resolved_measures is') ms e in
     let parts = and_parts (asked.item_is_spelled (tree.aggregate a)) (list_all asked.item_is_spelled is') good in
     let here = and_parts (asked.measure_is_spelled a.measure) (asked.alias_is_spelled (a.name)) parts.0 in
     ap (list_all measure_is_spelled) (sym g.made) ∙ and_from _ _ (resolved_spelled a.measure g.left g.first here.0) (measures_spelled is' g.right g.second parts.1)
@@ -147,10 +147,10 @@ default_spelled m n below = by_word (function_word m) (begins m) (letters m) (sh
     by_word : (word : List ℕ) → begins_with_letter word ≡ true → list_all is_word_byte word ≡ true → length word ≤ 5 → is_name (word ++ decimal n) ≡ true
     by_word word b l s = word_then_digits word (decimal n) b l s digits (length-decimal-le 20 n (omega arith) (omega arith) below)
 
-name_spelled : (n : ℕ) (a : Aggregate) → n < 2 ^ 64 → asked.alias_is_spelled (a.name) ≡ true → is_name (aggregate_name n a) ≡ true
+name_spelled : (n : ℕ) (a : Aggregate) → n < 2 ^ 64 → asked.alias_is_spelled (a.name) ≡ true → is_name (name_of_aggregate n a) ≡ true
 name_spelled n a d good = go a.name refl good
   where
-    go : (o : Option Name) → a.name ≡ o → asked.alias_is_spelled (o) ≡ true → is_name (aggregate_name n a) ≡ true
+    go : (o : Option Name) → a.name ≡ o → asked.alias_is_spelled (o) ≡ true → is_name (name_of_aggregate n a) ≡ true
     go None h e = rw h (default_spelled a.measure n d)
     go (Some own) h e = rw h e
 

@@ -25,9 +25,9 @@ use Rattle.star_plan.specs.Meaning.{RowCondition}
 use Rattle.star_plan.specs.Names.{column_at, has_name, is_of, literal_value, same_kind, table_called}
 use Rattle.star_plan.specs.Uses.{Use, condition_uses, expression_uses, groups_uses, items_uses, kind_of_literal, measure_uses, where_uses}
 use Rattle.star_plan.specs.Joins.{Pair, is_joined, joins_of, pairs_of, where_pairs}
-use Rattle.star_plan.specs.Naming.{has_text}
-use Rattle.star_plan.specs.Faults.{item_fault, key_fault, kind_fault, missing_fault, pair_fault, scope_fault, of_column, of_missing}
-use Rattle.star_plan.specs.Resolved.{aggregate_column, conjuncts_of, where_conjuncts, items_from, key_column, measures_of, option_all, option_both, resolved_condition, resolved_expression, resolved_key, resolved_measure}
+use Rattle.star_plan.specs.Naming.{has_text, aggregate_column, key_column, resolved_key}
+use Rattle.star_plan.specs.Faults.{item_fault, key_fault, use_kind_fault, missing_fault, pair_fault, scope_fault, of_column, of_missing}
+use Rattle.star_plan.specs.Resolved.{conjuncts_of, where_conjuncts, items_from, resolved_measures, option_all, option_both, resolved_condition, resolved_expression, resolved_measure}
 use Rattle.star_plan.specs.Sound.{condition_is_sound, expression_is_sound, in_scope, joins_table, measure_is_sound}
 
 -- the table by its own name
@@ -64,10 +64,10 @@ scope_known tables at (Some c) e = (c, refl, go (has_name tables (table_name (ta
     go true h e = h
     go false h e = absurd (let wrong = rw h at e in cc)
 
-kind_known : (u : Use) → kind_fault u ≡ None → u.fits ≡ true
+kind_known : (u : Use) → use_kind_fault u ≡ None → u.fits ≡ true
 kind_known u e = go u.fits refl e
   where
-    go : (b : Bool) → u.fits ≡ b → kind_fault u ≡ None → u.fits ≡ true
+    go : (b : Bool) → u.fits ≡ b → use_kind_fault u ≡ None → u.fits ≡ true
     go true h e = h
     go false h e = absurd (let wrong = rw h at e in cc)
 
@@ -77,7 +77,7 @@ abbrev AreScoped : List Name → List Use → Type 0
 AreScoped tables us = AllByRecursion (λ u. scope_fault tables u ≡ None) us
 
 abbrev AreFit : List Use → Type 0
-AreFit us = AllByRecursion (λ u. kind_fault u ≡ None) us
+AreFit us = AllByRecursion (λ u. use_kind_fault u ≡ None) us
 
 -- what stands in FROM is in scope
 abbrev pub Reaches : List Name → List Join → Type 0
@@ -112,7 +112,7 @@ measure_known tables js reach (tree.fold f e) scoped fit =
     let x = expression_known tables js reach e scoped fit in (fold f x.0, ap (option_map (fold f)) x.1, x.2)
 
 pub measures_known : (tables : List Name) (js : List Join) → Reaches tables js → (is' : List Item) → AreScoped tables (items_uses is') → AreFit (items_uses is')
-    → (ms : List (Measure ColumnId)) × (measures_of is' ≡ Some ms) × (list_all (measure_is_sound js) ms ≡ true)
+    → (ms : List (Measure ColumnId)) × (resolved_measures is' ≡ Some ms) × (list_all (measure_is_sound js) ms ≡ true)
 measures_known tables js reach [] scoped fit = ([], refl, refl)
 measures_known tables js reach (tree.plain n ∷ is') scoped fit = measures_known tables js reach is' scoped.1 fit.1
 measures_known tables js reach (tree.aggregate a ∷ is') scoped fit =
@@ -183,7 +183,7 @@ conjuncts_known tables js reach (tree.test (tree.comparison (tree.between n from
     let x = condition_known tables js reach (tree.test (tree.comparison (tree.between n from upto))) pairs scoped fit in lone_known js _ x.0 x.1 x.2
 
 pub where_known : (tables : List Name) (js : List Join) → Reaches tables js → (o : Option (tree.Condition tree.Test))
-    → AllByRecursion (λ p. (j : Join) × (p.join ≡ Some j)) (where_pairs o) → AllByRecursion (λ u. scope_fault tables u ≡ None) (where_uses o) → AllByRecursion (λ u. kind_fault u ≡ None) (where_uses o)
+    → AllByRecursion (λ p. (j : Join) × (p.join ≡ Some j)) (where_pairs o) → AllByRecursion (λ u. scope_fault tables u ≡ None) (where_uses o) → AllByRecursion (λ u. use_kind_fault u ≡ None) (where_uses o)
     → (xs : List RowCondition) × (where_conjuncts o ≡ Some xs) × (list_all (condition_is_sound js) xs ≡ true)
 where_known tables js reach None pairs scoped fit = ([], refl, refl)
 where_known tables js reach (Some q) pairs scoped fit = conjuncts_known tables js reach q pairs scoped fit

@@ -5,7 +5,7 @@ use Rattle.star_schema.specs.declared.column.ColumnId.{ColumnId}
 use Rattle.star_query.specs.declared.tree.Comparison.{Comparison}
 use Rattle.star_query.specs.declared.tree.Condition.{Condition}
 use Rattle.star_plan.specs.Resolved.{option_all, option_both}
-use Rattle.star_plan.specs.Shown.{condition_shown}
+use Rattle.star_plan.specs.Views.{row_condition_view}
 
 pub left_missing : {A B C : Type 0} (f : A → B → C) (a : Option A) (b : Option B) → None ≡ a → None ≡ option_both f a b
 left_missing f None b e = refl
@@ -21,9 +21,9 @@ both_there f None b x y z e g h = cc
 both_there f (Some a) None x y z e g h = cc
 both_there f (Some a) (Some b) x y z e g h = cc
 
-pub conditions_join : (xs ys : List (Condition (Comparison ColumnId))) → map condition_shown (xs ++ ys) ≡ map condition_shown xs ++ map condition_shown ys
+pub conditions_join : (xs ys : List (Condition (Comparison ColumnId))) → map row_condition_view (xs ++ ys) ≡ map row_condition_view xs ++ map row_condition_view ys
 conditions_join [] ys = refl
-conditions_join (x ∷ xs) ys = ap (λ rest. condition_shown x ∷ rest) (conditions_join xs ys)
+conditions_join (x ∷ xs) ys = ap (λ rest. row_condition_view x ∷ rest) (conditions_join xs ys)
 
 -- ---- what each element gives, or none
 

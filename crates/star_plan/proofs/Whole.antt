@@ -20,19 +20,19 @@ use Rattle.star_plan.specs.Meaning.{RowCondition}
 use Rattle.star_plan.specs.Names.{column_at}
 use Rattle.star_plan.specs.Uses.{groups_uses, items_uses, uses_of, where_uses}
 use Rattle.star_plan.specs.Joins.{joins_of, where_pairs}
-use Rattle.star_plan.specs.Naming.{aggregate_names}
-use Rattle.star_plan.specs.Faults.{aggregates_fault, fact_fault, from_fault, group_fault, grouping_fault, item_fault, join_fault, key_fault, kind_fault, missing_fault, naming_fault, order_fault, pair_fault, plan_fault, scope_fault, select_fault, table_fault}
-use Rattle.star_plan.specs.Resolved.{items_from, measures_of, option_all, resolved_key, where_conjuncts}
+use Rattle.star_plan.specs.Naming.{aggregate_names, resolved_key}
+use Rattle.star_plan.specs.Faults.{aggregates_fault, fact_fault, from_fault, group_fault, grouping_fault, item_fault, join_fault, key_fault, use_kind_fault, missing_fault, naming_fault, order_fault, pair_fault, plan_fault, scope_fault, select_fault, from_table_fault}
+use Rattle.star_plan.specs.Resolved.{items_from, resolved_measures, option_all, where_conjuncts}
 use Rattle.star_plan.specs.Sound.{are_distinct, condition_is_sound, in_scope, measure_is_sound}
 use Rattle.star_plan.proofs.Known.{Reaches, each_left, each_none, each_right, groups_known, grouped, items_known, joined_each, measures_known, order_known, reaches, where_known, IsGrouped}
 use Rattle.star_plan.proofs.KeptJoins.{distinct}
 
 -- what well named says of each part
 pub record Parts (t : Tree) : Type 0 where
-  pub tables : first_beside table_fault t.tables ≡ None
+  pub tables : first_beside from_table_fault t.tables ≡ None
   pub fact : fact_fault t.tables ≡ None
   pub scoped : AllByRecursion (λ u. scope_fault t.tables u ≡ None) (uses_of t)
-  pub fit : AllByRecursion (λ u. kind_fault u ≡ None) (uses_of t)
+  pub fit : AllByRecursion (λ u. use_kind_fault u ≡ None) (uses_of t)
   pub pairs : AllByRecursion (λ p. (j : Join) × (p.join ≡ Some j)) (where_pairs t.condition)
   pub joined : first_answer (missing_fault (where_pairs t.condition)) t.tables ≡ None
   pub reach : Reaches t.tables (joins_of (where_pairs t.condition))
@@ -51,10 +51,10 @@ parts t none =
     let keys = t.keys in
     let ps = where_pairs t.condition in
     let halves = or_none (naming_fault tables (uses_of t) ps) (grouping_fault groups items keys) none in
-    let names = or_none (from_fault tables) (option_or (first_answer (scope_fault tables) (uses_of t)) (option_or (join_fault tables ps) (first_answer kind_fault (uses_of t)))) halves.0 in
-    let from = or_none (first_beside table_fault tables) (fact_fault tables) names.0 in
-    let columns = or_none (first_answer (scope_fault tables) (uses_of t)) (option_or (join_fault tables ps) (first_answer kind_fault (uses_of t))) names.1 in
-    let rest = or_none (join_fault tables ps) (first_answer kind_fault (uses_of t)) columns.1 in
+    let names = or_none (from_fault tables) (option_or (first_answer (scope_fault tables) (uses_of t)) (option_or (join_fault tables ps) (first_answer use_kind_fault (uses_of t)))) halves.0 in
+    let from = or_none (first_beside from_table_fault tables) (fact_fault tables) names.0 in
+    let columns = or_none (first_answer (scope_fault tables) (uses_of t)) (option_or (join_fault tables ps) (first_answer use_kind_fault (uses_of t))) names.1 in
+    let rest = or_none (join_fault tables ps) (first_answer use_kind_fault (uses_of t)) columns.1 in
     let joined = or_none (first_beside pair_fault ps) (first_answer (missing_fault ps) tables) rest.0 in
     let grouping = or_none (first_beside group_fault groups) (option_or (select_fault groups items) (order_fault groups items keys)) halves.1 in
     let select = or_none (select_fault groups items) (order_fault groups items keys) grouping.1 in
@@ -63,7 +63,7 @@ parts t none =
       tables = from.0;
       fact = from.1;
       scoped = each_none (scope_fault tables) (uses_of t) columns.0;
-      fit = each_none kind_fault (uses_of t) rest.1;
+      fit = each_none use_kind_fault (uses_of t) rest.1;
       pairs = joined_each [] ps joined.0;
       joined = joined.1;
       reach = reaches tables ps joined.1;
@@ -86,7 +86,7 @@ keys_there t p =
     groups_known t.tables (joins_of (where_pairs t.condition)) p.reach t.grouping.columns
     (each_right _ (where_uses t.condition) (groups_uses t.grouping.columns) (each_right _ (items_uses t.items) (where_uses t.condition ++ groups_uses t.grouping.columns) p.scoped))
 
-pub measures_there : (t : Tree) → Parts t → (ms : List (Measure ColumnId)) × (measures_of t.items ≡ Some ms) × (list_all (measure_is_sound (joins_of (where_pairs t.condition))) ms ≡ true)
+pub measures_there : (t : Tree) → Parts t → (ms : List (Measure ColumnId)) × (resolved_measures t.items ≡ Some ms) × (list_all (measure_is_sound (joins_of (where_pairs t.condition))) ms ≡ true)
 measures_there t p =
     measures_known t.tables (joins_of (where_pairs t.condition)) p.reach t.items
     (each_left _ (items_uses t.items) (where_uses t.condition ++ groups_uses t.grouping.columns) p.scoped)

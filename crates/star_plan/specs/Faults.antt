@@ -14,7 +14,7 @@ use Rattle.star_plan.specs.First.{first_beside}
 use Rattle.star_plan.specs.Names.{has_name, table_at}
 use Rattle.star_plan.specs.Uses.{Use, uses_of}
 use Rattle.star_plan.specs.Joins.{Pair, is_joined, where_pairs}
-use Rattle.star_plan.specs.Naming.{aggregate_name, aggregate_names, has_text, name_place}
+use Rattle.star_plan.specs.Naming.{name_of_aggregate, aggregate_names, has_text, name_place}
 
 -- ---- the names of FROM
 
@@ -23,8 +23,8 @@ of_table at repeated None = Some (UnknownName at)
 of_table at repeated (Some t) = if repeated then Some (TableTwice at) else None
 
 -- a name is no table's, or stands there before
-abbrev pub table_fault : List Name → Name → Option PlanFault
-table_fault before n = of_table n.place (has_name before n.text) (table_at n)
+abbrev pub from_table_fault : List Name → Name → Option PlanFault
+from_table_fault before n = of_table n.place (has_name before n.text) (table_at n)
 
 abbrev pub fact_fault : List Name → Option PlanFault
 fact_fault tables = if has_name tables (table_name Lineorder) then None else Some NoFactTable
@@ -40,8 +40,8 @@ abbrev pub scope_fault : List Name → Use → Option PlanFault
 scope_fault tables u = of_column tables u.at u.column
 
 -- a column isn't of the kind that is asked of it: a number inside an aggregate, beside a literal the literal's
-abbrev pub kind_fault : Use → Option PlanFault
-kind_fault u = if u.fits then None else Some (WrongKind u.at)
+abbrev pub use_kind_fault : Use → Option PlanFault
+use_kind_fault u = if u.fits then None else Some (WrongKind u.at)
 
 -- ---- comparisons of two columns
 
@@ -69,7 +69,7 @@ group_fault before n = if has_name before n.text then Some (DuplicateGroup n.pla
 -- an aggregate's name is that of one before it, or a group column's
 abbrev pub alias_fault : List Name → List (List ℕ) → Aggregate → Option PlanFault
 alias_fault groups names a =
-    if has_text names (aggregate_name (length names + 1) a) || has_name groups (aggregate_name (length names + 1) a)
+    if has_text names (name_of_aggregate (length names + 1) a) || has_name groups (name_of_aggregate (length names + 1) a)
     then Some (DuplicateAlias (name_place a)) else None
 
 -- a plain column isn't in GROUP BY
@@ -97,7 +97,7 @@ key_fault groups names k =
 -- ---- the first fault of a query
 
 abbrev pub from_fault : List Name → Option PlanFault
-from_fault tables = option_or (first_beside table_fault tables) (fact_fault tables)
+from_fault tables = option_or (first_beside from_table_fault tables) (fact_fault tables)
 
 abbrev pub join_fault : List Name → List Pair → Option PlanFault
 join_fault tables pairs = option_or (first_beside pair_fault pairs) (first_answer (missing_fault pairs) tables)
@@ -110,7 +110,7 @@ abbrev pub naming_fault : List Name → List Use → List Pair → Option PlanFa
 naming_fault tables uses pairs =
     option_or (from_fault tables)
     (option_or (first_answer (scope_fault tables) uses)
-    (option_or (join_fault tables pairs) (first_answer kind_fault uses)))
+    (option_or (join_fault tables pairs) (first_answer use_kind_fault uses)))
 
 abbrev pub order_fault : List Name → List Item → List SortKey → Option PlanFault
 order_fault groups items keys = first_answer (key_fault groups (aggregate_names items)) keys

@@ -7,20 +7,20 @@ use Rattle.star_query.specs.Tree.{Expression, column, constant, add, sub, mul, M
 use Rattle.star_plan.specs.Meaning.{Plan}
 
 -- the range of an expression whose columns have these: the least and greatest result over the corners of its parts' ranges
-abbrev pub range_of : {C : Type 0} → (C → Range) → Expression C → Range
-range_of bounds (column c) = bounds c
-range_of bounds (constant z) = only z
-range_of bounds (add a b) = corner_range ◌+ℤ◌ (range_of bounds a) (range_of bounds b)
-range_of bounds (sub a b) = corner_range ◌-ℤ◌ (range_of bounds a) (range_of bounds b)
-range_of bounds (mul a b) = corner_range ◌*ℤ◌ (range_of bounds a) (range_of bounds b)
+abbrev pub expression_range : {C : Type 0} → (C → Range) → Expression C → Range
+expression_range bounds (column c) = bounds c
+expression_range bounds (constant z) = only z
+expression_range bounds (add a b) = corner_range ◌+ℤ◌ (expression_range bounds a) (expression_range bounds b)
+expression_range bounds (sub a b) = corner_range ◌-ℤ◌ (expression_range bounds a) (expression_range bounds b)
+expression_range bounds (mul a b) = corner_range ◌*ℤ◌ (expression_range bounds a) (expression_range bounds b)
 
 -- each node of an expression has its range in 64 bits
 abbrev pub nodes_fit : {C : Type 0} → (C → Range) → Expression C → Bool
 nodes_fit bounds (column c) = fits_i64 (bounds c)
 nodes_fit bounds (constant z) = fits_i64 (only z)
-nodes_fit bounds (add a b) = nodes_fit bounds a && (nodes_fit bounds b && fits_i64 (range_of bounds (add a b)))
-nodes_fit bounds (sub a b) = nodes_fit bounds a && (nodes_fit bounds b && fits_i64 (range_of bounds (sub a b)))
-nodes_fit bounds (mul a b) = nodes_fit bounds a && (nodes_fit bounds b && fits_i64 (range_of bounds (mul a b)))
+nodes_fit bounds (add a b) = nodes_fit bounds a && (nodes_fit bounds b && fits_i64 (expression_range bounds (add a b)))
+nodes_fit bounds (sub a b) = nodes_fit bounds a && (nodes_fit bounds b && fits_i64 (expression_range bounds (sub a b)))
+nodes_fit bounds (mul a b) = nodes_fit bounds a && (nodes_fit bounds b && fits_i64 (expression_range bounds (mul a b)))
 
 abbrev pub measure_fits : {C : Type 0} → (C → Range) → Measure C → Bool
 measure_fits bounds count = true

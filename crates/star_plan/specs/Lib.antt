@@ -8,7 +8,7 @@ pub mod Naming
 pub mod Faults
 pub mod FaultTexts
 pub mod WellNamed
-pub mod Shown
+pub mod Views
 pub mod Sound
 pub mod Limits
 pub mod Spelled

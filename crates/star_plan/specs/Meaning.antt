@@ -55,8 +55,8 @@ Joined = TableId → Row
 abbrev pub value_in : ColumnId → Row → Value
 value_in c row = slice_index_or row (place_of c) (Number (pos 0))
 
-abbrev pub value_of : ColumnId → Joined → Value
-value_of c row = value_in c (row (table_of c))
+abbrev pub joined_value : ColumnId → Joined → Value
+joined_value c row = value_in c (row (table_of c))
 
 abbrev pub with_row : Joined → TableId → Row → Joined
 with_row row t d s = if is_table s t then d else row s
@@ -67,7 +67,7 @@ only_row t l = with_row (λ s. []) t l
 
 -- the row of the dimension has the key that the joined row refers to
 abbrev pub matches : Joined → Join → Row → Bool
-matches row j d = is_eq (value_cmp (value_of j.foreign row) (value_in j.key d))
+matches row j d = is_eq (value_cmp (joined_value j.foreign row) (value_in j.key d))
 
 -- the row with each choice of a row of every dimension to be joined, where the keys of these are the foreign keys: a comprehension over the product of the dimensions
 abbrev pub partners : Tables → List Join → Joined → List Joined
@@ -96,7 +96,7 @@ comparison_holds values stands (between c from upto) =
     is_le (value_cmp (stands from) (values c)) && is_le (value_cmp (values c) (stands upto))
 
 abbrev pub holds : RowCondition → Joined → Bool
-holds c row = is_so (comparison_holds (λ c. value_of c row) (λ v. v)) c
+holds c row = is_so (comparison_holds (λ c. joined_value c row) (λ v. v)) c
 
 abbrev pub all_hold : List RowCondition → Joined → Bool
 all_hold cs row = list_all (λ c. holds c row) cs
@@ -107,20 +107,20 @@ plan_rows ts p = filter (all_hold p.conjuncts) (joined_rows ts p.joins)
 
 -- ---- what a selected row adds to its groups
 
-abbrev pub number_of : Value → ℤ
-number_of (Number x) = x
-number_of (Text bytes) = pos 0
+abbrev pub value_number : Value → ℤ
+value_number (Number x) = x
+value_number (Text bytes) = pos 0
 
 -- the number of an expression whose columns have these values
 abbrev pub number_with : {C : Type 0} → (C → Value) → Expression C → ℤ
-number_with values (column c) = number_of (values c)
+number_with values (column c) = value_number (values c)
 number_with values (constant x) = x
 number_with values (add a b) = number_with values a +ℤ number_with values b
 number_with values (sub a b) = number_with values a -ℤ number_with values b
 number_with values (mul a b) = number_with values a *ℤ number_with values b
 
 abbrev pub expression_number : Expression ColumnId → Joined → ℤ
-expression_number e row = number_with (λ c. value_of c row) e
+expression_number e row = number_with (λ c. joined_value c row) e
 
 -- 1 to a count
 abbrev pub measured : {C : Type 0} → (C → Value) → Measure C → ℤ
@@ -135,4 +135,4 @@ aggregate_of (fold Max e) = aggregate.Max
 
 -- the values of the group columns, and a number for each aggregate
 abbrev pub entry_of : Plan → Joined → Entry Value
-entry_of p row = record { keys = map (λ c. value_of c row) p.keys; values = map (measured (λ c. value_of c row)) p.measures }
+entry_of p row = record { keys = map (λ c. joined_value c row) p.keys; values = map (measured (λ c. joined_value c row)) p.measures }

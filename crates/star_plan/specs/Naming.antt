@@ -1,8 +1,13 @@
--- The names of a query's aggregates.
-use Rattle.std.specs.Prelude.{ℕ, ◌+◌, Bool, List, [], ◌∷◌, ◌++◌, Option, Some, None, codes, decimal, nat_eq}
-use Rattle.std.specs.List.{list_any}
+-- The names of a query's aggregates, and what names stand for that an answer shows or is sorted by.
+use Rattle.std.specs.Prelude.{ℕ, ◌+◌, Bool, List, [], ◌∷◌, ◌++◌, Option, Some, None, codes, decimal, nat_eq, option_map}
+use Rattle.std.specs.List.{list_any, position}
+use Rattle.std.specs.Option.{option_or}
 use Rattle.std.specs.Cmp.Lexicographic.{pointwise}
+use Rattle.star_schema.specs.declared.group.GroupColumn.{GroupColumn}
+use Rattle.star_schema.specs.declared.group.GroupColumn.TheVariants as group
+use Rattle.star_schema.specs.declared.group.SortKey.{SortKey}
 use Rattle.star_query.specs.declared.token.Fold.TheVariants.{Sum, Min, Max}
+use Rattle.star_query.specs.Tree as tree
 use Rattle.star_query.specs.Tree.{Aggregate, Item, Measure, Name, aggregate, count, fold, plain}
 
 unfoldable pub function_word : Measure Name → List ℕ
@@ -19,13 +24,13 @@ named m number None = default_name m number
 named m number (Some n) = n.text
 
 -- an aggregate with no name of its own is named by its function and its number among the aggregates
-abbrev pub aggregate_name : ℕ → Aggregate → List ℕ
-aggregate_name number a = named a.measure number a.name
+abbrev pub name_of_aggregate : ℕ → Aggregate → List ℕ
+name_of_aggregate number a = named a.measure number a.name
 
 abbrev pub names_from : ℕ → List Item → List (List ℕ)
 names_from number [] = []
 names_from number (plain n ∷ is') = names_from number is'
-names_from number (aggregate a ∷ is') = aggregate_name number a ∷ names_from (number + 1) is'
+names_from number (aggregate a ∷ is') = name_of_aggregate number a ∷ names_from (number + 1) is'
 
 -- the names of the aggregates, which are numbered from 1
 abbrev pub aggregate_names : List Item → List (List ℕ)
@@ -42,3 +47,19 @@ place_from function (Some n) = n.place
 -- where an aggregate's name stands, or the function's word where it has none
 abbrev pub name_place : Aggregate → ℕ
 name_place a = place_from a.place a.name
+
+-- ---- what a name of SELECT or ORDER BY stands for
+
+-- the group column that reads so
+abbrev pub key_column : List Name → List ℕ → Option GroupColumn
+key_column groups text = option_map (λ place. group.Key place) (position (λ n. pointwise nat_eq n.text text) groups)
+
+-- the aggregate that is named so
+abbrev pub aggregate_column : List (List ℕ) → List ℕ → Option GroupColumn
+aggregate_column names text = option_map (λ place. group.Aggregate place) (position (λ name. pointwise nat_eq name text) names)
+
+-- a sort key is a group column or else an aggregate
+abbrev pub resolved_key : List Name → List (List ℕ) → tree.SortKey → Option SortKey
+resolved_key groups names k =
+    option_map (λ c. record { column = c; direction = k.direction })
+    (option_or (key_column groups k.name.text) (aggregate_column names k.name.text))

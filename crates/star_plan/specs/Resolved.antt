@@ -1,19 +1,16 @@
 -- A query with its names resolved.
-use Rattle.std.specs.Prelude.{◌≡◌, ℕ, ◌+◌, List, [], ◌∷◌, ◌++◌, Option, Some, None, nat_eq, option_map}
-use Rattle.std.specs.Cmp.Lexicographic.{pointwise}
-use Rattle.std.specs.List.{position}
-use Rattle.std.specs.Option.{option_or}
+use Rattle.std.specs.Prelude.{◌≡◌, ℕ, ◌+◌, List, [], ◌∷◌, ◌++◌, Option, Some, None, option_map}
 use Rattle.star_schema.specs.declared.column.ColumnId.{ColumnId}
 use Rattle.star_schema.specs.declared.group.GroupColumn.{GroupColumn}
 use Rattle.star_schema.specs.declared.group.GroupColumn.TheVariants as group
-use Rattle.star_schema.specs.declared.group.SortKey.{SortKey}
 use Rattle.star_schema.specs.Tables.{Value}
+use Rattle.star_query.specs.Limits.{aggregates_in}
 use Rattle.star_query.specs.Tree as tree
 use Rattle.star_query.specs.Tree.{Item, Name, Tree, Expression, column, constant, add, sub, mul, Comparison, compare, between, Test, pair, comparison, Condition, or, and, not, test, Measure, fold, count}
 use Rattle.star_plan.specs.Meaning.{RowCondition, Plan}
 use Rattle.star_plan.specs.Names.{column_at, literal_value}
 use Rattle.star_plan.specs.Joins.{joins_of, where_pairs}
-use Rattle.star_plan.specs.Naming.{aggregate_names}
+use Rattle.star_plan.specs.Naming.{aggregate_names, key_column, resolved_key}
 
 -- both values by an operation, or none where one is missing
 abbrev pub option_both : {A B C : Type 0} → (A → B → C) → Option A → Option B → Option C
@@ -62,22 +59,10 @@ where_conjuncts (Some c) = conjuncts_of c
 
 -- ---- groups, aggregates, items and the order
 
-abbrev pub measures_of : List Item → Option (List (Measure ColumnId))
-measures_of [] = Some []
-measures_of (tree.plain n ∷ is') = measures_of is'
-measures_of (tree.aggregate a ∷ is') = option_both (λ m ms. m ∷ ms) (resolved_measure a.measure) (measures_of is')
-
--- the group column that reads so
-abbrev pub key_column : List Name → List ℕ → Option GroupColumn
-key_column groups text = option_map (λ place. group.Key place) (position (λ n. pointwise nat_eq n.text text) groups)
-
--- the aggregate that is named so
-abbrev pub aggregate_column : List (List ℕ) → List ℕ → Option GroupColumn
-aggregate_column names text = option_map (λ place. group.Aggregate place) (position (λ name. pointwise nat_eq name text) names)
-
-abbrev pub aggregates_in : Item → ℕ
-aggregates_in (tree.plain n) = 0
-aggregates_in (tree.aggregate a) = 1
+abbrev pub resolved_measures : List Item → Option (List (Measure ColumnId))
+resolved_measures [] = Some []
+resolved_measures (tree.plain n ∷ is') = resolved_measures is'
+resolved_measures (tree.aggregate a ∷ is') = option_both (λ m ms. m ∷ ms) (resolved_measure a.measure) (resolved_measures is')
 
 -- what an item shows, where so many aggregates come before it
 abbrev pub item_column : List Name → ℕ → Item → Option GroupColumn
@@ -88,11 +73,6 @@ abbrev pub items_from : List Name → ℕ → List Item → Option (List GroupCo
 items_from groups before [] = Some []
 items_from groups before (i ∷ is') = option_both (λ c cs. c ∷ cs) (item_column groups before i) (items_from groups (before + aggregates_in i) is')
 
-abbrev pub resolved_key : List Name → List (List ℕ) → tree.SortKey → Option SortKey
-resolved_key groups names k =
-    option_map (λ c. record { column = c; direction = k.direction })
-    (option_or (key_column groups k.name.text) (aggregate_column names k.name.text))
-
 -- ---- a query
 
 -- the plan is the query with its names resolved and its joins apart from the rest of its condition
@@ -101,7 +81,7 @@ pub record IsResolved (t : Tree) (p : Plan) : Type 0 where
   pub conjuncts : where_conjuncts t.condition ≡ Some p.conjuncts
   pub shape : p.shape ≡ t.grouping.shape
   pub keys : option_all column_at t.grouping.columns ≡ Some p.keys
-  pub measures : measures_of t.items ≡ Some p.measures
+  pub measures : resolved_measures t.items ≡ Some p.measures
   pub names : p.names ≡ aggregate_names t.items
   pub items : items_from t.grouping.columns 0 t.items ≡ Some p.items
   pub sorts : option_all (resolved_key t.grouping.columns (aggregate_names t.items)) t.keys ≡ Some p.sorts

@@ -9,7 +9,7 @@ ghost use Rattle.star_query.specs.Views.{condition_view, name_view};
 ghost use Rattle.star_plan.specs.First.{first_beside};
 ghost use Rattle.star_plan.specs.Joins as spec;
 ghost use Rattle.star_plan.specs.Faults.{join_fault, missing_fault, pair_fault};
-ghost use Rattle.star_plan.specs.Private.Found.{pair_shown, pairs_shown};
+ghost use Rattle.star_plan.specs.Private.Found.{pair_view, pairs_view};
 
 use crate::fault::PlanFault;
 use crate::names::{column_at, table_at};
@@ -84,7 +84,7 @@ fn add_pairs(
     is_conjunct: bool,
     condition: &Condition<Test>,
 ) -> Result<(), AllocError>
-    ensures { OnOk result (pairs_shown pairs.new.items ≡ pairs_shown pairs.old.items
+    ensures { OnOk result (pairs_view pairs.new.items ≡ pairs_view pairs.old.items
         ++ spec.pairs_of is_conjunct (condition_view condition.now)) }
 {
     match condition {
@@ -116,7 +116,7 @@ pub(crate) fn pairs_of(
     alloc: Global,
     condition: &Option<Condition<Test>>,
 ) -> Result<Vec<Pair>, AllocError>
-    ensures { IfOk result (λ pairs. pairs_shown pairs.items
+    ensures { IfOk result (λ pairs. pairs_view pairs.items
         ≡ spec.where_pairs (option_map condition_view condition.now)) }
 {
     let mut pairs = Vec::new(alloc);
@@ -128,7 +128,7 @@ pub(crate) fn pairs_of(
 
 /// The joins among the comparisons.
 pub(crate) fn joins_of(alloc: Global, pairs: &[Pair]) -> Result<Vec<Join>, AllocError>
-    ensures { IfOk result (λ joins. joins.items ≡ spec.joins_of (pairs_shown pairs.now)) }
+    ensures { IfOk result (λ joins. joins.items ≡ spec.joins_of (pairs_view pairs.now)) }
 {
     let mut joins = Vec::new(alloc);
     for pair in pairs {
@@ -147,7 +147,7 @@ fn any_joins(pairs: &[Pair], table: TableId) -> bool
 
 // Whether one of the comparisons joins the table.
 fn is_joined(pairs: &[Pair], table: TableId) -> bool
-    ensures { result ≡ spec.is_joined (pairs_shown pairs.now) table }
+    ensures { result ≡ spec.is_joined (pairs_view pairs.now) table }
 {
     any_joins(pairs, table)
 }
@@ -164,7 +164,7 @@ fn joins(table: TableId, join: Option<Join>) -> bool
 impl Pair {
     // Whether the columns join, and their dimension has no join before.
     fn check(&self, before: &[Pair]) -> Result<(), PlanFault>
-        ensures { result_err result ≡ pair_fault (pairs_shown before.now) (pair_shown self.now) }
+        ensures { result_err result ≡ pair_fault (pairs_view before.now) (pair_view self.now) }
     {
         match self.join {
             None => Err(PlanFault::NotAKeyPair { at: self.at }),
@@ -179,7 +179,7 @@ impl Pair {
 #[tactic(auto, using(crate::proofs::Viewed::beside_passed, crate::proofs::Viewed::beside_whole))]
 // Whether each comparison joins a dimension that has no join before.
 fn check_pairs(pairs: &[Pair]) -> Result<(), PlanFault>
-    ensures { result_err result ≡ first_beside pair_fault (pairs_shown pairs.now) }
+    ensures { result_err result ≡ first_beside pair_fault (pairs_view pairs.now) }
 {
     for place in 0..pairs.len() {
         pairs[place].check(&pairs[..place])?;
@@ -189,7 +189,7 @@ fn check_pairs(pairs: &[Pair]) -> Result<(), PlanFault>
 
 // Whether a name of FROM is lineorder's, or a dimension's that is joined.
 fn check_dimension(pairs: &[Pair], name: &Name) -> Result<(), PlanFault>
-    ensures { result_err result ≡ missing_fault (pairs_shown pairs.now) (name_view name.now) }
+    ensures { result_err result ≡ missing_fault (pairs_view pairs.now) (name_view name.now) }
 {
     match table_at(name) {
         Some(table) if table != TableId::Lineorder && !is_joined(pairs, table) => {
@@ -202,7 +202,7 @@ fn check_dimension(pairs: &[Pair], name: &Name) -> Result<(), PlanFault>
 #[tactic(auto, using(crate::proofs::Viewed::answer_passed, crate::proofs::Viewed::answer_whole))]
 // Whether each dimension of FROM is joined.
 fn check_dimensions(pairs: &[Pair], tables: &[Name]) -> Result<(), PlanFault>
-    ensures { result_err result ≡ first_answer (missing_fault (pairs_shown pairs.now))
+    ensures { result_err result ≡ first_answer (missing_fault (pairs_view pairs.now))
         (map name_view tables.now) }
 {
     for name in tables {
@@ -214,7 +214,7 @@ fn check_dimensions(pairs: &[Pair], tables: &[Name]) -> Result<(), PlanFault>
 /// Whether each comparison of two columns joins a dimension, and each dimension of FROM is joined
 /// once.
 pub(crate) fn check_joins(tables: &[Name], pairs: &[Pair]) -> Result<(), PlanFault>
-    ensures { result_err result ≡ join_fault (map name_view tables.now) (pairs_shown pairs.now) }
+    ensures { result_err result ≡ join_fault (map name_view tables.now) (pairs_view pairs.now) }
 {
     check_pairs(pairs)?;
     check_dimensions(pairs, tables)

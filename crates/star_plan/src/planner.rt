@@ -6,11 +6,11 @@ ghost use Rattle.star_query.specs.Maxima.{most_columns, most_items};
 ghost use Rattle.star_query.specs.Views.{item_view, key_view, name_view, tree_view};
 ghost use Rattle.star_plan.specs.declared.fault.PlanFault.TheVariants.{OutOfMemory};
 ghost use Rattle.star_plan.specs.Private.Answers.{Tells};
-ghost use Rattle.star_plan.specs.Private.Found.{pairs_shown, uses_shown};
+ghost use Rattle.star_plan.specs.Private.Found.{pairs_view, uses_view};
 ghost use Rattle.star_plan.specs.Faults.{grouping_fault, naming_fault, plan_fault};
 ghost use Rattle.star_plan.specs.WellNamed.{IsWellNamed};
 ghost use Rattle.star_plan.specs.Resolved.{IsResolved};
-ghost use Rattle.star_plan.specs.Shown.{shown};
+ghost use Rattle.star_plan.specs.Views.{plan_view};
 
 use crate::fault::PlanFault;
 use crate::joins::{Pair, check_joins, joins_of, pairs_of};
@@ -26,8 +26,8 @@ use star_query::{Item, Name, Query, SortKey, Tree};
 use std::alloc::Global;
 
 fn check_naming(tables: &[Name], uses: &[Use], pairs: &[Pair]) -> Result<(), PlanFault>
-    ensures { Tells (naming_fault (map name_view tables.now) (uses_shown uses.now)
-        (pairs_shown pairs.now)) result }
+    ensures { Tells (naming_fault (map name_view tables.now) (uses_view uses.now)
+        (pairs_view pairs.now)) result }
 {
     check_from(tables)?;
     check_scope(tables, uses)?;
@@ -66,7 +66,7 @@ fn resolve(alloc: Global, tree: &Tree) -> Result<PlanTree, PlanFault>
     requires items { length tree.now.items.items ≤ most_items }
     requires groups { length tree.now.grouping.columns.items ≤ most_columns }
     requires named { plan_fault (tree_view tree.now) ≡ None }
-    ensures resolved { IfOk result (λ plan. IsResolved (tree_view tree.now) (shown plan)) }
+    ensures resolved { IfOk result (λ plan. IsResolved (tree_view tree.now) (plan_view plan)) }
     ensures memory { IfErr result (λ fault. fault ≡ OutOfMemory) }
 {
     let groups = &tree.grouping.columns;
@@ -94,7 +94,7 @@ pub fn plan(alloc: Global, query: &Query) -> Result<Plan, PlanFault>
     ensures named { IfOk result (λ _. IsWellNamed (tree_view query.now)) }
     // Its tree is the query's, with the names resolved.
     ensures resolved { IfOk result (λ plan. IsResolved (tree_view query.now)
-        (shown plan)) }
+        (plan_view plan)) }
     // A refusal is the first fault.
     ensures refused { IfErr result (λ fault. UnlessMemory OutOfMemory fault
         (plan_fault (tree_view query.now) ≡ Some fault)) }

@@ -14,7 +14,7 @@ impl Model for Plan {
     ghost use Rattle.star_plan.specs.declared.tree.PlanTree.{PlanTree};
     ghost use Rattle.star_plan.specs.contracts.tree.PlanTree.{the_row};
     ghost use Rattle.star_plan.specs.Planned.{IsPlanned};
-    ghost use Rattle.star_plan.specs.Shown.{shown};
+    ghost use Rattle.star_plan.specs.Views.{plan_view};
 
     ghost Value = { PlanTree };
 
@@ -22,19 +22,19 @@ impl Model for Plan {
 
     ghost view = { λ plan. plan.tree };
 
-    ghost invariant = { λ plan. ∥ IsPlanned (shown plan.tree) ∥₁ };
+    ghost invariant = { λ plan. ∥ IsPlanned (plan_view plan.tree) ∥₁ };
 }
 
 impl Plan {
     ghost use Rattle.std.specs.Prelude.{◌≡◌};
     ghost use Rattle.star_plan.specs.Planned.{IsPlanned};
-    ghost use Rattle.star_plan.specs.Shown.{shown};
+    ghost use Rattle.star_plan.specs.Views.{plan_view};
 
     /// What was resolved. `law::planned_queries_are_sound` tells what holds of every plan.
     pub fn tree(&self) -> &PlanTree
         ensures same { result.now ≡ self.now }
         // It is some well named query, which some text means, with its names resolved.
-        ensures planned { ∥ IsPlanned (shown result.now) ∥₁ }
+        ensures planned { ∥ IsPlanned (plan_view result.now) ∥₁ }
     {
         &self.tree
     }

@@ -6,14 +6,15 @@ ghost use Rattle.std.specs.Option.{option_or};
 ghost use Rattle.star_plan.specs.Naming as naming;
 ghost use Rattle.std.specs.Cmp.Lexicographic.{pointwise};
 ghost use Rattle.std.specs.List.{position};
+ghost use Rattle.star_query.specs.Limits.{aggregates_in};
 ghost use Rattle.star_query.specs.Maxima.{most_columns, most_items};
 ghost use Rattle.star_query.specs.Tree.{between, compare, comparison};
 ghost use Rattle.star_query.specs.Views.{aggregate_view, condition_view, expression_view, item_view, key_view, literal_view, measure_view, name_view, test_view};
 ghost use Rattle.star_plan.specs.Meaning as meaning;
 ghost use Rattle.star_plan.specs.Names.{column_at};
 ghost use Rattle.star_plan.specs.Resolved as spec;
-ghost use Rattle.star_plan.specs.Shown as shown;
-ghost use Rattle.star_plan.specs.Private.Answers.{Resolves, conditions_shown};
+ghost use Rattle.star_plan.specs.Views as shown;
+ghost use Rattle.star_plan.specs.Private.Answers.{Resolves, conditions_view};
 
 use crate::fault::PlanFault;
 use crate::names::column_at;
@@ -40,7 +41,7 @@ fn resolve_expression(
     alloc: Global,
     expression: &Expression<Name>,
 ) -> Result<Expression<ColumnId>, PlanFault>
-    ensures { Resolves shown.expression_shown
+    ensures { Resolves shown.column_expression_view
         (spec.resolved_expression (expression_view expression.now)) result }
 {
     match expression {
@@ -67,7 +68,7 @@ fn resolve_operand(
     alloc: Global,
     operand: &Expression<Name>,
 ) -> Result<Box<Expression<ColumnId>>, PlanFault>
-    ensures { Resolves (λ boxed. shown.expression_shown boxed.value)
+    ensures { Resolves (λ boxed. shown.column_expression_view boxed.value)
         (spec.resolved_expression (expression_view operand.now)) result }
 {
     let operand = resolve_expression(alloc, operand)?;
@@ -76,7 +77,7 @@ fn resolve_operand(
 
 /// What an aggregate computes.
 fn resolve_measure(alloc: Global, measure: &Measure<Name>) -> Result<Measure<ColumnId>, PlanFault>
-    ensures { Resolves shown.measure_shown (spec.resolved_measure (measure_view measure.now))
+    ensures { Resolves shown.column_measure_view (spec.resolved_measure (measure_view measure.now))
         result }
 {
     match measure {
@@ -103,7 +104,7 @@ fn resolve_compare(
     relation: Relation,
     literal: &Literal,
 ) -> Result<Comparison<ColumnId>, PlanFault>
-    ensures { Resolves shown.comparison_shown (spec.resolved_test (comparison (compare
+    ensures { Resolves shown.comparison_view (spec.resolved_test (comparison (compare
         (name_view name.now) relation (literal_view literal.now)))) result }
 {
     let column = resolve_column(name)?;
@@ -117,7 +118,7 @@ fn resolve_between(
     from: &Literal,
     upto: &Literal,
 ) -> Result<Comparison<ColumnId>, PlanFault>
-    ensures { Resolves shown.comparison_shown (spec.resolved_test (comparison (between
+    ensures { Resolves shown.comparison_view (spec.resolved_test (comparison (between
         (name_view name.now) (literal_view from.now) (literal_view upto.now)))) result }
 {
     let column = resolve_column(name)?;
@@ -128,7 +129,7 @@ fn resolve_between(
 
 // What a test of a row compares.
 fn resolve_test(alloc: Global, test: &Test) -> Result<Comparison<ColumnId>, PlanFault>
-    ensures { Resolves shown.comparison_shown (spec.resolved_test (test_view test.now)) result }
+    ensures { Resolves shown.comparison_view (spec.resolved_test (test_view test.now)) result }
 {
     match test {
         Test::Pair(name, _) => Err(PlanFault::NotAKeyPair { at: name.place }),
@@ -145,7 +146,7 @@ fn resolve_test(alloc: Global, test: &Test) -> Result<Comparison<ColumnId>, Plan
 #[tactic(auto, using(crate::proofs::Options::left_missing, crate::proofs::Options::right_missing, crate::proofs::Options::both_there))]
 #[cycle(condition)]
 fn resolve_condition(alloc: Global, condition: &Condition<Test>) -> Result<RowCondition, PlanFault>
-    ensures { Resolves shown.condition_shown (spec.resolved_condition
+    ensures { Resolves shown.row_condition_view (spec.resolved_condition
         (condition_view condition.now)) result }
 {
     match condition {
@@ -163,7 +164,7 @@ fn resolve_condition(alloc: Global, condition: &Condition<Test>) -> Result<RowCo
 // What a logical operator joins.
 #[cycle(condition)]
 fn resolve_part(alloc: Global, part: &Condition<Test>) -> Result<Box<RowCondition>, PlanFault>
-    ensures { Resolves (λ boxed. shown.condition_shown boxed.value)
+    ensures { Resolves (λ boxed. shown.row_condition_view boxed.value)
         (spec.resolved_condition (condition_view part.now)) result }
 {
     let part = resolve_condition(alloc, part)?;
@@ -171,7 +172,7 @@ fn resolve_part(alloc: Global, part: &Condition<Test>) -> Result<Box<RowConditio
 }
 
 fn lone_conjunct(alloc: Global, condition: &Condition<Test>) -> Result<Vec<RowCondition>, PlanFault>
-    ensures { Resolves conditions_shown (option_map (λ c. c ∷ [])
+    ensures { Resolves conditions_view (option_map (λ c. c ∷ [])
         (spec.resolved_condition (condition_view condition.now))) result }
 {
     let conjunct = resolve_condition(alloc, condition)?;
@@ -183,7 +184,7 @@ fn lone_conjunct(alloc: Global, condition: &Condition<Test>) -> Result<Vec<RowCo
 // The conjuncts that don't compare two columns, from the left.
 #[tactic(auto, using(crate::proofs::Options::left_missing, crate::proofs::Options::right_missing, crate::proofs::Options::both_there, crate::proofs::Options::conditions_join))]
 fn conjuncts_of(alloc: Global, condition: &Condition<Test>) -> Result<Vec<RowCondition>, PlanFault>
-    ensures { Resolves conditions_shown (spec.conjuncts_of (condition_view condition.now)) result }
+    ensures { Resolves conditions_view (spec.conjuncts_of (condition_view condition.now)) result }
 {
     match condition {
         Condition::And(left, right) => {
@@ -204,7 +205,7 @@ pub(crate) fn resolve_where(
     alloc: Global,
     condition: &Option<Condition<Test>>,
 ) -> Result<Vec<RowCondition>, PlanFault>
-    ensures { Resolves conditions_shown (spec.where_conjuncts
+    ensures { Resolves conditions_view (spec.where_conjuncts
         (option_map condition_view condition.now)) result }
 {
     match condition {
@@ -245,7 +246,7 @@ fn aggregate_place(aggregates: &[Aggregate], text: &[u8]) -> Option<usize>
 // The group column that reads so.
 fn key_column(groups: &[Name], text: &[u8]) -> Option<GroupColumn>
     requires { length groups.now ≤ most_columns }
-    ensures { result ≡ spec.key_column (map name_view groups.now) text.now }
+    ensures { result ≡ naming.key_column (map name_view groups.now) text.now }
 {
     match name_place(groups, text) {
         None => None,
@@ -256,7 +257,7 @@ fn key_column(groups: &[Name], text: &[u8]) -> Option<GroupColumn>
 // The aggregate that is named so.
 fn aggregate_column(aggregates: &[Aggregate], text: &[u8]) -> Option<GroupColumn>
     requires { length aggregates.now ≤ most_items }
-    ensures { result ≡ spec.aggregate_column (shown.names_shown aggregates.now) text.now }
+    ensures { result ≡ naming.aggregate_column (shown.names_view aggregates.now) text.now }
 {
     match aggregate_place(aggregates, text) {
         None => None,
@@ -280,7 +281,7 @@ fn item_column(groups: &[Name], before: u16, item: &Item) -> Result<GroupColumn,
 }
 
 fn aggregates_in(item: &Item) -> u16
-    ensures count { result ≡ spec.aggregates_in (item_view item.now) }
+    ensures count { result ≡ aggregates_in (item_view item.now) }
     ensures few { result ≤ 1 }
 {
     match item {
@@ -312,8 +313,8 @@ pub(crate) fn resolve_items(
 fn group_column(groups: &[Name], aggregates: &[Aggregate], text: &[u8]) -> Option<GroupColumn>
     requires groups { length groups.now ≤ most_columns }
     requires aggregates { length aggregates.now ≤ most_items }
-    ensures { result ≡ option_or (spec.key_column (map name_view groups.now) text.now)
-        (spec.aggregate_column (shown.names_shown aggregates.now) text.now) }
+    ensures { result ≡ option_or (naming.key_column (map name_view groups.now) text.now)
+        (naming.aggregate_column (shown.names_view aggregates.now) text.now) }
 {
     match key_column(groups, text) {
         Some(column) => Some(column),
@@ -328,8 +329,8 @@ fn sort_key(
 ) -> Result<SortKey, PlanFault>
     requires groups { length groups.now ≤ most_columns }
     requires aggregates { length aggregates.now ≤ most_items }
-    ensures { Resolves (λ sort. sort) (spec.resolved_key (map name_view groups.now)
-        (shown.names_shown aggregates.now) (key_view key.now)) result }
+    ensures { Resolves (λ sort. sort) (naming.resolved_key (map name_view groups.now)
+        (shown.names_view aggregates.now) (key_view key.now)) result }
 {
     let name = &key.name;
     match group_column(groups, aggregates, &name.text) {
@@ -352,8 +353,8 @@ pub(crate) fn resolve_order(
     requires groups { length groups.now ≤ most_columns }
     requires aggregates { length aggregates.now ≤ most_items }
     ensures { Resolves (λ sorts. sorts.items)
-        (spec.option_all (spec.resolved_key (map name_view groups.now)
-        (shown.names_shown aggregates.now)) (map key_view keys.now)) result }
+        (spec.option_all (naming.resolved_key (map name_view groups.now)
+        (shown.names_view aggregates.now)) (map key_view keys.now)) result }
 {
     let mut sorts = Vec::new(alloc);
     for key in keys {
@@ -368,10 +369,10 @@ fn resolve_aggregate(
     number: usize,
     aggregate: &query::Aggregate,
 ) -> Result<Aggregate, PlanFault>
-    ensures measure { Resolves (λ a. shown.measure_shown a.measure)
+    ensures measure { Resolves (λ a. shown.column_measure_view a.measure)
         (spec.resolved_measure (measure_view aggregate.now.measure)) result }
     ensures name { IfOk result (λ a. a.name.items
-        ≡ naming.aggregate_name number (aggregate_view aggregate.now)) }
+        ≡ naming.name_of_aggregate number (aggregate_view aggregate.now)) }
 {
     let measure = resolve_measure(alloc, &aggregate.measure)?;
     let name = aggregate_name(alloc, number, aggregate)?;
@@ -381,9 +382,9 @@ fn resolve_aggregate(
 /// The aggregates, from the left.
 pub(crate) fn resolve_aggregates(alloc: Global, items: &[Item]) -> Result<Vec<Aggregate>, PlanFault>
     requires { length items.now ≤ most_items }
-    ensures measures { Resolves (λ aggregates. shown.measures_shown aggregates.items)
-        (spec.measures_of (map item_view items.now)) result }
-    ensures names { IfOk result (λ aggregates. shown.names_shown aggregates.items
+    ensures measures { Resolves (λ aggregates. shown.measures_view aggregates.items)
+        (spec.resolved_measures (map item_view items.now)) result }
+    ensures names { IfOk result (λ aggregates. shown.names_view aggregates.items
         ≡ naming.aggregate_names (map item_view items.now)) }
     ensures few { IfOk result (λ aggregates. length aggregates.items ≤ length items.now) }
 {

@@ -20,7 +20,7 @@ use std::alloc::{AllocError, Global};
 
 // Whether a name is a table's that isn't named before.
 fn check_table(before: &[Name], name: &Name) -> Result<(), PlanFault>
-    ensures { result_err result ≡ faults.table_fault (map name_view before.now)
+    ensures { result_err result ≡ faults.from_table_fault (map name_view before.now)
         (name_view name.now) }
 {
     match table_at(name) {
@@ -32,7 +32,7 @@ fn check_table(before: &[Name], name: &Name) -> Result<(), PlanFault>
 
 #[tactic(auto, using(crate::proofs::Viewed::beside_passed, crate::proofs::Viewed::beside_whole))]
 fn check_tables(tables: &[Name]) -> Result<(), PlanFault>
-    ensures { result_err result ≡ first_beside faults.table_fault (map name_view tables.now) }
+    ensures { result_err result ≡ first_beside faults.from_table_fault (map name_view tables.now) }
 {
     for place in 0..tables.len() {
         check_table(&tables[..place], &tables[place])?;
@@ -107,7 +107,7 @@ pub(crate) fn aggregate_name(
     aggregate: &Aggregate,
 ) -> Result<Vec<u8>, AllocError>
     ensures { IfOk result (λ name. name.items
-        ≡ spec.aggregate_name number (aggregate_view aggregate.now)) }
+        ≡ spec.name_of_aggregate number (aggregate_view aggregate.now)) }
 {
     match &aggregate.name {
         Some(name) => name.text.clone(),
@@ -159,7 +159,7 @@ fn check_alias(
     ensures told { Tells (faults.alias_fault (map name_view groups.now)
         (map (λ n. n.items) names.now) (aggregate_view aggregate.now)) result }
     ensures named { IfOk result (λ name. name.items
-        ≡ spec.aggregate_name (length names.now + 1) (aggregate_view aggregate.now)) }
+        ≡ spec.name_of_aggregate (length names.now + 1) (aggregate_view aggregate.now)) }
 {
     let name = aggregate_name(alloc, names.len() + 1, aggregate)?;
     if has_text(names, &name) || has_name(groups, &name) {

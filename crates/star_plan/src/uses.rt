@@ -5,8 +5,8 @@ ghost use Rattle.std.specs.Result.{result_err};
 ghost use Rattle.star_common.specs.First.{first_answer};
 ghost use Rattle.star_query.specs.Views.{condition_view, expression_view, item_view, literal_view, measure_view, name_view, test_view, tree_view};
 ghost use Rattle.star_plan.specs.Uses as spec;
-ghost use Rattle.star_plan.specs.Faults.{kind_fault, scope_fault};
-ghost use Rattle.star_plan.specs.Private.Found.{use_shown, uses_shown};
+ghost use Rattle.star_plan.specs.Faults.{use_kind_fault, scope_fault};
+ghost use Rattle.star_plan.specs.Private.Found.{use_view, uses_view};
 
 use crate::fault::PlanFault;
 use crate::names::{column_at, has_name, is_of};
@@ -27,7 +27,7 @@ pub(crate) struct Use {
 impl Use {
     // A column of any kind.
     fn any(name: &Name) -> Use
-        ensures { use_shown result ≡ spec.any_use (name_view name.now) }
+        ensures { use_view result ≡ spec.any_use (name_view name.now) }
     {
         Use {
             column: column_at(name),
@@ -37,7 +37,7 @@ impl Use {
     }
 
     fn of_kind(kind: Kind, name: &Name) -> Use
-        ensures { use_shown result ≡ spec.use_as kind (name_view name.now) }
+        ensures { use_view result ≡ spec.use_as kind (name_view name.now) }
     {
         let column = column_at(name);
         Use {
@@ -48,7 +48,7 @@ impl Use {
     }
 
     fn between(from: &Literal, upto: &Literal, name: &Name) -> Use
-        ensures { use_shown result ≡ spec.use_between (literal_view from.now)
+        ensures { use_view result ≡ spec.use_between (literal_view from.now)
             (literal_view upto.now) (name_view name.now) }
     {
         let column = column_at(name);
@@ -61,7 +61,7 @@ impl Use {
 
     fn scope_fault(&self, tables: &[Name]) -> Result<(), PlanFault>
         ensures { result_err result ≡ scope_fault (map name_view tables.now)
-            (use_shown self.now) }
+            (use_view self.now) }
     {
         match self.column {
             None => Err(PlanFault::UnknownName { at: self.at }),
@@ -73,7 +73,7 @@ impl Use {
     }
 
     fn kind_fault(&self) -> Result<(), PlanFault>
-        ensures { result_err result ≡ kind_fault (use_shown self.now) }
+        ensures { result_err result ≡ use_kind_fault (use_view self.now) }
     {
         if self.fits {
             Ok(())
@@ -93,7 +93,7 @@ fn kind_of_literal(literal: &Literal) -> Kind
 }
 
 fn add_expression(uses: &mut Vec<Use>, expression: &Expression<Name>) -> Result<(), AllocError>
-    ensures { OnOk result (uses_shown uses.new.items ≡ uses_shown uses.old.items
+    ensures { OnOk result (uses_view uses.new.items ≡ uses_view uses.old.items
         ++ spec.expression_uses (expression_view expression.now)) }
 {
     match expression {
@@ -112,7 +112,7 @@ fn add_expression(uses: &mut Vec<Use>, expression: &Expression<Name>) -> Result<
 }
 
 fn add_measure(uses: &mut Vec<Use>, measure: &Measure<Name>) -> Result<(), AllocError>
-    ensures { OnOk result (uses_shown uses.new.items ≡ uses_shown uses.old.items
+    ensures { OnOk result (uses_view uses.new.items ≡ uses_view uses.old.items
         ++ spec.measure_uses (measure_view measure.now)) }
 {
     match measure {
@@ -122,7 +122,7 @@ fn add_measure(uses: &mut Vec<Use>, measure: &Measure<Name>) -> Result<(), Alloc
 }
 
 fn add_item(uses: &mut Vec<Use>, item: &Item) -> Result<(), AllocError>
-    ensures { OnOk result (uses_shown uses.new.items ≡ uses_shown uses.old.items
+    ensures { OnOk result (uses_view uses.new.items ≡ uses_view uses.old.items
         ++ spec.item_uses (item_view item.now)) }
 {
     match item {
@@ -135,7 +135,7 @@ fn add_item(uses: &mut Vec<Use>, item: &Item) -> Result<(), AllocError>
 }
 
 fn add_test(uses: &mut Vec<Use>, test: &Test) -> Result<(), AllocError>
-    ensures { OnOk result (uses_shown uses.new.items ≡ uses_shown uses.old.items
+    ensures { OnOk result (uses_view uses.new.items ≡ uses_view uses.old.items
         ++ spec.test_uses (test_view test.now)) }
 {
     match test {
@@ -154,7 +154,7 @@ fn add_test(uses: &mut Vec<Use>, test: &Test) -> Result<(), AllocError>
 }
 
 fn add_condition(uses: &mut Vec<Use>, condition: &Condition<Test>) -> Result<(), AllocError>
-    ensures { OnOk result (uses_shown uses.new.items ≡ uses_shown uses.old.items
+    ensures { OnOk result (uses_view uses.new.items ≡ uses_view uses.old.items
         ++ spec.condition_uses (condition_view condition.now)) }
 {
     match condition {
@@ -169,7 +169,7 @@ fn add_condition(uses: &mut Vec<Use>, condition: &Condition<Test>) -> Result<(),
 }
 
 fn add_items(uses: &mut Vec<Use>, items: &[Item]) -> Result<(), AllocError>
-    ensures { OnOk result (uses_shown uses.new.items ≡ uses_shown uses.old.items
+    ensures { OnOk result (uses_view uses.new.items ≡ uses_view uses.old.items
         ++ spec.items_uses (map item_view items.now)) }
 {
     for item in items {
@@ -179,7 +179,7 @@ fn add_items(uses: &mut Vec<Use>, items: &[Item]) -> Result<(), AllocError>
 }
 
 fn add_groups(uses: &mut Vec<Use>, names: &[Name]) -> Result<(), AllocError>
-    ensures { OnOk result (uses_shown uses.new.items ≡ uses_shown uses.old.items
+    ensures { OnOk result (uses_view uses.new.items ≡ uses_view uses.old.items
         ++ spec.groups_uses (map name_view names.now)) }
 {
     for name in names {
@@ -190,7 +190,7 @@ fn add_groups(uses: &mut Vec<Use>, names: &[Name]) -> Result<(), AllocError>
 
 /// The columns that a query names: in SELECT, in WHERE and in GROUP BY.
 pub(crate) fn uses_of(alloc: Global, tree: &Tree) -> Result<Vec<Use>, AllocError>
-    ensures { IfOk result (λ uses. uses_shown uses.items ≡ spec.uses_of (tree_view tree.now)) }
+    ensures { IfOk result (λ uses. uses_view uses.items ≡ spec.uses_of (tree_view tree.now)) }
 {
     let mut uses = Vec::new(alloc);
     add_items(&mut uses, &tree.items)?;
@@ -205,7 +205,7 @@ pub(crate) fn uses_of(alloc: Global, tree: &Tree) -> Result<Vec<Use>, AllocError
 /// Whether each name is a column's whose table is named.
 pub(crate) fn check_scope(tables: &[Name], uses: &[Use]) -> Result<(), PlanFault>
     ensures { result_err result ≡ first_answer (scope_fault (map name_view tables.now))
-        (uses_shown uses.now) }
+        (uses_view uses.now) }
 {
     for named in uses {
         named.scope_fault(tables)?;
@@ -216,7 +216,7 @@ pub(crate) fn check_scope(tables: &[Name], uses: &[Use]) -> Result<(), PlanFault
 #[tactic(auto, using(crate::proofs::Viewed::answer_passed, crate::proofs::Viewed::answer_whole))]
 /// Whether each column is of the kind that is asked of it.
 pub(crate) fn check_kinds(uses: &[Use]) -> Result<(), PlanFault>
-    ensures { result_err result ≡ first_answer kind_fault (uses_shown uses.now) }
+    ensures { result_err result ≡ first_answer use_kind_fault (uses_view uses.now) }
 {
     for named in uses {
         named.kind_fault()?;

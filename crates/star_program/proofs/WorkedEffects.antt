@@ -12,7 +12,7 @@ use Rattle.star_program.specs.declared.op.Operator.TheVariants.{Add}
 use Rattle.star_program.specs.declared.program.Parts.{Parts}
 use Rattle.star_program.specs.declared.value.Value.TheVariants.{Number, Flag}
 use Rattle.star_program.specs.Code.{Stop}
-use Rattle.star_program.specs.Effects.{empty_store, Nothing, Visit, LookUp, Updates, marked, mark_of, result_of, result_trap, trap_of, Traps, EndsTurn, act}
+use Rattle.star_program.specs.Effects.{empty_state, Nothing, Visit, LookUp, Updates, marked, mark_of, result_of, result_trap, trap_of, Traps, EndsTurn, act}
 use Rattle.star_program.specs.Values.{Registers, no_registers, with_entry}
 use Rattle.star_program.proofs.Sample.{sample, plain, program}
 
@@ -27,24 +27,24 @@ held = with_entry (with_entry no_registers 0 (Number (pos (2 ^ 63 - 1)))) 1 (Fla
 -- ---- what is made and what traps are told apart
 
 -- an answer is a number also where it traps
-doubled : result_of sample parts held empty_store (Binary Add 0 0) ≡ Number (pos (2 ^ 64 - 2))
+doubled : result_of sample parts held empty_state (Binary Add 0 0) ≡ Number (pos (2 ^ 64 - 2))
 doubled = refl
 
-doubled_traps : result_trap sample parts held empty_store (Assign 2 (Binary Add 0 0))
+doubled_traps : result_trap sample parts held empty_state (Assign 2 (Binary Add 0 0))
     ≡ Some Overflow
 unfolding is_i64
 doubled_traps = refl
 
 -- answers and totals alone are to fit a register
-constant_fits : result_trap sample parts held empty_store (Assign 2 (Const (pos (2 ^ 63)))) ≡ None
+constant_fits : result_trap sample parts held empty_state (Assign 2 (Const (pos (2 ^ 63)))) ≡ None
 constant_fits = refl
 
 -- a key that no row has
-absent : trap_of sample parts true held empty_store (Assign 2 (Find Date 0)) ≡ Some AbsentKey
+absent : trap_of sample parts true held empty_state (Assign 2 (Find Date 0)) ≡ Some AbsentKey
 absent = refl
 
 -- what is wrong with an instruction comes before what it makes
-wrong_before_absent : trap_of sample parts true held empty_store (Assign 2 (Find Date 1))
+wrong_before_absent : trap_of sample parts true held empty_state (Assign 2 (Find Date 1))
     ≡ Some (Wrong WrongKind)
 wrong_before_absent = refl
 
@@ -61,17 +61,17 @@ put_marks : mark_of parts held (Put 0 [] (0 ∷ []))
 put_marks = refl
 
 -- a turn counts as a visit, and as nothing else
-turn_marked : marked Visit empty_store ≡ record empty_store { visits = 1 }
+turn_marked : marked Visit empty_state ≡ record empty_state { visits = 1 }
 turn_marked = refl
 
 -- of the groups the one that is put to
-put_marked : (marked (mark_of parts held (Put 0 [] (0 ∷ []))) empty_store).updates_of 1 ≡ []
+put_marked : (marked (mark_of parts held (Put 0 [] (0 ∷ []))) empty_state).updates_of 1 ≡ []
 put_marked = refl
 
 -- ---- an instruction
 
-kept_not : act sample parts true held empty_store (Keep 1) ≡ EndsTurn empty_store
+kept_not : act sample parts true held empty_state (Keep 1) ≡ EndsTurn empty_state
 kept_not = refl
 
-kept_outside : act sample parts false held empty_store (Keep 1) ≡ Traps (Wrong Misplaced)
+kept_outside : act sample parts false held empty_state (Keep 1) ≡ Traps (Wrong Misplaced)
 kept_outside = refl

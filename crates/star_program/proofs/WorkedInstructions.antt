@@ -26,12 +26,12 @@ use Rattle.star_program.specs.declared.value.Kind.TheVariants as kind
 use Rattle.star_program.specs.declared.value.Value.{Value}
 use Rattle.star_program.specs.declared.value.Value.TheVariants.{Number, Text, Place, Row, Flag}
 use Rattle.star_program.specs.Code.{Stop}
-use Rattle.star_program.specs.Effects.{Effect, EndsTurn, GoesOn, Store, Traps, act, answer_of, empty_store, kinds_in}
+use Rattle.star_program.specs.Effects.{Effect, EndsTurn, GoesOn, State, Traps, act, answer_of, empty_state, kinds_in}
 use Rattle.star_program.specs.Keys.{same_keys}
 use Rattle.star_program.specs.Private.Doing.{fitting}
-use Rattle.star_program.specs.Puts.{Update, aligned, overflows, own_groups, total}
-use Rattle.star_program.specs.Shown.{shown_fault}
-use Rattle.star_program.specs.Values.{Registers, flag_in, key_in, no_registers, number_in, row_in, with_entry}
+use Rattle.star_program.specs.Puts.{Update, aligned, overflows, own_groups, total_over}
+use Rattle.star_program.specs.ShowLines.{shown_fault}
+use Rattle.star_program.specs.Values.{Registers, flag_read, key_read, no_registers, number_read, row_read, with_entry}
 use Rattle.star_program.specs.World.{World}
 use Rattle.star_program.proofs.Sample.{sample}
 
@@ -43,16 +43,16 @@ few = with_entry (with_entry (with_entry (with_entry (with_entry no_registers 0 
 entries_apart : (few 0 ≡ Some (Number (negsuc 2))) × (few 4 ≡ Some (Flag true)) × (few 5 ≡ None)
 entries_apart = (refl, refl, refl)
 
-numbers : (number_in (few 0) ≡ negsuc 2) × (number_in (few 1) ≡ pos 4) × (number_in (few 2) ≡ pos 5) × (number_in (few 3) ≡ pos 0) × (number_in (few 5) ≡ pos 0)
+numbers : (number_read (few 0) ≡ negsuc 2) × (number_read (few 1) ≡ pos 4) × (number_read (few 2) ≡ pos 5) × (number_read (few 3) ≡ pos 0) × (number_read (few 5) ≡ pos 0)
 numbers = (refl, refl, refl, refl, refl)
 
-truths : (flag_in (few 4) ≡ true) × (flag_in (few 0) ≡ false) × (flag_in (few 5) ≡ false)
+truths : (flag_read (few 4) ≡ true) × (flag_read (few 0) ≡ false) × (flag_read (few 5) ≡ false)
 truths = (refl, refl, refl)
 
-rows : (row_in (few 3) ≡ 1) × (row_in (few 0) ≡ 0) × (row_in (few 5) ≡ 0)
+rows : (row_read (few 3) ≡ 1) × (row_read (few 0) ≡ 0) × (row_read (few 5) ≡ 0)
 rows = (refl, refl, refl)
 
-keys : (key_in (few 0) ≡ key.Number (negsuc 2)) × (key_in (few 1) ≡ key.Code 4) × (key_in (few 4) ≡ key.Code 0)
+keys : (key_read (few 0) ≡ key.Number (negsuc 2)) × (key_read (few 1) ≡ key.Code 4) × (key_read (few 4) ≡ key.Code 0)
 keys = (refl, refl, refl)
 
 kinds : map (kinds_in few) (0 ∷ 1 ∷ 2 ∷ 3 ∷ 4 ∷ 5 ∷ []) ≡ Some kind.Number ∷ Some (kind.Text CRegion) ∷ Some (kind.Place CRegion) ∷ Some (kind.Row Customer) ∷ Some kind.Flag ∷ None ∷ []
@@ -124,7 +124,7 @@ left r (EndsTurn s) = None
 left r (Traps trap) = None
 
 abbrev made : Operation → Option Value
-made o = left 6 (act regions parts true few empty_store (Assign 6 o))
+made o = left 6 (act regions parts true few empty_state (Assign 6 o))
 
 constants_and_edges : (made (Const most) ≡ Some (Number most)) × (made (Edge Low CRegion (codes "ASIA")) ≡ Some (Place CRegion 2)) × (made (Edge High CRegion (codes "ASIA")) ≡ Some (Place CRegion 3))
 unfolding column_of
@@ -137,7 +137,7 @@ loads = refl
 found : made (Find Customer 0) ≡ Some (Row Customer 2)
 found = refl
 
-not_found : act sample parts true few empty_store (Assign 6 (Find Customer 0)) ≡ Traps AbsentKey
+not_found : act sample parts true few empty_state (Assign 6 (Find Customer 0)) ≡ Traps AbsentKey
 not_found = refl
 
 -- the lower end belongs to a range, the upper one doesn't
@@ -148,17 +148,17 @@ within = (refl, refl, refl)
 nots : made (Not 4) ≡ Some (Flag false)
 nots = refl
 
-no_overflow : act regions parts true (with_entry few 5 (Number most)) empty_store (Assign 6 (Binary Sub 5 0)) ≡ Traps Overflow
+no_overflow : act regions parts true (with_entry few 5 (Number most)) empty_state (Assign 6 (Binary Sub 5 0)) ≡ Traps Overflow
 unfolding is_i64
 no_overflow = refl
 
-a_fault : act regions parts true few empty_store (Assign 6 (Not 5)) ≡ Traps (Wrong Unset)
+a_fault : act regions parts true few empty_state (Assign 6 (Not 5)) ≡ Traps (Wrong Unset)
 a_fault = refl
 
 abbrev none_kept : Registers
 none_kept = with_entry few 4 (Flag false)
 
-keeps : (act regions parts true few empty_store (Keep 4) ≡ GoesOn few empty_store) × (act regions parts true none_kept empty_store (Keep 4) ≡ EndsTurn empty_store)
+keeps : (act regions parts true few empty_state (Keep 4) ≡ GoesOn few empty_state) × (act regions parts true none_kept empty_state (Keep 4) ≡ EndsTurn empty_state)
 keeps = (refl, refl)
 
 -- what an effect leaves of the counts and of the updates of two groups
@@ -166,26 +166,26 @@ abbrev counts : Effect → List ℕ
 counts (GoesOn regs s) = s.visits ∷ s.lookups ∷ s.updates ∷ []
 counts _ = []
 
-one_more_lookup : counts (act regions parts true few empty_store (Assign 6 (Find Customer 0))) ≡ 0 ∷ 1 ∷ 0 ∷ []
+one_more_lookup : counts (act regions parts true few empty_state (Assign 6 (Find Customer 0))) ≡ 0 ∷ 1 ∷ 0 ∷ []
 one_more_lookup = refl
 
 abbrev updates : ℕ → Effect → List Update
 updates g (GoesOn regs s) = s.updates_of g
 updates g _ = []
 
-abbrev a_put : Store → Effect
+abbrev a_put : State → Effect
 a_put s = act regions parts true few s (Put 0 (0 ∷ []) (0 ∷ 0 ∷ []))
 
 abbrev an_update : Update
 an_update = record { keys = key.Number (negsuc 2) ∷ []; values = pos 1 ∷ negsuc 2 ∷ negsuc 2 ∷ [] }
 
-one_more_update : (counts (a_put empty_store) ≡ 0 ∷ 0 ∷ 1 ∷ []) × (updates 0 (a_put empty_store) ≡ an_update ∷ []) × (updates 1 (a_put empty_store) ≡ [])
+one_more_update : (counts (a_put empty_state) ≡ 0 ∷ 0 ∷ 1 ∷ []) × (updates 0 (a_put empty_state) ≡ an_update ∷ []) × (updates 1 (a_put empty_state) ≡ [])
 unfolding is_i64 is_i128
 one_more_update = (refl, refl, refl)
 
 -- a store with one update of each group, of this number for its SUM
-abbrev put_of : ℤ → Store
-put_of z = record empty_store { updates_of = λ g. record { keys = key.Number (negsuc 2) ∷ []; values = pos 1 ∷ z ∷ pos 0 ∷ [] } ∷ [] }
+abbrev put_of : ℤ → State
+put_of z = record empty_state { updates_of = λ g. record { keys = key.Number (negsuc 2) ∷ []; values = pos 1 ∷ z ∷ pos 0 ∷ [] } ∷ [] }
 
 -- the ends of a SUM
 abbrev most_sum : ℤ
@@ -204,8 +204,8 @@ unfolding is_i64 is_i128
 past_64_bits = refl
 
 -- a store with one update of the first group
-abbrev put_once : Store
-put_once = record empty_store { updates_of = λ g. slice_index_or ((an_update ∷ []) ∷ []) g [] }
+abbrev put_once : State
+put_once = record empty_state { updates_of = λ g. slice_index_or ((an_update ∷ []) ∷ []) g [] }
 
 reads : map (λ a. left 6 (act regions parts true few put_once (Assign 6 (Read 0 a (pos 7))))) (0 ∷ 1 ∷ 2 ∷ []) ≡ Some (Number (pos 1)) ∷ Some (Number (negsuc 2)) ∷ Some (Number (negsuc 2)) ∷ []
 unfolding is_i64
@@ -218,7 +218,7 @@ reads_of_none = refl
 
 -- a read of a SUM over one update of this number, with 0 as its default
 abbrev read_of : ℤ → Effect
-read_of z = act regions parts true few (record empty_store { updates_of = λ g. record { keys = key.Number (pos 0) ∷ []; values = pos 1 ∷ z ∷ pos 0 ∷ [] } ∷ [] }) (Assign 6 (Read 0 1 (pos 0)))
+read_of z = act regions parts true few (record empty_state { updates_of = λ g. record { keys = key.Number (pos 0) ∷ []; values = pos 1 ∷ z ∷ pos 0 ∷ [] } ∷ [] }) (Assign 6 (Read 0 1 (pos 0)))
 
 -- it traps where the total leaves 64 bits
 read_ends : (left 6 (read_of most) ≡ Some (Number most)) × (left 6 (read_of least) ≡ Some (Number least))
@@ -234,12 +234,12 @@ great_default : map (λ a. left 6 (act regions parts true few put_once (Assign 6
 unfolding is_i64
 great_default = refl
 
-great_default_of_none : act regions parts true few empty_store (Assign 6 (Read 0 1 (pos 9223372036854775808))) ≡ Traps Overflow
+great_default_of_none : act regions parts true few empty_state (Assign 6 (Read 0 1 (pos 9223372036854775808))) ≡ Traps Overflow
 unfolding is_i64
 great_default_of_none = refl
 
 -- what is wrong with a read comes before what it gives
-no_such_total : act regions parts true few empty_store (Assign 6 (Read 0 3 (pos 9223372036854775808))) ≡ Traps (Wrong BadGroup)
+no_such_total : act regions parts true few empty_state (Assign 6 (Read 0 3 (pos 9223372036854775808))) ≡ Traps (Wrong BadGroup)
 no_such_total = refl
 
 -- ---- puts
@@ -265,25 +265,25 @@ abbrev one : ℤ → ℤ → ℤ → Update
 one k lower summed = record { keys = key.Number k ∷ []; values = lower ∷ summed ∷ [] }
 
 -- only a SUM or a COUNT leaves its bits, over its own group or over all updates
-just_fits : (overflows summing [] (one (pos 1) least_sum most_sum) ≡ false) × (overflows summing (one (pos 1) most_sum (pos 1) ∷ []) (one (pos 1) most_sum (negsuc 0)) ≡ false)
+just_fits : (overflows summing.shape summing.aggregates [] (one (pos 1) least_sum most_sum) ≡ false) × (overflows summing.shape summing.aggregates (one (pos 1) most_sum (pos 1) ∷ []) (one (pos 1) most_sum (negsuc 0)) ≡ false)
 unfolding is_i128
 just_fits = (refl, refl)
 
-one_too_many : (overflows summing (one (pos 1) (pos 0) most_sum ∷ []) (one (pos 1) (pos 0) (pos 1)) ≡ true) × (overflows summing (one (pos 2) (pos 0) least_sum ∷ []) (one (pos 1) (pos 0) (negsuc 0)) ≡ true)
+one_too_many : (overflows summing.shape summing.aggregates (one (pos 1) (pos 0) most_sum ∷ []) (one (pos 1) (pos 0) (pos 1)) ≡ true) × (overflows summing.shape summing.aggregates (one (pos 2) (pos 0) least_sum ∷ []) (one (pos 1) (pos 0) (negsuc 0)) ≡ true)
 unfolding is_i128
 one_too_many = (refl, refl)
 
 -- a SUM may leave 64 bits
-one_more_than_most : overflows summing (one (pos 1) (pos 0) most ∷ []) (one (pos 1) (pos 0) (pos 1)) ≡ false
+one_more_than_most : overflows summing.shape summing.aggregates (one (pos 1) (pos 0) most ∷ []) (one (pos 1) (pos 0) (pos 1)) ≡ false
 unfolding is_i128
 one_more_than_most = refl
 
 -- the group of the update passes 128 bits, though all updates together don't
-in_its_group_alone : overflows summing (one (pos 2) (pos 0) (negsuc 0) ∷ one (pos 1) (pos 0) most_sum ∷ []) (one (pos 1) (pos 0) (pos 1)) ≡ true
+in_its_group_alone : overflows summing.shape summing.aggregates (one (pos 2) (pos 0) (negsuc 0) ∷ one (pos 1) (pos 0) most_sum ∷ []) (one (pos 1) (pos 0) (pos 1)) ≡ true
 unfolding is_i128
 in_its_group_alone = refl
 
-totals : (total summing 0 (one (pos 1) (pos 4) (pos 5) ∷ one (pos 2) (pos 3) (pos 6) ∷ []) ≡ Some (pos 3)) × (total summing 1 (one (pos 1) (pos 4) (pos 5) ∷ one (pos 2) (pos 3) (pos 6) ∷ []) ≡ Some (pos 11)) × (total summing 1 [] ≡ None)
+totals : (total_over summing.aggregates 0 (one (pos 1) (pos 4) (pos 5) ∷ one (pos 2) (pos 3) (pos 6) ∷ []) ≡ Some (pos 3)) × (total_over summing.aggregates 1 (one (pos 1) (pos 4) (pos 5) ∷ one (pos 2) (pos 3) (pos 6) ∷ []) ≡ Some (pos 11)) × (total_over summing.aggregates 1 [] ≡ None)
 totals = (refl, refl, refl)
 
 keys_compare : (same_keys (key.Number (pos 1) ∷ key.Code 2 ∷ []) (key.Number (pos 1) ∷ key.Code 2 ∷ []) ≡ true) × (same_keys (key.Number (pos 1) ∷ []) (key.Number (pos 2) ∷ []) ≡ false) × (same_keys (key.Code 1 ∷ []) (key.Code 2 ∷ []) ≡ false) × (same_keys (key.Number (pos 1) ∷ []) (key.Code 1 ∷ []) ≡ false)

@@ -12,14 +12,14 @@ use Rattle.star_program.specs.declared.program.Parts.{Parts}
 use Rattle.star_program.specs.declared.fault.Fault.TheVariants.{BadRegister, Misplaced, BadGroup}
 use Rattle.star_program.specs.Code.{Each, Stop, Then}
 use Rattle.star_program.specs.Faults.{group_at}
-use Rattle.star_program.specs.Puts.{total}
+use Rattle.star_program.specs.Puts.{total_over}
 use Rattle.star_program.specs.declared.fault.TrapKind.TheVariants.{Wrong, AbsentKey, Overflow}
 use Rattle.star_program.specs.Run.{End, Ended, Trapped, Limited, run_of, bounded_run_of}
 use Rattle.star_program.proofs.Sample.{sample, great_prices, assign, counting, plain, program, above_average, find_by_quantity, read_while_putting, written_twice, keep_outside, shows_no_key, scan_in_scan, doubled_difference}
 
 -- what a run ends with: the three counts, and the first aggregate over all updates of the reported group
 abbrev shown : Parts → End → List (Option ℤ)
-shown parts (Ended s) = Some (pos s.visits) ∷ Some (pos s.lookups) ∷ Some (pos s.updates) ∷ total (group_at parts parts.report) 0 (s.updates_of parts.report) ∷ []
+shown parts (Ended s) = Some (pos s.visits) ∷ Some (pos s.lookups) ∷ Some (pos s.updates) ∷ total_over (group_at parts parts.report).aggregates 0 (s.updates_of parts.report) ∷ []
 shown parts (Trapped at trap) = None ∷ []
 shown parts Limited = []
 

@@ -11,7 +11,7 @@ use Rattle.star_schema.specs.Schema.{column_of}
 use Rattle.star_interval.specs.Range.{Holds, only}
 use Rattle.star_program.specs.declared.op.Edge.{Edge}
 use Rattle.star_program.specs.declared.op.Edge.TheVariants.{Low, High}
-use Rattle.star_program.specs.World.{World, IsLoaded, IsRowOf, edge_of}
+use Rattle.star_program.specs.World.{World, IsLoaded, IsRowNumberOf, edge_of}
 use Rattle.star_program.proofs.Sample.{sample}
 
 -- past the one row stands what a column's bounds don't hold
@@ -48,7 +48,7 @@ is_loaded = record {
     counted High c text = omega arith
 
     found : (t : TableId) (row : ℕ) → row < 1
-        → IsRowOf sevens t (sevens.find t (number_of_row row))
+        → IsRowNumberOf sevens t (sevens.find t (number_of_row row))
     found t zero p = omega arith
     found t (suc row) p = absurd (omega (arith, p))
 

@@ -5,12 +5,14 @@ pub mod Keys
 pub mod World
 pub mod Values
 pub mod Faults
+pub mod Reads
 pub mod TrapTexts
 pub mod Puts
 pub mod Effects
-pub mod Shown
+pub mod ShowLines
 pub mod Run
 pub mod Rows
+pub mod RowCells
 pub mod Outcome
 pub mod Cells
 pub mod CellViews

@@ -2,7 +2,7 @@
 
 ghost use Rattle.std.specs.Prelude.{◌≡◌, IfOk};
 ghost use Rattle.star_program.specs.CellViews.{cell_viewed};
-ghost use Rattle.star_program.specs.Private.Kept.{cell_kept};
+ghost use Rattle.star_program.specs.Private.Kept.{cell_view};
 
 use crate::cell_rows::CellRows;
 use crate::op::Text;
@@ -76,7 +76,7 @@ enum Kept {
 
 // What is kept of a number.
 fn kept_number(alloc: Global, number: i128) -> Result<Kept, AllocError>
-    ensures { IfOk result (λ kept. cell_kept kept ≡ Cell.Number number) }
+    ensures { IfOk result (λ kept. cell_view kept ≡ Cell.Number number) }
 {
     match i64::try_from(number) {
         Ok(number) => Ok(Kept::Number(number)),
@@ -93,11 +93,11 @@ pub struct KeptCell {
 
 impl Model for KeptCell {
     ghost use Rattle.star_program.specs.declared.outcome.Cell.{Cell as Shown};
-    ghost use Rattle.star_program.specs.Private.Kept.{cell_kept};
+    ghost use Rattle.star_program.specs.Private.Kept.{cell_view};
 
     ghost Value = { Shown };
 
-    ghost view = { λ cell. cell_kept cell.kept };
+    ghost view = { λ cell. cell_view cell.kept };
 }
 
 impl KeptCell {

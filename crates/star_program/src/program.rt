@@ -1,11 +1,11 @@
 // Programs and their parts.
 
 ghost use Rattle.std.specs.Prelude.{◌≡◌, ◌≤◌, ◌<◌, ◌↔◌, All, length, IsSome, IfErr, IfNone, IfOk, IfSome, IsTrue};
-ghost use Rattle.star_program.specs.Text.Written.{text_of};
+ghost use Rattle.star_program.specs.Text.Written.{program_text};
 ghost use Rattle.star_program.specs.Faults.{group_at};
 ghost use Rattle.star_program.specs.Limits.{IsSmall, IsWithinLimits};
 ghost use Rattle.star_program.specs.Text.Spellable.{IsSpellable};
-ghost use Rattle.star_program.specs.Text.FirstFaults.{IsFirstFault};
+ghost use Rattle.star_program.specs.Text.FirstFaults.{IsFirstTextFault};
 ghost use Rattle.star_program.specs.Text.Spelling.{IsRead, Spells};
 
 use crate::body::Body;
@@ -125,7 +125,7 @@ impl Program {
         ensures only { (parts : Parts) → Spells text.now parts → IsWithinLimits parts
             → IsRead parts result }
         // A refusal is the first fault.
-        ensures fault { IfErr result (λ fault. IsFirstFault text.now fault) }
+        ensures fault { IfErr result (λ fault. IsFirstTextFault text.now fault) }
     {
         let parts = read_parts(alloc, text)?;
         Ok(Program { parts })
@@ -136,7 +136,7 @@ impl Program {
     /// The program's text: a line for each statement, one space between words, two before a line
     /// for each scan round it, numbers without zeros in front, a line feed after each line.
     pub fn to_text(&self) -> Result<Vec<u8>, AllocError>
-        ensures written { IfOk result (λ text. text.items ≡ text_of self.now) }
+        ensures written { IfOk result (λ text. text.items ≡ program_text self.now) }
         // Where some text spells the program, this one does, and is read back as it.
         ensures spells { IfOk result (λ text. IsSpellable self.now → Spells text.items self.now) }
     {

@@ -1,7 +1,7 @@
 // Worked rows of stores and each public call, with ample memory.
 
 ghost use Rattle.std.specs.Prelude.{◌≡◌, ◌≤◌, ◌<◌, [], length, IfOk};
-ghost use Rattle.star_group.specs.Eager.{group_of, Has};
+ghost use Rattle.star_group.specs.Eager.{group_view, Has};
 ghost use Rattle.star_group.specs.Stores.{group_declared};
 
 use star_group::{EagerStore, GroupRows, GroupStore, KeyValue, PutFault, TryPut};
@@ -45,8 +45,8 @@ fn store(
 ) -> Result<EagerStore, AllocError>
     requires few_keys { keys ≤ 6 }
     requires few { length aggregates.now ≤ 8 }
-    ensures keys { IfOk result (λ s. (group_of s).count ≡ keys) }
-    ensures aggregates { IfOk result (λ s. (group_of s).aggregates ≡ aggregates.now) }
+    ensures keys { IfOk result (λ s. (group_view s).count ≡ keys) }
+    ensures aggregates { IfOk result (λ s. (group_view s).aggregates ≡ aggregates.now) }
     ensures empty { IfOk result (λ s. Has s []) }
 {
     let declared = declared(alloc, shape, keys, aggregates)?;
@@ -118,7 +118,7 @@ fn cube_of_one_put_has_four_rows(rt: HostRuntime) -> Result<(), Fail> {
 // A store of no puts, with an aggregate of each kind.
 fn empty(alloc: Global, shape: Shape, keys: usize) -> Result<EagerStore, AllocError>
     requires { keys ≤ 6 }
-    ensures { IfOk result (λ s. length (group_of s).aggregates ≡ 4) }
+    ensures { IfOk result (λ s. length (group_view s).aggregates ≡ 4) }
 {
     let aggregates = [
         Aggregate::Sum,
@@ -238,7 +238,7 @@ fn six_keys_and_eight_aggregates(rt: HostRuntime) -> Result<(), Fail> {
 
 // A store of one key and a sum, after a put of 7.
 fn seven(alloc: Global) -> Result<EagerStore, AllocError>
-    ensures { IfOk result (λ s. 0 < length (group_of s).aggregates) }
+    ensures { IfOk result (λ s. 0 < length (group_view s).aggregates) }
 {
     let mut sums = store(alloc, Shape::Plain, 1, &[Aggregate::Sum])?;
     sums.put(&[ONE], &[7])?;

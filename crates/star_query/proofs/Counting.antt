@@ -9,7 +9,7 @@ use Rattle.std.specs.Char.{to_ascii_lowercase}
 use Rattle.std.proofs.lemmas.List.{length-map}
 use Rattle.star_query.specs.Symbols.{Symbol, name, lowered}
 use Rattle.star_query.specs.Maxima.{limit}
-use Rattle.star_query.specs.Derives.{same_part, among, IsShort, IsLong}
+use Rattle.star_query.specs.Derives.{same_part, among, IsShortName, IsLongName}
 use Rattle.star_query.specs.Private.Machine.{number_of, bump, plus, is_over, is_long}
 
 pub not_below : (a b : ℕ) → b ≤ a → nat_lt a b ≡ false
@@ -60,15 +60,15 @@ pub fits_after : (n : Counts) (ps : List Part) → ((p : Part) → number_of n p
 fits_after n ps fits e p =
     by_bool (nat_lt 0 (among p ps)) (λ some. not_over_at (plus n ps) ps p e (ltb-true _ _ some)) (λ none. let h : among p ps ≤ 0 = ltb-false _ _ none in omega (arith, number-plus ps n p, fits p))
 
-pub short_name : (x : Symbol) → is_long x ≡ false → IsShort x
+pub short_name : (x : Symbol) → is_long x ≡ false → IsShortName x
 short_name (name t p) e = ltb-false _ _ e
 short_name _ e = tt
 
-pub long_name : (x : Symbol) → is_long x ≡ true → IsLong x
+pub long_name : (x : Symbol) → is_long x ≡ true → IsLongName x
 long_name (name t p) e = ltb-true _ _ e
 long_name _ e = cc
 
-pub not_long : (x : Symbol) → IsShort x → is_long x ≡ false
+pub not_long : (x : Symbol) → IsShortName x → is_long x ≡ false
 not_long (name t p) e = not_below 64 (length t) e
 not_long _ e = refl
 

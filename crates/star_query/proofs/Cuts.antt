@@ -20,7 +20,8 @@ use Rattle.star_query.specs.declared.fault.QueryFault.{QueryFault}
 use Rattle.star_query.specs.declared.fault.QueryFault.TheVariants.{BadCharacter, BadNumber, OpenText, OutOfMemory}
 use Rattle.star_query.specs.Maxima.{most_digits}
 use Rattle.star_query.specs.Symbols.{Symbol, Placed, relation, sign, additive, number, text, word_symbol}
-use Rattle.star_query.specs.Cut.{Piece, blank, token, bad, with_first, said, signs, is_blank, is_letter, is_word_byte, begins_with_letter, reserved, word_of, word_piece, number_piece, text_piece, sign_piece, piece_at, cut_from, cut_of}
+use Rattle.star_query.specs.Cut.{Piece, blank, token, bad, put_in_front, text_said, signs, is_letter, is_word_byte, begins_with_letter, reserved, word_of, word_piece, number_piece, text_piece, sign_piece, piece_at, cut_from, cut_of}
+use Rattle.star_common.specs.WhiteSpace.{is_blank}
 use Rattle.star_query.specs.Tokens.{IsToken, a_word, a_number, a_text, a_sign, continues, is_whole, AreTokens, no_more, white_space, a_token, IsBadNumber, IsStray, Stops, IsStopped}
 use Rattle.star_query.specs.Private.Lexed.{front_piece, with_tokens}
 use Rattle.star_query.proofs.Counting.{by_bool}
@@ -162,9 +163,9 @@ over_text s t (b ∷ bs) = refl
 
 text_found : (place : ℕ) (bs : List ℕ) → Found place (39 ∷ bs) (text_piece place bs)
 unfolding quoted
-text_found place bs = go (said place (place + 1) false bs) refl (reads place (place + 1) false bs)
+text_found place bs = go (text_said place (place + 1) false bs) refl (reads place (place + 1) false bs)
   where
-    go : (o : Result (List ℕ) QueryFault) → said place (place + 1) false bs ≡ o → Reads place (place + 1) false bs o → Found place (39 ∷ bs) (text_piece place bs)
+    go : (o : Result (List ℕ) QueryFault) → text_said place (place + 1) false bs ≡ o → Reads place (place + 1) false bs o → Found place (39 ∷ bs) (text_piece place bs)
     go (Ok t) h (rest, parted, printed, over) =
         let whole : 39 ∷ bs ≡ quoted t ++ rest = ap (λ xs. 39 ∷ xs) (parted ∙ sym (append_assoc (flat_map doubled t) (39 ∷ []) rest)) in
         let width : length (flat_map doubled t) + 2 ≡ length (quoted t) = omega (arith, length-append (flat_map doubled t) (39 ∷ [])) in
@@ -337,7 +338,7 @@ number_front place digits rest n e over = go digits (numeral_parts most_digits d
         digit_piece place b (bs ++ rest) first.0 ∙ number_is place (b ∷ bs) rest n run few past.1 value
 
 -- texts
-text_is : (place : ℕ) (bytes : List ℕ) (o : Result (List ℕ) QueryFault) → said place (place + 1) false bytes ≡ o → text_piece place bytes ≡ text_read place o
+text_is : (place : ℕ) (bytes : List ℕ) (o : Result (List ℕ) QueryFault) → text_said place (place + 1) false bytes ≡ o → text_piece place bytes ≡ text_read place o
 text_is place bytes o e = rw e refl
 
 text_front : (place : ℕ) (t rest : List ℕ) → list_all is_printable t ≡ true → is_whole (text t) rest ≡ true
@@ -435,11 +436,11 @@ stray_stop place b bs is =
 pub stop_front : (place : ℕ) (bytes : List ℕ) (fault : QueryFault) → Stops place bytes fault → front_piece place bytes ≡ bad fault
 stop_front place bytes (BadNumber at) (same, is) = number_stop place bytes is ∙ ap (λ p. bad (BadNumber p)) (sym same)
 stop_front place (b ∷ bs) (OpenText at) (same, quote, is) =
-    ap (λ c. front_piece place (c ∷ bs)) quote ∙ text_is place bs (Err (OpenText place)) (ap (said place (place + 1) false) is.cut ∙ read_open place (place + 1) is.said is.printed) ∙ ap (λ p. bad (OpenText p)) (sym same)
+    ap (λ c. front_piece place (c ∷ bs)) quote ∙ text_is place bs (Err (OpenText place)) (ap (text_said place (place + 1) false) is.cut ∙ read_open place (place + 1) is.said is.printed) ∙ ap (λ p. bad (OpenText p)) (sym same)
 stop_front place (b ∷ bs) (BadCharacter at) (inl (same, is)) = stray_stop place b bs is ∙ ap (λ p. bad (BadCharacter p)) (sym same)
 stop_front place (b ∷ bs) (BadCharacter at) (inr (before, same, quote, is)) =
     ap (λ c. front_piece place (c ∷ bs)) quote
-    ∙ text_is place bs (Err (BadCharacter (place + 1 + length (flat_map doubled is.said)))) (ap (said place (place + 1) false) is.cut ∙ read_stopped place (place + 1) is.said is.b is.rest is.printed is.bad)
+    ∙ text_is place bs (Err (BadCharacter (place + 1 + length (flat_map doubled is.said)))) (ap (text_said place (place + 1) false) is.cut ∙ read_stopped place (place + 1) is.said is.b is.rest is.printed is.bad)
     ∙ ap (λ p. bad (BadCharacter p)) (ap (λ n. place + 1 + n) (sym is.where_it_is) ∙ sym same)
 stop_front place [] (OpenText at) wrong = absurd wrong
 stop_front place [] (BadCharacter at) wrong = absurd wrong
@@ -460,7 +461,7 @@ behind_blank place b bs (Ok tokens) e rest =
 behind_blank place b bs (Err fault) e (tokens, end, left, are, stops) = (tokens, end, left, white_space place b bs tokens e are, stops)
 
 behind_token : (place : ℕ) (word bytes : List ℕ) (x : Symbol) (o : Result (List Placed) QueryFault) → IsToken place word x → is_whole x bytes ≡ true
-    → Cut (place + length word) bytes o → Cut place (word ++ bytes) (with_first (record { symbol = x; place = place }) o)
+    → Cut (place + length word) bytes o → Cut place (word ++ bytes) (put_in_front (record { symbol = x; place = place }) o)
 behind_token place word bytes x (Ok tokens) is over rest =
     let same : place + length word + length bytes ≡ place + length (word ++ bytes) = omega (arith, length-append word bytes) in
     a_token place word bytes x tokens is over (subst (λ end. AreTokens end [] (place + length word) bytes tokens) same rest)
@@ -485,8 +486,8 @@ cut_so (suc n) place (b ∷ bs) few = go (λ place bytes few. cut_so n place byt
         let rest = drop width bytes in
         let fewer : length rest ≤ n = omega (arith, length-drop width bytes) in
         let cut = behind_token place word rest x (cut_from (place + length word) 0 rest) is over (more (place + length word) rest fewer) in
-        subst (Cut place bytes) (sym (cut_token place bytes x width e some ∙ ap (λ w. with_first (record { symbol = x; place = place }) (cut_from (place + w) 0 rest)) (sym many)))
-        (subst (λ all. Cut place all (with_first (record { symbol = x; place = place }) (cut_from (place + length word) 0 rest))) (take-append-drop width bytes) cut)
+        subst (Cut place bytes) (sym (cut_token place bytes x width e some ∙ ap (λ w. put_in_front (record { symbol = x; place = place }) (cut_from (place + w) 0 rest)) (sym many)))
+        (subst (λ all. Cut place all (put_in_front (record { symbol = x; place = place }) (cut_from (place + length word) 0 rest))) (take-append-drop width bytes) cut)
     go more (bad f) e stops = subst (Cut place (b ∷ bs)) (sym (cut_bad place (b ∷ bs) f e)) ([], place, b ∷ bs, no_more, stops)
 
 token_some : (place : ℕ) (word : List ℕ) (x : Symbol) → IsToken place word x → 1 ≤ length word
@@ -503,7 +504,7 @@ no_tokens : (o : Result (List Placed) QueryFault) → o ≡ with_tokens [] o
 no_tokens (Ok ts) = refl
 no_tokens (Err e) = refl
 
-one_token : (t : Placed) (ts : List Placed) (o : Result (List Placed) QueryFault) → with_first t (with_tokens ts o) ≡ with_tokens (t ∷ ts) o
+one_token : (t : Placed) (ts : List Placed) (o : Result (List Placed) QueryFault) → put_in_front t (with_tokens ts o) ≡ with_tokens (t ∷ ts) o
 one_token t ts (Ok us) = refl
 one_token t ts (Err e) = refl
 
@@ -516,8 +517,8 @@ tokens_cut end left _ _ _ (white_space place b bytes tokens e rest) =
 tokens_cut end left _ _ _ (a_token place word bytes x tokens is over rest) =
     let first : Placed = record { symbol = x; place = place } in
     cut_token place (word ++ bytes) x (length word) (token_front place word bytes x is over) (token_some place word x is)
-    ∙ ap (λ all. with_first first (cut_from (place + length word) 0 all)) (drop-append_seam word bytes)
-    ∙ ap (with_first first) (tokens_cut end left (place + length word) bytes tokens rest) ∙ one_token first tokens (cut_from end 0 left)
+    ∙ ap (λ all. put_in_front first (cut_from (place + length word) 0 all)) (drop-append_seam word bytes)
+    ∙ ap (put_in_front first) (tokens_cut end left (place + length word) bytes tokens rest) ∙ one_token first tokens (cut_from end 0 left)
 
 -- ---- the laws
 
@@ -582,9 +583,9 @@ unfolding quoted
 text_longest place t left x w e =
     let behind : (flat_map doubled t ++ 39 ∷ []) ++ left ≡ flat_map doubled t ++ 39 ∷ left = append_assoc (flat_map doubled t) (39 ∷ []) left in
     let bytes = flat_map doubled t ++ 39 ∷ left in
-    go (said place (place + 1) false bytes) refl (reads place (place + 1) false bytes) (sym (ap (text_piece place) behind) ∙ e)
+    go (text_said place (place + 1) false bytes) refl (reads place (place + 1) false bytes) (sym (ap (text_piece place) behind) ∙ e)
   where
-    go : (o : Result (List ℕ) QueryFault) → said place (place + 1) false (flat_map doubled t ++ 39 ∷ left) ≡ o
+    go : (o : Result (List ℕ) QueryFault) → text_said place (place + 1) false (flat_map doubled t ++ 39 ∷ left) ≡ o
         → Reads place (place + 1) false (flat_map doubled t ++ 39 ∷ left) o
         → text_piece place (flat_map doubled t ++ 39 ∷ left) ≡ token x w → length (39 ∷ (flat_map doubled t ++ 39 ∷ [])) ≤ w
     go (Ok u) h (rest, parted, printed, over) f =

@@ -16,7 +16,7 @@ use Rattle.star_query.specs.declared.tree.Expression.{Expression}
 use Rattle.star_query.specs.declared.tree.Expression.TheVariants as expressions
 use Rattle.star_query.specs.Symbols.{Symbol, sign, additive, name, number}
 use Rattle.star_query.specs.Tree as tree
-use Rattle.star_query.specs.Grammar.{Expr, joined, Term, times, column, constant, negative, parens, first, ident, combined, expr_tree, term_tree, factor_tree}
+use Rattle.star_query.specs.Grammar.{Expr, joined, Term, times, column, constant, negative, parens, first, ident, sum_or_difference, expr_tree, term_tree, factor_tree}
 use Rattle.star_query.specs.Private.Machine.{ExprHole, in_parens, TermHole, first_term, next_term, FactorHole, first_factor, next_factor, expr_depth, term_depth, factor_depth, State, factor_wanted, factor_negative, term_had, expr_had, give_factor, to, step, at_end, Verdict, Bad, plus, checked, after, ends, run}
 use Rattle.star_query.specs.Views.{name_view, expression_view}
 use Rattle.star_query.specs.Private.Reads.{Spot, head_of, No, verdict, EndsBad, Takes, NoName, NoNumber, IsName, IsNumber, IsBeyond, ReadsToken, ReadsName, ReadsNumber, Nests, ReadsPhrase, ReadsOperand, ReadsFactor, ReadsTerm, ReadsExpr}
@@ -159,9 +159,9 @@ pub one_more_factor : (before : TermHole → Verdict) (old mid new : Spot) (d : 
 one_more_factor before old mid new d a b x y so_far star deep eb ey r =
     (times so_far.0 r.0, ap (λ z. tree.mul z (factor_tree r.0)) (so_far.1 ∙ ap expression_view (sym eb)) ∙ ap (tree.mul (expression_view b)) (r.1 ∙ ap expression_view (sym ey)), λ h q. so_far.2 h q ∙ takes old mid _ [] (term_depth h) (term_had so_far.0 h) (factor_wanted (next_factor so_far.0 h)) star (omega arith) refl ∙ r.2 (next_factor so_far.0 h) q)
 
-pub one_more_term : (before : ExprHole → Verdict) (old mid new : Spot) (d : ℕ) (a x z : Expression Name) (q : Additive) → ((e : Expr) × (expr_tree e ≡ expression_view a) × ((h : ExprHole) → expr_depth h ≡ d → before h ≡ verdict old (expr_had e h))) → Takes old mid (additive q) [] → d ≤ 32 → expression_view z ≡ combined q (expression_view a) (expression_view x) → ReadsTerm d mid new (Ok x) → (e : Expr) × (expr_tree e ≡ expression_view z) × ((h : ExprHole) → expr_depth h ≡ d → before h ≡ verdict new (expr_had e h))
+pub one_more_term : (before : ExprHole → Verdict) (old mid new : Spot) (d : ℕ) (a x z : Expression Name) (q : Additive) → ((e : Expr) × (expr_tree e ≡ expression_view a) × ((h : ExprHole) → expr_depth h ≡ d → before h ≡ verdict old (expr_had e h))) → Takes old mid (additive q) [] → d ≤ 32 → expression_view z ≡ sum_or_difference q (expression_view a) (expression_view x) → ReadsTerm d mid new (Ok x) → (e : Expr) × (expr_tree e ≡ expression_view z) × ((h : ExprHole) → expr_depth h ≡ d → before h ≡ verdict new (expr_had e h))
 one_more_term before old mid new d a x z q so_far sign_taken deep ez r =
-    (joined so_far.0 q r.0, ap (λ u. combined q u (term_tree r.0)) so_far.1 ∙ ap (combined q (expression_view a)) r.1 ∙ sym ez, λ h e. so_far.2 h e ∙ takes old mid _ [] (expr_depth h) (expr_had so_far.0 h) (factor_wanted (first_factor (next_term so_far.0 q h))) sign_taken (omega arith) (expr_joins so_far.0 h q) ∙ r.2 (next_term so_far.0 q h) e)
+    (joined so_far.0 q r.0, ap (λ u. sum_or_difference q u (term_tree r.0)) so_far.1 ∙ ap (sum_or_difference q (expression_view a)) r.1 ∙ sym ez, λ h e. so_far.2 h e ∙ takes old mid _ [] (expr_depth h) (expr_had so_far.0 h) (factor_wanted (first_factor (next_term so_far.0 q h))) sign_taken (omega arith) (expr_joins so_far.0 h q) ∙ r.2 (next_term so_far.0 q h) e)
 
 -- whether a nesting was opened
 pub opened : (x : Symbol) (ps : List Part) (d : ℕ) (old new : Spot) (b : Bool) → b ≡ true → Nests x ps d old new (Ok b) → (d < 32) × Takes old new x ps

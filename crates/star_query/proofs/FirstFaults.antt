@@ -17,7 +17,7 @@ use Rattle.star_query.specs.Cut.{cut_of}
 use Rattle.star_query.specs.Tree.{Tree}
 use Rattle.star_query.specs.Grammar.{Query, Mark, query_marks}
 use Rattle.star_query.specs.Maxima.{limit}
-use Rattle.star_query.specs.Derives.{count_of, IsShort, IsLong, IsWithin, symbols_at, Begins, IsDead, Breaks, IsTooDeep, IsTooMany, FirstFault, StopsAt, IsFirstFault, Means, place_of}
+use Rattle.star_query.specs.Derives.{count_begun, IsShortName, IsLongName, AreWithinLimits, symbols_at, BeginsQuery, NoQueryGoesOn, Breaks, IsTooDeep, IsTooMany, FirstQueryFault, StopsAt, IsFirstQueryFault, Means, first_place}
 use Rattle.star_query.specs.Private.Machine.{State, begin, Step, to, step, at_end, Verdict, Whole, Bad, number_of, plus, is_over, is_long, checked, after, ends, run, nothing_counted}
 use Rattle.star_query.specs.Private.TokenFaults.{refusal_of}
 use Rattle.star_query.proofs.Counting.{by_bool, not_below, number-plus, not_over, fits_after, short_name, not_long}
@@ -38,7 +38,7 @@ way [] more from q g = record { last = from; goes = refl; rest = g }
 way (m ∷ front) more from q g =
     let w = way front more g.0 q g.2 in record { last = w.last; goes = (g.0, g.1, w.goes); rest = w.rest }
 
-way_of : (front : List Mark) (b : Begins front) → Way begin front b.more b.phrase
+way_of : (front : List Mark) (b : BeginsQuery front) → Way begin front b.more b.phrase
 way_of front b = way front b.more begin b.phrase (subst (λ ms. Accepts begin ms b.phrase) b.written (query_goes b.phrase))
 
 -- the counts behind marks
@@ -46,13 +46,13 @@ abbrev counted : Counts → List Mark → Counts
 counted n [] = n
 counted n (m ∷ ms) = counted (plus n m.parts) ms
 
-numbers_counted : (ms : List Mark) (n : Counts) (p : Part) → number_of (counted n ms) p ≡ number_of n p + count_of p ms
+numbers_counted : (ms : List Mark) (n : Counts) (p : Part) → number_of (counted n ms) p ≡ number_of n p + count_begun p ms
 numbers_counted [] n p = omega arith
 numbers_counted (m ∷ ms) n p = omega (arith, numbers_counted ms (plus n m.parts) p, number-plus m.parts n p)
 
 -- within the limits the machine goes on to what is left
-runs_on : (front : List Mark) (from last : State) (n : Counts) (left : List Symbol) → Goes from front last → AllByRecursion (λ m. m.depth ≤ 32) front → AllByRecursion (λ m. IsShort m.symbol) front
-    → ((p : Part) → number_of n p + count_of p front ≤ limit p) → run (symbols_at front ++ left) from n ≡ run left last (counted n front)
+runs_on : (front : List Mark) (from last : State) (n : Counts) (left : List Symbol) → Goes from front last → AllByRecursion (λ m. m.depth ≤ 32) front → AllByRecursion (λ m. IsShortName m.symbol) front
+    → ((p : Part) → number_of n p + count_begun p front ≤ limit p) → run (symbols_at front ++ left) from n ≡ run left last (counted n front)
 runs_on [] from last n left g deep names fits = ap (λ s. run left s n) g
 runs_on (m ∷ front) from last n left g deep names fits =
     let shallow : nat_lt 32 m.depth ≡ false = not_below 32 m.depth deep.0 in
@@ -62,7 +62,7 @@ runs_on (m ∷ front) from last n left g deep names fits =
     let now : checked n m (m.symbol ∷ xs) (run xs g.0) ≡ run xs g.0 (plus n m.parts) = rw (shallow, few, short) refl in
     ap (λ o. after o n (m.symbol ∷ xs) (run xs)) g.1 ∙ now ∙ runs_on front g.0 last (plus n m.parts) left g.2 deep.1 names.1 (λ p. omega (arith, number-plus m.parts n p, fits p))
 
-from_begin : (front : List Mark) (last : State) (left : List Symbol) → Goes begin front last → IsWithin front → run (symbols_at front ++ left) begin nothing_counted ≡ run left last (counted nothing_counted front)
+from_begin : (front : List Mark) (last : State) (left : List Symbol) → Goes begin front last → AreWithinLimits front → run (symbols_at front ++ left) begin nothing_counted ≡ run left last (counted nothing_counted front)
 from_begin front last left g within = runs_on front begin last nothing_counted left g within.depth within.names (λ p. omega (arith, none_counted p, within.counts p))
 
 -- ---- why it stops
@@ -72,7 +72,7 @@ symbols-append [] more = refl
 symbols-append (m ∷ front) more = ap (λ l. m.symbol ∷ l) (symbols-append front more)
 
 -- where no query ends, the machine ends none
-ends_none : (front : List Mark) (last : State) → Goes begin front last → IsDead (symbols_at front) [] → at_end last ≡ None
+ends_none : (front : List Mark) (last : State) → Goes begin front last → NoQueryGoesOn (symbols_at front) [] → at_end last ≡ None
 ends_none front last g dead = by (at_end last) refl
   where
     by : (o : Option Query) → at_end last ≡ o → at_end last ≡ None
@@ -82,7 +82,7 @@ ends_none front last g dead = by (at_end last) refl
         absurd (dead q (ap symbols_at written))
 
 -- where no query goes on with a symbol, the machine takes no step
-steps_none : (front : List Mark) (last : State) (x : Symbol) (left : List Symbol) → Goes begin front last → IsDead (symbols_at front) (x ∷ left) → step last x ≡ None
+steps_none : (front : List Mark) (last : State) (x : Symbol) (left : List Symbol) → Goes begin front last → NoQueryGoesOn (symbols_at front) (x ∷ left) → step last x ≡ None
 steps_none front last x left g dead = by (step last x) refl
   where
     by : (o : Option Step) → step last x ≡ o → step last x ≡ None
@@ -100,7 +100,7 @@ last_step : (front : List Mark) (at : Mark) (from last : State) → Goes from (f
 last_step [] at from last g = (from, refl, g.1 ∙ ap (λ s. to s at) g.2)
 last_step (m ∷ front) at from last g = let r = last_step front at g.0 last g.2 in (r.0, (g.0, g.1, r.1), r.2)
 
-stops_deep : (front : List Mark) (left : List Symbol) → IsWithin front → Breaks IsTooDeep front left → run (symbols_at front ++ left) begin nothing_counted ≡ Bad TooDeep left
+stops_deep : (front : List Mark) (left : List Symbol) → AreWithinLimits front → Breaks IsTooDeep front left → run (symbols_at front ++ left) begin nothing_counted ≡ Bad TooDeep left
 stops_deep front left within b =
     let w = way_of (front ++ b.at ∷ []) b.begins in
     let s = last_step front b.at begin w.last w.goes in
@@ -111,7 +111,7 @@ stops_deep front left within b =
     from_begin front s.0 left s.1 within ∙ subst (λ l. run l s.0 n ≡ Bad TooDeep l) (sym b.here) halts
 
 -- a symbol that breaks a limit of counts or of names
-over_there : (front : List Mark) (at : Mark) → IsWithin front → (((p : Part) × (limit p < count_of p (front ++ at ∷ []))) ⊎ IsLong at.symbol)
+over_there : (front : List Mark) (at : Mark) → AreWithinLimits front → (((p : Part) × (limit p < count_begun p (front ++ at ∷ []))) ⊎ IsLongName at.symbol)
     → (is_over (plus (counted nothing_counted front) at.parts) at.parts || is_long at.symbol) ≡ true
 over_there front at within (inl many) =
     let n = counted nothing_counted front in
@@ -121,17 +121,17 @@ over_there front at within (inl many) =
     fitting : (p : Part) → number_of (counted nothing_counted front) p ≤ limit p
     fitting p = omega (arith, numbers_counted front nothing_counted p, none_counted p, within.counts p)
 
-    appended : (p : Part) (ms : List Mark) → count_of p (ms ++ at ∷ []) ≡ count_of p ms + count_of p (at ∷ [])
+    appended : (p : Part) (ms : List Mark) → count_begun p (ms ++ at ∷ []) ≡ count_begun p ms + count_begun p (at ∷ [])
     appended p [] = omega arith
     appended p (m ∷ ms) = omega (arith, appended p ms)
 over_there front at within (inr long) =
     or_right (is_over (plus (counted nothing_counted front) at.parts) at.parts) (is_long at.symbol) (by_bool (is_long at.symbol) (λ e. e) (λ e. absurd (not_both at.symbol (short_name at.symbol e) long)))
   where
-    not_both : (x : Symbol) → IsShort x → IsLong x → ⊥
+    not_both : (x : Symbol) → IsShortName x → IsLongName x → ⊥
     not_both (name text place) short long = omega (arith, short, long)
     not_both _ short long = long
 
-stops_many : (front : List Mark) (left : List Symbol) → IsWithin front → Breaks IsTooMany front left → run (symbols_at front ++ left) begin nothing_counted ≡ Bad TooMany left
+stops_many : (front : List Mark) (left : List Symbol) → AreWithinLimits front → Breaks IsTooMany front left → run (symbols_at front ++ left) begin nothing_counted ≡ Bad TooMany left
 stops_many front left within b =
     let w = way_of (front ++ b.at ∷ []) b.begins in
     let s = last_step front b.at begin w.last w.goes in
@@ -142,7 +142,7 @@ stops_many front left within b =
     let halts : run (b.at.symbol ∷ b.others) s.0 n ≡ Bad TooMany (b.at.symbol ∷ b.others) = ap (λ o. after o n (b.at.symbol ∷ b.others) (run b.others)) s.2 ∙ now in
     from_begin front s.0 left s.1 within ∙ subst (λ l. run l s.0 n ≡ Bad TooMany l) (sym b.here) halts
 
-stops_dead : (front : List Mark) (left : List Symbol) → Begins front → IsWithin front → IsDead (symbols_at front) left → run (symbols_at front ++ left) begin nothing_counted ≡ Bad Unexpected left
+stops_dead : (front : List Mark) (left : List Symbol) → BeginsQuery front → AreWithinLimits front → NoQueryGoesOn (symbols_at front) left → run (symbols_at front ++ left) begin nothing_counted ≡ Bad Unexpected left
 stops_dead front [] b within dead =
     let w = way_of front b in from_begin front w.last [] w.goes within ∙ ap ends (ends_none front w.last w.goes dead)
 stops_dead front (x ∷ left) b within dead =
@@ -150,7 +150,7 @@ stops_dead front (x ∷ left) b within dead =
     from_begin front w.last (x ∷ left) w.goes within ∙ ap (λ o. after o (counted nothing_counted front) (x ∷ left) (run left)) (steps_none front w.last x left w.goes dead)
 
 -- the first fault is the machine's verdict
-stops : (xs : List Symbol) (fault : Fault) (left : List Symbol) → FirstFault xs fault left → verdict_of xs ≡ Bad fault left
+stops : (xs : List Symbol) (fault : Fault) (left : List Symbol) → FirstQueryFault xs fault left → verdict_of xs ≡ Bad fault left
 stops xs Unexpected left f = ap verdict_of f.cut ∙ stops_dead f.front left f.begins f.within f.fails
 stops xs TooDeep left f = ap verdict_of f.cut ∙ stops_deep f.front left f.within f.fails
 stops xs TooMany left f = ap verdict_of f.cut ∙ stops_many f.front left f.within f.fails
@@ -160,7 +160,7 @@ stops xs TooMany left f = ap verdict_of f.cut ∙ stops_many f.front left f.with
 -- what is told of a verdict on some tokens: the tokens that are left are the last ones
 told_of : List Placed → ℕ → Verdict → Option QueryFault
 told_of tokens end (Whole q) = None
-told_of tokens end (Bad fault left) = Some (refusal_of fault (place_of (drop (length tokens - length left) tokens) end))
+told_of tokens end (Bad fault left) = Some (refusal_of fault (first_place (drop (length tokens - length left) tokens) end))
 
 told_cut : ℕ → Result (List Placed) QueryFault → Option QueryFault
 told_cut end (Err fault) = Some fault
@@ -173,20 +173,20 @@ told_short : (bytes : List ℕ) → length bytes ≤ 65536 → told bytes ≡ to
 unfolding told
 told_short bytes short = ap (λ b. if b then Some faults.TooLong else told_cut (length bytes) (cut_of bytes)) (not_below 65536 (length bytes) short)
 
-told_left : (bytes : List ℕ) (fault : Fault) (left : List Placed) → StopsAt bytes fault left → told bytes ≡ Some (refusal_of fault (place_of left (length bytes)))
+told_left : (bytes : List ℕ) (fault : Fault) (left : List Placed) → StopsAt bytes fault left → told bytes ≡ Some (refusal_of fault (first_place left (length bytes)))
 unfolding told_cut told_of
 told_left bytes fault left s =
     let tokens = s.front ++ left in
     let behind : length tokens - length (symbols left) ≡ length s.front = omega (arith, length-map left (λ (t : Placed). t.symbol), length-append s.front left) in
     told_short bytes s.short ∙ ap (told_cut (length bytes)) s.cut
     ∙ ap (told_of tokens (length bytes)) (stops (symbols tokens) fault (symbols left) s.first)
-    ∙ ap (λ ts. Some (refusal_of fault (place_of ts (length bytes)))) (ap (λ n. drop n tokens) behind ∙ drop-append_seam s.front left)
+    ∙ ap (λ ts. Some (refusal_of fault (first_place ts (length bytes)))) (ap (λ n. drop n tokens) behind ∙ drop-append_seam s.front left)
 
 told_cut_fault : (bytes : List ℕ) (fault : QueryFault) → (length bytes ≤ 65536) × (cut_of bytes ≡ Err fault) → told bytes ≡ Some fault
 unfolding told_cut
 told_cut_fault bytes fault h = told_short bytes h.0 ∙ ap (told_cut (length bytes)) h.1
 
-told_fault : (bytes : List ℕ) (fault : QueryFault) → fault ≢ faults.OutOfMemory → IsFirstFault bytes fault → told bytes ≡ Some fault
+told_fault : (bytes : List ℕ) (fault : QueryFault) → fault ≢ faults.OutOfMemory → IsFirstQueryFault bytes fault → told bytes ≡ Some fault
 unfolding told
 told_fault bytes faults.OutOfMemory other h = absurd (other refl)
 told_fault bytes faults.TooLong other h = ap (λ b. if b then Some faults.TooLong else told_cut (length bytes) (cut_of bytes)) (lt-ltb 65536 (length bytes) h)
@@ -203,8 +203,8 @@ told_none bytes tree m =
     let o = only (symbols m.tokens) tree m.derives in
     told_short bytes m.short ∙ ap (told_cut (length bytes)) m.cut ∙ ap (told_of m.tokens (length bytes)) o.1
 
-pub one_fault : (bytes : List ℕ) (a b : QueryFault) → a ≢ faults.OutOfMemory → b ≢ faults.OutOfMemory → IsFirstFault bytes a → IsFirstFault bytes b → a ≡ b
+pub one_fault : (bytes : List ℕ) (a b : QueryFault) → a ≢ faults.OutOfMemory → b ≢ faults.OutOfMemory → IsFirstQueryFault bytes a → IsFirstQueryFault bytes b → a ≡ b
 one_fault bytes a b other_a other_b h k = let same : Some a ≡ Some b = sym (told_fault bytes a other_a h) ∙ told_fault bytes b other_b k in cc
 
-pub no_fault : (bytes : List ℕ) (tree : Tree) (fault : QueryFault) → fault ≢ faults.OutOfMemory → Means bytes tree → IsFirstFault bytes fault → ⊥
+pub no_fault : (bytes : List ℕ) (tree : Tree) (fault : QueryFault) → fault ≢ faults.OutOfMemory → Means bytes tree → IsFirstQueryFault bytes fault → ⊥
 no_fault bytes tree fault other m h = let wrong : None ≡ Some fault = sym (told_none bytes tree m) ∙ told_fault bytes fault other h in cc

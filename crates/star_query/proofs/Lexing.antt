@@ -7,7 +7,7 @@ use Rattle.star_query.specs.declared.token.Word.TheVariants.{Keyword, Fold, Coun
 use Rattle.star_query.specs.declared.token.Keyword.TheVariants.{Select}
 use Rattle.star_query.specs.declared.token.Fold.TheVariants.{Sum}
 use Rattle.star_query.specs.Symbols.{Symbol, Placed, spelling, lowered}
-use Rattle.star_query.specs.Cut.{is_spelled, blank, token, bad, cut_from, cut_of, with_first, begins_with_letter, is_word_byte, number_piece}
+use Rattle.star_query.specs.Cut.{is_spelled, blank, token, bad, cut_from, cut_of, put_in_front, begins_with_letter, is_word_byte, number_piece}
 use Rattle.star_query.specs.declared.fault.QueryFault.TheVariants.{BadNumber, OutOfMemory, TooLong}
 use Rattle.star_query.specs.declared.fault.QueryFault.{QueryFault}
 use Rattle.std.specs.Char.{is_ascii_digit}
@@ -60,13 +60,13 @@ skipped place zero bytes = ap (λ p. cut_from p 0 bytes) (let e : place ≡ plac
 skipped place (suc n) [] = refl
 skipped place (suc n) (b ∷ bs) = skipped (place + 1) n bs ∙ ap (λ p. cut_from p 0 (drop n bs)) (let e : place + 1 + n ≡ place + suc n = omega arith in e)
 
-pub cut_token : (place : ℕ) (bytes : List ℕ) (x : Symbol) (width : ℕ) → front_piece place bytes ≡ token x width → 1 ≤ width → cut_from place 0 bytes ≡ with_first (record { symbol = x; place = place }) (cut_from (place + width) 0 (drop width bytes))
+pub cut_token : (place : ℕ) (bytes : List ℕ) (x : Symbol) (width : ℕ) → front_piece place bytes ≡ token x width → 1 ≤ width → cut_from place 0 bytes ≡ put_in_front (record { symbol = x; place = place }) (cut_from (place + width) 0 (drop width bytes))
 unfolding cut_from
 cut_token place [] x width e some = cc
 cut_token place (b ∷ bs) x zero e some = absurd (omega arith)
 cut_token place (b ∷ bs) x (suc w) e some =
     let one_less : suc w - 1 ≡ w = omega arith in
-    rw (e, one_less) (ap (with_first (record { symbol = x; place = place })) (skipped (place + 1) w bs ∙ ap (λ p. cut_from p 0 (drop w bs)) (let e : place + 1 + w ≡ place + suc w = omega arith in e)))
+    rw (e, one_less) (ap (put_in_front (record { symbol = x; place = place })) (skipped (place + 1) w bs ∙ ap (λ p. cut_from p 0 (drop w bs)) (let e : place + 1 + w ≡ place + suc w = omega arith in e)))
 
 pub cut_blank : (place : ℕ) (bytes : List ℕ) → front_piece place bytes ≡ blank → cut_from place 0 bytes ≡ cut_from (place + 1) 0 (drop 1 bytes)
 unfolding cut_from
@@ -79,7 +79,7 @@ cut_bad place [] fault e = cc
 cut_bad place (b ∷ bs) fault e = rw e refl
 
 -- one more token
-pub with_one_more : (so_far : List Placed) (t : Placed) (rest : Result (List Placed) QueryFault) → with_tokens so_far (with_first t rest) ≡ with_tokens (so_far ++ t ∷ []) rest
+pub with_one_more : (so_far : List Placed) (t : Placed) (rest : Result (List Placed) QueryFault) → with_tokens so_far (put_in_front t rest) ≡ with_tokens (so_far ++ t ∷ []) rest
 with_one_more so_far t (Ok ts) = ap Ok (sym (append_assoc so_far (t ∷ []) ts))
 with_one_more so_far t (Err e) = refl
 

@@ -13,7 +13,7 @@ use Rattle.star_query.specs.Symbols.{Symbol, Placed, symbols}
 use Rattle.star_query.specs.Private.Lexed.{placed, symbol_of, IsCutFault, IsLexical}
 use Rattle.star_query.specs.Cut.{cut_of}
 use Rattle.star_query.specs.Tree as tree
-use Rattle.star_query.specs.Derives.{symbols_at, Derives, FirstFault, Means, IsFirstFault, place_of}
+use Rattle.star_query.specs.Derives.{symbols_at, Derives, FirstQueryFault, Means, IsFirstQueryFault, first_place}
 use Rattle.star_query.specs.declared.counts.Counts.{Counts}
 use Rattle.star_query.specs.Private.Machine.{Bad, begin, nothing_counted, run}
 use Rattle.star_query.specs.Views.{tree_view}
@@ -53,10 +53,10 @@ stops_at tokens f left e =
     record {
       front = take n tokens;
       cut = take_drop n tokens;
-      first = subst (FirstFault (symbols tokens) f) (sym (left_over tokens (symbols_at first.front) left first.cut)) first;
+      first = subst (FirstQueryFault (symbols tokens) f) (sym (left_over tokens (symbols_at first.front) left first.cut)) first;
     }
 
-pub token_fault : (tokens : List Placed) (f : Fault) (left : List Symbol) (place end : ℕ) → verdict_of (symbols tokens) ≡ Bad f left → place ≡ place_of (drop (length tokens - length left) tokens) end → IsTokenFault tokens end (refusal_of f place)
+pub token_fault : (tokens : List Placed) (f : Fault) (left : List Symbol) (place end : ℕ) → verdict_of (symbols tokens) ≡ Bad f left → place ≡ first_place (drop (length tokens - length left) tokens) end → IsTokenFault tokens end (refusal_of f place)
 token_fault tokens Unexpected left place end e at = (drop (length tokens - length left) tokens, stops_at tokens Unexpected left e, at)
 token_fault tokens TooDeep left place end e at = (drop (length tokens - length left) tokens, stops_at tokens TooDeep left e)
 token_fault tokens TooMany left place end e at = (drop (length tokens - length left) tokens, stops_at tokens TooMany left e)
@@ -92,10 +92,10 @@ tokens_read ts n new t e reads u d = one_tree (symbols (map placed ts)) (tree_vi
 left_length : (left : List Token) → length (map (λ t. symbol_of t.kind t.place) left) ≡ length left
 left_length left = length-map left (λ t. symbol_of t.kind t.place)
 
-pub tokens_fault : (ts left : List Token) (n : Counts) (f : Fault) (place end passed : ℕ) → n ≡ nothing_counted → run (map (λ t. symbol_of t.kind t.place) ts) begin n ≡ Bad f (map (λ t. symbol_of t.kind t.place) left) → passed ≡ length ts - length left → place ≡ place_of (drop passed (map placed ts)) end → IsTokenFault (map placed ts) end (refusal_of f place)
+pub tokens_fault : (ts left : List Token) (n : Counts) (f : Fault) (place end passed : ℕ) → n ≡ nothing_counted → run (map (λ t. symbol_of t.kind t.place) ts) begin n ≡ Bad f (map (λ t. symbol_of t.kind t.place) left) → passed ≡ length ts - length left → place ≡ first_place (drop passed (map placed ts)) end → IsTokenFault (map placed ts) end (refusal_of f place)
 tokens_fault ts left n f place end passed e bad behind at =
     let same : passed ≡ length (map placed ts) - length (map (λ t. symbol_of t.kind t.place) left) = omega (arith, length-map ts placed, left_length left) in
-    token_fault (map placed ts) f (map (λ t. symbol_of t.kind t.place) left) place end (sym (fresh ts n e) ∙ bad) (at ∙ ap (λ k. place_of (drop k (map placed ts)) end) same)
+    token_fault (map placed ts) f (map (λ t. symbol_of t.kind t.place) left) place end (sym (fresh ts n e) ∙ bad) (at ∙ ap (λ k. first_place (drop k (map placed ts)) end) same)
 
 pub tokens_no_tree : (ts left : List Token) (n : Counts) (f : Fault) (place : ℕ) (u : tree.Tree) → n ≡ nothing_counted → run (map (λ t. symbol_of t.kind t.place) ts) begin n ≡ Bad f (map (λ t. symbol_of t.kind t.place) left) → Derives (symbols (map placed ts)) u → IsTreeRead u (Err (refusal_of f place))
 tokens_no_tree ts left n f place u e bad d =
@@ -106,7 +106,7 @@ pub means_tokens : (bytes : List ℕ) (tokens : List Placed) (t : tree.Tree) →
 means_tokens bytes tokens t short cut d = record { short = short; tokens = tokens; cut = cut; derives = d }
 
 -- the parser's answer of an error
-pub error_fault : (ts left : List Token) (n m : Counts) (error : ParseError) (place end passed : ℕ) → n ≡ nothing_counted → EndsBad error (record { left = map (λ t. symbol_of t.kind t.place) left; counts = m }) (run (map (λ t. symbol_of t.kind t.place) ts) begin n) → passed ≡ length ts - length left → place ≡ place_of (drop passed (map placed ts)) end → IsTokenFault (map placed ts) end (query_fault error place)
+pub error_fault : (ts left : List Token) (n m : Counts) (error : ParseError) (place end passed : ℕ) → n ≡ nothing_counted → EndsBad error (record { left = map (λ t. symbol_of t.kind t.place) left; counts = m }) (run (map (λ t. symbol_of t.kind t.place) ts) begin n) → passed ≡ length ts - length left → place ≡ first_place (drop passed (map placed ts)) end → IsTokenFault (map placed ts) end (query_fault error place)
 error_fault ts left n m errors.OutOfMemory place end passed e bad behind at = tt
 error_fault ts left n m (errors.Fault f) place end passed e bad behind at = tokens_fault ts left n f place end passed e bad behind at
 
@@ -115,7 +115,7 @@ error_no_tree ts left n m errors.OutOfMemory place u e bad d = tt
 error_no_tree ts left n m (errors.Fault f) place u e bad d = tokens_no_tree ts left n f place u e bad d
 
 -- the faults of the cut are faults of the text
-pub fault_of_text : (bytes : List ℕ) (fault : QueryFault) → length bytes ≤ 65536 → IsCutFault bytes fault → IsLexical fault → IsFirstFault bytes fault
+pub fault_of_text : (bytes : List ℕ) (fault : QueryFault) → length bytes ≤ 65536 → IsCutFault bytes fault → IsLexical fault → IsFirstQueryFault bytes fault
 fault_of_text bytes faults.OutOfMemory short e lexical = tt
 fault_of_text bytes (faults.BadCharacter n) short e lexical = (short, e)
 fault_of_text bytes (faults.BadNumber n) short e lexical = (short, e)

@@ -7,7 +7,7 @@ use Rattle.star_common.specs.Quotes.{doubled}
 use Rattle.star_schema.specs.Tables.{is_printable}
 use Rattle.star_query.specs.declared.fault.QueryFault.{QueryFault}
 use Rattle.star_query.specs.declared.fault.QueryFault.TheVariants.{BadCharacter, OpenText}
-use Rattle.star_query.specs.Cut.{with_first, said}
+use Rattle.star_query.specs.Cut.{put_in_front, text_said}
 use Rattle.star_query.specs.Cut as cut
 use Rattle.star_query.specs.Symbols.{text}
 use Rattle.star_query.specs.Tokens.{HasBadByte, IsOpen, is_whole}
@@ -35,7 +35,7 @@ Agrees opened at q bytes open_ended r = r ≡ Err (OpenText opened)
 
 -- behind the second of two quotes
 second_quote : (opened at b : ℕ) (bs : List ℕ) (e : Ending) (r : Result (List ℕ) QueryFault) → b ≡ 39
-    → Agrees opened (at + 1) false bs e r → Agrees opened at true (b ∷ bs) (farther e) (with_first b r)
+    → Agrees opened (at + 1) false bs e r → Agrees opened at true (b ∷ bs) (farther e) (put_in_front b r)
 second_quote opened at b bs (closed zero) r is a = absurd (omega (arith, a.1))
 second_quote opened at b bs (closed (suc n)) r is a =
     let less : suc n - 1 ≡ n = omega arith in
@@ -59,7 +59,7 @@ first_quote opened at b bs open_ended r is a = a
 
 -- behind another byte
 other_byte : (opened at b : ℕ) (bs : List ℕ) (e : Ending) (r : Result (List ℕ) QueryFault) → (b == 39) ≡ false
-    → Agrees opened (at + 1) false bs e r → Agrees opened at false (b ∷ bs) (farther e) (with_first b r)
+    → Agrees opened (at + 1) false bs e r → Agrees opened at false (b ∷ bs) (farther e) (put_in_front b r)
 other_byte opened at b bs (closed zero) r is a = absurd (omega (arith, a.1))
 other_byte opened at b bs (closed (suc n)) r is a =
     let less : suc n - 1 ≡ n = omega arith in
@@ -71,24 +71,24 @@ other_byte opened at b bs (stopped n) r is a =
     let same : at + 1 + n ≡ at + (n + 1) = omega arith in rw a (ap (λ p. Err (BadCharacter p)) same)
 other_byte opened at b bs open_ended r is a = rw a refl
 
-agrees : (opened at : ℕ) (q : Bool) (bytes : List ℕ) → Agrees opened at q bytes (ending_after q bytes) (said opened at q bytes)
+agrees : (opened at : ℕ) (q : Bool) (bytes : List ℕ) → Agrees opened at q bytes (ending_after q bytes) (text_said opened at q bytes)
 agrees opened at true [] = (refl, refl)
 agrees opened at false [] = refl
 agrees opened at true (b ∷ bs) =
     by_bool (b == 39)
-    (λ quote. rw quote (second_quote opened at b bs (ending_after false bs) (said opened (at + 1) false bs) (eqb-true b 39 quote) (agrees opened (at + 1) false bs)))
+    (λ quote. rw quote (second_quote opened at b bs (ending_after false bs) (text_said opened (at + 1) false bs) (eqb-true b 39 quote) (agrees opened (at + 1) false bs)))
     (λ other. rw other (refl, refl))
 agrees opened at false (b ∷ bs) =
     by_bool (b == 39)
-    (λ quote. rw quote (first_quote opened at b bs (ending_after true bs) (said opened (at + 1) true bs) (eqb-true b 39 quote) (agrees opened (at + 1) true bs)))
+    (λ quote. rw quote (first_quote opened at b bs (ending_after true bs) (text_said opened (at + 1) true bs) (eqb-true b 39 quote) (agrees opened (at + 1) true bs)))
     (λ other. by_bool (is_printable b)
-    (λ printed. rw (other, printed) (other_byte opened at b bs (ending_after false bs) (said opened (at + 1) false bs) other (agrees opened (at + 1) false bs)))
+    (λ printed. rw (other, printed) (other_byte opened at b bs (ending_after false bs) (text_said opened (at + 1) false bs) other (agrees opened (at + 1) false bs)))
     (λ bad. rw (other, bad) (let same : at ≡ at + 0 = omega arith in ap (λ p. Err (BadCharacter p)) same)))
 
 pub same_text_piece : (place : ℕ) (bytes : List ℕ) → cut.text_piece place bytes ≡ text_piece place bytes
 same_text_piece place bytes = go (ending_after false bytes) refl (agrees place (place + 1) false bytes)
   where
-    go : (e : Ending) → ending_after false bytes ≡ e → Agrees place (place + 1) false bytes e (said place (place + 1) false bytes) → cut.text_piece place bytes ≡ text_piece place bytes
+    go : (e : Ending) → ending_after false bytes ≡ e → Agrees place (place + 1) false bytes e (text_said place (place + 1) false bytes) → cut.text_piece place bytes ≡ text_piece place bytes
     go (closed n) h a =
         let width : length (flat_map doubled (pending false n bytes)) + 2 ≡ n + 1 = omega (arith, a.1) in
         rw (h, a.0, width) refl
@@ -119,7 +119,7 @@ quote_printed = refl
 -- one byte more of a text, which is written so
 written_first : (opened from at b : ℕ) (q : Bool) (bs whole : List ℕ) (r : Result (List ℕ) QueryFault) → is_printable b ≡ true
     → waiting q whole ≡ doubled b ++ bs → from + waits q ≡ at + length (doubled b)
-    → Reads opened from false bs r → Reads opened at q whole (with_first b r)
+    → Reads opened from false bs r → Reads opened at q whole (put_in_front b r)
 written_first opened from at b q bs whole (Ok t) printed cut places (rest, parted, all, over) =
     (rest, cut ∙ ap (λ xs. doubled b ++ xs) parted ∙ sym (append_assoc (doubled b) (flat_map doubled t) (39 ∷ rest)), and_from _ _ printed all, over)
 written_first opened from at b q bs whole (Err (OpenText o)) printed cut places (same, is) =
@@ -148,25 +148,25 @@ behind_quote opened at b bs (Err (BadCharacter p)) is (n, place, found) = (n, om
 behind_quote opened at b bs (Err _) is wrong = wrong
 
 -- what is read of the bytes is written so
-pub reads : (opened at : ℕ) (q : Bool) (bytes : List ℕ) → Reads opened at q bytes (said opened at q bytes)
+pub reads : (opened at : ℕ) (q : Bool) (bytes : List ℕ) → Reads opened at q bytes (text_said opened at q bytes)
 reads opened at true [] = ([], refl, refl, refl)
 reads opened at false [] = (refl, record { said = []; cut = refl; printed = refl })
 reads opened at true (b ∷ bs) =
     by_bool (b == 39)
-    (λ quote. rw quote (written_first opened (at + 1) at b true bs (b ∷ bs) (said opened (at + 1) false bs)
+    (λ quote. rw quote (written_first opened (at + 1) at b true bs (b ∷ bs) (text_said opened (at + 1) false bs)
     (rw (eqb-true b 39 quote) refl) (rw (eqb-true b 39 quote) refl) (rw quote (let e : at + 1 + 1 ≡ at + 2 = omega arith in e)) (reads opened (at + 1) false bs)))
     (λ other. rw other (b ∷ bs, refl, refl, rw other refl))
 reads opened at false (b ∷ bs) =
     by_bool (b == 39)
-    (λ quote. rw quote (behind_quote opened at b bs (said opened (at + 1) true bs) (eqb-true b 39 quote) (reads opened (at + 1) true bs)))
+    (λ quote. rw quote (behind_quote opened at b bs (text_said opened (at + 1) true bs) (eqb-true b 39 quote) (reads opened (at + 1) true bs)))
     (λ other. by_bool (is_printable b)
-    (λ printed. rw (other, printed) (written_first opened (at + 1) at b false bs (b ∷ bs) (said opened (at + 1) false bs)
+    (λ printed. rw (other, printed) (written_first opened (at + 1) at b false bs (b ∷ bs) (text_said opened (at + 1) false bs)
     printed (rw other refl) (rw other (let e : at + 1 + 0 ≡ at + 1 = omega arith in e)) (reads opened (at + 1) false bs)))
     (λ bad. rw (other, bad) (0, refl, record { said = []; b = b; rest = bs; cut = refl; printed = refl; bad = bad; where_it_is = refl })))
 
 -- and what is written so is read
 pub read_closed : (opened at : ℕ) (t rest : List ℕ) → list_all is_printable t ≡ true → is_whole (text []) rest ≡ true
-    → said opened at false (flat_map doubled t ++ 39 ∷ rest) ≡ Ok t
+    → text_said opened at false (flat_map doubled t ++ 39 ∷ rest) ≡ Ok t
 read_closed opened at [] [] printed over = refl
 read_closed opened at [] (c ∷ cs) printed over =
     by_bool (c == 39) (λ quote. absurd (let wrong = rw quote at over in cc)) (λ other. rw other refl)
@@ -176,7 +176,7 @@ read_closed opened at (b ∷ t) rest printed over =
     (λ quote. rw (quote, read_closed opened (at + 1 + 1) t rest both.1 over) (ap (λ c. Ok (c ∷ t)) (sym (eqb-true b 39 quote))))
     (λ other. rw (other, other, both.0, read_closed opened (at + 1) t rest both.1 over) refl)
 
-pub read_open : (opened at : ℕ) (t : List ℕ) → list_all is_printable t ≡ true → said opened at false (flat_map doubled t) ≡ Err (OpenText opened)
+pub read_open : (opened at : ℕ) (t : List ℕ) → list_all is_printable t ≡ true → text_said opened at false (flat_map doubled t) ≡ Err (OpenText opened)
 read_open opened at [] printed = refl
 read_open opened at (b ∷ t) printed =
     let both = and_parts (is_printable b) (list_all is_printable t) printed in
@@ -189,7 +189,7 @@ no_quote : (b : ℕ) → is_printable b ≡ false → (b == 39) ≡ false
 no_quote b bad = by_bool (b == 39) (λ quote. absurd (let wrong = rw (eqb-true b 39 quote) at bad in cc)) (λ other. other)
 
 pub read_stopped : (opened at : ℕ) (t : List ℕ) (c : ℕ) (rest : List ℕ) → list_all is_printable t ≡ true → is_printable c ≡ false
-    → said opened at false (flat_map doubled t ++ c ∷ rest) ≡ Err (BadCharacter (at + length (flat_map doubled t)))
+    → text_said opened at false (flat_map doubled t ++ c ∷ rest) ≡ Err (BadCharacter (at + length (flat_map doubled t)))
 read_stopped opened at [] c rest printed bad = rw (no_quote c bad, bad) (let e : at ≡ at + 0 = omega arith in ap (λ p. Err (BadCharacter p)) e)
 read_stopped opened at (b ∷ t) c rest printed bad =
     let both = and_parts (is_printable b) (list_all is_printable t) printed in
@@ -197,5 +197,5 @@ read_stopped opened at (b ∷ t) c rest printed bad =
     (λ quote. rw (quote, read_stopped opened (at + 1 + 1) t c rest both.1 bad) (let e : at + 1 + 1 + length (flat_map doubled t) ≡ at + suc (suc (length (flat_map doubled t))) = omega arith in ap (λ p. Err (BadCharacter p)) e))
     (λ other. rw (other, other, both.0, read_stopped opened (at + 1) t c rest both.1 bad) (let e : at + 1 + length (flat_map doubled t) ≡ at + suc (length (flat_map doubled t)) = omega arith in ap (λ p. Err (BadCharacter p)) e))
 
-pub said_printed : (opened at : ℕ) (bytes t : List ℕ) → said opened at false bytes ≡ Ok t → list_all is_printable t ≡ true
+pub said_printed : (opened at : ℕ) (bytes t : List ℕ) → text_said opened at false bytes ≡ Ok t → list_all is_printable t ≡ true
 said_printed opened at bytes t h = let r = subst (Reads opened at false bytes) h (reads opened at false bytes) in r.2

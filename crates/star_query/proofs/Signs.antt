@@ -4,6 +4,7 @@ use Rattle.std.specs.Prelude.{◌==◌}
 use Rattle.std.specs.List.{slice_get}
 use Rattle.std.proofs.lemmas.Bool.{eq-eqb, eqb-true}
 use Rattle.std.specs.Char.{is_ascii_digit}
+use Rattle.star_common.specs.WhiteSpace.{is_blank}
 use Rattle.star_query.specs.Cut as cut
 use Rattle.star_query.specs.Private.Lexed.{front_piece}
 use Rattle.star_query.specs.Private.Quoted.{sign_piece}
@@ -50,6 +51,6 @@ same_sign_piece place b bs =
 
 -- what begins with a byte that is none of the others begins with a sign
 pub sign_at : (place b : ℕ) (bs text : List ℕ) (found : cut.Piece) → found ≡ sign_piece place b (slice_get bs 0) → text ≡ b ∷ bs
-    → cut.is_blank b ≡ false → cut.is_letter b ≡ false → is_ascii_digit b ≡ false → (b == 39) ≡ false → found ≡ front_piece place text
+    → is_blank b ≡ false → cut.is_letter b ≡ false → is_ascii_digit b ≡ false → (b == 39) ≡ false → found ≡ front_piece place text
 sign_at place b bs text found is cut no_blank no_letter no_digit no_quote =
     rw (cut, no_blank, no_letter, no_digit, no_quote) (is ∙ sym (same_sign_piece place b bs))

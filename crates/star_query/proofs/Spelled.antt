@@ -12,18 +12,18 @@ use Rattle.star_query.specs.Cut.{begins_with_letter, is_word_byte}
 use Rattle.star_query.specs.Symbols.{keyword, additive, sign}
 use Rattle.star_query.specs.Tree as tree
 use Rattle.star_query.specs.Tree.{Name, Tree}
-use Rattle.star_query.specs.Grammar.{Several, one, more, Expr, lone_term, joined, Term, lone_factor, times, Factor, column, constant, negative, parens, Lit, whole, negated, quoted, Cond, lone_conj, or_conj, Conj, lone_unit, and_unit, Unary, not_unit, group, pair, compare, between, Agg, folded, counted, plain, aggregate, Key, unmarked, ascending, descending, Groups, ungrouped, grouped, hiding, Query, Mark, at, ident, expr_marks, term_marks, factor_marks, lit_marks, cond_marks, conj_marks, unit_marks, agg_marks, item_marks, table_marks, column_marks, key_marks, several_marks, where_marks, groups_marks, keys_marks, end_marks, query_marks, combined, expr_tree, term_tree, factor_tree, lit_tree, cond_tree, conj_tree, unit_tree, agg_tree, item_tree, key_tree, listed, groups_tree, keys_tree, query_tree}
-use Rattle.star_query.specs.Derives.{IsShort, Means, symbols_at}
-use Rattle.star_query.specs.Spelled.{is_name, is_number, literal_is_spelled, expression_is_spelled, condition_is_spelled, where_is_spelled, measure_is_spelled, alias_is_spelled, item_is_spelled, IsSpelledQuery}
+use Rattle.star_query.specs.Grammar.{Several, one, more, Expr, lone_term, joined, Term, lone_factor, times, Factor, column, constant, negative, parens, Lit, whole, negated, quoted, Cond, lone_conj, or_conj, Conj, lone_unit, and_unit, Unary, not_unit, group, pair, compare, between, Agg, folded, counted, plain, aggregate, Key, unmarked, ascending, descending, Groups, ungrouped, grouped, hiding, Query, Mark, at, ident, expr_marks, term_marks, factor_marks, lit_marks, cond_marks, conj_marks, unit_marks, agg_marks, item_marks, table_marks, column_marks, key_marks, several_marks, where_marks, groups_marks, keys_marks, end_marks, query_marks, sum_or_difference, expr_tree, term_tree, factor_tree, lit_tree, cond_tree, conj_tree, unit_tree, agg_tree, item_tree, key_tree, listed, groups_tree, keys_tree, query_tree}
+use Rattle.star_query.specs.Derives.{IsShortName, Means, symbols_at}
+use Rattle.star_query.specs.Spelled.{is_name, has_few_digits, literal_is_spelled, expression_is_spelled, condition_is_spelled, where_is_spelled, measure_is_spelled, alias_is_spelled, item_is_spelled, IsSpelledQuery}
 use Rattle.star_query.proofs.Spelling.{token_is_spelled, cut_spelled}
 
 abbrev IsGood : Mark → Type 0
-IsGood m = (token_is_spelled m.symbol ≡ true) × IsShort m.symbol
+IsGood m = (token_is_spelled m.symbol ≡ true) × IsShortName m.symbol
 
 abbrev Good : List Mark → Type 0
 Good ms = AllByRecursion IsGood ms
 
-each_good : (ms : List Mark) → list_all token_is_spelled (symbols_at ms) ≡ true → AllByRecursion (λ m. IsShort m.symbol) ms → Good ms
+each_good : (ms : List Mark) → list_all token_is_spelled (symbols_at ms) ≡ true → AllByRecursion (λ m. IsShortName m.symbol) ms → Good ms
 each_good [] spelled short = tt
 each_good (m ∷ ms) spelled short =
     let both = and_parts (token_is_spelled m.symbol) (list_all token_is_spelled (symbols_at ms)) spelled in ((both.0, short.0), each_good ms both.1 short.1)
@@ -37,18 +37,18 @@ unfolding is_name
 name_good i good =
     let both = and_parts (begins_with_letter i.text) (list_all is_word_byte i.text) good.0 in and_from _ _ both.0 (and_from _ _ both.1 (le-leb (length i.text) 64 good.1))
 
-positive_good : (n : ℕ) → nat_lt n (10 ^ 18) ≡ true → is_number (pos n) ≡ true
-unfolding is_number
+positive_good : (n : ℕ) → nat_lt n (10 ^ 18) ≡ true → has_few_digits (pos n) ≡ true
+unfolding has_few_digits
 positive_good n e = e
 
-negative_good : (n : ℕ) → nat_lt n (10 ^ 18) ≡ true → is_number (neg_ℤ (pos n)) ≡ true
-unfolding is_number
+negative_good : (n : ℕ) → nat_lt n (10 ^ 18) ≡ true → has_few_digits (neg_ℤ (pos n)) ≡ true
+unfolding has_few_digits
 negative_good zero e = e
 negative_good (suc n) e = e
 
 -- ---- expressions
 
-combined_good : (q : Additive) (a b : tree.Expression tree.Name) → expression_is_spelled a ≡ true → expression_is_spelled b ≡ true → expression_is_spelled (combined q a b) ≡ true
+combined_good : (q : Additive) (a b : tree.Expression tree.Name) → expression_is_spelled a ≡ true → expression_is_spelled b ≡ true → expression_is_spelled (sum_or_difference q a b) ≡ true
 combined_good Plus a b e f = and_from _ _ e f
 combined_good Minus a b e f = and_from _ _ e f
 

@@ -14,8 +14,9 @@ use Rattle.star_query.specs.declared.token.Word.TheVariants as words
 use Rattle.star_query.specs.declared.fault.QueryFault.{QueryFault}
 use Rattle.star_query.specs.declared.fault.QueryFault.TheVariants.{BadNumber}
 use Rattle.star_query.specs.Symbols.{Symbol, Placed, name, number, text, symbols, word_symbol, lowered}
-use Rattle.star_query.specs.Cut.{Piece, blank, token, bad, said, signs, is_blank, is_letter, is_word_byte, begins_with_letter, reserved, word_of, word_piece, number_piece, text_piece, sign_piece, piece_at, with_first, before_rest, cut_from, cut_of}
-use Rattle.star_query.specs.Spelled.{is_text}
+use Rattle.star_query.specs.Cut.{Piece, blank, token, bad, text_said, signs, is_letter, is_word_byte, begins_with_letter, reserved, word_of, word_piece, number_piece, text_piece, sign_piece, piece_at, put_in_front, before_rest, cut_from, cut_of}
+use Rattle.star_common.specs.WhiteSpace.{is_blank}
+use Rattle.star_query.specs.Spelled.{is_printable_text}
 use Rattle.star_query.proofs.Counting.{by_bool}
 use Rattle.star_query.proofs.Lexing.{prefix_passes}
 use Rattle.star_query.proofs.Quotes.{said_printed}
@@ -24,7 +25,7 @@ use Rattle.star_query.proofs.Quotes.{said_printed}
 abbrev pub token_is_spelled : Symbol → Bool
 token_is_spelled (name word place) = begins_with_letter word && list_all is_word_byte word
 token_is_spelled (number n) = nat_lt n (10 ^ 18)
-token_is_spelled (text bytes) = is_text bytes
+token_is_spelled (text bytes) = is_printable_text bytes
 token_is_spelled _ = true
 
 -- ---- words
@@ -105,10 +106,10 @@ found_in good test (y ∷ ys) x e all = let both = and_parts (good y) (list_all 
     go false fails e here later = later e
 
 text_piece_spelled : (place : ℕ) (bytes : List ℕ) → IsSpelledPiece (text_piece place bytes)
-unfolding is_text
-text_piece_spelled place bytes = go (said place (place + 1) false bytes) refl
+unfolding is_printable_text
+text_piece_spelled place bytes = go (text_said place (place + 1) false bytes) refl
   where
-    go : (r : Result (List ℕ) QueryFault) → said place (place + 1) false bytes ≡ r → IsSpelledPiece (text_piece place bytes)
+    go : (r : Result (List ℕ) QueryFault) → text_said place (place + 1) false bytes ≡ r → IsSpelledPiece (text_piece place bytes)
     go (Ok t) h = rw h (said_printed place (place + 1) bytes t h)
     go (Err e) h = rw h tt
 
@@ -137,7 +138,7 @@ piece_spelled place b bs =
 
 -- ---- the cut
 
-with_token_gave : (t : Placed) (r : Result (List Placed) QueryFault) (ts : List Placed) → with_first t r ≡ Ok ts → (us : List Placed) × (r ≡ Ok us) × (t ∷ us ≡ ts)
+with_token_gave : (t : Placed) (r : Result (List Placed) QueryFault) (ts : List Placed) → put_in_front t r ≡ Ok ts → (us : List Placed) × (r ≡ Ok us) × (t ∷ us ≡ ts)
 with_token_gave t (Ok us) ts e = (us, refl, cc)
 with_token_gave t (Err f) ts e = absurd (cc)
 

@@ -13,7 +13,7 @@ use Rattle.star_query.specs.Symbols.{Symbol, Placed, symbols}
 use Rattle.star_query.specs.Tree.{Tree}
 use Rattle.star_query.specs.Grammar.{Query, Mark, query_marks, query_tree}
 use Rattle.star_query.specs.Maxima.{limit}
-use Rattle.star_query.specs.Derives.{count_of, IsShort, IsLong, IsWithin, symbols_at, Derives, Begins, IsDead, Breaks, IsTooDeep, IsTooMany, Fails, FirstFault, Means}
+use Rattle.star_query.specs.Derives.{count_begun, IsShortName, IsLongName, AreWithinLimits, symbols_at, Derives, BeginsQuery, NoQueryGoesOn, Breaks, IsTooDeep, IsTooMany, QueryFails, FirstQueryFault, Means}
 use Rattle.star_query.specs.Private.Machine.{State, begin, Step, to, step, at_end, Verdict, Whole, Bad, number_of, plus, is_over, is_long, checked, after, ends, run, nothing_counted}
 use Rattle.star_query.proofs.Counting.{not_below, number-plus, not_over, over_some, fits_after, short_name, long_name, not_long}
 use Rattle.star_query.proofs.Accepting.{Accepts, query_goes}
@@ -39,8 +39,8 @@ pub record Reaches (from : State) (n : Counts) (xs : List Symbol) (last : State)
   pub cut : xs ≡ symbols_at ms ++ left
   pub goes : Goes from ms last
   pub depth : AllByRecursion (λ m. m.depth ≤ 32) ms
-  pub names : AllByRecursion (λ m. IsShort m.symbol) ms
-  pub numbers : (p : Part) → number_of n' p ≡ number_of n p + count_of p ms
+  pub names : AllByRecursion (λ m. IsShortName m.symbol) ms
+  pub numbers : (p : Part) → number_of n' p ≡ number_of n p + count_begun p ms
   pub fits : (p : Part) → number_of n' p ≤ limit p
 
 -- why it stops there
@@ -126,7 +126,7 @@ found (x ∷ xs) from n fits = by_step (step from x) refl (λ next m. found xs n
     by_step (Some st) e rest = deep st e rest (nat_lt 32 st.at.depth) refl
 
 -- within the limits nothing stops it
-accepts_run : (ms : List Mark) (from : State) (n : Counts) (q : Query) → Accepts from ms q → AllByRecursion (λ m. m.depth ≤ 32) ms → AllByRecursion (λ m. IsShort m.symbol) ms → ((p : Part) → number_of n p + count_of p ms ≤ limit p) → run (symbols_at ms) from n ≡ Whole q
+accepts_run : (ms : List Mark) (from : State) (n : Counts) (q : Query) → Accepts from ms q → AllByRecursion (λ m. m.depth ≤ 32) ms → AllByRecursion (λ m. IsShortName m.symbol) ms → ((p : Part) → number_of n p + count_begun p ms ≤ limit p) → run (symbols_at ms) from n ≡ Whole q
 accepts_run [] from n q g deep names fits = ap ends g
 accepts_run (m ∷ ms) from n q g deep names fits =
     let shallow : nat_lt 32 m.depth ≡ false = not_below 32 m.depth deep.0 in
@@ -163,7 +163,7 @@ only xs t d =
     (d.phrase, ap verdict_of (sym d.written) ∙ accepts_run (query_marks d.phrase) begin nothing_counted d.phrase (query_goes d.phrase) d.within.depth d.within.names (λ p. omega (arith, none_counted p, d.within.counts p)), d.read)
 
 -- what was reached from the beginning is within the limits
-reached_within : (xs : List Symbol) (last : State) (n : Counts) (ms : List Mark) (left : List Symbol) → Reaches begin nothing_counted xs last n ms left → IsWithin ms
+reached_within : (xs : List Symbol) (last : State) (n : Counts) (ms : List Mark) (left : List Symbol) → Reaches begin nothing_counted xs last n ms left → AreWithinLimits ms
 reached_within xs last n ms left r =
     record { depth = r.depth; counts = λ p. omega (arith, none_counted p, r.numbers p, r.fits p); names = r.names }
 
@@ -175,7 +175,7 @@ derives_found xs q r =
       phrase = q;
       written = ap symbols_at written ∙ sym (append-nil (symbols_at r.2)) ∙ sym way.cut;
       read = refl;
-      within = subst IsWithin (sym written) (reached_within xs r.0 r.1 r.2 [] way);
+      within = subst AreWithinLimits (sym written) (reached_within xs r.0 r.1 r.2 [] way);
     }
 
 pub derives : (xs : List Symbol) (q : Query) → verdict_of xs ≡ Whole q → Derives xs (query_tree q)
@@ -230,12 +230,12 @@ no_end (f ∷ fs) (m ∷ ms) from last q g way same e =
     let next = sym (same_next g.0 way.0 m f steps) in
     no_end fs ms g.0 last q g.2 (subst (λ s. Goes s fs last) next way.2) rest e
 
-dead : (front : List Mark) (last : State) (n : Counts) (left : List Symbol) → Goes begin front last → HaltsAt Unexpected last n left → IsDead (symbols_at front) left
+dead : (front : List Mark) (last : State) (n : Counts) (left : List Symbol) → Goes begin front last → HaltsAt Unexpected last n left → NoQueryGoesOn (symbols_at front) left
 dead front last n [] way e = λ q same. no_end front (query_marks q) begin last q (query_goes q) way same e
 dead front last n (x ∷ left) way e = λ q more same. no_way front (query_marks q) begin last x more q (query_goes q) way same e
 
 -- a query begins with what was read
-pub begins : (front : List Mark) (last : State) → Goes begin front last → Begins front
+pub begins : (front : List Mark) (last : State) → Goes begin front last → BeginsQuery front
 begins front last way =
     let r = state_finishes last in record { phrase = r.0; more = r.1; written = r.2 ∙ goes_passed front begin last way r.1 }
 
@@ -247,7 +247,7 @@ breaks : (IsOver : List Mark → Mark → Type 0) (Over : Mark → Type 0) (fron
 breaks IsOver Over front last left f way h =
     record { at = h.at; others = h.others; here = h.here; begins = begins (front ++ h.at ∷ []) h.next (goes_one_more front begin last h.next h.at way h.does); over = f h.at h.over }
 
-count_of-append : (p : Part) (ms ns : List Mark) → count_of p (ms ++ ns) ≡ count_of p ms + count_of p ns
+count_of-append : (p : Part) (ms ns : List Mark) → count_begun p (ms ++ ns) ≡ count_begun p ms + count_begun p ns
 count_of-append p [] ns = omega arith
 count_of-append p (m ∷ ms) ns = omega (arith, count_of-append p ms ns)
 
@@ -255,23 +255,23 @@ either : (a b : Bool) → a || b ≡ true → (a ≡ true) ⊎ (b ≡ true)
 either true b e = inl refl
 either false b e = inr e
 
-too_many : (front : List Mark) (n : Counts) → ((p : Part) → number_of n p ≡ count_of p front) → (m : Mark) → IsBeyond n m → IsTooMany front m
+too_many : (front : List Mark) (n : Counts) → ((p : Part) → number_of n p ≡ count_begun p front) → (m : Mark) → IsBeyond n m → IsTooMany front m
 too_many front n numbers m over =
     (ltb-false _ _ over.0, by_cause (either (is_over (plus n m.parts) m.parts) (is_long m.symbol) over.1))
   where
-    by_cause : (is_over (plus n m.parts) m.parts ≡ true) ⊎ (is_long m.symbol ≡ true) → ((p : Part) × (limit p < count_of p (front ++ m ∷ []))) ⊎ IsLong m.symbol
+    by_cause : (is_over (plus n m.parts) m.parts ≡ true) ⊎ (is_long m.symbol ≡ true) → ((p : Part) × (limit p < count_begun p (front ++ m ∷ []))) ⊎ IsLongName m.symbol
     by_cause (inl e) =
         let r = over_some (plus n m.parts) m.parts e in
         inl (r.0, omega (arith, r.1, number-plus m.parts n r.0, numbers r.0, count_of-append r.0 front (m ∷ [])))
     by_cause (inr e) = inr (long_name m.symbol e)
 
-fails : (f : Fault) (front : List Mark) (last : State) (n : Counts) (left : List Symbol) → ((p : Part) → number_of n p ≡ count_of p front) → Goes begin front last → HaltsAt f last n left → Fails f front left
+fails : (f : Fault) (front : List Mark) (last : State) (n : Counts) (left : List Symbol) → ((p : Part) → number_of n p ≡ count_begun p front) → Goes begin front last → HaltsAt f last n left → QueryFails f front left
 fails Unexpected front last n left numbers way h = dead front last n left way h
 fails TooDeep front last n left numbers way h =
     breaks IsTooDeep (λ m. nat_lt 32 m.depth ≡ true) front last left (λ m over. ltb-true _ _ over) way h
 fails TooMany front last n left numbers way h = breaks IsTooMany (IsBeyond n) front last left (too_many front n numbers) way h
 
-first_found : (xs : List Symbol) (f : Fault) (left : List Symbol) → Found begin nothing_counted xs (Bad f left) → FirstFault xs f left
+first_found : (xs : List Symbol) (f : Fault) (left : List Symbol) → Found begin nothing_counted xs (Bad f left) → FirstQueryFault xs f left
 first_found xs f left r =
     record {
       front = r.2;
@@ -281,7 +281,7 @@ first_found xs f left r =
       fails = fails f r.2 r.0 r.1 left (λ p. omega (arith, none_counted p, r.3.numbers p)) r.3.goes r.4;
     }
 
-pub first_fault : (xs : List Symbol) (f : Fault) (left : List Symbol) → verdict_of xs ≡ Bad f left → FirstFault xs f left
+pub first_fault : (xs : List Symbol) (f : Fault) (left : List Symbol) → verdict_of xs ≡ Bad f left → FirstQueryFault xs f left
 first_fault xs f left e = first_found xs f left (subst (Found begin nothing_counted xs) e (found xs begin nothing_counted fits_at_first))
 
 pub refuses : (xs : List Symbol) (f : Fault) (left : List Symbol) (t : Tree) → verdict_of xs ≡ Bad f left → Derives xs t → ⊥
@@ -301,7 +301,7 @@ same_front (x ∷ a) (y ∷ b) ms ns from q r g h e =
     ap (λ m. m ∷ a) head ∙ ap (λ l. y ∷ l) (same_front a b ms ns g.0 q r g.2 (subst (λ s. Accepts s (b ++ ns) r) next h.2) rest)
 
 -- fronts of the same symbols have the same nestings and parts
-pub one_front : (a b : List Mark) → Begins a → Begins b → symbols_at a ≡ symbols_at b → a ≡ b
+pub one_front : (a b : List Mark) → BeginsQuery a → BeginsQuery b → symbols_at a ≡ symbols_at b → a ≡ b
 one_front a b f g e =
     same_front a b f.more g.more begin f.phrase g.phrase (subst (λ ms. Accepts begin ms f.phrase) f.written (query_goes f.phrase)) (subst (λ ms. Accepts begin ms g.phrase) g.written (query_goes g.phrase)) e
 

@@ -9,7 +9,7 @@ use Rattle.star_query.specs.declared.token.Keyword.TheVariants.{Select, From, Ro
 use Rattle.star_query.specs.declared.token.Sign.TheVariants.{Comma, Open, Close, Star, Semicolon}
 use Rattle.star_query.specs.Symbols.{Symbol, Placed, spelling, reserved_words, keyword, count, additive, relation, sign, name, number, text}
 use Rattle.star_query.specs.Cut.{cut_of, cut_from, reserved}
-use Rattle.star_query.specs.Derives.{FirstFault}
+use Rattle.star_query.specs.Derives.{FirstQueryFault}
 use Rattle.star_query.proofs.Verdicts.{first_fault}
 
 -- a symbol, and where its token begins
@@ -106,5 +106,5 @@ rollup_is_reserved = refl
 -- ---- a fault of the grammar
 
 -- select count(*) from
-nothing_behind_from : FirstFault (keyword Select ∷ count 7 ∷ sign Open ∷ sign Star ∷ sign Close ∷ keyword From ∷ []) Unexpected []
+nothing_behind_from : FirstQueryFault (keyword Select ∷ count 7 ∷ sign Open ∷ sign Star ∷ sign Close ∷ keyword From ∷ []) Unexpected []
 nothing_behind_from = first_fault _ Unexpected [] refl

@@ -5,6 +5,7 @@ use Rattle.std.specs.Char.{is_ascii_alphabetic, is_ascii_digit}
 use Rattle.std.specs.Str.Parse.{digits_value}
 use Rattle.std.specs.Cmp.Lexicographic.{pointwise}
 use Rattle.star_common.specs.Quotes.{doubled}
+use Rattle.star_common.specs.WhiteSpace.{is_blank}
 use Rattle.star_schema.specs.Tables.{is_printable}
 use Rattle.star_query.specs.declared.token.Word.{Word}
 use Rattle.star_query.specs.declared.token.Relation.TheVariants as r
@@ -14,10 +15,6 @@ use Rattle.star_query.specs.declared.fault.QueryFault.{QueryFault}
 use Rattle.star_query.specs.declared.fault.QueryFault.TheVariants.{BadCharacter, BadNumber, OpenText}
 use Rattle.star_query.specs.Maxima.{most_digits}
 use Rattle.star_query.specs.Symbols.{Symbol, Placed, relation, sign, additive, name, number, text, spelling, reserved_words, word_symbol, lowered}
-
--- space, tab, carriage return and line feed part tokens
-abbrev pub is_blank : ℕ → Bool
-is_blank b = (b == 32) || (b == 9) || (b == 13) || (b == 10)
 
 abbrev pub is_letter : ℕ → Bool
 is_letter b = is_ascii_alphabetic b || (b == 95)
@@ -63,23 +60,23 @@ number_piece place bytes =
     if nat_lt most_digits width || begins_with_letter (drop width bytes) then bad (BadNumber place) else token (number (digits_value 10 (take width bytes))) width
 
 -- one more in front of what was read
-abbrev pub with_first : {A : Type 0} → A → Result (List A) QueryFault → Result (List A) QueryFault
-with_first x (Ok xs) = Ok (x ∷ xs)
-with_first x (Err e) = Err e
+abbrev pub put_in_front : {A : Type 0} → A → Result (List A) QueryFault → Result (List A) QueryFault
+put_in_front x (Ok xs) = Ok (x ∷ xs)
+put_in_front x (Err e) = Err e
 
 -- what a text says: from behind its opening quote, or from behind a quote of it that closes it unless another one follows
-abbrev pub said : (opened at : ℕ) → (a_quote : Bool) → List ℕ → Result (List ℕ) QueryFault
-said opened at true [] = Ok []
-said opened at false [] = Err (OpenText opened)
-said opened at true (b ∷ bs) = if b == 39 then with_first b (said opened (at + 1) false bs) else Ok []
-said opened at false (b ∷ bs) = before (said opened (at + 1) (b == 39) bs)
+abbrev pub text_said : (opened at : ℕ) → (a_quote : Bool) → List ℕ → Result (List ℕ) QueryFault
+text_said opened at true [] = Ok []
+text_said opened at false [] = Err (OpenText opened)
+text_said opened at true (b ∷ bs) = if b == 39 then put_in_front b (text_said opened (at + 1) false bs) else Ok []
+text_said opened at false (b ∷ bs) = before (text_said opened (at + 1) (b == 39) bs)
   where
     before : Result (List ℕ) QueryFault → Result (List ℕ) QueryFault
-    before rest = if b == 39 then rest else if is_printable b then with_first b rest else Err (BadCharacter at)
+    before rest = if b == 39 then rest else if is_printable b then put_in_front b rest else Err (BadCharacter at)
 
 -- a text, from behind its opening quote: it is written in quotes, each quote of it twice
 abbrev pub text_piece : ℕ → List ℕ → Piece
-text_piece place bytes = read (said place (place + 1) false bytes)
+text_piece place bytes = read (text_said place (place + 1) false bytes)
   where
     read : Result (List ℕ) QueryFault → Piece
     read (Ok t) = token (text t) (length (flat_map doubled t) + 2)
@@ -117,7 +114,7 @@ piece_at place b bs =
 -- a piece, and what is cut behind its first byte and as many more
 abbrev pub before_rest : ℕ → Piece → (ℕ → Result (List Placed) QueryFault) → Result (List Placed) QueryFault
 before_rest place blank rest = rest 0
-before_rest place (token x width) rest = with_first (record { symbol = x; place = place }) (rest (width - 1))
+before_rest place (token x width) rest = put_in_front (record { symbol = x; place = place }) (rest (width - 1))
 before_rest place (bad e) rest = Err e
 
 -- the tokens from a place on, whose first bytes lie inside a token before

@@ -204,15 +204,15 @@ abbrev pub query_marks : Query → List Mark
 query_marks q =
     at 0 (keyword k.Select) ∷ several_marks item_marks q.items (at 0 (keyword k.From) ∷ several_marks table_marks q.tables (where_marks q.condition (groups_marks q.groups (keys_marks q.keys (end_marks q.semicolon)))))
 
-abbrev pub combined : Additive → tree.Expression tree.Name → tree.Expression tree.Name → tree.Expression tree.Name
-combined Plus a b = tree.add a b
-combined Minus a b = tree.sub a b
+abbrev pub sum_or_difference : Additive → tree.Expression tree.Name → tree.Expression tree.Name → tree.Expression tree.Name
+sum_or_difference Plus a b = tree.add a b
+sum_or_difference Minus a b = tree.sub a b
 
 -- what a phrase means: parentheses leave no trace
 abbrev mutual
   pub expr_tree : Expr → tree.Expression tree.Name
   expr_tree (lone_term t) = term_tree t
-  expr_tree (joined e q t) = combined q (expr_tree e) (term_tree t)
+  expr_tree (joined e q t) = sum_or_difference q (expr_tree e) (term_tree t)
 
   pub term_tree : Term → tree.Expression tree.Name
   term_tree (lone_factor f) = factor_tree f

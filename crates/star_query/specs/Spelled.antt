@@ -12,19 +12,19 @@ unfoldable pub is_name : List ℕ → Bool
 is_name word = begins_with_letter word && (list_all is_word_byte word && nat_le (length word) most_name_bytes)
 
 -- at most 18 digits
-unfoldable pub is_number : ℤ → Bool
-is_number z = nat_lt (unsigned_abs z) (10 ^ most_digits)
+unfoldable pub has_few_digits : ℤ → Bool
+has_few_digits z = nat_lt (unsigned_abs z) (10 ^ most_digits)
 
 -- bytes from the space to the tilde
-unfoldable pub is_text : List ℕ → Bool
-is_text bytes = list_all is_printable bytes
+unfoldable pub is_printable_text : List ℕ → Bool
+is_printable_text bytes = list_all is_printable bytes
 
 abbrev pub literal_is_spelled : Literal → Bool
-literal_is_spelled (number z) = is_number z
-literal_is_spelled (text bytes) = is_text bytes
+literal_is_spelled (number z) = has_few_digits z
+literal_is_spelled (text bytes) = is_printable_text bytes
 
 abbrev pub expression_is_spelled : Expression Name → Bool
-expression_is_spelled e = of_operands (λ n. is_name n.text) is_number ◌&&◌ e
+expression_is_spelled e = of_operands (λ n. is_name n.text) has_few_digits ◌&&◌ e
 
 -- a comparison of columns and values that are spelled so
 abbrev pub comparison_is_spelled : {C V : Type 0} → (C → Bool) → (V → Bool) → Comparison C V → Bool

@@ -10,7 +10,8 @@ use Rattle.star_query.specs.declared.fault.QueryFault.{QueryFault}
 use Rattle.star_query.specs.declared.fault.QueryFault.TheVariants.{BadCharacter, BadNumber, OpenText}
 use Rattle.star_query.specs.Maxima.{most_digits}
 use Rattle.star_query.specs.Symbols.{Symbol, Placed, relation, sign, additive, number, text}
-use Rattle.star_query.specs.Cut.{is_blank, is_word_byte, begins_with_letter, word_of, signs}
+use Rattle.star_query.specs.Cut.{is_word_byte, begins_with_letter, word_of, signs}
+use Rattle.star_common.specs.WhiteSpace.{is_blank}
 
 -- ---- tokens
 

@@ -6,7 +6,7 @@ ghost use Rattle.star_query.specs.Private.Reads.{spot_of, No, ReadsOperand, Read
 ghost use Rattle.star_query.specs.Maxima.{most_nestings};
 ghost use Rattle.star_query.specs.Views.{expression_view};
 ghost use Rattle.star_query.specs.Tree as tree;
-ghost use Rattle.star_query.specs.Grammar.{combined};
+ghost use Rattle.star_query.specs.Grammar.{sum_or_difference};
 
 use crate::counts::Part;
 use crate::fault::ParseError;
@@ -91,7 +91,7 @@ fn joined(
     b: Expression<Name>,
 ) -> Result<Expression<Name>, AllocError>
     ensures { IfOk result (λ sum. expression_view sum
-        ≡ combined sign (expression_view a) (expression_view b)) }
+        ≡ sum_or_difference sign (expression_view a) (expression_view b)) }
 {
     let a = Box::new(alloc, a)?;
     let b = Box::new(alloc, b)?;

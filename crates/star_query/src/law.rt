@@ -12,7 +12,7 @@ ghost use Rattle.star_query.specs.Grammar.{Mark};
 ghost use Rattle.star_query.specs.Limits.{IsQueryWithinLimits};
 ghost use Rattle.star_query.specs.Meant.{IsMeant};
 ghost use Rattle.star_query.specs.Spelled.{IsSpelledQuery};
-ghost use Rattle.star_query.specs.Derives.{Means, Begins, IsFirstFault, symbols_at};
+ghost use Rattle.star_query.specs.Derives.{Means, BeginsQuery, IsFirstQueryFault, symbols_at};
 
 /// Each reserved word is what it spells, in any case, and nothing else.
 pub fn reserved_words_are_spelled()
@@ -28,14 +28,14 @@ pub fn one_tree()
 /// How deep a symbol lies and what is counted at it hangs on the symbols up to it alone, so a fault
 /// is the first by every query that goes on so.
 pub fn one_front()
-    ensures { (a b : List Mark) → Begins a → Begins b → symbols_at a ≡ symbols_at b → a ≡ b }
+    ensures { (a b : List Mark) → BeginsQuery a → BeginsQuery b → symbols_at a ≡ symbols_at b → a ≡ b }
 {}
 
 /// A text has one first fault, want of memory aside.
 pub fn one_first_fault()
     ensures { (bytes : List ℕ) (fault other : QueryFault)
         → fault ≢ OutOfMemory → other ≢ OutOfMemory
-        → IsFirstFault bytes fault → IsFirstFault bytes other → fault ≡ other }
+        → IsFirstQueryFault bytes fault → IsFirstQueryFault bytes other → fault ≡ other }
 {}
 
 /// What a text means has at most 16 items, 8 aggregates, 512 operands in them, 256 comparisons, 6
@@ -49,7 +49,7 @@ pub fn meant_trees_are_within_limits()
 /// A text that means a tree has none.
 pub fn texts_that_mean_a_tree_have_no_fault()
     ensures { (bytes : List ℕ) (tree : Tree) (fault : QueryFault)
-        → fault ≢ OutOfMemory → Means bytes tree → IsFirstFault bytes fault → ⊥ }
+        → fault ≢ OutOfMemory → Means bytes tree → IsFirstQueryFault bytes fault → ⊥ }
 {}
 
 /// The tokens of a text, with white space between them, make it: each is as it is written, and the

@@ -3,6 +3,7 @@
 ghost use Rattle.std.specs.Prelude.{◌≡◌, ◌≤◌, ◌+◌, length, IfOk, Ok, Some, None, Option, false, true, IfErr, option_to_list, map, Err};
 ghost use Rattle.std.specs.List.{prefix_len, take_while};
 ghost use Rattle.std.specs.Char.{is_ascii_digit};
+ghost use Rattle.star_common.specs.WhiteSpace as white;
 ghost use Rattle.star_schema.specs.Tables as tables;
 ghost use Rattle.star_query.specs.Cut as spec;
 ghost use Rattle.star_query.specs.Private.Lexed as lexed;
@@ -32,7 +33,7 @@ enum Ending {
 }
 
 fn is_blank(byte: u8) -> bool
-    ensures { result ≡ spec.is_blank byte }
+    ensures { result ≡ white.is_blank byte }
 {
     byte == b' ' || byte == b'\t' || byte == b'\r' || byte == b'\n'
 }

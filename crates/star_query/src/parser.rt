@@ -9,7 +9,7 @@ ghost use Rattle.star_query.specs.Views.{tree_view};
 ghost use Rattle.star_query.specs.Tree as tree;
 ghost use Rattle.star_query.specs.Private.Lexed.{placed};
 ghost use Rattle.star_query.specs.Private.Quoted as quoting;
-ghost use Rattle.star_query.specs.Derives.{Derives, place_of};
+ghost use Rattle.star_query.specs.Derives.{Derives, first_place};
 ghost use Rattle.star_query.specs.Private.TokenFaults.{IsTokenFault, IsTreeRead, query_fault};
 
 use crate::counts::{Counts, MAX_DEPTH, MAX_NAME, Part};
@@ -273,7 +273,7 @@ fn count_passed(tokens: &[Token<'_>], left: &[Token<'_>]) -> usize
 
 // Where the tokens behind so many begin.
 fn place_at(tokens: &[Token<'_>], passed: usize, end: usize) -> usize
-    ensures { result ≡ place_of (drop passed (map placed tokens.now)) end }
+    ensures { result ≡ first_place (drop passed (map placed tokens.now)) end }
 {
     if passed < tokens.len() {
         tokens[passed].place

@@ -34,7 +34,7 @@ impl Query {
     ghost use Rattle.std.specs.Prelude.{◌≡◌, IfOk, IfErr, MatchResult};
     ghost use Rattle.star_query.specs.declared.fault.QueryFault.TheVariants.{OutOfMemory};
     ghost use Rattle.star_query.specs.Tree as spec;
-    ghost use Rattle.star_query.specs.Derives.{Means, IsFirstFault};
+    ghost use Rattle.star_query.specs.Derives.{Means, IsFirstQueryFault};
     ghost use Rattle.star_query.specs.Meant.{IsMeant};
     ghost use Rattle.star_query.specs.Views.{tree_view};
 
@@ -48,7 +48,7 @@ impl Query {
         ensures only { (tree : spec.Tree) → Means text.now tree
             → MatchResult result (λ query. tree_view query ≡ tree) (λ fault. fault ≡ OutOfMemory) }
         // A refusal is the first fault.
-        ensures fault { IfErr result (λ fault. IsFirstFault text.now fault) }
+        ensures fault { IfErr result (λ fault. IsFirstQueryFault text.now fault) }
     {
         if text.len() > MAX_TEXT {
             return Err(QueryFault::TooLong);

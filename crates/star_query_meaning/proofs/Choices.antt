@@ -15,7 +15,7 @@ use Rattle.star_schema.proofs.KeyColumns.{foreign_key}
 use Rattle.star_schema.proofs.Same.{table_same, table_itself}
 use Rattle.star_plan.specs.declared.tree.Join.{Join}
 use Rattle.star_plan.specs.Joins.{is_foreign, is_lone_key, refers}
-use Rattle.star_plan.specs.Meaning.{Joined, Row, Tables, joined_rows, matches, only_row, partners, value_in, value_of, with_row}
+use Rattle.star_plan.specs.Meaning.{Joined, Row, Tables, joined_rows, matches, only_row, partners, value_in, joined_value, with_row}
 use Rattle.star_plan.specs.Sound.{are_distinct}
 use Rattle.star_query_meaning.specs.Rows.{product, with_choices}
 use Rattle.star_query_meaning.proofs.Reorderings.{crossed, each_reordered, reordered}
@@ -155,7 +155,7 @@ module _ (ts : Tables) where
 
 -- the row's foreign key is its dimension's key
 abbrev pub is_joined_by : Joined → Join → Bool
-is_joined_by row j = is_eq (value_cmp (value_of j.foreign row) (value_of j.key row))
+is_joined_by row j = is_eq (value_cmp (joined_value j.foreign row) (joined_value j.key row))
 
 abbrev pub all_joined : List Join → Joined → Bool
 all_joined js row = list_all (is_joined_by row) js

@@ -17,7 +17,7 @@ use Rattle.star_report.proofs.OneOrder.{value_turned}
 use Rattle.star_plan.specs.declared.tree.Join.{Join}
 use Rattle.star_plan.specs.Joins.{Pair, is_foreign, join_by, join_of, joins_of, pairs_of, where_pairs}
 use Rattle.star_plan.specs.Meaning as plan
-use Rattle.star_plan.specs.Meaning.{Joined, all_hold, holds, tests, value_of}
+use Rattle.star_plan.specs.Meaning.{Joined, all_hold, holds, tests, joined_value}
 use Rattle.star_plan.specs.Names.{column_at, literal_value}
 use Rattle.star_plan.specs.Resolved.{conjuncts_of, resolved_condition, resolved_test, where_conjuncts}
 use Rattle.star_plan.proofs.Known.{each_left, each_right}
@@ -28,9 +28,9 @@ use Rattle.star_query_meaning.proofs.Choices.{all_joined, is_joined_by}
 -- ---- names
 
 abbrev value_if : Option ColumnId → Joined → Value
-value_if o row = option_map_or (λ c. value_of c row) o (Number (pos 0))
+value_if o row = option_map_or (λ c. joined_value c row) o (Number (pos 0))
 
-pub named : (n : Name) (c : ColumnId) (row : Joined) → column_at n ≡ Some c → value_named n row ≡ value_of c row
+pub named : (n : Name) (c : ColumnId) (row : Joined) → column_at n ≡ Some c → value_named n row ≡ joined_value c row
 named n c row e = ap (λ o. value_if o row) e
 
 -- ---- conditions in which no two columns are compared
@@ -88,7 +88,7 @@ join_same (Some a) None j row e = absurd (cc)
 join_same (Some a) (Some b) j row e =
     elim (first_or_second (join_by a b) (join_by b a) j e) [
       | inl first ↦ ap (is_joined_by row) (join_made a b j first)
-      | inr second ↦ same_either_way (value_of a row) (value_of b row) ∙ ap (is_joined_by row) (join_made b a j second)
+      | inr second ↦ same_either_way (joined_value a row) (joined_value b row) ∙ ap (is_joined_by row) (join_made b a j second)
     ]
 
 -- ---- conjuncts

@@ -6,13 +6,14 @@ use Rattle.star_schema.specs.declared.column.ColumnId.{ColumnId}
 use Rattle.star_interval.specs.Range.{corner_range, fits_i64}
 use Rattle.star_query.specs.Tree as tree
 use Rattle.star_query.specs.Tree.{Expression, Item, Measure, Name, Tree, add, column, constant, mul, sub}
-use Rattle.star_plan.specs.Fits.{measure_fits, nodes_fit, range_of}
+use Rattle.star_plan.specs.Fits.{measure_fits, nodes_fit, expression_range}
 use Rattle.star_plan.specs.Meaning.{Plan, Tables}
 use Rattle.star_plan.specs.Names.{column_at}
 use Rattle.star_plan.specs.Resolved as resolved
 use Rattle.star_plan.specs.Resolved.{IsResolved, resolved_expression, resolved_measure}
 use Rattle.star_plan.proofs.Options.{both_gave, mapped_gave}
-use Rattle.star_query_meaning.specs.Fitting.{FitsTables, PlanFitsTables, bounds_in, range_named}
+use Rattle.star_schema.specs.Columns.{bounds_in}
+use Rattle.star_query_meaning.specs.Fitting.{FitsTables, PlanFitsTables, range_named}
 use Rattle.star_query_meaning.specs.Rows.{measures_of}
 
 module _ (ts : Tables) where
@@ -20,19 +21,19 @@ module _ (ts : Tables) where
   named n c e = rw e refl
 
   ranges_same : (e : Expression Name) (x : Expression ColumnId) → resolved_expression e ≡ Some x
-      → range_of (range_named ts) e ≡ range_of (bounds_in ts) x
+      → expression_range (range_named ts) e ≡ expression_range (bounds_in ts) x
   ranges_same (tree.column n) x h =
-      let g = mapped_gave column (column_at n) x h in named n g.0 g.1 ∙ ap (range_of (bounds_in ts)) g.2
-  ranges_same (tree.constant z) x h = let same : constant z ≡ x = cc in ap (range_of (bounds_in ts)) same
+      let g = mapped_gave column (column_at n) x h in named n g.0 g.1 ∙ ap (expression_range (bounds_in ts)) g.2
+  ranges_same (tree.constant z) x h = let same : constant z ≡ x = cc in ap (expression_range (bounds_in ts)) same
   ranges_same (tree.add a b) x h =
       let g = both_gave add (resolved_expression a) (resolved_expression b) x h in
-      (λ i. corner_range ◌+ℤ◌ (ranges_same a g.left g.first i) (ranges_same b g.right g.second i)) ∙ ap (range_of (bounds_in ts)) g.made
+      (λ i. corner_range ◌+ℤ◌ (ranges_same a g.left g.first i) (ranges_same b g.right g.second i)) ∙ ap (expression_range (bounds_in ts)) g.made
   ranges_same (tree.sub a b) x h =
       let g = both_gave sub (resolved_expression a) (resolved_expression b) x h in
-      (λ i. corner_range ◌-ℤ◌ (ranges_same a g.left g.first i) (ranges_same b g.right g.second i)) ∙ ap (range_of (bounds_in ts)) g.made
+      (λ i. corner_range ◌-ℤ◌ (ranges_same a g.left g.first i) (ranges_same b g.right g.second i)) ∙ ap (expression_range (bounds_in ts)) g.made
   ranges_same (tree.mul a b) x h =
       let g = both_gave mul (resolved_expression a) (resolved_expression b) x h in
-      (λ i. corner_range ◌*ℤ◌ (ranges_same a g.left g.first i) (ranges_same b g.right g.second i)) ∙ ap (range_of (bounds_in ts)) g.made
+      (λ i. corner_range ◌*ℤ◌ (ranges_same a g.left g.first i) (ranges_same b g.right g.second i)) ∙ ap (expression_range (bounds_in ts)) g.made
 
   nodes_same : (e : Expression Name) (x : Expression ColumnId) → resolved_expression e ≡ Some x
       → nodes_fit (range_named ts) e ≡ nodes_fit (bounds_in ts) x
@@ -42,17 +43,17 @@ module _ (ts : Tables) where
   nodes_same (tree.add a b) x h =
       let g = both_gave add (resolved_expression a) (resolved_expression b) x h in
       let whole = ap (nodes_fit (bounds_in ts)) g.made in
-      let range : range_of (range_named ts) (add a b) ≡ range_of (bounds_in ts) (add g.left g.right) = λ i. corner_range ◌+ℤ◌ (ranges_same a g.left g.first i) (ranges_same b g.right g.second i) in
+      let range : expression_range (range_named ts) (add a b) ≡ expression_range (bounds_in ts) (add g.left g.right) = λ i. corner_range ◌+ℤ◌ (ranges_same a g.left g.first i) (ranges_same b g.right g.second i) in
       (λ i. nodes_same a g.left g.first i && (nodes_same b g.right g.second i && fits_i64 (range i))) ∙ whole
   nodes_same (tree.sub a b) x h =
       let g = both_gave sub (resolved_expression a) (resolved_expression b) x h in
       let whole = ap (nodes_fit (bounds_in ts)) g.made in
-      let range : range_of (range_named ts) (sub a b) ≡ range_of (bounds_in ts) (sub g.left g.right) = λ i. corner_range ◌-ℤ◌ (ranges_same a g.left g.first i) (ranges_same b g.right g.second i) in
+      let range : expression_range (range_named ts) (sub a b) ≡ expression_range (bounds_in ts) (sub g.left g.right) = λ i. corner_range ◌-ℤ◌ (ranges_same a g.left g.first i) (ranges_same b g.right g.second i) in
       (λ i. nodes_same a g.left g.first i && (nodes_same b g.right g.second i && fits_i64 (range i))) ∙ whole
   nodes_same (tree.mul a b) x h =
       let g = both_gave mul (resolved_expression a) (resolved_expression b) x h in
       let whole = ap (nodes_fit (bounds_in ts)) g.made in
-      let range : range_of (range_named ts) (mul a b) ≡ range_of (bounds_in ts) (mul g.left g.right) = λ i. corner_range ◌*ℤ◌ (ranges_same a g.left g.first i) (ranges_same b g.right g.second i) in
+      let range : expression_range (range_named ts) (mul a b) ≡ expression_range (bounds_in ts) (mul g.left g.right) = λ i. corner_range ◌*ℤ◌ (ranges_same a g.left g.first i) (ranges_same b g.right g.second i) in
       (λ i. nodes_same a g.left g.first i && (nodes_same b g.right g.second i && fits_i64 (range i))) ∙ whole
 
   measure_same : (m : Measure Name) (x : Measure ColumnId) → resolved_measure m ≡ Some x
@@ -62,12 +63,12 @@ module _ (ts : Tables) where
       let g = mapped_gave (tree.fold f) (resolved_expression e) x h in
       nodes_same e g.0 g.1 ∙ ap (measure_fits (bounds_in ts)) g.2
 
-  measures_same : (items : List Item) (ms : List (Measure ColumnId)) → resolved.measures_of items ≡ Some ms
+  measures_same : (items : List Item) (ms : List (Measure ColumnId)) → resolved.resolved_measures items ≡ Some ms
       → list_all (measure_fits (range_named ts)) (measures_of items) ≡ list_all (measure_fits (bounds_in ts)) ms
   measures_same [] ms e = let none : [] ≡ ms = cc in ap (list_all (measure_fits (bounds_in ts))) none
   measures_same (tree.plain n ∷ items) ms e = measures_same items ms e
   measures_same (tree.aggregate a ∷ items) ms e =
-      let g = both_gave (λ x xs. x ∷ xs) (resolved_measure a.measure) (resolved.measures_of items) ms e in
+      let g = both_gave (λ x xs. x ∷ xs) (resolved_measure a.measure) (resolved.resolved_measures items) ms e in
       (λ i. measure_same a.measure g.left g.first i && measures_same items g.right g.second i) ∙ ap (list_all (measure_fits (bounds_in ts))) g.made
 
 pub own_fits : (most : ℕ) (ts : Tables) (q : Tree) (p : Plan) → IsResolved q p → FitsTables most ts q ↔ PlanFitsTables most ts p

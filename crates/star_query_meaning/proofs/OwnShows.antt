@@ -18,11 +18,11 @@ use Rattle.star_query.specs.declared.token.Fold.TheVariants as fold
 use Rattle.star_query.specs.Tree as tree
 use Rattle.star_query.specs.Tree.{Expression, Item, Measure, Name, SortKey, Tree, add, column, constant, mul, sub}
 use Rattle.star_plan.specs.Meaning as plan
-use Rattle.star_plan.specs.Meaning.{Joined, Plan, value_of}
+use Rattle.star_plan.specs.Meaning.{Joined, Plan, joined_value}
 use Rattle.star_plan.specs.Names.{column_at, column_called}
-use Rattle.star_plan.specs.Naming.{aggregate_name, aggregate_names, names_from}
+use Rattle.star_plan.specs.Naming.{name_of_aggregate, aggregate_names, names_from, key_column, resolved_key}
 use Rattle.star_plan.specs.Resolved as resolved
-use Rattle.star_plan.specs.Resolved.{items_from, key_column, option_all, resolved_expression, resolved_key, resolved_measure}
+use Rattle.star_plan.specs.Resolved.{items_from, option_all, resolved_expression, resolved_measure}
 use Rattle.star_plan.proofs.Options.{both_gave, mapped_gave}
 use Rattle.star_query_meaning.specs.Answers.{shown_name}
 use Rattle.star_query_meaning.specs.Rows.{measures_of, value_named}
@@ -31,15 +31,15 @@ use Rattle.star_query_meaning.proofs.OwnConditions.{named}
 
 -- ---- the values of a row
 
-pub keys_same : (names : List Name) (cs : List ColumnId) (row : Joined) → option_all column_at names ≡ Some cs → map (λ n. value_named n row) names ≡ map (λ c. value_of c row) cs
-keys_same [] cs row e = let none : [] ≡ cs = cc in ap (map (λ c. value_of c row)) none
+pub keys_same : (names : List Name) (cs : List ColumnId) (row : Joined) → option_all column_at names ≡ Some cs → map (λ n. value_named n row) names ≡ map (λ c. joined_value c row) cs
+keys_same [] cs row e = let none : [] ≡ cs = cc in ap (map (λ c. joined_value c row)) none
 keys_same (n ∷ ns) cs row e =
     let g = both_gave (λ y ys. y ∷ ys) (column_at n) (option_all column_at ns) cs e in
-    (λ i. named n g.left row g.first i ∷ keys_same ns g.right row g.second i) ∙ ap (map (λ c. value_of c row)) g.made
+    (λ i. named n g.left row g.first i ∷ keys_same ns g.right row g.second i) ∙ ap (map (λ c. joined_value c row)) g.made
 
 expression_same : (e : Expression Name) (x : Expression ColumnId) (row : Joined) → resolved_expression e ≡ Some x → plan.number_with (λ n. value_named n row) e ≡ plan.expression_number x row
 expression_same (tree.column n) x row e =
-    let g = mapped_gave column (column_at n) x e in ap plan.number_of (named n g.0 row g.1) ∙ ap (λ y. plan.expression_number y row) g.2
+    let g = mapped_gave column (column_at n) x e in ap plan.value_number (named n g.0 row g.1) ∙ ap (λ y. plan.expression_number y row) g.2
 expression_same (tree.constant z) x row e = let same : constant z ≡ x = cc in ap (λ y. plan.expression_number y row) same
 expression_same (tree.add a b) x row e =
     let g = both_gave add (resolved_expression a) (resolved_expression b) x e in
@@ -52,11 +52,11 @@ expression_same (tree.mul a b) x row e =
     (λ i. expression_same a g.left row g.first i *ℤ expression_same b g.right row g.second i) ∙ ap (λ y. plan.expression_number y row) g.made
 
 measure_same : (m : Measure Name) (x : Measure ColumnId) (row : Joined) → resolved_measure m ≡ Some x
-    → plan.measured (λ n. value_named n row) m ≡ plan.measured (λ c. value_of c row) x
-measure_same tree.count x row e = let same : tree.count ≡ x = cc in ap (plan.measured (λ c. value_of c row)) same
+    → plan.measured (λ n. value_named n row) m ≡ plan.measured (λ c. joined_value c row) x
+measure_same tree.count x row e = let same : tree.count ≡ x = cc in ap (plan.measured (λ c. joined_value c row)) same
 measure_same (tree.fold f e) x row h =
     let g = mapped_gave (tree.fold f) (resolved_expression e) x h in
-    expression_same e g.0 row g.1 ∙ ap (plan.measured (λ c. value_of c row)) g.2
+    expression_same e g.0 row g.1 ∙ ap (plan.measured (λ c. joined_value c row)) g.2
 
 folded_function : (f : Fold) (e : Expression Name) (x : Expression ColumnId) → plan.aggregate_of (tree.fold f e) ≡ plan.aggregate_of (tree.fold f x)
 folded_function fold.Sum e x = refl
@@ -68,18 +68,18 @@ function_same tree.count x e = let same : tree.count ≡ x = cc in ap plan.aggre
 function_same (tree.fold f e) x h =
     let g = mapped_gave (tree.fold f) (resolved_expression e) x h in folded_function f e g.0 ∙ ap plan.aggregate_of g.2
 
-pub values_same : (items : List Item) (ms : List (Measure ColumnId)) (row : Joined) → resolved.measures_of items ≡ Some ms → map (plan.measured (λ n. value_named n row)) (measures_of items) ≡ map (plan.measured (λ c. value_of c row)) ms
-values_same [] ms row e = let none : [] ≡ ms = cc in ap (map (plan.measured (λ c. value_of c row))) none
+pub values_same : (items : List Item) (ms : List (Measure ColumnId)) (row : Joined) → resolved.resolved_measures items ≡ Some ms → map (plan.measured (λ n. value_named n row)) (measures_of items) ≡ map (plan.measured (λ c. joined_value c row)) ms
+values_same [] ms row e = let none : [] ≡ ms = cc in ap (map (plan.measured (λ c. joined_value c row))) none
 values_same (tree.plain n ∷ items) ms row e = values_same items ms row e
 values_same (tree.aggregate a ∷ items) ms row e =
-    let g = both_gave (λ x xs. x ∷ xs) (resolved_measure a.measure) (resolved.measures_of items) ms e in
-    (λ i. measure_same a.measure g.left row g.first i ∷ values_same items g.right row g.second i) ∙ ap (map (plan.measured (λ c. value_of c row))) g.made
+    let g = both_gave (λ x xs. x ∷ xs) (resolved_measure a.measure) (resolved.resolved_measures items) ms e in
+    (λ i. measure_same a.measure g.left row g.first i ∷ values_same items g.right row g.second i) ∙ ap (map (plan.measured (λ c. joined_value c row))) g.made
 
-pub functions_same : (items : List Item) (ms : List (Measure ColumnId)) → resolved.measures_of items ≡ Some ms → map plan.aggregate_of (measures_of items) ≡ map plan.aggregate_of ms
+pub functions_same : (items : List Item) (ms : List (Measure ColumnId)) → resolved.resolved_measures items ≡ Some ms → map plan.aggregate_of (measures_of items) ≡ map plan.aggregate_of ms
 functions_same [] ms e = let none : [] ≡ ms = cc in ap (map plan.aggregate_of) none
 functions_same (tree.plain n ∷ items) ms e = functions_same items ms e
 functions_same (tree.aggregate a ∷ items) ms e =
-    let g = both_gave (λ x xs. x ∷ xs) (resolved_measure a.measure) (resolved.measures_of items) ms e in
+    let g = both_gave (λ x xs. x ∷ xs) (resolved_measure a.measure) (resolved.resolved_measures items) ms e in
     (λ i. function_same a.measure g.left g.first i ∷ functions_same items g.right g.second i) ∙ ap (map plan.aggregate_of) g.made
 
 -- ---- the columns that are shown
@@ -133,7 +133,7 @@ names_same groups p before (tree.aggregate a ∷ items) cs keys e names =
     let g = both_gave (λ c cs. c ∷ cs) (Some (group.Aggregate before)) (items_from groups (before + 1) items) cs e in
     let first : group.Aggregate before ≡ g.left = (let h = g.first in cc) in
     let here : before + 0 ≡ before = omega arith in
-    let own : aggregate_name (before + 1) a ≡ get_or p.names before [] = sym (names 0) ∙ ap (λ k. get_or p.names k []) here in
+    let own : name_of_aggregate (before + 1) a ≡ get_or p.names before [] = sym (names 0) ∙ ap (λ k. get_or p.names k []) here in
     let rest = names_same groups p (before + 1) items g.right keys g.second (λ k. let next : before + 1 + k ≡ before + suc k = omega arith in ap (λ j. get_or p.names j []) next ∙ names (suc k)) in
     (λ i. (own ∙ ap (shown_name p) first) i ∷ rest i) ∙ ap (map (shown_name p)) g.made
 

@@ -23,7 +23,7 @@ use Rattle.star_plan.proofs.KeptCounts.{all_counted}
 use Rattle.star_plan.proofs.KeptJoins.{where_foreign}
 use Rattle.star_plan.proofs.Whole.{parts}
 use Rattle.star_program.specs.declared.outcome.Cell.{Cell}
-use Rattle.star_program.specs.Outcome.{cell_of}
+use Rattle.star_program.specs.RowCells.{cell_of}
 use Rattle.star_query_meaning.specs.Answers.{IsAnswer, IsPlanAnswer, shown_name}
 use Rattle.star_query_meaning.specs.Rows.{query_entry, measures_of, product, selected, tables_of}
 use Rattle.star_query_meaning.specs.Shows.{item_columns, item_names, sorts_of}

@@ -11,7 +11,7 @@ use Rattle.star_query.specs.Tree.{Tree}
 use Rattle.star_plan.specs.Meaning as of_plan
 use Rattle.star_plan.specs.Meaning.{Plan, Tables}
 use Rattle.star_program.specs.declared.outcome.Cell.{Cell}
-use Rattle.star_program.specs.Outcome.{cell_of}
+use Rattle.star_program.specs.RowCells.{cell_of}
 use Rattle.star_query_meaning.specs.Rows.{query_entry, measures_of, selected}
 use Rattle.star_query_meaning.specs.Shows.{item_columns, item_names, sorts_of}
 

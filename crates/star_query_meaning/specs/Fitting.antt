@@ -3,10 +3,8 @@
 use Rattle.std.specs.Prelude.{◌≡◌, ◌≤◌, ℕ, true, length, pos}
 use Rattle.std.specs.List.{list_all}
 use Rattle.std.specs.Option.{option_map_or}
-use Rattle.star_schema.specs.declared.column.ColumnId.{ColumnId}
 use Rattle.star_schema.specs.declared.table.TableId.TheVariants.{Lineorder}
-use Rattle.star_schema.specs.Bounds.{greatest, least, numbers_of}
-use Rattle.star_schema.specs.Schema.{table_of}
+use Rattle.star_schema.specs.Columns.{bounds_in}
 use Rattle.star_interval.specs.Range.{Range, only}
 use Rattle.star_query.specs.Tree.{Name, Tree}
 use Rattle.star_plan.specs.Fits.{Fits, measure_fits}
@@ -14,15 +12,7 @@ use Rattle.star_plan.specs.Meaning.{Plan, Tables}
 use Rattle.star_plan.specs.Names.{column_at}
 use Rattle.star_query_meaning.specs.Rows.{measures_of}
 
--- the bounds of each column of numbers: its least and its greatest number
-abbrev pub bounds_in : Tables → ColumnId → Range
-bounds_in ts c =
-    record {
-      low = least (numbers_of c (ts (table_of c)));
-      high = greatest (numbers_of c (ts (table_of c)));
-    }
-
--- those of the column with this name; no other name stands in a well named query
+-- the bounds of the column with this name; no other name stands in a well named query
 abbrev pub range_named : Tables → Name → Range
 range_named ts n = option_map_or (bounds_in ts) (column_at n) (only (pos 0))
 

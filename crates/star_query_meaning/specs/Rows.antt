@@ -10,7 +10,7 @@ use Rattle.star_schema.specs.Order.{value_cmp}
 use Rattle.star_schema.specs.Tables.{Value, Number}
 use Rattle.star_query.specs.Leaves.{is_so}
 use Rattle.star_query.specs.Tree.{Name, Test, pair, comparison, Condition, Measure, Item, plain, aggregate, Tree}
-use Rattle.star_plan.specs.Meaning.{Joined, Tables, comparison_holds, measured, value_of, with_row}
+use Rattle.star_plan.specs.Meaning.{Joined, Tables, comparison_holds, measured, joined_value, with_row}
 use Rattle.star_plan.specs.Names.{column_at, literal_value, table_at}
 
 -- ---- the product
@@ -33,7 +33,7 @@ tables_of names = flat_map (λ n. option_to_list (table_at n)) names
 
 -- the value of the column with this name; no other name stands in a well named query
 abbrev pub value_named : Name → Joined → Value
-value_named n row = option_map_or (λ c. value_of c row) (column_at n) (Number (pos 0))
+value_named n row = option_map_or (λ c. joined_value c row) (column_at n) (Number (pos 0))
 
 -- numbers compare by value, texts by their bytes
 abbrev pub test_is_true : Joined → Test → Bool

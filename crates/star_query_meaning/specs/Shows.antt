@@ -6,8 +6,7 @@ use Rattle.star_schema.specs.declared.group.GroupColumn.{GroupColumn}
 use Rattle.star_schema.specs.declared.group.GroupColumn.TheVariants.{Aggregate}
 use Rattle.star_schema.specs.declared.group.SortKey.{SortKey}
 use Rattle.star_query.specs.Tree.{Name, Item, plain, aggregate, Tree}
-use Rattle.star_plan.specs.Naming.{aggregate_name, aggregate_names}
-use Rattle.star_plan.specs.Resolved.{key_column, resolved_key}
+use Rattle.star_plan.specs.Naming.{name_of_aggregate, aggregate_names, key_column, resolved_key}
 
 -- ---- names
 
@@ -16,7 +15,7 @@ abbrev pub item_names_from : ℕ → List Item → List (List ℕ)
 item_names_from number [] = []
 item_names_from number (plain n ∷ items) = n.text ∷ item_names_from number items
 item_names_from number (aggregate a ∷ items) =
-    aggregate_name number a ∷ item_names_from (number + 1) items
+    name_of_aggregate number a ∷ item_names_from (number + 1) items
 
 -- the names of the items, among which aggregates are numbered from 1
 abbrev pub item_names : List Item → List (List ℕ)

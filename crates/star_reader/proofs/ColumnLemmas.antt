@@ -14,13 +14,13 @@ use Rattle.star_schema.specs.Tables.{Number, Text, Value, value_at}
 use Rattle.star_schema.specs.Texts.{text_in, texts_at}
 use Rattle.star_reader.specs.declared.column.RawColumn.{RawColumn}
 use Rattle.star_reader.specs.declared.column.RawColumn.TheVariants.{Numbers, Texts}
-use Rattle.star_reader.specs.Columns.{AreColumnsOf, first_rows, kind_of, values}
+use Rattle.star_reader.specs.Columns.{AreColumnsOf, first_rows, raw_kind, values}
 use Rattle.star_reader.proofs.RowLemmas.{read_there}
 
 -- a column at its place
 pub record IsColumnAt (rows : ℕ) (columns : List RawColumn) (place : ℕ) (k : Kind)
     (column : RawColumn) : Type 0 where
-  pub kind : kind_of column ≡ k
+  pub kind : raw_kind column ≡ k
   pub full : length (values column) ≡ rows
   pub there : slice_get (map values columns) place ≡ Some (values column)
 
@@ -28,8 +28,8 @@ pub place_within : (table : TableId) (rows : ℕ) (columns : List RawColumn) (pl
     → AreColumnsOf table rows columns → slice_get (kinds_of table) place ≡ Some k
     → place < length columns
 place_within table rows columns place k h at =
-    let here : slice_get (map kind_of columns) place ≡ Some k = rw h.kinds at in
-    omega (arith, slice_get_within (map kind_of columns) place k here, length-map columns kind_of)
+    let here : slice_get (map raw_kind columns) place ≡ Some k = rw h.kinds at in
+    omega (arith, slice_get_within (map raw_kind columns) place k here, length-map columns raw_kind)
 
 pub column_at : {table : TableId} {rows : ℕ} {columns : List RawColumn} {place : ℕ} {k : Kind}
     {column : RawColumn} → AreColumnsOf table rows columns
@@ -38,9 +38,9 @@ pub column_at : {table : TableId} {rows : ℕ} {columns : List RawColumn} {place
 column_at {table} {rows} {columns} {place} {k} {column} h at is =
     let within = place_within table rows columns place k h at in
     let there = slice_get_read columns (length columns) place column refl within is in
-    let kinds : slice_get (map kind_of columns) place ≡ Some (kind_of column) =
-    slice_get-map kind_of columns place ∙ ap (option_map kind_of) there in
-    let same : Some (kind_of column) ≡ Some k = sym kinds ∙ rw h.kinds at in
+    let kinds : slice_get (map raw_kind columns) place ≡ Some (raw_kind column) =
+    slice_get-map raw_kind columns place ∙ ap (option_map raw_kind) there in
+    let same : Some (raw_kind column) ≡ Some k = sym kinds ∙ rw h.kinds at in
     record {
       kind = cc;
       full = ap (λ (c : RawColumn). length (values c)) is

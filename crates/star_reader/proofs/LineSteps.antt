@@ -8,7 +8,7 @@ use Rattle.star_schema.specs.Records.{fields_of, is_bar, pieces, with_first}
 use Rattle.star_schema.specs.Tables.{cells_of, ends_in_bar, is_cell, is_empty_field, value_of}
 use Rattle.star_reader.specs.declared.column.RawColumn.{RawColumn}
 use Rattle.star_reader.specs.declared.fault.ReadFault.{ReadFault}
-use Rattle.star_reader.specs.Columns.{kind_of, values}
+use Rattle.star_reader.specs.Columns.{raw_kind, values}
 use Rattle.star_reader.specs.Faults.{cell_fault, record_fault}
 use Rattle.star_reader.specs.Private.Fronts.{IsFront, left_of}
 use Rattle.star_reader.specs.Private.Steps.{AddsRecord, HasPushedTo}
@@ -102,7 +102,7 @@ pub more : (line : List ℕ) (ks : List Kind) (i at count : ℕ) (old new : List
     → slice_get ks i ≡ Some k → is_cell k (take count (drop at line)) ≡ true
     → slice_get new i ≡ Some column
     → values next ≡ values column ++ value_of k (take count (drop at line)) ∷ []
-    → kind_of next ≡ kind_of column
+    → raw_kind next ≡ raw_kind column
     → HasPushedTo line ks (i + 1) (at + (count + 1)) old (set new i next)
 more line ks i at count old new k column next h within inside front at_k cell at_column holds kind =
     let cut = h.left ∙ next_left line at count inside front in
@@ -241,11 +241,11 @@ whole_count width at line counted left behind = elim (apart (length line) at beh
 
 -- the line is all read
 pub whole : (line : List ℕ) (i at at_row : ℕ) (old new : List RawColumn)
-    → HasPushedTo line (map kind_of old) i at old new → i ≡ length old → length line ≤ at
+    → HasPushedTo line (map raw_kind old) i at old new → i ≡ length old → length line ≤ at
     → AddsRecord at_row (fields_of line) old new
 whole line i at at_row old new h past behind =
-    let ks : List Kind = map kind_of old in
-    let width : length ks ≡ length old = length-map old kind_of in
+    let ks : List Kind = map raw_kind old in
+    let width : length ks ≡ length old = length-map old raw_kind in
     let reached : i ≡ length ks = omega (arith, past, width) in
     let all = whole_count (length ks) at line (rw reached at h.counted) (rw reached at h.left)
     behind in

@@ -16,7 +16,7 @@ use Rattle.star_reader.specs.declared.fault.ReadFault.{ReadFault}
 use Rattle.star_reader.specs.declared.fault.ReadFault.TheVariants as fault
 use Rattle.star_reader.specs.declared.open_line.OpenLine.{OpenLine}
 use Rattle.star_reader.specs.declared.progress.Progress.{Progress}
-use Rattle.star_reader.specs.Columns.{AreColumnsOf, first_rows, kind_of, values}
+use Rattle.star_reader.specs.Columns.{AreColumnsOf, first_rows, raw_kind, values}
 use Rattle.star_reader.specs.Faults.{byte_order_mark, record_fault, records_fault}
 use Rattle.star_reader.specs.Partway.{left_fault}
 use Rattle.star_reader.specs.Private.Cut.{is_inner}
@@ -58,7 +58,7 @@ open_too_many table most start line some full =
 -- a record with a fault
 pub open_faulty : (table : TableId) (most start : ℕ) (line : List ℕ) (columns : List RawColumn)
     (f : ReadFault) → (length line == 0) ≡ false → start < most → AreColumnsOf table start columns
-    → record_fault (map kind_of columns) (start + 1) (fields_of line) ≡ Some f
+    → record_fault (map raw_kind columns) (start + 1) (fields_of line) ≡ Some f
     → records_fault table most (start + 1) (filter is_filled (line ∷ [])) ≡ Some f
 unfolding first_answer
 open_faulty table most start line columns f some room full e =

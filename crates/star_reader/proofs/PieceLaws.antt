@@ -7,7 +7,7 @@ use Rattle.std.proofs.lemmas.List.{append-nil}
 use Rattle.star_schema.specs.declared.table.TableId.{TableId}
 use Rattle.star_schema.specs.Records.{ends_line, pieces, records_of}
 use Rattle.star_reader.specs.Faults.{records_fault}
-use Rattle.star_reader.specs.Pieces.{ended_of, fault_from, joined, open_of, records_from}
+use Rattle.star_reader.specs.Pieces.{ended_of, fault_from, joined_pieces, open_of, records_from}
 use Rattle.star_reader.specs.Private.Cut.{IsEnded}
 use Rattle.star_reader.proofs.Cuts.{records_ended, records_fault-append}
 
@@ -74,18 +74,18 @@ gone_on carried piece later =
     ∙ append_assoc (ended_of (carried ++ piece)) (open_of (carried ++ piece)) later
 
 pub any_cut : (carried : List ℕ) (pieces : List (List ℕ))
-    → records_from carried pieces ≡ records_of (carried ++ joined pieces)
+    → records_from carried pieces ≡ records_of (carried ++ joined_pieces pieces)
 unfolding records_from
 any_cut carried [] = ap records_of (sym (append-nil carried))
 any_cut carried (piece ∷ later) =
     ap (λ (rs : List (List ℕ)). records_of (ended_of (carried ++ piece)) ++ rs)
     (any_cut (open_of (carried ++ piece)) later)
-    ∙ sym (ended_cut (carried ++ piece) (open_of (carried ++ piece) ++ joined later))
-    ∙ ap records_of (sym (gone_on carried piece (joined later)))
+    ∙ sym (ended_cut (carried ++ piece) (open_of (carried ++ piece) ++ joined_pieces later))
+    ∙ ap records_of (sym (gone_on carried piece (joined_pieces later)))
 
 pub any_cut_fault : (table : TableId) (most from : ℕ) (carried : List ℕ) (pieces : List (List ℕ))
     → fault_from table most from carried pieces
-    ≡ records_fault table most from (records_of (carried ++ joined pieces))
+    ≡ records_fault table most from (records_of (carried ++ joined_pieces pieces))
 unfolding fault_from
 any_cut_fault table most from carried [] =
     ap (λ (text : List ℕ). records_fault table most from (records_of text))
@@ -95,7 +95,7 @@ any_cut_fault table most from carried (piece ∷ later) =
     let left : List ℕ = open_of (carried ++ piece) in
     ap (option_or (records_fault table most from ended))
     (any_cut_fault table most (from + length ended) left later)
-    ∙ sym (records_fault-append table most from ended (records_of (left ++ joined later)))
+    ∙ sym (records_fault-append table most from ended (records_of (left ++ joined_pieces later)))
     ∙ ap (records_fault table most from)
-    (sym (ended_cut (carried ++ piece) (left ++ joined later))
-    ∙ ap records_of (sym (gone_on carried piece (joined later))))
+    (sym (ended_cut (carried ++ piece) (left ++ joined_pieces later))
+    ∙ ap records_of (sym (gone_on carried piece (joined_pieces later))))

@@ -14,7 +14,7 @@ use Rattle.star_schema.specs.Tables.{row_of}
 use Rattle.star_reader.specs.declared.column.RawColumn.{RawColumn}
 use Rattle.star_reader.specs.declared.fault.ReadFault.{ReadFault}
 use Rattle.star_reader.specs.declared.progress.Progress.{Progress}
-use Rattle.star_reader.specs.Columns.{AreColumnsOf, first_rows, kind_of, values}
+use Rattle.star_reader.specs.Columns.{AreColumnsOf, first_rows, raw_kind, values}
 use Rattle.star_reader.specs.Faults.{byte_order_mark, parts_fault, records_fault, text_fault}
 use Rattle.star_reader.specs.Partway.{IsFaultOf, IsPartway, left_fault}
 use Rattle.star_reader.specs.Private.Cut.{IsBegun, IsCut, IsEnded, is_inner}
@@ -28,7 +28,7 @@ use Rattle.star_reader.proofs.Law.{marked_fault, plain_fault, records_sound}
 pub as_wide : {table : TableId} {rows : ℕ} {columns : List RawColumn}
     → AreColumnsOf table rows columns → length (kinds_of table) ≡ length columns
 as_wide {table} {rows} {columns} full =
-    sym (ap length full.kinds) ∙ length-map columns kind_of
+    sym (ap length full.kinds) ∙ length-map columns raw_kind
 
 -- bytes without a line end were carried
 pub carried_on : (table : TableId) (most : ℕ) (parts : List (List ℕ)) (text : List ℕ)

@@ -11,7 +11,7 @@ use Rattle.star_schema.specs.Tables.{Value, value_of, values_of}
 use Rattle.star_common.proofs.Lists.{drop_at_place}
 use Rattle.star_reader.specs.declared.column.RawColumn.{RawColumn}
 use Rattle.star_reader.specs.declared.fault.ReadFault.{ReadFault}
-use Rattle.star_reader.specs.Columns.{kind_of, values}
+use Rattle.star_reader.specs.Columns.{raw_kind, values}
 use Rattle.star_reader.specs.Private.Extended.{extended}
 use Rattle.star_reader.specs.Faults.{cell_fault, cells_fault}
 use Rattle.star_reader.specs.Private.Steps.{HasPushed}
@@ -51,18 +51,18 @@ start at_row ks cells columns =
 
 -- what a column is, by its place
 pub kind_there : (old new : List RawColumn) (i : ℕ) (column : RawColumn)
-    → map kind_of new ≡ map kind_of old → slice_get new i ≡ Some column
-    → slice_get (map kind_of old) i ≡ Some (kind_of column)
+    → map raw_kind new ≡ map raw_kind old → slice_get new i ≡ Some column
+    → slice_get (map raw_kind old) i ≡ Some (raw_kind column)
 kind_there old new i column kinds at =
-    rw (← kinds) (slice_get-map kind_of new i ∙ ap (option_map kind_of) at)
+    rw (← kinds) (slice_get-map raw_kind new i ∙ ap (option_map raw_kind) at)
 
 -- another column of the same kind
 pub kinds_kept : (old new : List RawColumn) (i : ℕ) (column next : RawColumn)
-    → map kind_of new ≡ map kind_of old → slice_get new i ≡ Some column
-    → kind_of next ≡ kind_of column → map kind_of (set new i next) ≡ map kind_of old
+    → map raw_kind new ≡ map raw_kind old → slice_get new i ≡ Some column
+    → raw_kind next ≡ raw_kind column → map raw_kind (set new i next) ≡ map raw_kind old
 kinds_kept old new i column next kinds at kind =
-    map-set_same kind_of new i next column
-    (kind ∙ ap kind_of (sym (get_or_from_slice_get new i column column at))) ∙ kinds
+    map-set_same raw_kind new i next column
+    (kind ∙ ap raw_kind (sym (get_or_from_slice_get new i column column at))) ∙ kinds
 
 -- the next cell's fault is the first
 pub faulty : (at_row : ℕ) (ks : List Kind) (cells : List (List ℕ)) (i : ℕ)
@@ -80,7 +80,7 @@ pub more : (at_row : ℕ) (ks : List Kind) (cells : List (List ℕ)) (i : ℕ) (
     → HasPushed at_row ks cells i old new → slice_get ks i ≡ Some k → slice_get cells i ≡ Some cell
     → cell_fault at_row (i + 1) k cell ≡ None
     → slice_get new i ≡ Some column → values next ≡ values column ++ value_of k cell ∷ []
-    → kind_of next ≡ kind_of column
+    → raw_kind next ≡ raw_kind column
     → HasPushed at_row ks cells (i + 1) old (set new i next)
 unfolding first_answer
 more at_row ks cells i old new k cell column next h at_k at_cell e at holds kind =

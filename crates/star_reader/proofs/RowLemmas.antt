@@ -7,7 +7,7 @@ use Rattle.std.proofs.lemmas.List.{get_or_push, get_or_append_left, map-append}
 use Rattle.std.proofs.lemmas.List.Elements.{All-cons, All-head, All-nil, All-tail}
 use Rattle.std.proofs.lemmas.Option.{slice_get-map}
 use Rattle.star_schema.specs.Tables.{Value, Number}
-use Rattle.star_reader.specs.Columns.{first_rows, row_at}
+use Rattle.star_reader.specs.Columns.{first_rows, row_of_columns}
 use Rattle.star_reader.specs.Private.Extended.{extended}
 
 pub length-first_rows : (n : ℕ) (columns : List (List Value)) → length (first_rows n columns) ≡ n
@@ -16,7 +16,7 @@ length-first_rows zero columns = refl
 length-first_rows (suc n) columns =
     omega (
       arith,
-      length-append (first_rows n columns) (row_at columns n ∷ []),
+      length-append (first_rows n columns) (row_of_columns columns n ∷ []),
       length-first_rows n columns,
     )
 
@@ -28,11 +28,11 @@ read_first : {X : Type 0} (read : Option Value → X) (n : ℕ) (columns : List 
 unfolding first_rows
 read_first read zero columns place column h at = refl
 read_first read (suc n) columns place column h at =
-    let last : slice_get (row_at columns n) place ≡ Some (get_or column n (Number (pos 0))) =
+    let last : slice_get (row_of_columns columns n) place ≡ Some (get_or column n (Number (pos 0))) =
     slice_get-map (λ (c : List Value). get_or c n (Number (pos 0))) columns place
     ∙ ap (option_map (λ (c : List Value). get_or c n (Number (pos 0)))) at in
     map-append (λ (row : List Value). read (slice_get row place)) (first_rows n columns)
-    (row_at columns n ∷ [])
+    (row_of_columns columns n ∷ [])
     ∙ rw (read_first read n columns place column (omega arith) at, last)
     (sym (ap (map (λ (value : Value). read (Some value)))
     (take-suc column n (Number (pos 0)) (omega arith))
@@ -50,7 +50,7 @@ read_there read n columns place column all at =
 -- a row of the columns before stays
 extended_before : (columns : List (List Value)) (vs : List Value) (n i : ℕ)
     → All (λ column. length column ≡ n) columns → i < n
-    → row_at (extended columns vs) i ≡ row_at columns i
+    → row_of_columns (extended columns vs) i ≡ row_of_columns columns i
 unfolding extended
 extended_before [] vs n i full h = refl
 extended_before (column ∷ columns) [] n i full h = refl
@@ -66,7 +66,7 @@ extended_before (column ∷ columns) (v ∷ vs) n i full h =
 -- the new values are the new row
 extended_last : (columns : List (List Value)) (vs : List Value) (n : ℕ)
     → All (λ column. length column ≡ n) columns → length vs ≡ length columns
-    → row_at (extended columns vs) n ≡ vs
+    → row_of_columns (extended columns vs) n ≡ vs
 unfolding extended
 extended_last [] [] n full e = refl
 extended_last [] (v ∷ vs) n full e = absurd (omega arith)

@@ -16,7 +16,7 @@ use Rattle.star_schema.specs.Tables.{Value, cells_of, row_of, values_of}
 use Rattle.star_reader.specs.declared.column.RawColumn.{RawColumn}
 use Rattle.star_reader.specs.declared.fault.ReadFault.{ReadFault}
 use Rattle.star_reader.specs.declared.fault.ReadFault.TheVariants as fault
-use Rattle.star_reader.specs.Columns.{AreColumnsOf, first_rows, kind_of, values}
+use Rattle.star_reader.specs.Columns.{AreColumnsOf, first_rows, raw_kind, values}
 use Rattle.star_reader.specs.Private.Extended.{extended}
 use Rattle.star_reader.specs.Faults.{byte_order_mark, record_fault, records_fault}
 use Rattle.star_reader.specs.Private.Lines.{HasLeft, TakesFirst}
@@ -61,7 +61,7 @@ pub faulty : {table : TableId} {most from : ℕ} {before : List (List Value)} {a
     {pieces : List (List ℕ)} {f : ReadFault}
     → (h : HasRead table most from before all count columns old)
     → (next : TakesFirst h.lines pieces new) → count < most
-    → record_fault (map kind_of columns) (count + 1) (fields_of next.line) ≡ Some f
+    → record_fault (map raw_kind columns) (count + 1) (fields_of next.line) ≡ Some f
     → records_fault table most (from + 1) all ≡ Some f
 unfolding first_answer
 faulty {table} {most} {from} {before} {all} {count} {columns} {old} {new} {pieces} {f} h next within e =
@@ -77,8 +77,8 @@ pub row_on : {table : TableId} {from : ℕ} {before : List (List Value)}
     → AddsRecord (count + 1) (fields_of line) columns later
     → HasRows table from before all others (count + 1) later
 row_on {table} {from} {before} {all} {others} {line} {count} {columns} {later} was adds =
-    let row : values_of (map kind_of columns)
-    (cells_of (length (map kind_of columns)) (fields_of line))
+    let row : values_of (map raw_kind columns)
+    (cells_of (length (map raw_kind columns)) (fields_of line))
     ≡ row_of table line = rw (was.of_table.kinds, width_kinds table) refl in
     let holds : map values later ≡ extended (map values columns) (row_of table line) =
     rw row at adds.columns in

@@ -8,22 +8,22 @@ use Rattle.star_schema.specs.Tables.{Value, Number, Text}
 use Rattle.star_reader.specs.declared.column.RawColumn.{RawColumn}
 use Rattle.star_reader.specs.declared.column.RawColumn.TheVariants.{Numbers, Texts}
 
-abbrev pub kind_of : RawColumn → Kind
-kind_of (Numbers numbers) = kind.Number
-kind_of (Texts texts) = kind.Text
+abbrev pub raw_kind : RawColumn → Kind
+raw_kind (Numbers numbers) = kind.Number
+raw_kind (Texts texts) = kind.Text
 
 abbrev pub values : RawColumn → List Value
 values (Numbers numbers) = map Number numbers
 values (Texts texts) = map Text texts
 
 -- the row at a place of columns of one length
-abbrev pub row_at : List (List Value) → ℕ → List Value
-row_at columns i = map (λ column. slice_index_or column i (Number (pos 0))) columns
+abbrev pub row_of_columns : List (List Value) → ℕ → List Value
+row_of_columns columns i = map (λ column. slice_index_or column i (Number (pos 0))) columns
 
 -- the first n rows of columns
 unfoldable pub first_rows : ℕ → List (List Value) → List (List Value)
 first_rows zero columns = []
-first_rows (suc n) columns = first_rows n columns ++ row_at columns n ∷ []
+first_rows (suc n) columns = first_rows n columns ++ row_of_columns columns n ∷ []
 
 -- a table as it was read
 pub record Table : Type 0 where
@@ -32,5 +32,5 @@ pub record Table : Type 0 where
 
 -- these columns are those of a table with so many rows
 pub record AreColumnsOf (table : TableId) (rows : ℕ) (columns : List RawColumn) : Type 0 where
-  pub kinds : map kind_of columns ≡ kinds_of table
+  pub kinds : map raw_kind columns ≡ kinds_of table
   pub full : All (λ column. length (values column) ≡ rows) columns

@@ -8,8 +8,8 @@ use Rattle.star_reader.specs.declared.fault.ReadFault.{ReadFault}
 use Rattle.star_reader.specs.Faults.{records_fault}
 
 -- the text that pieces make, one behind the other
-abbrev pub joined : List (List ℕ) → List ℕ
-joined pieces = flat_map (λ piece. piece) pieces
+abbrev pub joined_pieces : List (List ℕ) → List ℕ
+joined_pieces pieces = flat_map (λ piece. piece) pieces
 
 -- a text up to its last line end, and with it
 unfoldable pub ended_of : List ℕ → List ℕ

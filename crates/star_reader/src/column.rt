@@ -3,7 +3,7 @@
 ghost use Rattle.std.specs.Prelude.{◌≡◌, ◌++◌, ◌∷◌, [], ℕ, None, Some, IfOk, MatchOption, MatchResult, false, true, take};
 ghost use Rattle.star_common.specs.Memory.{UnlessMemory};
 ghost use Rattle.star_schema.specs.Tables as spec;
-ghost use Rattle.star_reader.specs.Columns.{kind_of, values};
+ghost use Rattle.star_reader.specs.Columns.{raw_kind, values};
 ghost use Rattle.star_reader.specs.Faults.{cell_fault};
 ghost use Rattle.star_reader.specs.Private.Fronts.{IsFront};
 
@@ -50,7 +50,7 @@ fn number_fault(at_row: u32, field: usize, cell: &[u8]) -> ReadFault
 impl RawColumn {
     /// A column without values.
     pub(crate) fn new(alloc: Global, kind: Kind) -> RawColumn
-        ensures kind { kind_of result ≡ kind }
+        ensures kind { raw_kind result ≡ kind }
         ensures values { values result ≡ [] }
     {
         match kind {
@@ -67,11 +67,11 @@ impl RawColumn {
         cell: &[u8],
     ) -> Result<(), ReadFault>
         ensures pushed { MatchResult result
-            (λ _. (cell_fault at_row field (kind_of self.old) cell.now ≡ None)
-            × (values self.new ≡ values self.old ++ spec.value_of (kind_of self.old) cell.now ∷ []))
+            (λ _. (cell_fault at_row field (raw_kind self.old) cell.now ≡ None)
+            × (values self.new ≡ values self.old ++ spec.value_of (raw_kind self.old) cell.now ∷ []))
             (λ fault. UnlessMemory ReadFault.OutOfMemory fault
-            (cell_fault at_row field (kind_of self.old) cell.now ≡ Some fault)) }
-        ensures kind { kind_of self.new ≡ kind_of self.old }
+            (cell_fault at_row field (raw_kind self.old) cell.now ≡ Some fault)) }
+        ensures kind { raw_kind self.new ≡ raw_kind self.old }
     {
         match self {
             RawColumn::Numbers(numbers) => match parse_number(cell) {
@@ -92,12 +92,12 @@ impl RawColumn {
     pub(crate) fn push_front(&mut self, text: &[u8]) -> Result<Option<usize>, AllocError>
         ensures pushed { IfOk result (λ found. MatchOption found
             ((count : ℕ) → IsFront text.now count
-            → spec.is_cell (kind_of self.old) (take count text.now) ≡ false)
+            → spec.is_cell (raw_kind self.old) (take count text.now) ≡ false)
             (λ count. IsFront text.now count
-            × (spec.is_cell (kind_of self.old) (take count text.now) ≡ true)
+            × (spec.is_cell (raw_kind self.old) (take count text.now) ≡ true)
             × (values self.new
-            ≡ values self.old ++ spec.value_of (kind_of self.old) (take count text.now) ∷ []))) }
-        ensures kind { kind_of self.new ≡ kind_of self.old }
+            ≡ values self.old ++ spec.value_of (raw_kind self.old) (take count text.now) ∷ []))) }
+        ensures kind { raw_kind self.new ≡ raw_kind self.old }
     {
         match self {
             RawColumn::Numbers(numbers) => match number_front(text) {

@@ -5,17 +5,17 @@ ghost use Rattle.star_schema.specs.Records.{records_of};
 ghost use Rattle.star_schema.specs.Tables.{IsTable};
 ghost use Rattle.star_schema.specs.declared.table.TableId.{TableId};
 ghost use Rattle.star_reader.specs.Faults.{records_fault, text_fault};
-ghost use Rattle.star_reader.specs.Pieces.{fault_from, joined, records_from};
+ghost use Rattle.star_reader.specs.Pieces.{fault_from, joined_pieces, records_from};
 
 /// However a text is cut into pieces, in mid-record too, its records are those that end in each
 /// piece behind what the pieces before left open, and at last the record that is left open; and the
 /// first fault of them is the first fault of the text's records.
 pub fn any_cut_gives_the_records_of_the_text()
     ensures records { (carried : List ℕ) (pieces : List (List ℕ))
-        → records_from carried pieces ≡ records_of (carried ++ joined pieces) }
+        → records_from carried pieces ≡ records_of (carried ++ joined_pieces pieces) }
     ensures fault { (table : TableId) (most from : ℕ) (carried : List ℕ) (pieces : List (List ℕ))
         → fault_from table most from carried pieces
-        ≡ records_fault table most from (records_of (carried ++ joined pieces)) }
+        ≡ records_fault table most from (records_of (carried ++ joined_pieces pieces)) }
 {}
 
 /// A text in parts has no fault exactly where it is a table, of at most so many rows.

@@ -4,7 +4,7 @@ ghost use Rattle.std.specs.Prelude.{◌≡◌, ◌≢◌, ◌≤◌, ℕ, List, 
 ghost use Rattle.star_common.specs.Memory.{UnlessMemory};
 ghost use Rattle.csv.specs.Records.{fields_of as fields_read};
 ghost use Rattle.star_schema.specs.Records.{fields_of};
-ghost use Rattle.star_reader.specs.Columns.{kind_of};
+ghost use Rattle.star_reader.specs.Columns.{raw_kind};
 ghost use Rattle.star_reader.specs.Faults.{record_fault};
 ghost use Rattle.star_reader.specs.Private.Fronts.{behind_zeros};
 ghost use Rattle.star_reader.specs.Private.Zeros.{pieces_of};
@@ -33,8 +33,8 @@ fn from(line: &[u8], place: usize) -> &[u8]
 fn push_line(columns: &mut [RawColumn], line: &[u8]) -> Result<bool, AllocError>
     ensures pushed { (at_row : ℕ) → IfOk result (λ whole. MatchBool whole
         (AddsRecord at_row (fields_of line.now) columns.old columns.new)
-        (record_fault (map kind_of columns.old) at_row (fields_of line.now) ≢ None)) }
-    ensures kinds { map kind_of columns.new ≡ map kind_of columns.old }
+        (record_fault (map raw_kind columns.old) at_row (fields_of line.now) ≢ None)) }
+    ensures kinds { map raw_kind columns.new ≡ map raw_kind columns.old }
 {
     let mut at = 0;
     for place in 0..columns.len() {
@@ -72,10 +72,10 @@ fn cut_fields(alloc: Global, line: &[u8]) -> Result<ByteRecord, AllocError>
 #[cold]
 fn line_fault(alloc: Global, columns: &mut [RawColumn], at_row: u32, line: &[u8]) -> ReadFault
     requires few { length columns.old ≤ 17 }
-    requires faulty { record_fault (map kind_of columns.old) at_row (fields_of line.now) ≢ None }
+    requires faulty { record_fault (map raw_kind columns.old) at_row (fields_of line.now) ≢ None }
     ensures fault { UnlessMemory ReadFault.OutOfMemory result
-        (record_fault (map kind_of columns.old) at_row (fields_of line.now) ≡ Some result) }
-    ensures kinds { map kind_of columns.new ≡ map kind_of columns.old }
+        (record_fault (map raw_kind columns.old) at_row (fields_of line.now) ≡ Some result) }
+    ensures kinds { map raw_kind columns.new ≡ map raw_kind columns.old }
 {
     match cut_fields(alloc, line) {
         Ok(fields) => match push_record(columns, at_row, &fields) {
@@ -98,7 +98,7 @@ pub(crate) fn add_line(
     ensures { MatchResult result
         (λ _. AddsRecord at_row (fields_of line.now) columns.old columns.new)
         (λ fault. UnlessMemory ReadFault.OutOfMemory fault
-        (record_fault (map kind_of columns.old) at_row (fields_of line.now) ≡ Some fault)) }
+        (record_fault (map raw_kind columns.old) at_row (fields_of line.now) ≡ Some fault)) }
 {
     if push_line(columns, line)? {
         Ok(())
@@ -148,7 +148,7 @@ pub(crate) fn add_record(
     ensures { (line : List ℕ) → fields_read pieces.now ≡ pieces_of line → MatchResult result
         (λ _. AddsRecord at_row (fields_of line) columns.old columns.new)
         (λ fault. UnlessMemory ReadFault.OutOfMemory fault
-        (record_fault (map kind_of columns.old) at_row (fields_of line) ≡ Some fault)) }
+        (record_fault (map raw_kind columns.old) at_row (fields_of line) ≡ Some fault)) }
 {
     if pieces.len() == 1 {
         match field_at(pieces, 0) {

@@ -5,7 +5,7 @@ ghost use Rattle.std.specs.Option.{option_copied};
 ghost use Rattle.star_common.specs.Memory.{UnlessMemory};
 ghost use Rattle.csv.specs.Records.{fields_of as fields_read};
 ghost use Rattle.star_schema.specs.Tables as spec;
-ghost use Rattle.star_reader.specs.Columns.{kind_of, values};
+ghost use Rattle.star_reader.specs.Columns.{raw_kind, values};
 ghost use Rattle.star_reader.specs.Faults.{record_fault};
 ghost use Rattle.star_reader.specs.Private.Extended.{extended};
 
@@ -47,7 +47,7 @@ pub(crate) fn push_record(
     line: &ByteRecord,
 ) -> Result<(), ReadFault>
     requires { length columns.old ≤ 17 }
-    ensures pushed { let kinds = map kind_of columns.old in MatchResult result
+    ensures pushed { let kinds = map raw_kind columns.old in MatchResult result
         (λ _. (record_fault kinds at_row (fields_read line.now) ≡ None)
         × (map values columns.new
         ≡ extended (map values columns.old)
@@ -56,7 +56,7 @@ pub(crate) fn push_record(
         ≡ length columns.old))
         (λ fault. UnlessMemory ReadFault.OutOfMemory fault
         (record_fault kinds at_row (fields_read line.now) ≡ Some fault)) }
-    ensures kinds { map kind_of columns.new ≡ map kind_of columns.old }
+    ensures kinds { map raw_kind columns.new ≡ map raw_kind columns.old }
 {
     if cell_count(line, columns.len()) != columns.len() {
         return Err(ReadFault::FieldCount { at_row });

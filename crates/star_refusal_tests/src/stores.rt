@@ -1,7 +1,7 @@
 // All stores of groups in each shape: puts that are refused memory, and those that are repeated.
 
 ghost use Rattle.std.specs.Prelude.{IfOk};
-ghost use Rattle.star_group.specs.Eager.{Has, group_of};
+ghost use Rattle.star_group.specs.Eager.{Has, group_view};
 ghost use Rattle.star_refusal_tests.specs.Few.{HasFew, IsOfTests};
 
 use crate::asked::tell_refused;
@@ -19,7 +19,7 @@ struct Trying {
 }
 
 impl GroupStore for Trying {
-    ghost group = { λ trying. group_of trying.store };
+    ghost group = { λ trying. group_view trying.store };
 
     ghost has = { λ trying. Has trying.store };
 

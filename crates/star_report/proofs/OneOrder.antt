@@ -21,9 +21,9 @@ use Rattle.star_schema.specs.Tables.{Value, Number, Text}
 use Rattle.star_program.specs.declared.group.GroupDecl.{GroupDecl}
 use Rattle.star_program.specs.declared.outcome.Outcome.{Outcome}
 use Rattle.star_program.specs.declared.program.Parts.{Parts}
-use Rattle.star_program.specs.Effects.{Store}
+use Rattle.star_program.specs.Effects.{State}
 use Rattle.star_program.specs.Faults.{group_at}
-use Rattle.star_program.specs.Outcome.{AreRows, IsOutcome, decoded_row, shown_cells}
+use Rattle.star_program.specs.Outcome.{AreReportRows, IsOutcome, decoded_row, shown_cells}
 use Rattle.star_program.specs.Puts.{Update}
 use Rattle.star_program.specs.World.{World}
 
@@ -117,16 +117,16 @@ same_groups {K} cmp s count gs us xs ys a b g c =
     subst (Contains ys) same found.1
 
 module _ (w : World) (parts : Parts) (d : GroupDecl) (us : List Update) where
-  among : (xs ys : List (GroupRow Value)) → AreRows w parts d us xs → AreRows w parts d us ys → (z : GroupRow Value) → Contains xs z → Contains ys z
+  among : (xs ys : List (GroupRow Value)) → AreReportRows w parts d us xs → AreReportRows w parts d us ys → (z : GroupRow Value) → Contains xs z → Contains ys z
   among xs ys a b z c =
       let from = from_contains_map (decoded_row w d) a.groups z (subst (λ rows. Contains rows z) a.decoded c) in
       let there = same_groups _ _ _ _ _ a.groups b.groups a.each_group b.each_group from.0 from.1 in
       subst (λ rows. Contains rows z) (sym b.decoded) (subst (Contains (map (decoded_row w d) b.groups)) from.2 (contains_mapped (decoded_row w d) b.groups from.0 there))
 
-  one_list : (xs ys : List (GroupRow Value)) → AreRows w parts d us xs → AreRows w parts d us ys → xs ≡ ys
+  one_list : (xs ys : List (GroupRow Value)) → AreReportRows w parts d us xs → AreReportRows w parts d us ys → xs ≡ ys
   one_list xs ys a b = one_order (row_cmp value_cmp parts.sorts) (row_turned parts.sorts) xs ys a.in_order b.in_order (among xs ys a b) (among ys xs b a)
 
-pub one_outcome : (w : World) (parts : Parts) (s : Store) (a b : Outcome) → IsOutcome w parts s a → IsOutcome w parts s b → a ≡ b
+pub one_outcome : (w : World) (parts : Parts) (s : State) (a b : Outcome) → IsOutcome w parts s a → IsOutcome w parts s b → a ≡ b
 one_outcome w parts s a b h k =
     let rows = one_list w parts (group_at parts parts.report) (s.updates_of parts.report) h.rows k.rows h.reported k.reported in
     λ i. record {

@@ -6,7 +6,7 @@ ghost use Rattle.star_schema.specs.Tables.{rows_of};
 ghost use Rattle.star_program.specs.declared.outcome.Cell.{Cell};
 ghost use Rattle.star_program.specs.declared.outcome.Outcome.{Outcome};
 ghost use Rattle.star_program.specs.declared.program.Parts.{Parts};
-ghost use Rattle.star_program.specs.Effects.{Store};
+ghost use Rattle.star_program.specs.Effects.{State};
 ghost use Rattle.star_program.specs.Outcome.{IsOutcome};
 ghost use Rattle.star_program.specs.World.{World};
 ghost use Rattle.star_report.specs.Report.{report_text};
@@ -30,6 +30,6 @@ pub fn texts_of_tables_are_fields()
 /// What a program has done has one outcome, and so one printed text: no two of its rows have the
 /// same keys, and they stand in the one order that there is.
 pub fn one_run_has_one_outcome()
-    ensures { (world : World) (parts : Parts) (done : Store) (outcome other : Outcome)
+    ensures { (world : World) (parts : Parts) (done : State) (outcome other : Outcome)
         → IsOutcome world parts done outcome → IsOutcome world parts done other → outcome ≡ other }
 {}

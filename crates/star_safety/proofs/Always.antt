@@ -14,11 +14,11 @@ use Rattle.star_program.specs.Values.{Registers, no_registers, with_entry}
 use Rattle.star_program.specs.declared.fault.Fault.TheVariants.{BadRegister, WrittenTwice}
 use Rattle.star_program.specs.Faults.{unless, group_at}
 use Rattle.star_program.specs.Keys.{key_value_cmp}
-use Rattle.star_program.specs.Effects.{Store, empty_store, Effect, GoesOn, EndsTurn, Traps, act}
+use Rattle.star_program.specs.Effects.{State, empty_state, Effect, GoesOn, EndsTurn, Traps, act}
 use Rattle.star_program.specs.Run.{End, visited, turns, meaning}
 use Rattle.star_common.proofs.Firsts.{or_none}
 use Rattle.star_program.proofs.Unless.{unless_none}
-use Rattle.star_safety.specs.Ranges.{KnownRow, Table}
+use Rattle.star_safety.specs.Ranges.{KnownRow, AllKnown}
 use Rattle.star_safety.specs.Tallies.{Shares}
 use Rattle.star_safety.proofs.Tally.{Tally, Tallies, no_tallies, plus_all, times_all, tallies_of, tally_of, tally_sum, sum_range_is}
 use Rattle.star_safety.specs.Contexts.{Context, at_first, after_op, in_scan, after_scan, at_end}
@@ -63,8 +63,8 @@ record Fits (parts : Parts) (m : Tallies) : Type 0 where
   sums : AllFit parts m
   few : (g a : ℕ) → (m g a).many < 2 ^ 63
 
-moment : (w : World) (parts : Parts) (all : Shares) (known : Table) (y : Tallies)
-    (regs : Registers) (s : Store) → Fits parts (tallies_of all) → Agrees w known regs
+moment : (w : World) (parts : Parts) (all : Shares) (known : AllKnown) (y : Tallies)
+    (regs : Registers) (s : State) → Fits parts (tallies_of all) → Agrees w known regs
     → AreTallied y s
     → ((g a : ℕ) → AtMost (y g a) (tally_of (all g a))) → s.visits ≤ quote w.size parts
     → IsMoment w parts all known regs s
@@ -86,22 +86,22 @@ moment w parts all known y regs s fit agrees tallied room quoted = record {
 
 -- ---- from moment to moment
 
-onward : (w : World) (known : Table) (y : Tallies) (visits : ℕ) (e : Effect)
-    (Next : Registers → Store → Type 0) → IsGood w known y visits e
-    → ((regs : Registers) (s : Store) → Agrees w known regs → AreTallied y s → s.visits ≡ visits
+onward : (w : World) (known : AllKnown) (y : Tallies) (visits : ℕ) (e : Effect)
+    (Next : Registers → State → Type 0) → IsGood w known y visits e
+    → ((regs : Registers) (s : State) → Agrees w known regs → AreTallied y s → s.visits ≡ visits
     → Next regs s)
     → Onward e Next
 onward w known y visits (GoesOn regs s) Next h go = go regs s h.0 h.1 h.2
 onward w known y visits (EndsTurn s) Next h go = tt
 onward w known y visits (Traps trap) Next h go = h
 
-in_each_turn : (y add : Tallies) (start inner rows : ℕ) (turn : ℕ → Store → End)
-    (Holding : ℕ → Store → Type 0)
-    → ((j : ℕ) (s : Store) → j < rows → AreTallied (plus_all y (times_all j add)) s
+in_each_turn : (y add : Tallies) (start inner rows : ℕ) (turn : ℕ → State → End)
+    (Holding : ℕ → State → Type 0)
+    → ((j : ℕ) (s : State) → j < rows → AreTallied (plus_all y (times_all j add)) s
     → s.visits ≤ start + j * (inner + 1) + 1
     → Holding j s
     × Safe (plus_all (plus_all y (times_all j add)) add) (s.visits + inner) (turn j s))
-    → (k j : ℕ) → j + k ≡ rows → (s : Store) → AreTallied (plus_all y (times_all j add)) s
+    → (k j : ℕ) → j + k ≡ rows → (s : State) → AreTallied (plus_all y (times_all j add)) s
     → s.visits ≤ start + j * (inner + 1) → InEachTurn k j turn Holding s
 in_each_turn y add start inner rows turn Holding one zero j e s q b = tt
 in_each_turn y add start inner rows turn Holding one (suc k) j e s q b =
@@ -128,7 +128,7 @@ module _ (w : World) (catalogue : IsLoaded w) (parts : Parts) (all : Shares)
         at_most_trans _ _ _ (at_most_plus (y g a) (gain w parts x c g a)) (ready.room g a)
 
     always : (c : Code) (at : ℕ) (pending : ℕ → Bool) (x : Context) (y : Tallies) (regs : Registers)
-        (s : Store)
+        (s : State)
         → IsReady w parts (tallies_of all) pending x y at c → Agrees w x.known regs → AreTallied y s
         → s.visits + turns_met w.size 1 c ≤ quote w.size parts
         → Throughout w parts all x c at regs s
@@ -167,12 +167,12 @@ module _ (w : World) (catalogue : IsLoaded w) (parts : Parts) (all : Shares)
         let here = or_none (unless (nat_lt r parts.registers) BadRegister)
         (unless (not (x.written r)) WrittenTwice)
         (unmapped_none Faulty _ (at_place_none at (scan_reason parts x r) p.0)) in
-        let turn : ℕ → Store → End =
+        let turn : ℕ → State → End =
         λ j. meaning w parts (λ visits. true) body (at + 1) true
         (with_entry regs r (Row table j)) in
         let entered : (j : ℕ) → j < rows → Agrees w inner.known (with_entry regs r (Row table j)) =
         λ j lt. agrees_entry w x.known regs r (KnownRow table) (Row table j) agrees (refl, lt) in
-        let safe_turn : (j : ℕ) (s' : Store) → j < rows → AreTallied (plus_all y (times_all j add))
+        let safe_turn : (j : ℕ) (s' : State) → j < rows → AreTallied (plus_all y (times_all j add))
         s'
         → Safe (plus_all (plus_all y (times_all j add)) add) (s'.visits + met) (turn j s') =
         λ j s' lt q.
@@ -217,10 +217,10 @@ pub accepted_throughout : (w : World) (parts : Parts) → IsAccepted w parts →
 accepted_throughout w parts accepted =
     always w accepted.loaded parts (all_shares w parts)
     (record { sums = all_fit w parts accepted; few = few_puts w parts accepted }) parts.body 1
-    none_open at_first no_tallies no_registers empty_store
+    none_open at_first no_tallies no_registers empty_state
     (ready_first w parts (not_refused w parts accepted)) (λ r. tt) nothing_tallied (omega arith)
 
-pub totals_lie : (w : World) (parts : Parts) (s : Store) → AreTallied (whole_gain w parts) s
+pub totals_lie : (w : World) (parts : Parts) (s : State) → AreTallied (whole_gain w parts) s
     → TotalsLie w parts s
 totals_lie w parts s tallied =
     λ g place keys. shares_lie (slice_index_or (group_at parts g).aggregates place Count)

@@ -10,11 +10,11 @@ use Rattle.star_program.specs.declared.program.Parts.{Parts}
 use Rattle.star_program.specs.Code.{Code, Stop, Then, Each, code_size}
 use Rattle.star_program.specs.World.{World}
 use Rattle.star_program.specs.declared.value.Value.TheVariants.{Row}
-use Rattle.star_program.specs.Values.{Registers, no_registers, with_entry, flag_in}
+use Rattle.star_program.specs.Values.{Registers, no_registers, with_entry, flag_read}
 use Rattle.star_program.specs.declared.fault.TrapKind.{TrapKind}
-use Rattle.star_program.specs.Effects.{Store, empty_store, Effect, GoesOn, EndsTurn, Traps, trap_of, unless_trap, effect_of, act}
+use Rattle.star_program.specs.Effects.{State, empty_state, Effect, GoesOn, EndsTurn, Traps, trap_of, unless_trap, effect_of, act}
 use Rattle.star_program.specs.Run.{End, Ended, Trapped, Limited, follow, after, visited, begin, turns, scans, meaning, unless_unshown, run_of, bounded_run_of}
-use Rattle.star_program.specs.Shown.{shown_fault}
+use Rattle.star_program.specs.ShowLines.{shown_fault}
 use Rattle.star_safety.specs.Quote.{turns_met, quote}
 use Rattle.star_safety.proofs.Sound.{quoted_each, in_time}
 
@@ -30,12 +30,12 @@ unless_none : (visits : ℕ) (o : Option TrapKind) (e : Effect) → BeginsNone v
 unless_none visits None e h = h
 unless_none visits (Some trap) e h = tt
 
-keeps_none : (regs : Registers) (s : Store) (b : Bool)
+keeps_none : (regs : Registers) (s : State) (b : Bool)
     → BeginsNone s.visits (if b then GoesOn regs s else EndsTurn s)
 keeps_none regs s true = refl
 keeps_none regs s false = refl
 
-does_none : (w : World) (parts : Parts) (regs : Registers) (s : Store) (op : Op)
+does_none : (w : World) (parts : Parts) (regs : Registers) (s : State) (op : Op)
     → BeginsNone s.visits (effect_of w parts regs s op)
 does_none w parts regs s (Assign t (Find table k)) = refl
 does_none w parts regs s (Assign t (Binary o l r)) = refl
@@ -45,10 +45,10 @@ does_none w parts regs s (Assign t (Load c r)) = refl
 does_none w parts regs s (Assign t (Within x a b)) = refl
 does_none w parts regs s (Assign t (Not f)) = refl
 does_none w parts regs s (Assign t (Read g a n)) = refl
-does_none w parts regs s (Keep f) = keeps_none regs s (flag_in (regs f))
+does_none w parts regs s (Keep f) = keeps_none regs s (flag_read (regs f))
 does_none w parts regs s (Put g ks vs) = refl
 
-acts_none : (w : World) (parts : Parts) (inside : Bool) (regs : Registers) (s : Store) (op : Op)
+acts_none : (w : World) (parts : Parts) (inside : Bool) (regs : Registers) (s : State) (op : Op)
     → BeginsNone s.visits (act w parts inside regs s op)
 acts_none w parts inside regs s op =
     unless_none s.visits (trap_of w parts inside regs s op) (effect_of w parts regs s op)
@@ -72,8 +72,8 @@ quoted_wider v u Limited h q = q
 wider : (v u : ℕ) (e e' : End) → v ≤ u → Same v e e' → Same u e e'
 wider v u e e' h q = (q.0, quoted_wider v u e' h q.1)
 
-same_after : (v u : ℕ) (e e' : End) (f g : Store → End) → Same v e e'
-    → ((s : Store) → s.visits ≤ v → Same u (f s) (g s)) → Same u (after e f) (after e' g)
+same_after : (v u : ℕ) (e e' : End) (f g : State → End) → Same v e e'
+    → ((s : State) → s.visits ≤ v → Same u (f s) (g s)) → Same u (after e f) (after e' g)
 same_after v u e e' f g q h =
     let r = ended e' q.1 in (ap (λ z. after z f) q.0 ∙ r.0, r.1)
   where
@@ -82,9 +82,9 @@ same_after v u e e' f g q h =
     ended (Trapped at trap) b = (refl, tt)
     ended Limited b = absurd b
 
-same_follow : (visits v at : ℕ) (e : Effect) (f g : Registers → Store → End) → BeginsNone visits e
+same_follow : (visits v at : ℕ) (e : Effect) (f g : Registers → State → End) → BeginsNone visits e
     → visits ≤ v
-    → ((regs : Registers) (s : Store) → s.visits ≡ visits → Same v (f regs s) (g regs s))
+    → ((regs : Registers) (s : State) → s.visits ≡ visits → Same v (f regs s) (g regs s))
     → Same v (follow at e f) (follow at e g)
 same_follow visits v at (GoesOn regs s) f g q b h = h regs s q
 same_follow visits v at (EndsTurn s) f g q b h = (refl, omega (arith, q, b))
@@ -95,17 +95,17 @@ same_scans : (v at : ℕ) (b : Bool) (f g : Unit {0} → End) → Same v (f tt) 
 same_scans v at true f g h = h
 same_scans v at false f g h = (refl, tt)
 
-same_begin : (v : ℕ) (b : Bool) (s : Store) (f g : Store → End) → b ≡ true
+same_begin : (v : ℕ) (b : Bool) (s : State) (f g : State → End) → b ≡ true
     → Same v (f (visited s)) (g (visited s)) → Same v (begin b s f) (begin true s g)
 same_begin v true s f g e h = h
 same_begin v false s f g e h = absurd (cc)
 
 -- each of whose turns begins at most so many turns beside itself
-same_turns : (start inner rows : ℕ) (may : ℕ → Bool) (f g : ℕ → Store → End)
+same_turns : (start inner rows : ℕ) (may : ℕ → Bool) (f g : ℕ → State → End)
     → ((k : ℕ) → k < start + rows * (inner + 1) → may k ≡ true)
-    → ((j : ℕ) (s : Store) → j < rows → s.visits ≤ start + j * (inner + 1) + 1
+    → ((j : ℕ) (s : State) → j < rows → s.visits ≤ start + j * (inner + 1) + 1
     → Same (s.visits + inner) (f j s) (g j s))
-    → (k j : ℕ) → j + k ≡ rows → (s : Store) → s.visits ≤ start + j * (inner + 1)
+    → (k j : ℕ) → j + k ≡ rows → (s : State) → s.visits ≤ start + j * (inner + 1)
     → Same (start + rows * (inner + 1)) (turns may k j f s) (turns (λ visits. true) k j g s)
 same_turns start inner rows may f g allowed one zero j e s b =
     let same : j ≡ rows = omega arith in
@@ -124,7 +124,7 @@ same_turns start inner rows may f g allowed one (suc k) j e s b =
     (λ s' b'. same_turns start inner rows may f g allowed one k (j + 1) (omega arith) s' b')
 
 module _ (w : World) (parts : Parts) (may : ℕ → Bool) where
-  same_meaning : (c : Code) (at : ℕ) (inside : Bool) (regs : Registers) (s : Store) (v : ℕ)
+  same_meaning : (c : Code) (at : ℕ) (inside : Bool) (regs : Registers) (s : State) (v : ℕ)
       → s.visits + turns_met w.size 1 c ≤ v → ((k : ℕ) → k < v → may k ≡ true)
       → Same (s.visits + turns_met w.size 1 c) (meaning w parts may c at inside regs s)
       (meaning w parts (λ visits. true) c at inside regs s)
@@ -167,6 +167,6 @@ pub unbounded : (w : World) (parts : Parts) (most : ℕ) → quote w.size parts 
     → bounded_run_of w most parts ≡ run_of w parts
 unbounded w parts most enough =
     let same = same_meaning w parts (λ visits. nat_lt visits most) parts.body 1 false no_registers
-    empty_store most (subst (λ n. n ≤ most) (sym (zero-add (quote w.size parts))) enough)
+    empty_state most (subst (λ n. n ≤ most) (sym (zero-add (quote w.size parts))) enough)
     (λ k h. lt-ltb k most h) in
     ap (λ e. unless_unshown (shown_fault parts) (λ _. e)) same.0

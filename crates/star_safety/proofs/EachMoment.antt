@@ -7,7 +7,7 @@ use Rattle.star_program.specs.declared.value.Value.TheVariants.{Row}
 use Rattle.star_program.specs.Code.{Code, Stop, Then, Each, code_size}
 use Rattle.star_program.specs.World.{World}
 use Rattle.star_program.specs.Values.{Registers, with_entry}
-use Rattle.star_program.specs.Effects.{Store, Effect, GoesOn, EndsTurn, Traps, act}
+use Rattle.star_program.specs.Effects.{State, Effect, GoesOn, EndsTurn, Traps, act}
 use Rattle.star_program.specs.Run.{End, Ended, Trapped, Limited, EndsWith, after, follow, meaning, meaning_of, scans, turns, visited}
 use Rattle.star_safety.specs.Tallies.{Shares}
 use Rattle.star_safety.specs.Contexts.{Context, after_op, in_scan, after_scan, at_end}
@@ -18,15 +18,15 @@ use Rattle.star_safety.proofs.BeforePuts.{moment_of}
 -- ---- from the whole run to a moment
 
 -- what goes on behind a run that ends
-after_ended : (e : End) (Next : Store → Type 0) (go : Store → End) (t : Store) (C : Type 0)
-    → EndsWith e Next → after e go ≡ Ended t → ((s : Store) → Next s → go s ≡ Ended t → C) → C
+after_ended : (e : End) (Next : State → Type 0) (go : State → End) (t : State) (C : Type 0)
+    → EndsWith e Next → after e go ≡ Ended t → ((s : State) → Next s → go s ≡ Ended t → C) → C
 after_ended (Ended s) Next go t C h is next = next s h is
 after_ended (Trapped at trap) Next go t C h is next = absurd h
 after_ended Limited Next go t C h is next = absurd h
 
 -- in the turn behind so many others
-in_one_turn : (k count from : ℕ) (turn : ℕ → Store → End) (Holding : ℕ → Store → Type 0)
-    (s t : Store) → k < count → InEachTurn count from turn Holding s
+in_one_turn : (k count from : ℕ) (turn : ℕ → State → End) (Holding : ℕ → State → Type 0)
+    (s t : State) → k < count → InEachTurn count from turn Holding s
     → turns (λ visits. true) k from turn s ≡ Ended t → Holding (from + k) (visited t)
 in_one_turn k zero from turn Holding s t small h is = absurd (omega arith)
 in_one_turn zero (suc count) from turn Holding s t small h is =
@@ -52,9 +52,9 @@ module _ (w : World) (parts : Parts) (all : Shares) where
       subst (λ e. Onward e (Throughout w parts all (after_op w parts x op) rest (at + 1))) goes was.1
   met_onwards first m h (in_turn x table r body rest at registers s t row earlier declared within turned) =
       let was = met_onwards first (moment x (Each table r body rest) at registers s) h earlier in
-      let turn : ℕ → Store → End = λ j.
+      let turn : ℕ → State → End = λ j.
       meaning w parts (λ visits. true) body (at + 1) true (with_entry registers r (Row table j)) in
-      let Holding : ℕ → Store → Type 0 = λ j.
+      let Holding : ℕ → State → Type 0 = λ j.
       Throughout w parts all (in_scan w x table r) body (at + 1) (with_entry registers r (Row table j)) in
       let here : 0 + row ≡ row = omega arith in
       subst (λ j. Holding j (visited t)) here
@@ -73,8 +73,8 @@ module _ (w : World) (parts : Parts) (all : Shares) where
   abbrev Ends : End → Type 0
   Ends e = EndsWith e (λ s. Unit {0})
 
-  ends_parts : (e : End) (go : Store → End) → Ends (after e go)
-      → (t : Store) × (e ≡ Ended t) × Ends (go t)
+  ends_parts : (e : End) (go : State → End) → Ends (after e go)
+      → (t : State) × (e ≡ Ended t) × Ends (go t)
   ends_parts (Ended t) go h = (t, refl, h)
   ends_parts (Trapped at trap) go h = absurd h
   ends_parts Limited go h = absurd h
@@ -83,16 +83,16 @@ module _ (w : World) (parts : Parts) (all : Shares) where
   ends_declared at true go h = (refl, h)
   ends_declared at false go h = absurd h
 
-  onward_from : (e : Effect) (at : ℕ) (go : Registers → Store → End) (Next : Registers → Store → Type 0)
+  onward_from : (e : Effect) (at : ℕ) (go : Registers → State → End) (Next : Registers → State → Type 0)
       → Ends (follow at e go)
-      → ((registers : Registers) (s : Store) → e ≡ GoesOn registers s → Ends (go registers s) → Next registers s)
+      → ((registers : Registers) (s : State) → e ≡ GoesOn registers s → Ends (go registers s) → Next registers s)
       → Onward e Next
   onward_from (GoesOn registers s) at go Next h next = next registers s refl h
   onward_from (EndsTurn s) at go Next h next = tt
   onward_from (Traps trap) at go Next h next = h
 
   -- the turns from one on, behind those that went before
-  turns_more : (k from : ℕ) (turn : ℕ → Store → End) (s t u : Store)
+  turns_more : (k from : ℕ) (turn : ℕ → State → End) (s t u : State)
       → turns (λ visits. true) k from turn s ≡ Ended t → turn (from + k) (visited t) ≡ Ended u
       → turns (λ visits. true) (suc k) from turn s ≡ Ended u
   turns_more zero from turn s t u is next =
@@ -111,16 +111,16 @@ module _ (w : World) (parts : Parts) (all : Shares) where
       (subst (λ row. turn row (visited t) ≡ Ended u) there next) in
       rw split.1 rest
     where
-      ended_parts : (e : End) (go : Store → End) (t : Store) → after e go ≡ Ended t
-          → (x : Store) × (e ≡ Ended x) × (go x ≡ Ended t)
+      ended_parts : (e : End) (go : State → End) (t : State) → after e go ≡ Ended t
+          → (x : State) × (e ≡ Ended x) × (go x ≡ Ended t)
       ended_parts (Ended x) go t is = (x, refl, is)
       ended_parts (Trapped at trap) go t is = let bad : ⊥ = cc in absurd bad
       ended_parts Limited go t is = let bad : ⊥ = cc in absurd bad
 
-  in_turns : (rows : ℕ) (turn : ℕ → Store → End) (Holding : ℕ → Store → Type 0) (first : Store)
-      → ((row : ℕ) (s : Store) → row < rows → turns (λ visits. true) row 0 turn first ≡ Ended s
+  in_turns : (rows : ℕ) (turn : ℕ → State → End) (Holding : ℕ → State → Type 0) (first : State)
+      → ((row : ℕ) (s : State) → row < rows → turns (λ visits. true) row 0 turn first ≡ Ended s
       → Ends (turn row (visited s)) → Holding row (visited s))
-      → (count row : ℕ) → row + count ≡ rows → (s : Store)
+      → (count row : ℕ) → row + count ≡ rows → (s : State)
       → turns (λ visits. true) row 0 turn first ≡ Ended s
       → Ends (turns (λ visits. true) count row turn s) → InEachTurn count row turn Holding s
   in_turns rows turn Holding first one zero row e s is ends = tt
@@ -138,7 +138,7 @@ module _ (w : World) (parts : Parts) (all : Shares) where
       )
 
   module _ (first : Moment) (holds : HoldsFrom w parts all first) where
-    throughout_from : (c : Code) (x : Context) (at : ℕ) (registers : Registers) (s : Store)
+    throughout_from : (c : Code) (x : Context) (at : ℕ) (registers : Registers) (s : State)
         → IsMetFrom w parts first (moment x c at registers s)
         → Ends (meaning w parts (λ visits. true) c at x.inside registers s)
         → Throughout w parts all x c at registers s
@@ -151,9 +151,9 @@ module _ (w : World) (parts : Parts) (all : Shares) where
           (behind x op rest at registers after s t met goes) later),
     )
     throughout_from (Each table r body rest) x at registers s met ends =
-        let turn : ℕ → Store → End = λ row.
+        let turn : ℕ → State → End = λ row.
         meaning w parts (λ visits. true) body (at + 1) true (with_entry registers r (Row table row)) in
-        let go : Store → End =
+        let go : State → End =
         meaning w parts (λ visits. true) rest (at + 1 + code_size body) x.inside registers in
         let scan = ends_declared at (nat_lt r parts.registers) _ ends in
         let declared : r < parts.registers = ltb-true r parts.registers scan.0 in

@@ -15,7 +15,7 @@ use Rattle.star_program.specs.World.{World}
 use Rattle.star_safety.specs.Contexts.{Context, at_first, after_op, in_scan, after_scan, at_end}
 use Rattle.star_safety.specs.Refusals.{op_reason, scan_reason}
 use Rattle.star_safety.specs.Private.Forward.{code_puts_to, open_with, none_open, first_reason}
-use Rattle.star_safety.specs.Standing.{Enclosing, Item, Act, Scan, End, Standing, standing, instructions_of, op_puts_to, puts_to, is_open, at_place, reason_among, reason_of, has_scan, in_one_of}
+use Rattle.star_safety.specs.Standing.{Enclosing, CodeItem, Act, Scan, End, Standing, standing, instructions_of, op_puts_to, puts_to, is_open, at_place, reason_among, reason_of, has_scan, in_one_of}
 use Rattle.star_safety.specs.Told.{item_scope, scope_of}
 use Rattle.star_safety.proofs.Scopes.{AreBelow, any_with, any_has, EachOf, each_both, each_so, same_any, stand_in}
 use Rattle.star_safety.proofs.Told.{Tells, tells_then, tells_in, tells_after, tells_through, nothing_told}
@@ -83,7 +83,7 @@ and_true false b e = refl
 below_round : (n : ℕ) (i : Standing) → AreBelow n (scope_of i) → AreBelow n i.round
 below_round n i h = of_item i.item refl
   where
-    of_item : (item : Item) → i.item ≡ item → AreBelow n i.round
+    of_item : (item : CodeItem) → i.item ≡ item → AreBelow n i.round
     of_item (Act op) e = subst (λ t. AreBelow n (item_scope i.number i.round t)) e h
     of_item End e = subst (λ t. AreBelow n (item_scope i.number i.round t)) e h
     of_item (Scan table r) e =
@@ -110,7 +110,7 @@ scan_merged false false true later false false h k = absurd (cc)
 scan_merged false false false later false false h k = or-false later
 
 -- an instruction's open groups among all instructions
-open_here : (g : ℕ) (round : List Enclosing) (x : Context) (at : ℕ) (item : Item)
+open_here : (g : ℕ) (round : List Enclosing) (x : Context) (at : ℕ) (item : CodeItem)
     (earlier behind : List Standing) → EachOf (λ j. j.number ≤ at) earlier
     → EachOf (λ j. at + 1 ≤ j.number) behind
     → (let i : Standing = record { number = at; round = round; context = x; item = item } in

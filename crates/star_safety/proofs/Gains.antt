@@ -9,7 +9,7 @@ use Rattle.star_program.specs.declared.program.Parts.{Parts}
 use Rattle.star_program.specs.Code.{Code, Stop, Then, Each}
 use Rattle.star_program.specs.Faults.{group_at}
 use Rattle.star_program.specs.World.{World}
-use Rattle.star_safety.specs.Ranges.{Table, range_at}
+use Rattle.star_safety.specs.Ranges.{AllKnown, range_at}
 use Rattle.star_safety.specs.Contexts.{Context, put_known, put_share, after_op, in_scan, after_scan, at_end}
 use Rattle.star_safety.proofs.Tally.{Tally, no_tally, once, plus, times, Tallies, no_tallies, plus_all, times_all, tally_of, tallies_of}
 use Rattle.star_safety.specs.Moments.{all_shares}
@@ -17,7 +17,7 @@ use Rattle.star_safety.proofs.TallyOrder.{AtMost, at_most_refl, at_most_trans, a
 
 -- ---- an instruction
 
-abbrev pub put_tally : GroupDecl → Table → List ℕ → ℕ → Tally
+abbrev pub put_tally : GroupDecl → AllKnown → List ℕ → ℕ → Tally
 put_tally d known values a = once (range_at (slice_index_or (put_known d known values) a None))
 
 abbrev pub op_gain : Parts → Context → Op → Tallies

@@ -20,21 +20,21 @@ use Rattle.star_program.specs.declared.op.Operation.TheVariants.{Const, Edge, Lo
 use Rattle.star_program.specs.declared.op.Operator.{Operator}
 use Rattle.star_program.specs.declared.op.Operator.TheVariants.{Add, Sub, Mul, Less}
 use Rattle.star_program.specs.declared.program.Parts.{Parts}
-use Rattle.star_program.specs.World.{World, IsLoaded, IsRowOf, edge_of, is_text}
+use Rattle.star_program.specs.World.{World, IsLoaded, IsRowNumberOf, edge_of, is_text}
 use Rattle.star_program.specs.declared.value.Value.{Value}
 use Rattle.star_program.specs.declared.value.Value.TheVariants.{Number, Text, Place, Row, Flag}
-use Rattle.star_program.specs.Values.{kind_of_value, Registers, with_entry, number_in, flag_in, row_in}
+use Rattle.star_program.specs.Values.{register_kind, Registers, with_entry, number_read, flag_read, row_read}
 use Rattle.star_program.specs.declared.fault.Fault.{Fault}
-use Rattle.star_program.specs.Faults.{unless, kind_fault, operand_fault, is_number, is_row, is_row_of, both_fault, binary_fault, numbers_fault, keys_fault, place_fault, target_fault, target_of, operands_fault, group_at, fault_of}
-use Rattle.star_program.specs.Puts.{Update, aligned, overflows, own_groups, total}
-use Rattle.star_program.specs.Effects.{Store, Effect, GoesOn, EndsTurn, Traps, answer_of, loaded, update_of, result_trap, effect_of, unless_trap, kinds_in, act}
+use Rattle.star_program.specs.Faults.{unless, kind_fault, operand_fault, is_number_kind, is_row_kind, is_row_of, both_fault, binary_fault, numbers_fault, keys_fault, place_fault, target_fault, target_of, operands_fault, group_at, fault_of}
+use Rattle.star_program.specs.Puts.{Update, aligned, overflows, own_groups, total_over}
+use Rattle.star_program.specs.Effects.{State, Effect, GoesOn, EndsTurn, Traps, answer_of, loaded, update_of, result_trap, effect_of, unless_trap, kinds_in, act}
 use Rattle.star_program.specs.Private.Doing.{sets, sets_answer, sets_found, keeps, puts, puts_update, does}
 use Rattle.star_program.specs.declared.fault.TrapKind.{TrapKind}
 use Rattle.star_program.specs.declared.fault.TrapKind.TheVariants.{Wrong, Overflow}
 use Rattle.star_common.proofs.Firsts.{or_none}
 use Rattle.star_program.proofs.Unless.{unless_none}
 use Rattle.star_schema.proofs.Same.{table_same}
-use Rattle.star_safety.specs.Ranges.{Known, KnownNumber, KnownText, KnownPlace, KnownRow, KnownFlag, known_kind, Table, range_at, origin_at, given, loaded_known, computed, answer_known, kinds_known}
+use Rattle.star_safety.specs.Ranges.{Known, KnownNumber, KnownText, KnownPlace, KnownRow, KnownFlag, known_kind, AllKnown, range_at, origin_at, known_number, loaded_known, known_arithmetic, answer_known, kinds_known}
 use Rattle.star_safety.specs.Tallies.{Share, read_range}
 use Rattle.star_safety.proofs.Tally.{Tally, no_tally, plus, Tallies, no_tallies, plus_all, tally_of}
 use Rattle.star_safety.specs.Fitting.{FromColumn, FitsValue, FitsAt, Agrees}
@@ -68,7 +68,7 @@ not_refuses_none false x e = absurd (cc)
 -- ---- what is known fits what is there
 
 same_kind : (w : World) (k : Option Known) (v : Option Value) → FitsAt w k v
-    → option_map known_kind k ≡ option_map kind_of_value v
+    → option_map known_kind k ≡ option_map register_kind v
 same_kind w None None h = refl
 same_kind w (Some (KnownNumber r reach origin)) (Some (Number z)) h = refl
 same_kind w (Some (KnownText c)) (Some (Text d n)) h =
@@ -79,11 +79,11 @@ same_kind w (Some (KnownRow t)) (Some (Row s n)) h = ap (λ x. Some (known_kind 
 same_kind w (Some KnownFlag) (Some (Flag b)) h = refl
 same_kind w _ _ h = absurd h
 
-kinds_same : (w : World) (known : Table) (regs : Registers) → Agrees w known regs
+kinds_same : (w : World) (known : AllKnown) (regs : Registers) → Agrees w known regs
     → kinds_known known ≡ kinds_in regs
 kinds_same w known regs h = λ i r. same_kind w (known r) (regs r) (h r) i
 
-same_fault : (w : World) (parts : Parts) (inside : Bool) (twice : Option Fault) (known : Table)
+same_fault : (w : World) (parts : Parts) (inside : Bool) (twice : Option Fault) (known : AllKnown)
     (regs : Registers) (op : Op) → Agrees w known regs
     → fault_of parts inside twice (kinds_known known) op ≡ None
     → fault_of parts inside None (kinds_in regs) op ≡ None
@@ -101,28 +101,28 @@ fits_entry : (w : World) (b : Bool) (k : Known) (v : Value) (k' : Option Known) 
 fits_entry w true k v k' v' p q = p
 fits_entry w false k v k' v' p q = q
 
-pub agrees_entry : (w : World) (known : Table) (regs : Registers) (t : ℕ) (k : Known) (v : Value)
+pub agrees_entry : (w : World) (known : AllKnown) (regs : Registers) (t : ℕ) (k : Known) (v : Value)
     → Agrees w known regs → FitsValue w k v → Agrees w (with_entry known t k) (with_entry regs t v)
 agrees_entry w known regs t k v h p = λ r. fits_entry w (nat_eq r t) k v (known r) (regs r) p (h r)
 
 -- ---- operands
 
 number_fits : (w : World) (k : Option Known) (v : Option Value)
-    → kind_fault is_number (option_map known_kind k) ≡ None → FitsAt w k v
-    → Holds (range_at k) (number_in v) × FromColumn w (origin_at k) (number_in v)
+    → kind_fault is_number_kind (option_map known_kind k) ≡ None → FitsAt w k v
+    → Holds (range_at k) (number_read v) × FromColumn w (origin_at k) (number_read v)
 number_fits w None v e h = absurd (cc)
 number_fits w (Some (KnownNumber r reach origin)) (Some (Number z)) e h = h
 number_fits w (Some (KnownNumber r reach origin)) _ e h = absurd h
 number_fits w (Some _) v e h = absurd (cc)
 
-number_at : (w : World) (count r : ℕ) (known : Table) (regs : Registers)
-    → operand_fault count (kinds_known known) is_number r ≡ None → Agrees w known regs
-    → Holds (range_at (known r)) (number_in (regs r))
-    × FromColumn w (origin_at (known r)) (number_in (regs r))
+number_at : (w : World) (count r : ℕ) (known : AllKnown) (regs : Registers)
+    → operand_fault count (kinds_known known) is_number_kind r ≡ None → Agrees w known regs
+    → Holds (range_at (known r)) (number_read (regs r))
+    × FromColumn w (origin_at (known r)) (number_read (regs r))
 number_at w count r known regs e h = number_fits w (known r) (regs r) (or_none _ _ e).1 (h r)
 
 row_fits : (w : World) (t : TableId) (k : Option Known) (v : Option Value)
-    → is_row_of t (option_map known_kind k) ≡ true → FitsAt w k v → row_in v < w.size t
+    → is_row_of t (option_map known_kind k) ≡ true → FitsAt w k v → row_read v < w.size t
 row_fits w t (Some (KnownRow s)) (Some (Row q n)) e h =
     subst (λ x. n < w.size x) (table_same s t e) h.1
 row_fits w t (Some (KnownRow s)) _ e h = absurd h
@@ -136,17 +136,17 @@ AllHold [] [] = Unit {0}
 AllHold (k ∷ ks) (v ∷ vs) = Holds (range_at k) v × AllHold ks vs
 AllHold _ _ = ⊥
 
-put_numbers : (w : World) (count : ℕ) (known : Table) (regs : Registers) (vs : List ℕ)
+put_numbers : (w : World) (count : ℕ) (known : AllKnown) (regs : Registers) (vs : List ℕ)
     → numbers_fault count (kinds_known known) vs ≡ None → Agrees w known regs
-    → AllHold (map known vs) (map (λ r. number_in (regs r)) vs)
+    → AllHold (map known vs) (map (λ r. number_read (regs r)) vs)
 put_numbers w count known regs [] e h = tt
 put_numbers w count known regs (r ∷ rs) e h =
-    let p = or_none (operand_fault count (kinds_known known) is_number r)
+    let p = or_none (operand_fault count (kinds_known known) is_number_kind r)
     (numbers_fault count (kinds_known known) rs) e in
     ((number_at w count r known regs p.0 h).0, put_numbers w count known regs rs p.1 h)
 
 all_aligned : (gs : List Aggregate) (ks : List (Option Known)) (vs : List ℤ) → AllHold ks vs
-    → AllHold (aligned (Some (given (only (pos 1)))) gs ks) (aligned (pos 1) gs vs)
+    → AllHold (aligned (Some (known_number (only (pos 1)))) gs ks) (aligned (pos 1) gs vs)
 all_aligned [] ks vs h = tt
 all_aligned (Count ∷ gs) ks vs h = (holds_itself (pos 1), all_aligned gs ks vs h)
 all_aligned (_ ∷ gs) [] [] h = tt
@@ -164,16 +164,16 @@ held_at (k ∷ ks) [] a h = absurd h
 
 -- ---- one instruction
 
-abbrev pub AreTallied : Tallies → Store → Type 0
+abbrev pub AreTallied : Tallies → State → Type 0
 AreTallied y s = (g a : ℕ) → IsTallied (y g a) (numbers_for a (s.updates_of g))
 
 -- what an instruction may lead to: what is known then fits, and it has begun no turn
-abbrev pub IsGood : World → Table → Tallies → ℕ → Effect → Type 0
+abbrev pub IsGood : World → AllKnown → Tallies → ℕ → Effect → Type 0
 IsGood w known y visits (GoesOn regs s) = Agrees w known regs × AreTallied y s × (s.visits ≡ visits)
 IsGood w known y visits (EndsTurn s) = AreTallied y s × (s.visits ≡ visits)
 IsGood w known y visits (Traps trap) = ⊥
 
-good_unless : (w : World) (known : Table) (y : Tallies) (visits : ℕ) (o : Option Fault)
+good_unless : (w : World) (known : AllKnown) (y : Tallies) (visits : ℕ) (o : Option Fault)
     (own : Option TrapKind) (e : Effect)
     → o ≡ None → IsGood w known y visits (unless_trap own e)
     → IsGood w known y visits (unless_trap (option_or (option_map Wrong o) own) e)
@@ -181,7 +181,7 @@ good_unless w known y visits None own e p h = h
 good_unless w known y visits (Some fault) own e p h = absurd (cc)
 
 module _ (w : World) (catalogue : IsLoaded w) (parts : Parts) (x : Context) (y : Tallies)
-    (regs : Registers) (s : Store) (agrees : Agrees w x.known regs) (tallied : AreTallied y s) where
+    (regs : Registers) (s : State) (agrees : Agrees w x.known regs) (tallied : AreTallied y s) where
   still : AreTallied (plus_all y no_tallies) s
   still g a = tallied_more (y g a) (plus (y g a) no_tally) (numbers_for a (s.updates_of g))
       (at_most_plus (y g a) no_tally) (tallied g a)
@@ -197,14 +197,14 @@ module _ (w : World) (catalogue : IsLoaded w) (parts : Parts) (x : Context) (y :
 
   -- arithmetic
   good_result : (operation : ℤ → ℤ → ℤ) → KeepsValues operation (corner_range operation) → (t a b : ℕ)
-      → both_fault parts.registers (kinds_known x.known) is_number a b ≡ None → overflow_of w (computed operation (x.known a) (x.known b)) ≡ None
-      → IsGood w (with_entry x.known t (computed operation (x.known a) (x.known b))) (plus_all y no_tallies) s.visits (sets_answer regs s t (Number (operation (number_in (regs a)) (number_in (regs b)))))
+      → both_fault parts.registers (kinds_known x.known) is_number_kind a b ≡ None → overflow_of w (known_arithmetic operation (x.known a) (x.known b)) ≡ None
+      → IsGood w (with_entry x.known t (known_arithmetic operation (x.known a) (x.known b))) (plus_all y no_tallies) s.visits (sets_answer regs s t (Number (operation (number_read (regs a)) (number_read (regs b)))))
   good_result operation keeps t a b p e =
-      let q = or_none (operand_fault parts.registers (kinds_known x.known) is_number a) (operand_fault parts.registers (kinds_known x.known) is_number b) p in
-      let held = keeps (range_at (x.known a)) (range_at (x.known b)) (number_in (regs a)) (number_in (regs b)) (number_at w parts.registers a x.known regs q.0 agrees).0 (number_at w parts.registers b x.known regs q.1 agrees).0 in
-      let z = operation (number_in (regs a)) (number_in (regs b)) in
+      let q = or_none (operand_fault parts.registers (kinds_known x.known) is_number_kind a) (operand_fault parts.registers (kinds_known x.known) is_number_kind b) p in
+      let held = keeps (range_at (x.known a)) (range_at (x.known b)) (number_read (regs a)) (number_read (regs b)) (number_at w parts.registers a x.known regs q.0 agrees).0 (number_at w parts.registers b x.known regs q.1 agrees).0 in
+      let z = operation (number_read (regs a)) (number_read (regs b)) in
       let r = corner_range operation (range_at (x.known a)) (range_at (x.known b)) in
-      good_number (is_i64 z) t (computed operation (x.known a) (x.known b)) z
+      good_number (is_i64 z) t (known_arithmetic operation (x.known a) (x.known b)) z
       (fits_held r z (not_refuses_none (fits_i64 r) _ e) held) (held, tt)
 
   good_answer : (o : Operator) (t a b : ℕ) → binary_fault parts.registers (kinds_known x.known) o a b ≡ None → overflow_of w (answer_known o (x.known a) (x.known b)) ≡ None
@@ -222,7 +222,7 @@ module _ (w : World) (catalogue : IsLoaded w) (parts : Parts) (x : Context) (y :
       good_sets t (loaded_known w c false) (Number (w.number c n))
       (catalogue.held c n h, (n, h, refl))
 
-  good_found : (t : ℕ) (table : TableId) (o : Option ℕ) → IsRowOf w table o
+  good_found : (t : ℕ) (table : TableId) (o : Option ℕ) → IsRowNumberOf w table o
       → IsGood w (with_entry x.known t (KnownRow table)) (plus_all y no_tallies) s.visits
       (sets_found regs s t table o)
   good_found t table None h = absurd h
@@ -230,10 +230,10 @@ module _ (w : World) (catalogue : IsLoaded w) (parts : Parts) (x : Context) (y :
       (agrees_entry w x.known regs t (KnownRow table) (Row table n) agrees (refl, h), still, refl)
 
   is_found : (table : TableId) (o : Option ColumnId) (z : ℤ) → refers_to table o ≡ true
-      → FromColumn w o z → IsRowOf w table (w.find table z)
+      → FromColumn w o z → IsRowNumberOf w table (w.find table z)
   is_found table None z e h = absurd (cc)
   is_found table (Some c) z e h =
-      subst (λ q. IsRowOf w table (w.find table q)) (sym h.2)
+      subst (λ q. IsRowNumberOf w table (w.find table q)) (sym h.2)
       (catalogue.found c table h.0 (is_reference table (references c) e) h.1)
     where
       is_reference : (table : TableId) (o : Option TableId) → is_some_table table o ≡ true
@@ -251,7 +251,7 @@ module _ (w : World) (catalogue : IsLoaded w) (parts : Parts) (x : Context) (y :
       → tallies_fit (group_at parts g).aggregates 0 m ≡ true
       → IsGood w x.known (plus_all y (op_gain parts x (Put g ks vs))) s.visits
       (puts_update (group_at parts g) regs s g (update_of (group_at parts g) regs ks vs))
-  good_put g ks vs m e room fit = go (overflows d (s.updates_of g) u) quiet
+  good_put g ks vs m e room fit = go (overflows d.shape d.aggregates (s.updates_of g) u) quiet
     where
       d : GroupDecl
       d = group_at parts g
@@ -264,7 +264,7 @@ module _ (w : World) (catalogue : IsLoaded w) (parts : Parts) (x : Context) (y :
           (slice_index_or (update_of (group_at parts g) regs ks vs).values a (pos 0))
       held a = held_at _ _ a
           (all_aligned (group_at parts g).aggregates (map x.known vs)
-          (map (λ r. number_in (regs r)) vs)
+          (map (λ r. number_read (regs r)) vs)
           (put_numbers w parts.registers x.known regs vs e agrees))
 
       put_entry : (b : Bool) (h a : ℕ)
@@ -276,7 +276,7 @@ module _ (w : World) (catalogue : IsLoaded w) (parts : Parts) (x : Context) (y :
           tallied_put (y h a) _ _ (numbers_for a (s.updates_of h)) (tallied h a) (held a)
       put_entry false h a = still h a
 
-      quiet : overflows (group_at parts g) (s.updates_of g)
+      quiet : overflows (group_at parts g).shape (group_at parts g).aggregates (s.updates_of g)
           (update_of (group_at parts g) regs ks vs) ≡ false
       quiet = no_overflow (group_at parts g).aggregates
           (λ a. plus (y g a) (put_tally (group_at parts g) x.known vs a))
@@ -296,16 +296,16 @@ module _ (w : World) (catalogue : IsLoaded w) (parts : Parts) (x : Context) (y :
       → AtMost (y g i) (tally_of so_far)
       → fits_i64 (read_range (slice_index_or d.aggregates i Count) so_far (only n)) ≡ true
       → IsGood w (with_entry x.known t
-      (given (read_range (slice_index_or d.aggregates i Count) so_far (only n))))
+      (known_number (read_range (slice_index_or d.aggregates i Count) so_far (only n))))
       (plus_all y no_tallies) s.visits
-      (sets_answer regs s t (Number (unwrap_or (total d i (s.updates_of g)) n)))
+      (sets_answer regs s t (Number (unwrap_or (total_over d.aggregates i (s.updates_of g)) n)))
   good_read t g i so_far d n h fits =
       let r = read_range (slice_index_or d.aggregates i Count) so_far (only n) in
-      let z = unwrap_or (total d i (s.updates_of g)) n in
+      let z = unwrap_or (total_over d.aggregates i (s.updates_of g)) n in
       let held = read_holds (slice_index_or d.aggregates i Count) so_far n
       (numbers_for i (s.updates_of g))
       (tallied_more (y g i) (tally_of so_far) (numbers_for i (s.updates_of g)) h (tallied g i)) in
-      good_number (is_i64 z) t (given r) z (fits_held r z fits held) (held, tt)
+      good_number (is_i64 z) t (known_number r) z (fits_held r z fits held) (held, tt)
 
   does_good : (pending : ℕ → Bool) (op : Op) (m : Tallies)
       → operands_fault parts (kinds_known x.known) op ≡ None
@@ -315,27 +315,27 @@ module _ (w : World) (catalogue : IsLoaded w) (parts : Parts) (x : Context) (y :
       → ((g a : ℕ) → AtMost (plus (y g a) (op_gain parts x op g a)) (m g a))
       → ((g : ℕ) → tallies_fit (group_at parts g).aggregates 0 (m g) ≡ true)
       → IsGood w (after_op w parts x op).known (plus_all y (op_gain parts x op)) s.visits (does w parts regs s op)
-  does_good pending (Assign t (Const z)) m e from r closed room fit = good_sets t (given (only z)) (Number z) (holds_itself z, tt)
+  does_good pending (Assign t (Const z)) m e from r closed room fit = good_sets t (known_number (only z)) (Number z) (holds_itself z, tt)
   does_good pending (Assign t (Edge g c b)) m e from r closed room fit = good_sets t (KnownPlace c) (Place c (edge_of w g c b)) (refl, catalogue.counted g c b)
   does_good pending (Assign t (Load c q)) m e from r closed room fit =
-      good_loaded (is_text c) t c (row_in (regs q)) refl
-      (row_fits w (table_of c) (x.known q) (regs q) (unless_none _ _ (or_none (operand_fault parts.registers (kinds_known x.known) is_row q) _ e).1) (agrees q))
+      good_loaded (is_text c) t c (row_read (regs q)) refl
+      (row_fits w (table_of c) (x.known q) (regs q) (unless_none _ _ (or_none (operand_fault parts.registers (kinds_known x.known) is_row_kind q) _ e).1) (agrees q))
   does_good pending (Assign t (Find table k)) m e from r closed room fit =
-      good_found t table (w.find table (number_in (regs k)))
-      (is_found table (origin_at (x.known k)) (number_in (regs k)) (not_refuses_none _ _ from) (number_at w parts.registers k x.known regs e agrees).1)
+      good_found t table (w.find table (number_read (regs k)))
+      (is_found table (origin_at (x.known k)) (number_read (regs k)) (not_refuses_none _ _ from) (number_at w parts.registers k x.known regs e agrees).1)
   does_good pending (Assign t (Binary o a b)) m e from r closed room fit = good_answer o t a b e r
   does_good pending (Assign t (Within q a b)) m e from r closed room fit = good_sets t KnownFlag (Flag _) tt
   does_good pending (Assign t (Not a)) m e from r closed room fit = good_sets t KnownFlag (Flag _) tt
   does_good pending (Assign t (Read g i d)) m e from r closed room fit =
       good_read t g i (x.so_far g i) (group_at parts g) d (closed g i (refuses_none (pending g) _ from)) (not_refuses_none _ _ r)
-  does_good pending (Keep k) m e from r closed room fit = good_keeps (flag_in (regs k))
+  does_good pending (Keep k) m e from r closed room fit = good_keeps (flag_read (regs k))
   does_good pending (Put g ks vs) m e from r closed room fit =
       good_put g ks vs (m g) (or_none (keys_fault parts.registers (kinds_known x.known) (group_at parts g).keys ks) _ e).1
       (λ a. subst (λ b. AtMost (plus (y g a) (if b then put_tally (group_at parts g) x.known vs a else no_tally)) (m g a)) (eq-eqb g g refl) (room g a)) (fit g)
 
 -- one instruction of an admissible program
 pub act_good : (w : World) → IsLoaded w
-    → (parts : Parts) (x : Context) (y : Tallies) (regs : Registers) (s : Store)
+    → (parts : Parts) (x : Context) (y : Tallies) (regs : Registers) (s : State)
     → Agrees w x.known regs → AreTallied y s
     → (pending : ℕ → Bool) (op : Op) (m : Tallies)
     → op_reason w parts pending x op ≡ None

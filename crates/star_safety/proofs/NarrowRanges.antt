@@ -20,7 +20,7 @@ use Rattle.star_program.specs.Values.{with_entry}
 use Rattle.star_program.specs.World.{World, is_text}
 use Rattle.star_safety.specs.Bounds.{NamesI64}
 use Rattle.star_safety.specs.Contexts.{Context, put_known, put_share, result_known, after_op}
-use Rattle.star_safety.specs.Ranges.{Known, KnownNumber, KnownText, KnownPlace, KnownRow, KnownFlag, Table, range_at, given, loaded_known, answer_known}
+use Rattle.star_safety.specs.Ranges.{Known, KnownNumber, KnownText, KnownPlace, KnownRow, KnownFlag, AllKnown, range_at, known_number, loaded_known, answer_known}
 use Rattle.star_safety.specs.Refusals.{overflow_of, range_reason}
 use Rattle.star_safety.specs.Tallies.{Share, sum_range, most_of, hull_with, hull_of, read_range, widened}
 use Rattle.star_safety.proofs.Instructions.{not_refuses_none}
@@ -46,7 +46,7 @@ pub record Fits (parts : Parts) (x : Context) : Type 0 where
 pub zero_narrow : Narrow (only (pos 0))
 zero_narrow = only_small (2 ^ 63) (pos 0) (omega arith)
 
-pub entry_narrow : (known : Table) (t : ℕ) (k : Known) → IsNarrow k
+pub entry_narrow : (known : AllKnown) (t : ℕ) (k : Known) → IsNarrow k
     → ((r : ℕ) → Narrow (range_at (known r))) → (r : ℕ) → Narrow (range_at (with_entry known t k r))
 entry_narrow known t k h all r = go (nat_eq r t)
   where
@@ -78,14 +78,14 @@ made_narrow w parts x t o e = result_narrow w (result_known w parts x (Assign t 
 -- ---- a put
 
 -- what is known of the numbers of a put
-mapped_narrow : (known : Table) (vs : List ℕ) → ((r : ℕ) → Narrow (range_at (known r)))
+mapped_narrow : (known : AllKnown) (vs : List ℕ) → ((r : ℕ) → Narrow (range_at (known r)))
     → AllByRecursion (λ k. Narrow (range_at k)) (map known vs)
 mapped_narrow known [] all = tt
 mapped_narrow known (v ∷ vs) all = (all v, mapped_narrow known vs all)
 
 aligned_narrow : (gs : List Aggregate) (ks : List (Option Known))
     → AllByRecursion (λ k. Narrow (range_at k)) ks
-    → AllByRecursion (λ k. Narrow (range_at k)) (aligned (Some (given (only (pos 1)))) gs ks)
+    → AllByRecursion (λ k. Narrow (range_at k)) (aligned (Some (known_number (only (pos 1)))) gs ks)
 aligned_narrow [] ks all = tt
 aligned_narrow (Count ∷ gs) ks all =
     (only_small (2 ^ 63) (pos 1) (omega arith), aligned_narrow gs ks all)

@@ -27,11 +27,11 @@ use Rattle.star_program.specs.declared.program.Parts.{Parts}
 use Rattle.star_program.specs.declared.value.Value.{Value}
 use Rattle.star_program.specs.declared.value.Value.TheVariants.{Number, Text, Place, Row, Flag}
 use Rattle.star_program.specs.Code.{Code, Stop, Then, Each, code_size}
-use Rattle.star_program.specs.Effects.{Store, Effect, GoesOn, EndsTurn, Traps, kinds_in, trap_of, effect_of, unless_trap, update_of, act}
+use Rattle.star_program.specs.Effects.{State, Effect, GoesOn, EndsTurn, Traps, kinds_in, trap_of, effect_of, unless_trap, update_of, act}
 use Rattle.star_program.specs.Faults.{group_at, fault_of, fits_key, keys_fault, kind_fault, numbers_fault, operand_fault, place_fault, target_fault, unless}
 use Rattle.star_program.specs.Puts.{Update}
 use Rattle.star_program.specs.Run.{End, Ended, Trapped, Limited, EndsWith, after, follow, meaning, scans, turns, visited}
-use Rattle.star_program.specs.Values.{Registers, key_in, kind_of_value, with_entry}
+use Rattle.star_program.specs.Values.{Registers, key_read, register_kind, with_entry}
 use Rattle.star_program.specs.World.{World, is_column, is_text}
 use Rattle.star_program.specs.declared.fault.Fault.TheVariants.{BadRegister, WrongKind, BadGroup}
 use Rattle.star_program.specs.declared.fault.TrapKind.{TrapKind}
@@ -39,8 +39,8 @@ use Rattle.star_program.specs.declared.fault.TrapKind.TheVariants.{Wrong}
 use Rattle.star_safety.specs.Contexts.{Context, after_op, after_scan, at_end, in_scan, key_share, known_share, op_key_shares, operation_known, put_share, result_known}
 use Rattle.star_safety.specs.Fitting.{Agrees, FitsAt}
 use Rattle.star_safety.specs.Private.Throughout.{InEachTurn, Onward, Throughout}
-use Rattle.star_safety.specs.MostRows.{all_key_shares, each_values, numbers_to, values_of, width, width_of}
-use Rattle.star_safety.specs.Ranges.{Known, KnownNumber, KnownText, KnownPlace, KnownRow, KnownFlag, Table, loaded_known}
+use Rattle.star_safety.specs.MostRows.{all_key_shares, each_values, numbers_to, possible_values, width, range_width}
+use Rattle.star_safety.specs.Ranges.{Known, KnownNumber, KnownText, KnownPlace, KnownRow, KnownFlag, AllKnown, loaded_known}
 use Rattle.star_safety.specs.Tallies.{Share, Shares, hull_of, hull_with, most_of}
 use Rattle.star_safety.proofs.BeforePuts.{moment_of}
 use Rattle.star_safety.proofs.FewGroups.{sizes}
@@ -67,7 +67,7 @@ each_listed w parts g place (declared ∷ rest) =
     listed w (all_key_shares w parts g place) declared ∷ each_listed w parts g (suc place) rest
 
 length-listed : (w : World) (shares : List Share) (declared : GroupKey)
-    → length (listed w shares declared) ≡ values_of w shares declared
+    → length (listed w shares declared) ≡ possible_values w shares declared
 length-listed w shares (declared.Text c) = by (is_text c)
   where
     by : (b : Bool) → length (if b then map key.Code (range_with_len 0 (w.entries c)) else [])
@@ -77,7 +77,7 @@ length-listed w shares (declared.Text c) = by (is_text c)
     by false = refl
 length-listed w shares declared.Number = by (hull_of shares)
   where
-    by : (o : Option Range) → length (numbers_in o) ≡ width_of o
+    by : (o : Option Range) → length (numbers_in o) ≡ range_width o
     by None = refl
     by (Some r) = length-map (range_with_len 0 (width r)) (number_from r.low)
         ∙ length-range_with_len 0 (width r)
@@ -156,8 +156,8 @@ IsTextAlone (Some (KnownText c)) = is_text c ≡ true
 IsTextAlone _ = Unit {0}
 
 key_listed : (w : World) (ss : List Share) (met : ℕ) (declared : GroupKey) (k : Option Known) (v : Option Value)
-    → Contains ss (known_share met k) → kind_fault (fits_key declared) (option_map kind_of_value v) ≡ None
-    → IsTextAlone k → FitsAt w k v → Contains (listed w ss declared) (key_in v)
+    → Contains ss (known_share met k) → kind_fault (fits_key declared) (option_map register_kind v) ≡ None
+    → IsTextAlone k → FitsAt w k v → Contains (listed w ss declared) (key_read v)
 key_listed w ss met declared None None c e text h = absurd (cc)
 key_listed w ss met declared.Number (Some (KnownNumber r reach origin)) (Some (Number z)) c e text h =
     let found = in_hull ss (known_share met (Some (KnownNumber r reach origin))) z c h.0 in
@@ -190,7 +190,7 @@ module _ (w : World) (parts : Parts) where
       → (declared : List GroupKey) (rs : List ℕ) (place : ℕ) → length rs ≡ length declared
       → ((j : ℕ) → j < length rs → slice_index_or all (place + j) 0 ≡ slice_index_or rs j 0)
       → keys_fault parts.registers (kinds_in regs) declared rs ≡ None
-      → KeysAmong (map (λ r. key_in (regs r)) rs) (each_listed w parts g place declared)
+      → KeysAmong (map (λ r. key_read (regs r)) rs) (each_listed w parts g place declared)
   keys_listed x g regs all agrees texts shares [] [] place e same fine = tt
   keys_listed x g regs all agrees texts shares (d ∷ ds) (r ∷ rs) place e same fine =
       let here = or_none (operand_fault parts.registers (kinds_in regs) (fits_key d) r)
@@ -212,7 +212,7 @@ module _ (w : World) (parts : Parts) where
 
 module _ (w : World) (parts : Parts) (g : ℕ) (vss : List (List KeyValue)) where
   -- each update of the group has keys among the values
-  abbrev pub AreListed : Store → Type 0
+  abbrev pub AreListed : State → Type 0
   AreListed s = AllByRecursion (λ u. KeysAmong u.keys vss) (s.updates_of g)
 
   -- a put to the group is so where it has no fault and the registers hold what is known
@@ -239,7 +239,7 @@ module _ (w : World) (parts : Parts) (g : ℕ) (vss : List (List KeyValue)) wher
   leaves_unless None e h = h refl
   leaves_unless (Some trap) e h = tt
 
-  leaves_keep : (b : Bool) (regs : Registers) (s : Store) → AreListed s
+  leaves_keep : (b : Bool) (regs : Registers) (s : State) → AreListed s
       → Leaves (if b then GoesOn regs s else EndsTurn s)
   leaves_keep true regs s h = h
   leaves_keep false regs s h = h
@@ -250,7 +250,7 @@ module _ (w : World) (parts : Parts) (g : ℕ) (vss : List (List KeyValue)) wher
   listed_more true u us one h = (one refl, h)
   listed_more false u us one h = h
 
-  leaves : (x : Context) (regs : Registers) (s : Store) (op : Op) → Agrees w x.known regs → AreListed s
+  leaves : (x : Context) (regs : Registers) (s : State) (op : Op) → Agrees w x.known regs → AreListed s
       → ListsKeys x op → Leaves (act w parts x.inside regs s op)
   leaves x regs s op agrees h lists =
       leaves_unless (trap_of w parts x.inside regs s op) (effect_of w parts regs s op)
@@ -272,23 +272,23 @@ module _ (w : World) (parts : Parts) (g : ℕ) (vss : List (List KeyValue)) wher
       by (Assign t (Not f)) lists fine = h
       by (Assign t (Read k a n)) lists fine = h
 
-  kept_follow : (at : ℕ) (e : Effect) (next : Registers → Store → End) (Next : Registers → Store → Type 0)
+  kept_follow : (at : ℕ) (e : Effect) (next : Registers → State → End) (Next : Registers → State → Type 0)
       → Onward e Next → Leaves e
-      → ((regs : Registers) (s : Store) → Next regs s → AreListed s → EndsWith (next regs s) AreListed)
+      → ((regs : Registers) (s : State) → Next regs s → AreListed s → EndsWith (next regs s) AreListed)
       → EndsWith (follow at e next) AreListed
   kept_follow at (GoesOn regs s) next Next h k go = go regs s h k
   kept_follow at (EndsTurn s) next Next h k go = k
   kept_follow at (Traps trap) next Next h k go = absurd h
 
-  ends_after : (e : End) (next : Store → End) (A : Store → Type 0) → EndsWith e A → EndsWith e AreListed
-      → ((s : Store) → A s → AreListed s → EndsWith (next s) AreListed) → EndsWith (after e next) AreListed
+  ends_after : (e : End) (next : State → End) (A : State → Type 0) → EndsWith e A → EndsWith e AreListed
+      → ((s : State) → A s → AreListed s → EndsWith (next s) AreListed) → EndsWith (after e next) AreListed
   ends_after (Ended s) next A h k go = go s h k
   ends_after (Trapped at trap) next A h k go = absurd h
   ends_after Limited next A h k go = absurd h
 
-  kept_turns : (count row : ℕ) (turn : ℕ → Store → End) (Holding : ℕ → Store → Type 0) (s : Store)
+  kept_turns : (count row : ℕ) (turn : ℕ → State → End) (Holding : ℕ → State → Type 0) (s : State)
       → InEachTurn count row turn Holding s → AreListed s
-      → ((j : ℕ) (s : Store) → Holding j s → AreListed s → EndsWith (turn j s) AreListed)
+      → ((j : ℕ) (s : State) → Holding j s → AreListed s → EndsWith (turn j s) AreListed)
       → EndsWith (turns (λ visits. true) count row turn s) AreListed
   kept_turns zero row turn Holding s h k one = k
   kept_turns (suc count) row turn Holding s h k one =
@@ -301,7 +301,7 @@ module _ (w : World) (parts : Parts) (g : ℕ) (vss : List (List KeyValue)) wher
   ends_scans at true go e h = h
   ends_scans at false go e h = absurd (cc)
 
-  pub kept : (all : Shares) (c : Code) (at : ℕ) (x : Context) (regs : Registers) (s : Store)
+  pub kept : (all : Shares) (c : Code) (at : ℕ) (x : Context) (regs : Registers) (s : State)
       → Throughout w parts all x c at regs s → AllListKeys x c → AreListed s
       → EndsWith (meaning w parts (λ visits. true) c at x.inside regs s) AreListed
   kept all Stop at x regs s h lists k = k
@@ -312,7 +312,7 @@ module _ (w : World) (parts : Parts) (g : ℕ) (vss : List (List KeyValue)) wher
       (λ regs' s' h' k'. kept all rest (at + 1) (after_op w parts x op) regs' s' h' lists.1 k')
   kept all (Each t r body rest) at x regs s h lists k =
       let inner = in_scan w x t r in
-      let turn : ℕ → Store → End =
+      let turn : ℕ → State → End =
       λ j. meaning w parts (λ visits. true) body (at + 1) true (with_entry regs r (Row t j)) in
       ends_scans at (nat_lt r parts.registers) _ (lt-ltb r parts.registers h.1)
       (ends_after (turns (λ visits. true) (w.size t) 0 turn s)
@@ -325,7 +325,7 @@ module _ (w : World) (parts : Parts) (g : ℕ) (vss : List (List KeyValue)) wher
 
 -- ---- the puts of a program
 
-text_entry : (known : Table) (t : ℕ) (k : Known) (q : ℕ) → ((r : ℕ) → IsTextAlone (known r))
+text_entry : (known : AllKnown) (t : ℕ) (k : Known) (q : ℕ) → ((r : ℕ) → IsTextAlone (known r))
     → IsTextAlone (Some k) → IsTextAlone (with_entry known t k q)
 text_entry known t k q texts here = by (nat_eq q t)
   where
@@ -398,7 +398,7 @@ module _ (w : World) (parts : Parts) (g : ℕ) where
       let kinds = (or_none (keys_fault parts.registers (kinds_in regs) (group_at parts h).keys ks)
       (numbers_fault parts.registers (kinds_in regs) vs) operands.1).0 in
       let group : g ≡ h = eqb-true g h same in
-      subst (λ n. KeysAmong (map (λ r. key_in (regs r)) ks) (each_listed w parts g 0 (group_at parts n).keys)) (sym group)
+      subst (λ n. KeysAmong (map (λ r. key_read (regs r)) ks) (each_listed w parts g 0 (group_at parts n).keys)) (sym group)
       (keys_listed w parts x g regs ks agrees texts
       (λ at. given at (key_share x ks at) (put_shares x h ks vs same at))
       (group_at parts h).keys ks 0 (counted place.0) (λ j lt. ap (λ n. slice_index_or ks n 0) (zero-add j)) kinds)

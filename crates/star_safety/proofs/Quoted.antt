@@ -7,7 +7,7 @@ use Rattle.star_schema.specs.declared.table.TableId.{TableId}
 use Rattle.star_program.specs.declared.program.Parts.{Parts}
 use Rattle.star_program.specs.Code.{Code, Stop, Then, Each, code_size, scan_depth}
 use Rattle.star_program.specs.Limits.{IsWithinLimits}
-use Rattle.star_program.specs.Shown.{shown_fault}
+use Rattle.star_program.specs.ShowLines.{shown_fault}
 use Rattle.star_program.specs.World.{World}
 use Rattle.star_safety.specs.Admissible.{TooCostly, Refused, BadShow, cost_refusal, first_refusal}
 use Rattle.star_safety.specs.Quote.{turns_met, quote}

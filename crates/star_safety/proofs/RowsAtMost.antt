@@ -23,13 +23,13 @@ use Rattle.star_program.specs.declared.group.GroupKey.{GroupKey}
 use Rattle.star_program.specs.declared.key.KeyValue.{KeyValue}
 use Rattle.star_program.specs.declared.outcome.Outcome.{Outcome}
 use Rattle.star_program.specs.declared.program.Parts.{Parts}
-use Rattle.star_program.specs.Effects.{Store, empty_store}
+use Rattle.star_program.specs.Effects.{State, empty_state}
 use Rattle.star_program.specs.Faults.{group_at}
 use Rattle.star_program.specs.Keys.{key_value_cmp}
-use Rattle.star_program.specs.Outcome.{AreRows, IsOutcome, decoded_row, shown_cells}
+use Rattle.star_program.specs.Outcome.{AreReportRows, IsOutcome, decoded_row, shown_cells}
 use Rattle.star_program.specs.Puts.{Update}
 use Rattle.star_program.specs.Run.{End, Ended, Trapped, Limited, EndsWith, run_of, unless_unshown}
-use Rattle.star_program.specs.Shown.{shown_fault}
+use Rattle.star_program.specs.ShowLines.{shown_fault}
 use Rattle.star_program.specs.Values.{no_registers}
 use Rattle.star_program.specs.World.{World}
 use Rattle.star_group.specs.OwnKeys.{key_eq}
@@ -37,7 +37,7 @@ use Rattle.star_group.proofs.GroupKeys.{key_decides}
 use Rattle.star_safety.specs.Contexts.{at_first}
 use Rattle.star_safety.specs.Laws.{IsAccepted}
 use Rattle.star_safety.specs.Moments.{all_shares}
-use Rattle.star_safety.specs.MostRows.{all_key_shares, most_rows, rows_of_groupings}
+use Rattle.star_safety.specs.MostRows.{all_key_shares, most_report_rows, rows_of_groupings}
 use Rattle.star_safety.specs.Tallies.{most_of}
 use Rattle.star_safety.proofs.Always.{accepted_throughout}
 use Rattle.star_safety.proofs.FewGroups.{AreAmong, IsOne, few_groups, sizes}
@@ -89,7 +89,7 @@ row_itself (sort ∷ sorts) row =
 -- ---- no two groups of a report have the same keys
 
 module _ (w : World) (parts : Parts) (us : List Update) (rows : List (GroupRow Value))
-    (are : AreRows w parts (group_at parts parts.report) us rows) where
+    (are : AreReportRows w parts (group_at parts parts.report) us rows) where
   -- a group's keys tell its totals
   one_group : (a b : GroupRow KeyValue) → Contains are.groups a → Contains are.groups b
       → a.keys ≡ b.keys → a ≡ b
@@ -206,9 +206,9 @@ module _ (w : World) (parts : Parts) where
       wide : length values ≡ length d.keys
       wide = length-each_listed w parts parts.report 0 d.keys
 
-  few_rows : (us : List Update) (rows : List (GroupRow Value)) → AreRows w parts d us rows
+  few_rows : (us : List Update) (rows : List (GroupRow Value)) → AreReportRows w parts d us rows
       → AllByRecursion (λ u. KeysAmong u.keys values) us → length us ≤ most
-      → length rows ≤ most_rows w parts
+      → length rows ≤ most_report_rows w parts
   few_rows us rows are listed few =
       let keys : List (List KeyValue) = map (λ u. u.keys) us in
       let few' : length keys ≤ most = omega (arith, few, length-map us (λ u. u.keys)) in
@@ -220,7 +220,7 @@ module _ (w : World) (parts : Parts) where
       (λ qs c. let found = from_contains_map (λ g. g.keys) are.groups qs c in
       subst (λ ks. (length ks ≡ length values) × (is_grouping d.shape ks ≡ true) × IsOne keys values most few' ks)
       found.2 (one_of_them us few' listed found.0.keys (are.each_group.each found.0 found.1).0)) in
-      let whole : rows_of_groupings d.shape most (sizes values) ≡ most_rows w parts =
+      let whole : rows_of_groupings d.shape most (sizes values) ≡ most_report_rows w parts =
       ap (rows_of_groupings d.shape most) (sizes_are w parts parts.report 0 d.keys) in
       omega (
         arith,
@@ -233,18 +233,18 @@ module _ (w : World) (parts : Parts) where
 
   -- ---- a run
 
-  both_ends : (e : End) (A B : Store → Type 0) → EndsWith e A → EndsWith e B
+  both_ends : (e : End) (A B : State → Type 0) → EndsWith e A → EndsWith e B
       → EndsWith e (λ s. A s × B s)
   both_ends (Ended s) A B h k = (h, k)
   both_ends (Trapped at trap) A B h k = h
   both_ends Limited A B h k = h
 
-  ends_more : (e : End) (A B : Store → Type 0) → ((s : Store) → A s → B s) → EndsWith e A → EndsWith e B
+  ends_more : (e : End) (A B : State → Type 0) → ((s : State) → A s → B s) → EndsWith e A → EndsWith e B
   ends_more (Ended s) A B f h = f s h
   ends_more (Trapped at trap) A B f h = h
   ends_more Limited A B f h = h
 
-  ends_unshown : (o : Option ℕ) (go : Unit {0} → End) (Done : Store → Type 0) → o ≡ None
+  ends_unshown : (o : Option ℕ) (go : Unit {0} → End) (Done : State → Type 0) → o ≡ None
       → EndsWith (go tt) Done → EndsWith (unless_unshown o go) Done
   ends_unshown None go Done e h = h
   ends_unshown (Some place) go Done e h = absurd (cc)
@@ -252,7 +252,7 @@ module _ (w : World) (parts : Parts) where
   listed_end : IsAccepted w parts → EndsWith (run_of w parts) (AreListed w parts parts.report values)
   listed_end accepted =
       ends_unshown (shown_fault parts) _ _ accepted.admissible.report
-      (kept w parts parts.report values (all_shares w parts) parts.body 1 at_first no_registers empty_store
+      (kept w parts parts.report values (all_shares w parts) parts.body 1 at_first no_registers empty_state
       (accepted_throughout w parts accepted)
       (all_listed w parts parts.report parts.body at_first (λ r. tt) (λ place s h. h)) tt)
 
@@ -269,7 +269,7 @@ module _ (w : World) (parts : Parts) where
 
   pub rows_at_most : IsAccepted w parts
       → EndsWith (run_of w parts) (λ s. (outcome : Outcome) → IsOutcome w parts s outcome
-      → length outcome.rows ≤ most_rows w parts)
+      → length outcome.rows ≤ most_report_rows w parts)
   rows_at_most accepted =
       ends_more (run_of w parts) _ _
       (λ s h outcome is.

@@ -10,9 +10,9 @@ use Rattle.star_program.specs.declared.value.Value.TheVariants.{Row}
 use Rattle.star_program.specs.Values.{Registers, no_registers, with_entry}
 use Rattle.star_program.specs.declared.fault.Fault.TheVariants.{BadRegister, WrittenTwice}
 use Rattle.star_program.specs.Faults.{unless, group_at}
-use Rattle.star_program.specs.Effects.{Store, empty_store, act}
+use Rattle.star_program.specs.Effects.{State, empty_state, act}
 use Rattle.star_program.specs.Run.{End, Ended, Trapped, Limited, EndsWith, turns, after, meaning, meaning_of, unless_unshown, run_while}
-use Rattle.star_program.specs.Shown.{shown_fault}
+use Rattle.star_program.specs.ShowLines.{shown_fault}
 use Rattle.star_program.proofs.Unless.{unless_none}
 use Rattle.star_safety.specs.Laws.{IsAccepted}
 use Rattle.star_safety.specs.Ranges.{KnownRow}
@@ -44,7 +44,7 @@ AllFit parts m = (g : ℕ) → tallies_fit (group_at parts g).aggregates 0 (m g)
 module _ (w : World) (catalogue : IsLoaded w) (parts : Parts) (may : ℕ → Bool) (m : Tallies)
     (fit : AllFit parts m) where
   pub sound : (c : Code) (at : ℕ) (pending : ℕ → Bool) (x : Context) (y : Tallies)
-      (regs : Registers) (s : Store)
+      (regs : Registers) (s : State)
       → IsReady w parts m pending x y at c → Agrees w x.known regs → AreTallied y s
       → ((k : ℕ) → k < s.visits + turns_met w.size 1 c → may k ≡ true)
       → Safe (plus_all y (gain w parts x c)) (s.visits + turns_met w.size 1 c)
@@ -84,9 +84,9 @@ module _ (w : World) (catalogue : IsLoaded w) (parts : Parts) (may : ℕ → Boo
       let add = gain w parts inner body in
       let later = after_scan x (at_end w parts inner body) in
       let more = gain w parts later rest in
-      let turn : ℕ → Store → End =
+      let turn : ℕ → State → End =
       λ j. meaning w parts may body (at + 1) true (with_entry regs r (Row table j)) in
-      let next : Store → End = meaning w parts may rest (at + 1 + code_size body) x.inside regs in
+      let next : State → End = meaning w parts may rest (at + 1 + code_size body) x.inside regs in
       let p = or_none (at_place at (scan_reason parts x r)) _ ready.accepted in
       let here = or_none (unless (nat_lt r parts.registers) BadRegister)
       (unless (not (x.written r)) WrittenTwice)
@@ -222,7 +222,7 @@ all_fit w parts accepted g =
     (few_puts w parts accepted g a))
     (few_puts w parts accepted g)
 
-pub nothing_tallied : AreTallied no_tallies empty_store
+pub nothing_tallied : AreTallied no_tallies empty_state
 nothing_tallied g a =
     record { above = omega arith; below = omega arith; many = omega arith; each = tt }
 
@@ -235,27 +235,27 @@ never_traps w parts may accepted allowed =
     (0 + quote w.size parts) (quote w.size parts) (meaning_of w may parts)
     (all_gained w parts) (omega arith)
     (sound w accepted.loaded parts may (whole_gain w parts)
-    (all_fit w parts accepted) parts.body 1 none_open at_first no_tallies no_registers empty_store
+    (all_fit w parts accepted) parts.body 1 none_open at_first no_tallies no_registers empty_state
     (ready_first w parts (not_refused w parts accepted)) (λ r. tt) nothing_tallied
     (λ k h. allowed k (subst (λ v. k < v) (zero-add (quote w.size parts)) h)))
 
 -- ---- and its report
 
-pub safe_ends : (y : Tallies) (v : ℕ) (e : End) (Done : Store → Type 0) → Safe y v e
-    → ((s : Store) → AreTallied y s → s.visits ≤ v → Done s) → EndsWith e Done
+pub safe_ends : (y : Tallies) (v : ℕ) (e : End) (Done : State → Type 0) → Safe y v e
+    → ((s : State) → AreTallied y s → s.visits ≤ v → Done s) → EndsWith e Done
 safe_ends y v (Ended s) Done h done = done s h.0 h.1
 safe_ends y v (Trapped at trap) Done h done = h
 safe_ends y v Limited Done h done = h
 
-ends_shown : (o : Option ℕ) (go : Unit {0} → End) (Done : Store → Type 0) → o ≡ None
+ends_shown : (o : Option ℕ) (go : Unit {0} → End) (Done : State → Type 0) → o ≡ None
     → EndsWith (go tt) Done → EndsWith (unless_unshown o go) Done
 ends_shown None go Done e h = h
 ends_shown (Some place) go Done e h = absurd (cc)
 
 pub ends : (w : World) (parts : Parts) (may : ℕ → Bool) → IsAccepted w parts
     → ((k : ℕ) → k < quote w.size parts → may k ≡ true)
-    → (Done : Store → Type 0)
-    → ((s : Store) → AreTallied (whole_gain w parts) s → s.visits ≤ quote w.size parts → Done s)
+    → (Done : State → Type 0)
+    → ((s : State) → AreTallied (whole_gain w parts) s → s.visits ≤ quote w.size parts → Done s)
     → EndsWith (run_while w may parts) Done
 ends w parts may accepted allowed Done done =
     ends_shown (shown_fault parts) (λ _. meaning_of w may parts) Done accepted.admissible.report

@@ -9,8 +9,8 @@ use Rattle.star_program.specs.declared.program.Parts.{Parts}
 use Rattle.star_program.specs.Code.{Code, Stop, Then, Each, code_size}
 use Rattle.star_program.specs.World.{World}
 use Rattle.star_safety.specs.Contexts.{Context, after_op, in_scan, after_scan, at_end}
-use Rattle.star_safety.specs.Standing.{Item, Scan, Act, End, Enclosing, Standing, standing, has_scan}
-use Rattle.star_safety.specs.Told.{writes_to, item_scope, scope_of, in_scope, last_writer}
+use Rattle.star_safety.specs.Standing.{CodeItem, Scan, Act, End, Enclosing, Standing, standing, has_scan}
+use Rattle.star_safety.specs.Told.{writes_to, item_scope, scope_of, is_in_scope, last_writer}
 
 -- ---- scans by their numbers
 
@@ -152,7 +152,7 @@ scoped_in w parts c round x at n h =
     each_so _ _ (standing w parts round x at c) (λ i h. by i.number i.round i.item h)
     (stand_in w parts c round x at n h)
   where
-    by : (at : ℕ) (round : List Enclosing) (i : Item) → has_scan round n ≡ true
+    by : (at : ℕ) (round : List Enclosing) (i : CodeItem) → has_scan round n ≡ true
         → has_scan (item_scope at round i) n ≡ true
     by at round (Scan table r) h = or_right (nat_eq at n) (has_scan round n) h
     by at round (Act op) h = h
@@ -204,33 +204,33 @@ last_or_one false o i = refl
 -- with one more instruction it is this one or the one before
 pub last_then : (scans : List Enclosing) (r : ℕ) (is : List Standing) (i : Standing)
     → last_writer scans r (is ++ i ∷ [])
-    ≡ (if writes_to r i && in_scope scans i then Some i else last_writer scans r is)
+    ≡ (if writes_to r i && is_in_scope scans i then Some i else last_writer scans r is)
 last_then scans r is i =
-    ap (last_or None) (filter-append (λ j. writes_to r j && in_scope scans j) is (i ∷ []))
-    ∙ last_or_both None (filter (λ j. writes_to r j && in_scope scans j) is)
-    (if writes_to r i && in_scope scans i then i ∷ [] else [])
-    ∙ last_or_one (writes_to r i && in_scope scans i) (last_writer scans r is) i
+    ap (last_or None) (filter-append (λ j. writes_to r j && is_in_scope scans j) is (i ∷ []))
+    ∙ last_or_both None (filter (λ j. writes_to r j && is_in_scope scans j) is)
+    (if writes_to r i && is_in_scope scans i then i ∷ [] else [])
+    ∙ last_or_one (writes_to r i && is_in_scope scans i) (last_writer scans r is) i
 
 no_writer : (scans : List Enclosing) (r : ℕ) (is : List Standing)
-    → EachOf (λ i. in_scope scans i ≡ false) is
-    → filter (λ j. writes_to r j && in_scope scans j) is ≡ []
+    → EachOf (λ i. is_in_scope scans i ≡ false) is
+    → filter (λ j. writes_to r j && is_in_scope scans j) is ≡ []
 no_writer scans r [] h = refl
 no_writer scans r (i ∷ is) h =
     ap (λ b. if b
-    then i ∷ filter (λ j. writes_to r j && in_scope scans j) is
-    else filter (λ j. writes_to r j && in_scope scans j) is)
-    (and_right (writes_to r i) (in_scope scans i) h.0)
+    then i ∷ filter (λ j. writes_to r j && is_in_scope scans j) is
+    else filter (λ j. writes_to r j && is_in_scope scans j) is)
+    (and_right (writes_to r i) (is_in_scope scans i) h.0)
     ∙ no_writer scans r is h.1
 
 -- what is out of scope changes nothing
 pub last_past : (scans : List Enclosing) (r : ℕ) (xs ys : List Standing)
-    → EachOf (λ i. in_scope scans i ≡ false) ys
+    → EachOf (λ i. is_in_scope scans i ≡ false) ys
     → last_writer scans r (xs ++ ys) ≡ last_writer scans r xs
 last_past scans r xs ys h =
     ap (last_or None)
-    (filter-append (λ j. writes_to r j && in_scope scans j) xs ys
-    ∙ ap (λ js. filter (λ j. writes_to r j && in_scope scans j) xs ++ js) (no_writer scans r ys h)
-    ∙ append-nil (filter (λ j. writes_to r j && in_scope scans j) xs))
+    (filter-append (λ j. writes_to r j && is_in_scope scans j) xs ys
+    ∙ ap (λ js. filter (λ j. writes_to r j && is_in_scope scans j) xs ++ js) (no_writer scans r ys h)
+    ∙ append-nil (filter (λ j. writes_to r j && is_in_scope scans j) xs))
 
 -- nor do scans of later numbers
 pub last_within : (new : Enclosing) (scans : List Enclosing) (r : ℕ) (is : List Standing)
@@ -238,6 +238,6 @@ pub last_within : (new : Enclosing) (scans : List Enclosing) (r : ℕ) (is : Lis
     → last_writer (new ∷ scans) r is ≡ last_writer scans r is
 last_within new scans r is h =
     ap (last_or None)
-    (same_filter (λ j. writes_to r j && in_scope (new ∷ scans) j)
-    (λ j. writes_to r j && in_scope scans j) is
+    (same_filter (λ j. writes_to r j && is_in_scope (new ∷ scans) j)
+    (λ j. writes_to r j && is_in_scope scans j) is
     (each_so _ _ is (λ i b. ap (λ t. writes_to r i && t) (all_with new scans (scope_of i) b)) h))

@@ -15,10 +15,10 @@ use Rattle.star_program.specs.Code.{Code, Stop, Then, Each, code_size}
 use Rattle.star_program.specs.World.{World}
 use Rattle.star_program.specs.Values.{with_entry}
 use Rattle.star_program.specs.Faults.{target_of}
-use Rattle.star_safety.specs.Ranges.{Table}
+use Rattle.star_safety.specs.Ranges.{AllKnown}
 use Rattle.star_safety.specs.Contexts.{Context, at_first, op_key_shares, op_shares, result_known, learned, is_target, after_op, in_scan, after_scan, at_end}
-use Rattle.star_safety.specs.Standing.{Enclosing, Item, Act, Scan, End, Standing, standing, has_scan, instructions_of}
-use Rattle.star_safety.specs.Told.{is_instruction, item_key_shares, key_shares_together, writes_to, result_of, shares_of, shares_together, rows_together, scope_of, last_writer, IsTold}
+use Rattle.star_safety.specs.Standing.{Enclosing, CodeItem, Act, Scan, End, Standing, standing, has_scan, instructions_of}
+use Rattle.star_safety.specs.Told.{is_instruction, item_key_shares, key_shares_together, writes_to, standing_result, shares_of, shares_together, rows_together, scope_of, last_writer, IsTold}
 use Rattle.star_safety.proofs.Scopes.{AreBelow, below_more, none_above, all_there, not_all, EachOf, each_both, each_so, scoped_in, last_or_both, last_then, last_past, last_within}
 
 -- ---- from context to context
@@ -29,7 +29,7 @@ pub record Tells (w : World) (parts : Parts) (round : List Enclosing) (x : Conte
   pub inside : x.inside ≡ nat_lt 0 (length round)
   pub met : x.met ≡ rows_together w round
   pub written : (r : ℕ) → x.written r ≡ list_any (writes_to r) earlier
-  pub known : (r : ℕ) → x.known r ≡ option_map (result_of w parts) (last_writer round r earlier)
+  pub known : (r : ℕ) → x.known r ≡ option_map (standing_result w parts) (last_writer round r earlier)
   pub so_far : (g place : ℕ) → x.so_far g place ≡ shares_together parts earlier g place
   pub keys_so_far : (g place : ℕ) → x.keys_so_far g place ≡ key_shares_together earlier g place
   pub numbered : EachOf (λ i. i.number ≤ at) earlier
@@ -54,15 +54,15 @@ keys_more earlier i g place =
     fold-append (λ so_far j. item_key_shares j.context j.item g place ++ so_far) [] earlier (i ∷ [])
 
 -- a register of the context after an instruction that writes one
-entry_or_kept : (w : World) (parts : Parts) (known : Table) (t r : ℕ) (i : Standing) (last : Option Standing)
-    → known r ≡ option_map (result_of w parts) last
-    → with_entry known t (result_of w parts i) r ≡ option_map (result_of w parts) (if nat_eq t r && true then Some i else last)
+entry_or_kept : (w : World) (parts : Parts) (known : AllKnown) (t r : ℕ) (i : Standing) (last : Option Standing)
+    → known r ≡ option_map (standing_result w parts) last
+    → with_entry known t (standing_result w parts i) r ≡ option_map (standing_result w parts) (if nat_eq t r && true then Some i else last)
 entry_or_kept w parts known t r i last kept = go (nat_eq r t) refl
   where
     go : (b : Bool) → nat_eq r t ≡ b
-        → (if b then Some (result_of w parts i) else known r) ≡ option_map (result_of w parts) (if nat_eq t r && true then Some i else last)
-    go true e = ap (λ b. option_map (result_of w parts) (if b && true then Some i else last)) (sym (eq-eqb t r (sym (eqb-true r t e))))
-    go false e = kept ∙ ap (λ b. option_map (result_of w parts) (if b && true then Some i else last)) (sym (ne_eqb t r (λ same. eqb-false r t e (sym same))))
+        → (if b then Some (standing_result w parts i) else known r) ≡ option_map (standing_result w parts) (if nat_eq t r && true then Some i else last)
+    go true e = ap (λ b. option_map (standing_result w parts) (if b && true then Some i else last)) (sym (eq-eqb t r (sym (eqb-true r t e))))
+    go false e = kept ∙ ap (λ b. option_map (standing_result w parts) (if b && true then Some i else last)) (sym (ne_eqb t r (λ same. eqb-false r t e (sym same))))
 
 pub tells_then : (w : World) (parts : Parts) (round : List Enclosing) (x : Context) (at : ℕ) (earlier : List Standing) (op : Op) → Tells w parts round x at earlier
     → Tells w parts round (after_op w parts x op) (at + 1) (earlier ++ record { number = at; round = round; context = x; item = Act op } ∷ [])
@@ -72,8 +72,8 @@ tells_then w parts round x at earlier op told = record {
   met = told.met;
   written = λ r. ap (λ b. b || is_target (target_of op) r) (told.written r) ∙ ap (λ b. list_any (writes_to r) earlier || b) (sym (or-false (is_target (target_of op) r))) ∙ sym (list_any-append (writes_to r) earlier (i ∷ []));
   known = λ r. known_after (target_of op) refl r
-      ∙ ap (λ b. option_map (result_of w parts) (if is_target (target_of op) r && b then Some i else last_writer round r earlier)) (sym (all_there round))
-      ∙ ap (option_map (result_of w parts)) (sym (last_then round r earlier i));
+      ∙ ap (λ b. option_map (standing_result w parts) (if is_target (target_of op) r && b then Some i else last_writer round r earlier)) (sym (all_there round))
+      ∙ ap (option_map (standing_result w parts)) (sym (last_then round r earlier i));
   so_far = λ g a. ap (λ t. op_shares parts x op g a ++ t) (told.so_far g a) ∙ sym (fold-append (λ so_far j. shares_of parts j g a ++ so_far) [] earlier (i ∷ []));
   keys_so_far = λ g a. ap (λ t. op_key_shares x op g a ++ t) (told.keys_so_far g a) ∙ sym (keys_more earlier i g a);
   numbered = numbered_more at earlier i (omega arith) told.numbered;
@@ -87,7 +87,7 @@ tells_then w parts round x at earlier op told = record {
     i = record { number = at; round = round; context = x; item = Act op }
 
     known_after : (o : Option ℕ) → target_of op ≡ o → (r : ℕ)
-        → learned x.known o (result_known w parts x op) r ≡ option_map (result_of w parts) (if is_target o r && true then Some i else last_writer round r earlier)
+        → learned x.known o (result_known w parts x op) r ≡ option_map (standing_result w parts) (if is_target o r && true then Some i else last_writer round r earlier)
     known_after None p r = told.known r
     known_after (Some t) p r = entry_or_kept w parts x.known t r i (last_writer round r earlier) (told.known r)
 
@@ -99,9 +99,9 @@ tells_in w parts round x at earlier table r told = record {
   inside = sym (lt-ltb 0 (length (new ∷ round)) (omega arith));
   met = ap (λ n. n * w.size table) told.met;
   written = λ q. ap (λ b. b || nat_eq r q) (told.written q) ∙ ap (λ b. list_any (writes_to q) earlier || b) (sym (or-false (nat_eq r q))) ∙ sym (list_any-append (writes_to q) earlier (i ∷ []));
-  known = λ q. entry_or_kept w parts x.known r q i (last_writer (new ∷ round) q earlier) (told.known q ∙ ap (option_map (result_of w parts)) (sym (last_within new round q earlier told.scopes_below)))
-      ∙ ap (λ b. option_map (result_of w parts) (if nat_eq r q && b then Some i else last_writer (new ∷ round) q earlier)) (sym (all_there (new ∷ round)))
-      ∙ ap (option_map (result_of w parts)) (sym (last_then (new ∷ round) q earlier i));
+  known = λ q. entry_or_kept w parts x.known r q i (last_writer (new ∷ round) q earlier) (told.known q ∙ ap (option_map (standing_result w parts)) (sym (last_within new round q earlier told.scopes_below)))
+      ∙ ap (λ b. option_map (standing_result w parts) (if nat_eq r q && b then Some i else last_writer (new ∷ round) q earlier)) (sym (all_there (new ∷ round)))
+      ∙ ap (option_map (standing_result w parts)) (sym (last_then (new ∷ round) q earlier i));
   so_far = λ g a. told.so_far g a ∙ sym (fold-append (λ so_far j. shares_of parts j g a ++ so_far) [] earlier (i ∷ []));
   keys_so_far = λ g a. told.keys_so_far g a ∙ sym (keys_more earlier i g a);
   numbered = numbered_more at earlier i (omega arith) told.numbered;
@@ -139,7 +139,7 @@ tells_after w parts round x at earlier table r body told ended =
       met = told.met;
       written = ended.written;
       known = λ q. told.known q
-          ∙ ap (option_map (result_of w parts))
+          ∙ ap (option_map (standing_result w parts))
           (sym (last_past round q earlier (scan ∷ []) (not_all round (new ∷ round) at gone here, tt))
           ∙ sym (last_past round q so_far inside
           (each_so _ _ inside (λ i h. not_all round (scope_of i) at gone h) (scoped_in w parts body (new ∷ round) inner (at + 1) at here))));
@@ -158,7 +158,7 @@ tells_stop w parts round x at earlier told = record {
   inside = told.inside;
   met = told.met;
   written = λ r. told.written r ∙ sym (or-false (list_any (writes_to r) earlier)) ∙ sym (list_any-append (writes_to r) earlier (i ∷ []));
-  known = λ r. told.known r ∙ ap (option_map (result_of w parts)) (sym (last_then round r earlier i));
+  known = λ r. told.known r ∙ ap (option_map (standing_result w parts)) (sym (last_then round r earlier i));
   so_far = λ g a. told.so_far g a ∙ sym (fold-append (λ so_far j. shares_of parts j g a ++ so_far) [] earlier (i ∷ []));
   keys_so_far = λ g a. told.keys_so_far g a ∙ sym (keys_more earlier i g a);
   numbered = each_both _ earlier (i ∷ []) told.numbered (omega arith, tt);
@@ -183,7 +183,7 @@ tell_both w parts earlier (x ∷ xs) ys p q = (
   tell_both w parts (earlier ++ x ∷ []) xs ys p.1 (subst (λ e. TellEach w parts e ys) (sym (append_assoc earlier (x ∷ []) xs)) q),
 )
 
-told_of : (w : World) (parts : Parts) (round : List Enclosing) (x : Context) (at : ℕ) (earlier : List Standing) (item : Item) → Tells w parts round x at earlier
+told_of : (w : World) (parts : Parts) (round : List Enclosing) (x : Context) (at : ℕ) (earlier : List Standing) (item : CodeItem) → Tells w parts round x at earlier
     → IsTold w parts earlier (record { number = at; round = round; context = x; item = item })
 told_of w parts round x at earlier item told = record {
   number = told.number;

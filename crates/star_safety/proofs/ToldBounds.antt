@@ -16,7 +16,7 @@ use Rattle.star_program.specs.World.{World, is_text}
 use Rattle.star_safety.specs.Bounds.{NamesI64, AllNameI64, AreI64}
 use Rattle.star_common.specs.First.{first_answer}
 use Rattle.star_program.specs.Limits.{IsWithinLimits}
-use Rattle.star_program.specs.Shown.{shown_fault}
+use Rattle.star_program.specs.ShowLines.{shown_fault}
 use Rattle.star_safety.specs.Admissible.{Refusal, Refused, BadShow, cost_refusal, first_refusal}
 use Rattle.star_safety.specs.Contexts.{Context, at_first, put_share, result_known, after_op, in_scan, after_scan, at_end}
 use Rattle.star_safety.specs.Quote.{turns_met, quote}

@@ -27,7 +27,7 @@ use Rattle.star_safety.specs.Admissible.{Refused, first_refusal}
 use Rattle.star_safety.specs.Bounds.{AreI64}
 use Rattle.star_safety.specs.Contexts.{Context, at_first, put_known, put_share, result_known, after_op, in_scan, after_scan, at_end}
 use Rattle.star_safety.specs.Private.Forward.{open_with, none_open, first_reason}
-use Rattle.star_safety.specs.Ranges.{Known, KnownNumber, KnownText, KnownPlace, KnownRow, KnownFlag, Reach, Table, answer_known, joined_reach, loaded_known, no_reach, reach_at}
+use Rattle.star_safety.specs.Ranges.{Known, KnownNumber, KnownText, KnownPlace, KnownRow, KnownFlag, Reach, AllKnown, answer_known, joined_reach, loaded_known, no_reach, reach_at}
 use Rattle.star_safety.specs.declared.reason.Reached.{Reached}
 use Rattle.star_safety.specs.declared.reason.Reason.{Reason}
 use Rattle.star_safety.specs.declared.reason.Reason.TheVariants.{Faulty, NotAForeignKey, OpenGroup, Overflow}
@@ -89,7 +89,7 @@ result_numbers w parts x (Put g ks vs) h = none_numbers
 
 -- ---- what is put
 
-mapped_numbers : (known : Table) (vs : List ℕ) → ((r : ℕ) → AreNumbers (reach_at (known r)))
+mapped_numbers : (known : AllKnown) (vs : List ℕ) → ((r : ℕ) → AreNumbers (reach_at (known r)))
     → AllByRecursion (λ k. AreNumbers (reach_at k)) (map known vs)
 mapped_numbers known [] all = tt
 mapped_numbers known (v ∷ vs) all = (all v, mapped_numbers known vs all)
@@ -117,7 +117,7 @@ share_numbers parts x g vs a h =
 
 -- ---- from instruction to instruction
 
-entry_numbers : (known : Table) (t : ℕ) (k : Known) → AreNumbers (reach_at (Some k))
+entry_numbers : (known : AllKnown) (t : ℕ) (k : Known) → AreNumbers (reach_at (Some k))
     → ((r : ℕ) → AreNumbers (reach_at (known r)))
     → (r : ℕ) → AreNumbers (reach_at (with_entry known t k r))
 entry_numbers known t k here all r = go (nat_eq r t)

@@ -3,10 +3,10 @@ use Rattle.std.proofs.Common.{◌≡◌, ℕ, zero, suc, ◌+◌, ◌*◌, ◌�
 use Rattle.std.proofs.Math.Nat.{mul-le-mul_right}
 use Rattle.star_schema.specs.Groups.{numbers_for}
 use Rattle.star_program.specs.Values.{Registers}
-use Rattle.star_program.specs.Effects.{Store, Effect, GoesOn, EndsTurn, Traps}
+use Rattle.star_program.specs.Effects.{State, Effect, GoesOn, EndsTurn, Traps}
 use Rattle.star_program.specs.Run.{End, Ended, Trapped, Limited, follow, after, begin, visited, turns, scans}
 use Rattle.star_program.specs.World.{World}
-use Rattle.star_safety.specs.Ranges.{Table}
+use Rattle.star_safety.specs.Ranges.{AllKnown}
 use Rattle.star_safety.proofs.Tally.{Tallies, times, plus_all, times_all}
 use Rattle.star_safety.proofs.TallyOrder.{AtMost, at_most_plus, at_most_assoc, at_most_turn}
 use Rattle.star_safety.proofs.Tallied.{tallied_more}
@@ -19,7 +19,7 @@ Safe y v (Ended s) = AreTallied y s × (s.visits ≤ v)
 Safe y v (Trapped at trap) = ⊥
 Safe y v Limited = ⊥
 
-pub all_tallied_more : (y z : Tallies) (s : Store) → ((g a : ℕ) → AtMost (y g a) (z g a))
+pub all_tallied_more : (y z : Tallies) (s : State) → ((g a : ℕ) → AtMost (y g a) (z g a))
     → AreTallied y s → AreTallied z s
 all_tallied_more y z s p q g a =
     tallied_more (y g a) (z g a) (numbers_for a (s.updates_of g)) (p g a) (q g a)
@@ -30,16 +30,16 @@ safe_more y z v u (Ended s) p h q = (all_tallied_more y z s p q.0, omega (arith,
 safe_more y z v u (Trapped at trap) p h q = q
 safe_more y z v u Limited p h q = q
 
-safe_after : (y z : Tallies) (v u : ℕ) (e : End) (next : Store → End) → Safe y v e
-    → ((s : Store) → AreTallied y s → s.visits ≤ v → Safe z u (next s)) → Safe z u (after e next)
+safe_after : (y z : Tallies) (v u : ℕ) (e : End) (next : State → End) → Safe y v e
+    → ((s : State) → AreTallied y s → s.visits ≤ v → Safe z u (next s)) → Safe z u (after e next)
 safe_after y z v u (Ended s) next q h = h s q.0 q.1
 safe_after y z v u (Trapped at trap) next q h = q
 safe_after y z v u Limited next q h = q
 
-pub safe_follow : (w : World) (known : Table) (y z : Tallies) (visits v at : ℕ) (e : Effect)
-    (next : Registers → Store → End) → IsGood w known y visits e
+pub safe_follow : (w : World) (known : AllKnown) (y z : Tallies) (visits v at : ℕ) (e : Effect)
+    (next : Registers → State → End) → IsGood w known y visits e
     → ((g a : ℕ) → AtMost (y g a) (z g a)) → visits ≤ v
-    → ((regs : Registers) (s : Store) → Agrees w known regs → AreTallied y s → s.visits ≡ visits
+    → ((regs : Registers) (s : State) → Agrees w known regs → AreTallied y s → s.visits ≡ visits
     → Safe z v (next regs s))
     → Safe z v (follow at e next)
 safe_follow w known y z visits v at (GoesOn regs s) next q p h go = go regs s q.0 q.1 q.2
@@ -52,19 +52,19 @@ pub safe_scans : (y : Tallies) (v at : ℕ) (b : Bool) (go : Unit {0} → End) �
 safe_scans y v at true go e h = h
 safe_scans y v at false go e h = absurd (cc)
 
-safe_begin : (y : Tallies) (v : ℕ) (b : Bool) (s : Store) (turn : Store → End) → b ≡ true
+safe_begin : (y : Tallies) (v : ℕ) (b : Bool) (s : State) (turn : State → End) → b ≡ true
     → Safe y v (turn (visited s)) → Safe y v (begin b s turn)
 safe_begin y v true s turn e h = h
 safe_begin y v false s turn e h = absurd (cc)
 
 -- the turns of a scan, each of which adds at most `add` and makes at most `inner` turns beside
 -- itself
-pub safe_turns : (y add : Tallies) (start inner rows : ℕ) (may : ℕ → Bool) (turn : ℕ → Store → End)
+pub safe_turns : (y add : Tallies) (start inner rows : ℕ) (may : ℕ → Bool) (turn : ℕ → State → End)
     → ((k : ℕ) → k < start + rows * (inner + 1) → may k ≡ true)
-    → ((j : ℕ) (s : Store) → j < rows → AreTallied (plus_all y (times_all j add)) s
+    → ((j : ℕ) (s : State) → j < rows → AreTallied (plus_all y (times_all j add)) s
     → s.visits ≤ start + j * (inner + 1) + 1
     → Safe (plus_all y (times_all (j + 1) add)) (start + (j + 1) * (inner + 1)) (turn j s))
-    → (k j : ℕ) → j + k ≡ rows → (s : Store) → AreTallied (plus_all y (times_all j add)) s
+    → (k j : ℕ) → j + k ≡ rows → (s : State) → AreTallied (plus_all y (times_all j add)) s
     → s.visits ≤ start + j * (inner + 1)
     → Safe (plus_all y (times_all rows add)) (start + rows * (inner + 1)) (turns may k j turn s)
 safe_turns y add start inner rows may turn allowed one zero j e s q h =
@@ -84,7 +84,7 @@ safe_turns y add start inner rows may turn allowed one (suc k) j e s q h =
     (omega arith) s' q' h')
 
 -- before the first turn
-pub at_start : (y add : Tallies) (s : Store) → AreTallied y s
+pub at_start : (y add : Tallies) (s : State) → AreTallied y s
     → AreTallied (plus_all y (times_all 0 add)) s
 at_start y add s q =
     all_tallied_more y (plus_all y (times_all 0 add)) s
@@ -92,15 +92,15 @@ at_start y add s q =
 
 -- a scan and what follows it
 pub safe_each : (y add more : Tallies) (start inner later rows : ℕ) (may : ℕ → Bool)
-    (turn : ℕ → Store → End) (next : Store → End)
+    (turn : ℕ → State → End) (next : State → End)
     → ((k : ℕ) → k < start + (rows * (inner + 1) + later) → may k ≡ true)
-    → ((j : ℕ) (s : Store) → j < rows → AreTallied (plus_all y (times_all j add)) s
+    → ((j : ℕ) (s : State) → j < rows → AreTallied (plus_all y (times_all j add)) s
     → s.visits ≤ start + j * (inner + 1) + 1
     → Safe (plus_all (plus_all y (times_all j add)) add) (s.visits + inner) (turn j s))
-    → ((s : Store) → AreTallied (plus_all y (times_all rows add)) s
+    → ((s : State) → AreTallied (plus_all y (times_all rows add)) s
     → s.visits ≤ start + rows * (inner + 1)
     → Safe (plus_all (plus_all y (times_all rows add)) more) (s.visits + later) (next s))
-    → (s : Store) → AreTallied y s → s.visits ≡ start
+    → (s : State) → AreTallied y s → s.visits ≡ start
     → Safe (plus_all y (plus_all (times_all rows add) more)) (start + (rows * (inner + 1) + later))
     (after (turns may rows 0 turn s) next)
 safe_each y add more start inner later rows may turn next allowed one go s tallied same =

@@ -9,7 +9,7 @@ use Rattle.star_interval.specs.Range.{only, is_i64, is_i128}
 use Rattle.star_program.specs.declared.op.Op.{Op}
 use Rattle.star_program.specs.declared.program.Parts.{Parts}
 use Rattle.star_program.specs.Code.{Stop, Each}
-use Rattle.star_program.specs.Puts.{total}
+use Rattle.star_program.specs.Puts.{total_over}
 use Rattle.star_program.specs.Run.{EndsWith, run_of}
 use Rattle.star_program.specs.World.{World}
 use Rattle.star_program.proofs.Sample.{sample, plain}
@@ -43,7 +43,7 @@ unfolding column_of is_i64 reached first_answer
 years_accepted = refl
 
 -- one visit, one look-up, one update, of 7
-years_run : EndsWith (run_of sevens (summing years 3)) (λ s. (s.visits ≡ 1) × (s.lookups ≡ 1) × (s.updates ≡ 1) × (total (plain (Sum ∷ [])) 0 (s.updates_of 0) ≡ Some (pos 7)))
+years_run : EndsWith (run_of sevens (summing years 3)) (λ s. (s.visits ≡ 1) × (s.lookups ≡ 1) × (s.updates ≡ 1) × (total_over (plain (Sum ∷ [])).aggregates 0 (s.updates_of 0) ≡ Some (pos 7)))
 unfolding column_of is_i64 is_i128
 years_run = (refl, refl, refl, refl)
 

@@ -11,7 +11,7 @@ use Rattle.star_program.specs.Code.{Code, Stop, Then, Each}
 use Rattle.star_program.specs.declared.value.Value.TheVariants.{Number, Text, Place, Row, Flag}
 use Rattle.star_program.specs.Values.{Registers, no_registers, with_entry}
 use Rattle.star_program.specs.declared.program.Parts.{Parts}
-use Rattle.star_program.specs.Effects.{Effect, EndsTurn, Store, act, empty_store}
+use Rattle.star_program.specs.Effects.{Effect, EndsTurn, State, act, empty_state}
 use Rattle.star_program.specs.Run.{Ended}
 use Rattle.star_program.specs.World.{World}
 use Rattle.star_program.proofs.Sample.{sample, plain}
@@ -21,7 +21,7 @@ use Rattle.star_safety.specs.Fitting.{FitsValue, FitsAt}
 use Rattle.star_safety.specs.Laws.{EndsWithin, SumsFit, TotalLies}
 use Rattle.star_safety.specs.Moments.{IsMet, IsMoment, Moment, behind, behind_scan, first_moment, in_turn, itself, moment, picked, sum_of}
 use Rattle.star_safety.specs.Private.Throughout.{HoldsThroughout, Onward}
-use Rattle.star_safety.specs.Ranges.{Table, Known, KnownText, KnownPlace, KnownRow, KnownFlag, given, loaded_known}
+use Rattle.star_safety.specs.Ranges.{AllKnown, Known, KnownText, KnownPlace, KnownRow, KnownFlag, known_number, loaded_known}
 use Rattle.star_safety.specs.Tallies.{no_shares}
 use Rattle.star_safety.proofs.Words.{const, add, keep, put, read, acts, over}
 
@@ -29,7 +29,7 @@ use Rattle.star_safety.proofs.Words.{const, add, keep, put, read, acts, over}
 
 -- from 1 to 5
 abbrev few : Known
-few = given (record { low = pos 1; high = pos 5 })
+few = known_number (record { low = pos 1; high = pos 5 })
 
 least_fits : FitsValue sample few (Number (pos 1))
 least_fits = (record { from = omega (arith, ints); to = omega (arith, ints) }, tt)
@@ -109,7 +109,7 @@ flag_stands = tt
 -- ---- what comes next
 
 -- the end of a turn asks for nothing
-turn_over : Onward (EndsTurn empty_store) (λ regs s. ⊥)
+turn_over : Onward (EndsTurn empty_state) (λ regs s. ⊥)
 turn_over = tt
 
 -- a trap comes at no moment
@@ -131,15 +131,15 @@ row_undeclared h = let p = h.1 in omega (arith, p)
 abbrev each_date : Parts
 each_date = over [] (Each Date 0 (acts (const 1 (pos 7) ∷ []) Stop) (acts (const 2 (pos 9) ∷ []) Stop))
 
-abbrev visits : ℕ → Store
-visits n = record empty_store { visits = n }
+abbrev visits : ℕ → State
+visits n = record empty_state { visits = n }
 
 -- the second turn begins with its own row alone, and is counted
 second_turn : IsMet sample each_date (moment (in_scan sample at_first Date 0) (acts (const 1 (pos 7) ∷ []) Stop) 2
     (with_entry no_registers 0 (Row Date 1)) (visits 2))
 second_turn =
     in_turn at_first Date 0 (acts (const 1 (pos 7) ∷ []) Stop) (acts (const 2 (pos 9) ∷ []) Stop) 1 no_registers
-    empty_store (visits 1) 1 itself (omega arith) (omega arith) refl
+    empty_state (visits 1) 1 itself (omega arith) (omega arith) refl
 
 -- behind the scan the registers are those before it, and its turns are counted
 behind_its_scan : IsMet sample each_date (moment
@@ -147,7 +147,7 @@ behind_its_scan : IsMet sample each_date (moment
     (acts (const 2 (pos 9) ∷ []) Stop) 3 no_registers (visits 3))
 behind_its_scan =
     behind_scan at_first Date 0 (acts (const 1 (pos 7) ∷ []) Stop) (acts (const 2 (pos 9) ∷ []) Stop) 1 no_registers
-    empty_store (visits 3) itself (omega arith) refl
+    empty_state (visits 3) itself (omega arith) refl
 
 -- behind an instruction that traps nothing is met
 abbrev flagless : Parts
@@ -229,10 +229,10 @@ no_greater_count : SumsFit vast
 no_greater_count h = let p = h.counts 0 0 in omega (arith, p)
 
 -- no turn begins where none is quoted
-no_more_turns : (known : Table) (regs : Registers) → IsMoment sample (two_puts (pos 1)) no_shares known regs
-    (record empty_store { visits = 1 }) → ⊥
+no_more_turns : (known : AllKnown) (regs : Registers) → IsMoment sample (two_puts (pos 1)) no_shares known regs
+    (record empty_state { visits = 1 }) → ⊥
 no_more_turns known regs h = let p = h.visits in omega (arith, p)
 
 -- a run may visit as many rows as are asked for
-visits_within : EndsWithin 1 (Ended (record empty_store { visits = 1 }))
+visits_within : EndsWithin 1 (Ended (record empty_state { visits = 1 }))
 visits_within = omega arith

@@ -14,7 +14,7 @@ use Rattle.star_program.specs.declared.program.Parts.{Parts}
 use Rattle.star_program.specs.Code.{Stop, Each}
 use Rattle.star_program.specs.World.{World}
 use Rattle.star_program.proofs.Sample.{sample, plain}
-use Rattle.star_safety.specs.MostRows.{lists_of, most_rows, rows_of_grouping, rows_of_groupings, width}
+use Rattle.star_safety.specs.MostRows.{lists_of, most_report_rows, rows_of_grouping, rows_of_groupings, width}
 use Rattle.star_safety.proofs.Words.{const, put, acts, over}
 
 abbrev from_to : ℤ → ℤ → Range
@@ -76,13 +76,13 @@ two_scans shape =
     (acts (const 3 (pos 7) ∷ const 4 (pos 100) ∷ put 0 (3 ∷ 3 ∷ []) [] ∷ put 1 [] [] ∷ []) Stop) Stop))
 
 -- seven updates, six numbers from 2 to 7 and four texts: of a cube 7 + 6 + 4 + 1 rows
-of_programs : (most_rows four_texts (two_scans Cube) ≡ 18)
-    × (most_rows four_texts (two_scans Rollup) ≡ 14) × (most_rows four_texts (two_scans Plain) ≡ 7)
+of_programs : (most_report_rows four_texts (two_scans Cube) ≡ 18)
+    × (most_report_rows four_texts (two_scans Rollup) ≡ 14) × (most_report_rows four_texts (two_scans Plain) ≡ 7)
 unfolding width rows_of_grouping column_of
 of_programs = (refl, refl, refl)
 
 -- a group that nothing is put to has no value of a number
-no_puts : (most_rows four_texts (over (counted Cube ∷ []) Stop) ≡ 1)
-    × (most_rows four_texts (over (counted Plain ∷ []) Stop) ≡ 0)
+no_puts : (most_report_rows four_texts (over (counted Cube ∷ []) Stop) ≡ 1)
+    × (most_report_rows four_texts (over (counted Plain ∷ []) Stop) ≡ 0)
 unfolding width rows_of_grouping column_of
 no_puts = (refl, refl)

@@ -8,9 +8,9 @@ use Rattle.star_program.specs.declared.program.Parts.{Parts}
 use Rattle.star_program.specs.Code.{Stop, Each}
 use Rattle.star_program.proofs.Sample.{sample, plain}
 use Rattle.star_safety.specs.Contexts.{put_known}
-use Rattle.star_safety.specs.Ranges.{KnownRow, given}
+use Rattle.star_safety.specs.Ranges.{KnownRow, known_number}
 use Rattle.star_safety.specs.Standing.{Standing, instructions_of}
-use Rattle.star_safety.specs.Told.{writes_to, result_of, shares_together, rows_together, scope_of, last_writer}
+use Rattle.star_safety.specs.Told.{writes_to, standing_result, shares_together, rows_together, scope_of, last_writer}
 use Rattle.star_safety.proofs.Words.{const, put, acts, over}
 
 -- 5 is put twice at once in a scan of two rows that stands in one of three
@@ -26,7 +26,7 @@ abbrev all : List Standing
 all = instructions_of sample nested
 
 -- a scan writes a row of its table
-rows_known : map (result_of sample nested) (filter (writes_to 2) all) ≡ KnownRow Supplier ∷ []
+rows_known : map (standing_result sample nested) (filter (writes_to 2) all) ≡ KnownRow Supplier ∷ []
 rows_known = refl
 
 -- the put gives each of its two aggregates one range, and nothing to another group
@@ -49,5 +49,5 @@ writers : map (λ i. number_of (last_writer i.round 1 all)) all ≡ 0 ∷ 2 ∷ 
 writers = refl
 
 -- a COUNT is given 1
-count_given : put_known (plain (Count ∷ Sum ∷ [])) (λ r. Some (KnownRow Date)) (3 ∷ []) ≡ Some (given (only (pos 1))) ∷ Some (KnownRow Date) ∷ []
+count_given : put_known (plain (Count ∷ Sum ∷ [])) (λ r. Some (KnownRow Date)) (3 ∷ []) ≡ Some (known_number (only (pos 1))) ∷ Some (KnownRow Date) ∷ []
 count_given = refl

@@ -12,7 +12,7 @@ use Rattle.star_program.specs.Code.{Code, Each, Stop, Then}
 use Rattle.star_program.specs.World.{is_column}
 use Rattle.star_program.proofs.Sample.{sample, sizes}
 use Rattle.star_safety.specs.Quote.{turns_met}
-use Rattle.star_safety.specs.Ranges.{Known, KnownFlag, KnownNumber, KnownPlace, KnownRow, KnownText, Reach, answer_known, given, joined_reach, kinds_known, known_kind, loaded_known, no_reach, origin_at, range_at, reach_at}
+use Rattle.star_safety.specs.Ranges.{Known, KnownFlag, KnownNumber, KnownPlace, KnownRow, KnownText, Reach, answer_known, known_number, joined_reach, kinds_known, known_kind, loaded_known, no_reach, origin_at, range_at, reach_at}
 use Rattle.star_safety.specs.Tallies.{Share, aggregate_range, most_of, reach_of, read_range, sum_range, widened}
 
 abbrev from_to : ℤ → ℤ → Range
@@ -49,7 +49,7 @@ reaches_joined : (of_both (joined_reach (is_column LoTax) (is_column LoQuantity)
 reaches_joined = (refl, refl)
 
 -- what is given comes from no column
-given_alone : (range_at (Some (given (only (pos 4)))) ≡ only (pos 4)) × (of_both (reach_at (Some (given (only (pos 4))))) ≡ false ∷ false ∷ []) × (origin_at (Some (given (only (pos 4)))) ≡ None)
+given_alone : (range_at (Some (known_number (only (pos 4)))) ≡ only (pos 4)) × (of_both (reach_at (Some (known_number (only (pos 4))))) ≡ false ∷ false ∷ []) × (origin_at (Some (known_number (only (pos 4)))) ≡ None)
 given_alone = (refl, refl, refl)
 
 loaded_number : (range_at (Some (loaded_known sample LoQuantity false)) ≡ from_to (pos 1) (pos 50)) × (of_both (reach_at (Some (loaded_known sample LoQuantity false))) ≡ false ∷ true ∷ []) × (origin_at (Some (loaded_known sample LoQuantity false)) ≡ Some LoQuantity) × (loaded_known sample CRegion true ≡ KnownText CRegion)

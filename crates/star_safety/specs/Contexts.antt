@@ -2,7 +2,6 @@
 use Rattle.std.specs.Prelude.{ℕ, ◌*◌, pos, Bool, true, false, ◌||◌, nat_eq, List, [], ◌∷◌, ◌++◌, map, slice_index_or, Option, Some, None, if◌then◌else◌}
 use Rattle.star_schema.specs.declared.table.TableId.{TableId}
 use Rattle.star_schema.specs.declared.group.Aggregate.{Aggregate}
-use Rattle.star_schema.specs.declared.group.Aggregate.TheVariants.{Count}
 use Rattle.star_interval.specs.Range.{only}
 use Rattle.star_program.specs.declared.group.GroupDecl.{GroupDecl}
 use Rattle.star_program.specs.declared.op.Op.{Op}
@@ -14,8 +13,8 @@ use Rattle.star_program.specs.Code.{Code, Stop, Then, Each}
 use Rattle.star_program.specs.World.{World, is_text}
 use Rattle.star_program.specs.Values.{with_entry}
 use Rattle.star_program.specs.Faults.{group_at, target_of}
-use Rattle.star_program.specs.Puts.{aligned}
-use Rattle.star_safety.specs.Ranges.{Known, KnownPlace, KnownRow, KnownFlag, Table, range_at, reach_at, given, loaded_known, answer_known}
+use Rattle.star_program.specs.Puts.{aggregate_at, aligned}
+use Rattle.star_safety.specs.Ranges.{Known, KnownPlace, KnownRow, KnownFlag, AllKnown, range_at, reach_at, known_number, loaded_known, answer_known}
 use Rattle.star_safety.specs.Tallies.{Share, Shares, no_shares, read_range}
 
 pub record Context : Type 0 where
@@ -24,7 +23,7 @@ pub record Context : Type 0 where
   -- how often it is met at most: the product of the row counts of the scans round it
   pub met : ℕ
   -- what is known of the registers in scope
-  pub known : Table
+  pub known : AllKnown
   -- the targets of earlier instructions, in scope or not
   pub written : ℕ → Bool
   -- what earlier puts give the aggregates of groups
@@ -46,8 +45,8 @@ at_first = record {
 -- ---- puts
 
 -- what is known of the numbers of a put, one for each aggregate of its group: COUNT is given 1
-abbrev pub put_known : GroupDecl → Table → List ℕ → List (Option Known)
-put_known d known values = aligned (Some (given (only (pos 1)))) d.aggregates (map known values)
+abbrev pub put_known : GroupDecl → AllKnown → List ℕ → List (Option Known)
+put_known d known values = aligned (Some (known_number (only (pos 1)))) d.aggregates (map known values)
 
 abbrev pub known_share : ℕ → Option Known → Share
 known_share met k = record { met = met; range = range_at k; reach = reach_at k }
@@ -74,18 +73,18 @@ op_key_shares x _ h place = []
 -- ---- after an instruction
 
 -- an aggregate of a group, by their numbers
-abbrev pub aggregate_at : Parts → ℕ → ℕ → Aggregate
-aggregate_at parts g a = slice_index_or (group_at parts g).aggregates a Count
+abbrev pub aggregate_in_group : Parts → ℕ → ℕ → Aggregate
+aggregate_in_group parts g a = aggregate_at (group_at parts g).aggregates a
 
 -- what is known of what an operation makes
 abbrev pub operation_known : World → Parts → Context → Operation → Known
-operation_known w parts x (Const n) = given (only n)
+operation_known w parts x (Const n) = known_number (only n)
 operation_known w parts x (Edge e c text) = KnownPlace c
 operation_known w parts x (Load c r) = loaded_known w c (is_text c)
 operation_known w parts x (Find table k) = KnownRow table
 operation_known w parts x (Binary o l r) = answer_known o (x.known l) (x.known r)
 operation_known w parts x (Read g a n) =
-    given (read_range (aggregate_at parts g a) (x.so_far g a) (only n))
+    known_number (read_range (aggregate_in_group parts g a) (x.so_far g a) (only n))
 operation_known w parts x _ = KnownFlag
 
 -- what is known of its target
@@ -93,7 +92,7 @@ abbrev pub result_known : World → Parts → Context → Op → Known
 result_known w parts x (Assign t o) = operation_known w parts x o
 result_known w parts x _ = KnownFlag
 
-abbrev pub learned : Table → Option ℕ → Known → Table
+abbrev pub learned : AllKnown → Option ℕ → Known → AllKnown
 learned known None k = known
 learned known (Some t) k = with_entry known t k
 

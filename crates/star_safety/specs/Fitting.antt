@@ -7,7 +7,7 @@ use Rattle.star_program.specs.World.{World}
 use Rattle.star_program.specs.declared.value.Value.{Value}
 use Rattle.star_program.specs.declared.value.Value.TheVariants.{Number, Text, Place, Row, Flag}
 use Rattle.star_program.specs.Values.{Registers}
-use Rattle.star_safety.specs.Ranges.{Known, KnownNumber, KnownText, KnownPlace, KnownRow, KnownFlag, Table}
+use Rattle.star_safety.specs.Ranges.{Known, KnownNumber, KnownText, KnownPlace, KnownRow, KnownFlag, AllKnown}
 
 -- the column's number in some row, where the number was loaded from a column
 abbrev pub FromColumn : World → Option ColumnId → ℤ → Type 0
@@ -30,5 +30,5 @@ FitsAt w None None = Unit {0}
 FitsAt w (Some k) (Some v) = FitsValue w k v
 FitsAt w _ _ = ⊥
 
-abbrev pub Agrees : World → Table → Registers → Type 0
+abbrev pub Agrees : World → AllKnown → Registers → Type 0
 Agrees w known regs = (r : ℕ) → FitsAt w (known r) (regs r)

@@ -9,7 +9,7 @@ use Rattle.star_program.specs.Limits.{IsWithinLimits}
 use Rattle.star_program.specs.World.{World, IsLoaded}
 use Rattle.star_program.specs.Keys.{key_value_cmp}
 use Rattle.star_program.specs.Faults.{group_at}
-use Rattle.star_program.specs.Effects.{Store}
+use Rattle.star_program.specs.Effects.{State}
 use Rattle.star_program.specs.Run.{End, EndsWith}
 use Rattle.star_safety.specs.Tallies.{sum_range, most_of, aggregate_range}
 use Rattle.star_safety.specs.Quote.{quote}
@@ -35,7 +35,7 @@ TotalLies None (Some z) = ⊥
 TotalLies (Some r) (Some z) = Holds r z
 
 -- each aggregate of each group of updates lies in its range
-abbrev pub TotalsLie : World → Parts → Store → Type 0
+abbrev pub TotalsLie : World → Parts → State → Type 0
 TotalsLie w parts s = (g place : ℕ) (keys : List (Option KeyValue))
     → TotalLies (aggregate_range (slice_index_or (group_at parts g).aggregates place Count)
     (all_shares w parts g place))

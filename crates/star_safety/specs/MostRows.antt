@@ -26,9 +26,9 @@ numbers_to (negsuc n) = 0
 unfoldable pub width : Range → ℕ
 width r = numbers_to (r.high -ℤ r.low)
 
-abbrev pub width_of : Option Range → ℕ
-width_of None = 0
-width_of (Some r) = width r
+abbrev pub range_width : Option Range → ℕ
+range_width None = 0
+range_width (Some r) = width r
 
 -- what all puts give the keys of groups, by their places
 abbrev pub all_key_shares : World → Parts → Shares
@@ -36,15 +36,15 @@ all_key_shares w parts = (at_end w parts at_first parts.body).keys_so_far
 
 -- a text is one of its column's, and no column of numbers has any; a number lies in the least range
 -- that holds all that are put
-abbrev pub values_of : World → List Share → GroupKey → ℕ
-values_of w shares (Text c) = if is_text c then w.entries c else 0
-values_of w shares Number = width_of (hull_of shares)
+abbrev pub possible_values : World → List Share → GroupKey → ℕ
+possible_values w shares (Text c) = if is_text c then w.entries c else 0
+possible_values w shares Number = range_width (hull_of shares)
 
 -- of each key, from the one at a place on
 abbrev pub each_values : World → (ℕ → List Share) → ℕ → List GroupKey → List ℕ
 each_values w shares place [] = []
 each_values w shares place (key ∷ keys) =
-    values_of w (shares place) key ∷ each_values w shares (suc place) keys
+    possible_values w (shares place) key ∷ each_values w shares (suc place) keys
 
 -- ---- the rows of a grouping
 
@@ -69,8 +69,8 @@ rows_of_groupings s updates counts =
 -- ---- of a program
 
 -- the rows of the group that it reports
-abbrev pub most_rows : World → Parts → ℕ
-most_rows w parts =
+abbrev pub most_report_rows : World → Parts → ℕ
+most_report_rows w parts =
     rows_of_groupings (group_at parts parts.report).shape
     (most_of (all_key_shares w parts parts.report 0))
     (each_values w (all_key_shares w parts parts.report) 0 (group_at parts parts.report).keys)

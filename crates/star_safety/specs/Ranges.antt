@@ -39,10 +39,10 @@ known_kind (KnownRow t) = kind.Row t
 known_kind KnownFlag = kind.Flag
 
 -- what is known of the registers in scope, by their numbers
-abbrev pub Table : Type 0
-Table = ℕ → Option Known
+abbrev pub AllKnown : Type 0
+AllKnown = ℕ → Option Known
 
-abbrev pub kinds_known : Table → Kinds
+abbrev pub kinds_known : AllKnown → Kinds
 kinds_known known r = option_map known_kind (known r)
 
 abbrev pub range_at : Option Known → Range
@@ -60,8 +60,8 @@ origin_at _ = None
 -- ---- what an instruction makes
 
 -- a constant, or what is read: computed from no column
-abbrev pub given : Range → Known
-given r = KnownNumber r no_reach None
+abbrev pub known_number : Range → Known
+known_number r = KnownNumber r no_reach None
 
 -- a column's value: a number has the column's bounds
 abbrev pub loaded_known : World → ColumnId → Bool → Known
@@ -69,12 +69,12 @@ loaded_known w c true = KnownText c
 loaded_known w c false = KnownNumber (w.bounds c) (is_column c) (Some c)
 
 -- a result of arithmetic: the least and the greatest result over the ends of the operands' ranges
-abbrev pub computed : (ℤ → ℤ → ℤ) → Option Known → Option Known → Known
-computed operation l r = KnownNumber (corner_range operation (range_at l) (range_at r)) (joined_reach (reach_at l) (reach_at r)) None
+abbrev pub known_arithmetic : (ℤ → ℤ → ℤ) → Option Known → Option Known → Known
+known_arithmetic operation l r = KnownNumber (corner_range operation (range_at l) (range_at r)) (joined_reach (reach_at l) (reach_at r)) None
 
 -- an operator's answer
 abbrev pub answer_known : Operator → Option Known → Option Known → Known
-answer_known Add l r = computed ◌+ℤ◌ l r
-answer_known Sub l r = computed ◌-ℤ◌ l r
-answer_known Mul l r = computed ◌*ℤ◌ l r
+answer_known Add l r = known_arithmetic ◌+ℤ◌ l r
+answer_known Sub l r = known_arithmetic ◌-ℤ◌ l r
+answer_known Mul l r = known_arithmetic ◌*ℤ◌ l r
 answer_known _ l r = KnownFlag

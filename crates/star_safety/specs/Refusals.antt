@@ -16,7 +16,7 @@ use Rattle.star_program.specs.declared.fault.Fault.TheVariants.{BadRegister, Wri
 use Rattle.star_program.specs.Faults.{unless, target_of, fault_of}
 use Rattle.star_safety.specs.Ranges.{Reach, Known, KnownNumber, origin_at, kinds_known}
 use Rattle.star_safety.specs.Tallies.{reach_of, read_range}
-use Rattle.star_safety.specs.Contexts.{Context, aggregate_at, result_known}
+use Rattle.star_safety.specs.Contexts.{Context, aggregate_in_group, result_known}
 use Rattle.star_safety.specs.declared.reason.Reached.{Reached}
 use Rattle.star_safety.specs.declared.reason.Reason.{Reason}
 use Rattle.star_safety.specs.declared.reason.Reason.TheVariants.{Faulty, NotAForeignKey, OpenGroup, Overflow}
@@ -78,7 +78,7 @@ source_reason pending x _ = None
 -- aggregate
 abbrev pub range_reason : World → Parts → Context → Op → Option Reason
 range_reason w parts x (Assign t (Read g a n)) =
-    overflow w (read_range (aggregate_at parts g a) (x.so_far g a) (only n))
+    overflow w (read_range (aggregate_in_group parts g a) (x.so_far g a) (only n))
     (reach_of (x.so_far g a))
 range_reason w parts x op = overflow_of w (result_known w parts x op)
 

@@ -12,13 +12,13 @@ use Rattle.star_safety.specs.Contexts.{Context, at_first, after_op, in_scan, aft
 use Rattle.star_safety.specs.declared.reason.Reason.{Reason}
 use Rattle.star_safety.specs.Refusals.{op_reason, scan_reason}
 
-pub data Item : Type 0 where
+pub data CodeItem : Type 0 where
   -- a scan of a table into a register
-  Scan : TableId → ℕ → Item
+  Scan : TableId → ℕ → CodeItem
   -- an instruction of another kind
-  Act : Op → Item
+  Act : Op → CodeItem
   -- the end of a scan's body or of the program: no instruction, and without a number of its own
-  End : Item
+  End : CodeItem
 
 -- a scan round an instruction
 pub record Enclosing : Type 0 where
@@ -31,7 +31,7 @@ pub record Standing : Type 0 where
   -- the scans round it, the innermost first
   pub round : List Enclosing
   pub context : Context
-  pub item : Item
+  pub item : CodeItem
 
 -- the instructions of some code, each body with its end
 abbrev pub standing : World → Parts → List Enclosing → Context → ℕ → Code → List Standing
@@ -66,7 +66,7 @@ abbrev pub op_puts_to : ℕ → Op → Bool
 op_puts_to h (Put g ks vs) = nat_eq h g
 op_puts_to h _ = false
 
-abbrev item_puts_to : ℕ → Item → Bool
+abbrev item_puts_to : ℕ → CodeItem → Bool
 item_puts_to g (Act op) = op_puts_to g op
 item_puts_to g _ = false
 
@@ -78,7 +78,7 @@ abbrev pub is_open : List Standing → Standing → ℕ → Bool
 is_open all i g =
     list_any (λ j. puts_to g j && (nat_lt i.number j.number || in_one_of i.round j)) all
 
-abbrev pub item_reason : World → Parts → (ℕ → Bool) → Context → Item → Option Reason
+abbrev pub item_reason : World → Parts → (ℕ → Bool) → Context → CodeItem → Option Reason
 item_reason w parts pending x (Act op) = op_reason w parts pending x op
 item_reason w parts pending x (Scan table r) = scan_reason parts x r
 item_reason w parts pending x End = None

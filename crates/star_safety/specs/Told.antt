@@ -8,18 +8,18 @@ use Rattle.star_program.specs.Faults.{target_of}
 use Rattle.star_safety.specs.Ranges.{Known, KnownRow, KnownFlag}
 use Rattle.star_safety.specs.Tallies.{Shares, no_shares}
 use Rattle.star_safety.specs.Contexts.{Context, op_shares, op_key_shares, result_known, is_target}
-use Rattle.star_safety.specs.Standing.{Item, Scan, Act, End, Enclosing, Standing, instructions_of, has_scan}
+use Rattle.star_safety.specs.Standing.{CodeItem, Scan, Act, End, Enclosing, Standing, instructions_of, has_scan}
 
 -- ---- each instruction
 
-abbrev item_is_instruction : Item → Bool
+abbrev item_is_instruction : CodeItem → Bool
 item_is_instruction End = false
 item_is_instruction _ = true
 
 abbrev pub is_instruction : Standing → Bool
 is_instruction i = item_is_instruction i.item
 
-abbrev item_target : Item → Option ℕ
+abbrev item_target : CodeItem → Option ℕ
 item_target (Act op) = target_of op
 item_target (Scan table r) = Some r
 item_target End = None
@@ -28,16 +28,16 @@ item_target End = None
 abbrev pub writes_to : ℕ → Standing → Bool
 writes_to r i = is_target (item_target i.item) r
 
-abbrev item_result : World → Parts → Context → Item → Known
+abbrev item_result : World → Parts → Context → CodeItem → Known
 item_result w parts x (Act op) = result_known w parts x op
 item_result w parts x (Scan table r) = KnownRow table
 item_result w parts x End = KnownFlag
 
 -- what is then known of that register
-abbrev pub result_of : World → Parts → Standing → Known
-result_of w parts i = item_result w parts i.context i.item
+abbrev pub standing_result : World → Parts → Standing → Known
+standing_result w parts i = item_result w parts i.context i.item
 
-abbrev item_shares : Parts → Context → Item → Shares
+abbrev item_shares : Parts → Context → CodeItem → Shares
 item_shares parts x (Act op) = op_shares parts x op
 item_shares parts x _ = no_shares
 
@@ -45,7 +45,7 @@ item_shares parts x _ = no_shares
 abbrev pub shares_of : Parts → Standing → Shares
 shares_of parts i = item_shares parts i.context i.item
 
-abbrev pub item_key_shares : Context → Item → Shares
+abbrev pub item_key_shares : Context → CodeItem → Shares
 item_key_shares x (Act op) = op_key_shares x op
 item_key_shares x _ = no_shares
 
@@ -65,7 +65,7 @@ abbrev pub rows_together : World → List Enclosing → ℕ
 rows_together w [] = 1
 rows_together w (s ∷ ss) = rows_together w ss * w.size s.table
 
-abbrev item_turns : World → List Enclosing → Item → ℕ
+abbrev item_turns : World → List Enclosing → CodeItem → ℕ
 item_turns w round (Scan table r) = rows_together w round * w.size table
 item_turns w round _ = 0
 
@@ -73,7 +73,7 @@ item_turns w round _ = 0
 abbrev pub turns_of : World → Standing → ℕ
 turns_of w i = item_turns w i.round i.item
 
-abbrev pub item_scope : ℕ → List Enclosing → Item → List Enclosing
+abbrev pub item_scope : ℕ → List Enclosing → CodeItem → List Enclosing
 item_scope at round (Scan table r) = record { number = at; table = table } ∷ round
 item_scope at round _ = round
 
@@ -82,14 +82,14 @@ abbrev pub scope_of : Standing → List Enclosing
 scope_of i = item_scope i.number i.round i.item
 
 -- what it writes is in scope where these scans stand round
-abbrev pub in_scope : List Enclosing → Standing → Bool
-in_scope scans i = list_all (λ s. has_scan scans s.number) (scope_of i)
+abbrev pub is_in_scope : List Enclosing → Standing → Bool
+is_in_scope scans i = list_all (λ s. has_scan scans s.number) (scope_of i)
 
 -- ---- the context, as the scans round an instruction and the instructions before it tell it
 
 -- the last of some instructions that writes the register, where that is in scope
 abbrev pub last_writer : List Enclosing → ℕ → List Standing → Option Standing
-last_writer scans r is = last_or None (filter (λ j. writes_to r j && in_scope scans j) is)
+last_writer scans r is = last_or None (filter (λ j. writes_to r j && is_in_scope scans j) is)
 
 pub record IsTold (w : World) (parts : Parts) (earlier : List Standing) (i : Standing) : Type 0
   where
@@ -99,7 +99,7 @@ pub record IsTold (w : World) (parts : Parts) (earlier : List Standing) (i : Sta
     -- in scope or not
     pub written : (r : ℕ) → i.context.written r ≡ list_any (writes_to r) earlier
     pub known : (r : ℕ) → i.context.known r
-        ≡ option_map (result_of w parts) (last_writer i.round r earlier)
+        ≡ option_map (standing_result w parts) (last_writer i.round r earlier)
     pub so_far : (g place : ℕ) → i.context.so_far g place ≡ shares_together parts earlier g place
     pub keys_so_far : (g place : ℕ)
         → i.context.keys_so_far g place ≡ key_shares_together earlier g place

@@ -9,7 +9,7 @@ ghost use Rattle.star_interval.specs.Range.{FitsI64, FitsI128};
 ghost use Rattle.star_program.specs.declared.op.Op.TheVariants.{Put};
 ghost use Rattle.star_program.specs.declared.program.Parts.{Parts};
 ghost use Rattle.star_program.specs.Code.{Code, Then};
-ghost use Rattle.star_program.specs.Effects.{GoesOn, Store, act, update_of};
+ghost use Rattle.star_program.specs.Effects.{GoesOn, State, act, update_of};
 ghost use Rattle.star_program.specs.Faults.{group_at};
 ghost use Rattle.star_program.specs.Limits.{IsWithinLimits};
 ghost use Rattle.star_program.specs.Outcome.{IsOutcome};
@@ -24,7 +24,7 @@ ghost use Rattle.star_safety.specs.Contexts.{Context, at_end, at_first};
 ghost use Rattle.star_safety.specs.Laws.{EndsWithin, IsAccepted, SumsFit, TotalsLie};
 ghost use Rattle.star_safety.specs.Meetings.{IsMetWithinQuote};
 ghost use Rattle.star_safety.specs.Moments.{AtEveryMoment, HoldsFrom, IsMet, IsMetFrom, Moment, StandsIn, moment};
-ghost use Rattle.star_safety.specs.MostRows.{most_rows};
+ghost use Rattle.star_safety.specs.MostRows.{most_report_rows};
 ghost use Rattle.star_safety.specs.Quote.{quote};
 ghost use Rattle.star_safety.specs.Private.Forward.{first_reason, none_open};
 ghost use Rattle.star_safety.specs.Private.Throughout.{HoldsThroughout};
@@ -60,7 +60,7 @@ pub fn admissible_programs_never_trap()
 pub fn each_put_has_room()
     ensures { (w : World) (parts : Parts) (all : Shares) (first : Moment) (x : Context)
         (group : ℕ) (keys values : List ℕ) (rest : Code) (at : ℕ) (before after : Registers)
-        (s t : Store)
+        (s t : State)
         → HoldsFrom w parts all first
         → IsMetFrom w parts first (moment x (Then (Put group keys values) rest) at before s)
         → act w parts x.inside before s (Put group keys values) ≡ GoesOn after t
@@ -118,7 +118,7 @@ pub fn told_bounds_fit_128_bits()
 pub fn reports_have_no_more_rows_than_keys_allow()
     ensures { (w : World) (parts : Parts) → IsAccepted w parts
         → EndsWith (run_of w parts) (λ s. (outcome : Outcome) → IsOutcome w parts s outcome
-        → length outcome.rows ≤ most_rows w parts) }
+        → length outcome.rows ≤ most_report_rows w parts) }
 {}
 
 /// Nothing refuses a program exactly where it is admissible and its quote is within the limit on

@@ -10,4 +10,5 @@ pub mod Order
 pub mod Loadable
 pub mod Texts
 pub mod Dictionary
+pub mod Columns
 pub mod Private

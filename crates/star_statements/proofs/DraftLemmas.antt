@@ -4,10 +4,11 @@ use Rattle.std.specs.Prelude.{IfSome, if◌then◌else◌, nat_lt}
 use Rattle.std.specs.Io.KnownBytes.{Consumes, IsAtEnd}
 use Rattle.std.proofs.lemmas.Bool.{le-ltb, lt-ltb, ltb-false, ltb-true}
 use Rattle.std.proofs.lemmas.List.{length-append, length-take, take-append-le, take_all}
-use Rattle.star_statements.specs.Blanks.{is_blank, without_blanks}
+use Rattle.star_statements.specs.Blanks.{without_blanks}
+use Rattle.star_common.specs.WhiteSpace.{is_blank}
 use Rattle.star_statements.specs.Questions.{asked_by, asked_by_text}
 use Rattle.star_statements.specs.Sources.{IsStatementRead}
-use Rattle.star_statements.specs.Statements.{joined, statements_of}
+use Rattle.star_statements.specs.Statements.{joined_to_first, statements_of}
 use Rattle.star_statements.specs.Private.Drafts.{IsDraft, closes, cut, ends_behind, is_empty, kept, with_byte}
 use Rattle.star_statements.proofs.BlankLemmas.{if_false, if_true, without_blanks-more}
 use Rattle.star_statements.proofs.QuestionLemmas.{asked-front}
@@ -121,7 +122,7 @@ draft_goes_on old mid new text ends begun c draft byte open_line = record {
   keeps = ap (λ t. with_byte t c) draft.keeps ∙ kept-more begun c;
   splits = λ rest.
       ap statements_of (append_assoc begun (c ∷ []) rest) ∙ draft.splits (c ∷ rest)
-      ∙ ap (joined begun) (if_false _ _ (closes ends c) open_line)
+      ∙ ap (joined_to_first begun) (if_false _ _ (closes ends c) open_line)
       ∙ joined_assoc begun (c ∷ []) (cut (ends_behind ends c) rest);
 }
 
@@ -129,14 +130,14 @@ draft_goes_on old mid new text ends begun c draft byte open_line = record {
 pub draft_ends : (old mid new : Option (List ℕ)) (text : List ℕ) (ends : Bool) (begun : List ℕ) (c : ℕ)
     → IsDraft old mid text ends begun → Consumes mid new (c ∷ []) → closes ends c ≡ true
     → IsStatementRead old new (with_byte text c) true (begun ++ c ∷ [])
-unfolding cut joined
+unfolding cut joined_to_first
 draft_ends old mid new text ends begun c draft byte closing = record {
   read = consumed_both old mid new begun (c ∷ []) draft.read byte;
   asked = ap asked_by_text (ap (λ t. with_byte t c) draft.keeps ∙ kept-more begun c)
       ∙ asked-kept (begun ++ c ∷ []);
   first = λ _ rest.
       ap statements_of (append_assoc begun (c ∷ []) rest) ∙ draft.splits (c ∷ rest)
-      ∙ ap (joined begun) (if_true _ _ (closes ends c) closing)
+      ∙ ap (joined_to_first begun) (if_true _ _ (closes ends c) closing)
       ∙ ap (λ pieces. (begun ++ c ∷ []) ∷ pieces) (sym (statements_from_cut rest));
   some = λ _. omega (arith, length-append begun (c ∷ []));
   last = λ e. cc;
@@ -147,7 +148,7 @@ draft_ends old mid new text ends begun c draft byte closing = record {
 pub draft_is_last : (old mid new : Option (List ℕ)) (text : List ℕ) (ends : Bool) (begun : List ℕ)
     → IsDraft old mid text ends begun → Consumes mid new [] → IsAtEnd new
     → IsStatementRead old new text false begun
-unfolding cut joined
+unfolding cut joined_to_first
 draft_is_last old mid new text ends begun draft nothing at_end =
     let whole = append-nil begun in record {
       read = subst (λ l. Consumes old new l) whole (consumed_both old mid new begun [] draft.read nothing);

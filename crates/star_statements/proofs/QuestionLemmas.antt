@@ -10,7 +10,7 @@ use Rattle.std.proofs.lemmas.Bool.Decides.{same_from_decides}
 use Rattle.std.proofs.lemmas.List.{drop_all, length-take, take_all}
 use Rattle.std.proofs.lemmas.Slice.Eq.{bytes_eq-Decides}
 use Rattle.star_statements.specs.Blanks.{is_blank_at_front}
-use Rattle.star_statements.specs.Questions.{asked_by_text, begins_with, behind}
+use Rattle.star_statements.specs.Questions.{asked_by_text, begins_with_word, behind_word}
 use Rattle.star_statements.specs.declared.questions.Question.TheVariants.{Nothing, TooLong, Query, Explain, Quote}
 use Rattle.star_statements.proofs.BlankLemmas.{if_false, if_true}
 
@@ -23,14 +23,14 @@ told_as front word same tells = same_from_decides same _ tells (bytes_eq-Decides
 -- a text that is cut behind as many bytes as a word has
 pub begins_as : (word text front rest : List ℕ) → front ≡ take (length word) text
     → rest ≡ drop (length word) text
-    → begins_with word text ≡ (str_eq_ignore_ascii_case front word && is_blank_at_front rest)
-unfolding begins_with
+    → begins_with_word word text ≡ (str_eq_ignore_ascii_case front word && is_blank_at_front rest)
+unfolding begins_with_word
 begins_as word text front rest start left =
     ap (λ f. str_eq_ignore_ascii_case f word && is_blank_at_front (drop (length word) text)) (sym start)
     ∙ ap (λ l. str_eq_ignore_ascii_case front word && is_blank_at_front l) (sym left)
 
-pub begins_short : (word text : List ℕ) → length text < length word → begins_with word text ≡ false
-unfolding begins_with
+pub begins_short : (word text : List ℕ) → length text < length word → begins_with_word word text ≡ false
+unfolding begins_with_word
 begins_short word text short =
     let none : drop (length word) text ≡ [] = drop_all (length word) text (omega arith) in
     ap (λ l. bytes_eq (map to_ascii_lowercase (take (length word) text)) (map to_ascii_lowercase word)
@@ -50,16 +50,16 @@ too_long (c ∷ rest) long = if_true _ _ _ (lt-ltb 65536 (length (c ∷ rest)) l
 -- texts that are not empty, and not too long
 module _ where
   pub explained : (text : List ℕ) → 0 < length text → length text ≤ 65536
-      → begins_with (codes "explain") text ≡ true
-      → asked_by_text text ≡ Explain (behind (codes "explain") text)
+      → begins_with_word (codes "explain") text ≡ true
+      → asked_by_text text ≡ Explain (behind_word (codes "explain") text)
   unfolding asked_by_text
   explained [] some short begins = absurd (omega arith)
   explained (c ∷ rest) some short begins =
       if_false _ _ _ (le-ltb 65536 (length (c ∷ rest)) short) ∙ if_true _ _ _ begins
 
   pub quoted : (text : List ℕ) → 0 < length text → length text ≤ 65536
-      → begins_with (codes "explain") text ≡ false → begins_with (codes "quote") text ≡ true
-      → asked_by_text text ≡ Quote (behind (codes "quote") text)
+      → begins_with_word (codes "explain") text ≡ false → begins_with_word (codes "quote") text ≡ true
+      → asked_by_text text ≡ Quote (behind_word (codes "quote") text)
   unfolding asked_by_text
   quoted [] some short other begins = absurd (omega arith)
   quoted (c ∷ rest) some short other begins =
@@ -67,7 +67,7 @@ module _ where
       ∙ if_true _ _ _ begins
 
   pub queried : (text : List ℕ) → 0 < length text → length text ≤ 65536
-      → begins_with (codes "explain") text ≡ false → begins_with (codes "quote") text ≡ false
+      → begins_with_word (codes "explain") text ≡ false → begins_with_word (codes "quote") text ≡ false
       → asked_by_text text ≡ Query text
   unfolding asked_by_text
   queried [] some short other another = absurd (omega arith)

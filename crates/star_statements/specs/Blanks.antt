@@ -1,9 +1,6 @@
 -- Blanks: what stands before a statement, and behind the semicolon that ends it.
-use Rattle.std.specs.Prelude.{◌==◌, ◌||◌, ℕ, List, [], ◌∷◌, Bool, false, if◌then◌else◌}
-
--- a space, a tab, a carriage return or a line end
-abbrev pub is_blank : ℕ → Bool
-is_blank c = (c == 32) || ((c == 9) || ((c == 13) || (c == 10)))
+use Rattle.std.specs.Prelude.{ℕ, List, [], ◌∷◌, Bool, false, if◌then◌else◌}
+use Rattle.star_common.specs.WhiteSpace.{is_blank}
 
 -- whether a text begins with one
 abbrev pub is_blank_at_front : List ℕ → Bool

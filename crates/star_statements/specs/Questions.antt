@@ -6,14 +6,14 @@ use Rattle.star_statements.specs.declared.questions.Question.{Question}
 use Rattle.star_statements.specs.declared.questions.Question.TheVariants.{Nothing, TooLong, Query, Explain, Quote}
 
 -- whether a text begins with a word, in letters of either case, and a blank behind it
-unfoldable pub begins_with : (word text : List ℕ) → Bool
-begins_with word text =
+unfoldable pub begins_with_word : (word text : List ℕ) → Bool
+begins_with_word word text =
     str_eq_ignore_ascii_case (take (length word) text) word
     && is_blank_at_front (drop (length word) text)
 
 -- what stands behind a word and blanks
-abbrev pub behind : (word text : List ℕ) → List ℕ
-behind word text = without_blanks (drop (length word) text)
+abbrev pub behind_word : (word text : List ℕ) → List ℕ
+behind_word word text = without_blanks (drop (length word) text)
 
 -- what a text asks for that begins with no blank: for nothing where it is empty; for what `explain` or
 -- `quote` tell of the query behind that word; and else for the answer to a query. A text of more than
@@ -23,8 +23,8 @@ asked_by_text [] = Nothing
 asked_by_text (c ∷ rest) =
     let text = c ∷ rest in
     if nat_lt 65536 (length text) then TooLong
-    else (if begins_with (codes "explain") text then Explain (behind (codes "explain") text)
-    else (if begins_with (codes "quote") text then Quote (behind (codes "quote") text)
+    else (if begins_with_word (codes "explain") text then Explain (behind_word (codes "explain") text)
+    else (if begins_with_word (codes "quote") text then Quote (behind_word (codes "quote") text)
     else Query text))
 
 -- what a statement asks for: blanks before it don't count

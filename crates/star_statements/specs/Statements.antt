@@ -2,18 +2,18 @@
 -- behind it left aside; the lines behind the last of these are the last statement.
 use Rattle.std.specs.Prelude.{◌==◌, ◌&&◌, ◌||◌, ◌++◌, ℕ, List, [], ◌∷◌, Bool, false, if◌then◌else◌}
 use Rattle.std.specs.List.{list_all}
-use Rattle.star_statements.specs.Blanks.{is_blank}
+use Rattle.star_common.specs.WhiteSpace.{is_blank}
 
 -- a piece of a text with the first of those that follow it made one
-unfoldable pub joined : List ℕ → List (List ℕ) → List (List ℕ)
-joined piece [] = piece ∷ []
-joined piece (first ∷ others) = (piece ++ first) ∷ others
+unfoldable pub joined_to_first : List ℕ → List (List ℕ) → List (List ℕ)
+joined_to_first piece [] = piece ∷ []
+joined_to_first piece (first ∷ others) = (piece ++ first) ∷ others
 
 -- the lines of a text, each with its line end; the last is what stands behind the last line end
-unfoldable pub lines_of : List ℕ → List (List ℕ)
-lines_of [] = [] ∷ []
-lines_of (c ∷ rest) =
-    if c == 10 then (c ∷ []) ∷ lines_of rest else joined (c ∷ []) (lines_of rest)
+unfoldable pub statement_lines : List ℕ → List (List ℕ)
+statement_lines [] = [] ∷ []
+statement_lines (c ∷ rest) =
+    if c == 10 then (c ∷ []) ∷ statement_lines rest else joined_to_first (c ∷ []) (statement_lines rest)
 
 -- whether a line has a semicolon behind which there are blanks alone
 unfoldable pub ends_statement : List ℕ → Bool
@@ -26,7 +26,7 @@ grouped [] = []
 grouped (line ∷ []) = line ∷ []
 grouped (line ∷ (next ∷ lines)) =
     if ends_statement line then line ∷ grouped (next ∷ lines)
-    else joined line (grouped (next ∷ lines))
+    else joined_to_first line (grouped (next ∷ lines))
 
 abbrev pub statements_of : List ℕ → List (List ℕ)
-statements_of text = grouped (lines_of text)
+statements_of text = grouped (statement_lines text)

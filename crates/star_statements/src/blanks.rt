@@ -1,11 +1,12 @@
 // Blanks: spaces, tabs and line ends.
 
 ghost use Rattle.std.specs.Prelude.{◌≡◌};
+ghost use Rattle.star_common.specs.WhiteSpace as white;
 ghost use Rattle.star_statements.specs.Blanks as spec;
 
 /// Whether a byte is a space, a tab, a carriage return or a line end.
 pub(crate) fn is_blank(byte: u8) -> bool
-    ensures { result ≡ spec.is_blank byte }
+    ensures { result ≡ white.is_blank byte }
 {
     byte == b' ' || byte == b'\t' || byte == b'\r' || byte == b'\n'
 }

@@ -3,7 +3,7 @@
 ghost use Rattle.std.specs.Prelude.{◌≡◌, ◌&&◌, true, false, IfNone, IfSome};
 ghost use Rattle.std.specs.Str.{str_eq_ignore_ascii_case};
 ghost use Rattle.star_statements.specs.Blanks as spec;
-ghost use Rattle.star_statements.specs.Questions.{asked_by_text, begins_with, behind};
+ghost use Rattle.star_statements.specs.Questions.{asked_by_text, begins_with_word, behind_word};
 ghost use Rattle.star_statements.specs.Views.{question_view};
 
 use crate::blanks::{is_blank_at_front, without_blanks};
@@ -37,9 +37,9 @@ fn is_word_apart(front: &[u8], rest: &[u8], word: &[u8]) -> bool
 // What stands behind a word and blanks, where a text begins with the word, in letters of either case,
 // and a blank.
 fn after_word<'a>(text: &'a [u8], word: &[u8]) -> Option<&'a [u8]>
-    ensures found { IfSome result (λ query. (begins_with word.now text.now ≡ true)
-        × (query.now ≡ behind word.now text.now)) }
-    ensures other { IfNone result (begins_with word.now text.now ≡ false) }
+    ensures found { IfSome result (λ query. (begins_with_word word.now text.now ≡ true)
+        × (query.now ≡ behind_word word.now text.now)) }
+    ensures other { IfNone result (begins_with_word word.now text.now ≡ false) }
 {
     let Some((front, rest)) = text.split_at_checked(word.len()) else {
         return None;

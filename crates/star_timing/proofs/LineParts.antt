@@ -4,7 +4,7 @@ use Rattle.std.specs.List.{slice_get}
 use Rattle.std.proofs.lemmas.List.{append-nil, drop_all}
 use Rattle.star_common.proofs.Lists.{drop_at_place}
 use Rattle.star_engine.specs.declared.thirteen.BenchmarkQuery.{BenchmarkQuery}
-use Rattle.star_timing.specs.Lines.{AreLines, IsLine, line_text}
+use Rattle.star_timing.specs.Lines.{AreLines, IsLine, timing_line}
 
 -- with the lines of the queries that are left the text is whole
 abbrev pub GoesOn : (runs : ℕ) (all : List BenchmarkQuery) (place : ℕ) (text : List ℕ) → Type 0
@@ -32,8 +32,8 @@ all_lines runs all place text past goes =
 -- the lines of one query and more have a byte
 pub lines_some : (runs : ℕ) (query : BenchmarkQuery) (queries : List BenchmarkQuery)
     (text : List ℕ) → AreLines runs (query ∷ queries) text → 0 < length text
-unfolding line_text
+unfolding timing_line
 lines_some runs query queries text (line, rest, is, others, whole) =
-    let first : text ≡ line_text query is.best is.median ++ rest =
+    let first : text ≡ timing_line query is.best is.median ++ rest =
     whole ∙ ap (λ l. l ++ rest) is.told in
     rw first (omega arith)

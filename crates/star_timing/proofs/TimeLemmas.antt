@@ -7,7 +7,7 @@ use Rattle.std.specs.List.Sorted.{IsPermutation, IsSorted}
 use Rattle.std.specs.Ordering.{nat_cmp}
 use Rattle.std.proofs.lemmas.List.Sorted.{IsNonDecreasingBy-from_sort, length_permutation}
 use Rattle.std.proofs.lemmas.Option.{slice_get-get_or}
-use Rattle.star_timing.specs.Times.{IsMedian, padded}
+use Rattle.star_timing.specs.Times.{IsMedian, padded_decimal}
 
 -- the middle of the times in order is their median
 pub middle_is_median : (times sorted : List ℕ) (m : ℕ) → IsPermutation times sorted
@@ -25,7 +25,7 @@ middle_is_median times sorted m same order some at =
 
 -- what `{:06}` writes
 pub six_places : (n : ℕ)
-    → padded_integral (format_spec 32 0 4 6 (2 ^ 64 - 1)) false [] (decimal n) ≡ padded 6 n
+    → padded_integral (format_spec 32 0 4 6 (2 ^ 64 - 1)) false [] (decimal n) ≡ padded_decimal 6 n
 unfolding padded_integral char_count
 six_places n =
     let zeros : 6 - length (decimal n) - 0 - 0 ≡ 6 - length (decimal n) = omega arith in

@@ -5,8 +5,8 @@ use Rattle.star_engine.specs.Thirteen.{query_name}
 use Rattle.star_timing.specs.Times.{IsBest, IsMedian, seconds_text}
 
 -- a query's name, its best time and its median
-unfoldable pub line_text : BenchmarkQuery → (best median : ℕ) → List ℕ
-line_text query best median =
+unfoldable pub timing_line : BenchmarkQuery → (best median : ℕ) → List ℕ
+timing_line query best median =
     codes "query " ++ (query_name query ++ (codes " " ++ (seconds_text best
     ++ (codes " " ++ (seconds_text median ++ codes "\n")))))
 
@@ -18,7 +18,7 @@ pub record IsLine (runs : ℕ) (query : BenchmarkQuery) (line : List ℕ) : Type
   pub median : ℕ
   pub is_best : IsBest times best
   pub is_median : IsMedian times median
-  pub told : line ≡ line_text query best median
+  pub told : line ≡ timing_line query best median
 
 -- a line for each of some queries, in their order
 abbrev pub AreLines : (runs : ℕ) → List BenchmarkQuery → List ℕ → Type 0

@@ -14,13 +14,13 @@ use Rattle.star_schema.specs.Database.{Database}
 use Rattle.star_world.specs.WorldOf.{world_of}
 
 -- the program of the plan of a query of the benchmark
-pub record IsProgramOf (query : BenchmarkQuery) (program : Parts) : Type 0 where
+pub record IsProgramOfQuery (query : BenchmarkQuery) (program : Parts) : Type 0 where
   pub meant : Plan
   pub of_query : IsPlanOf (query_text query) meant
   pub made : program ≡ compiled meant
 
 -- the printed rows of a program's run over the rows of five tables
-pub record IsReportOf (database : Database) (program : Parts) (report : List ℕ) : Type 0 where
+pub record IsReportOfProgram (database : Database) (program : Parts) (report : List ℕ) : Type 0 where
   pub outcome : Outcome
   pub yields : Yields (world_of database) program (run_of (world_of database) program) outcome
   pub printed : report ≡ report_text outcome.names outcome.rows

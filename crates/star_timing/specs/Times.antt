@@ -15,9 +15,9 @@ pub record IsMedian (times : List ℕ) (median : ℕ) : Type 0 where
   pub middle : slice_get sorted (length times / 2) ≡ Some median
 
 -- a number in at least so many digits, zeros before it
-abbrev pub padded : (places : ℕ) → ℕ → List ℕ
-padded places n = replicate (places - length (decimal n)) 48 ++ decimal n
+abbrev pub padded_decimal : (places : ℕ) → ℕ → List ℕ
+padded_decimal places n = replicate (places - length (decimal n)) 48 ++ decimal n
 
 -- a time in seconds, with six places
 unfoldable pub seconds_text : ℕ → List ℕ
-seconds_text time = decimal (time / 1000000) ++ (codes "." ++ padded 6 (time % 1000000))
+seconds_text time = decimal (time / 1000000) ++ (codes "." ++ padded_decimal 6 (time % 1000000))

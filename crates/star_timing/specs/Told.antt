@@ -25,9 +25,9 @@ usage =
     ++ codes "A run is that of the query's verified program, and ends with its report in memory.\n"
 
 -- a failure is told with its status
-abbrev pub IsFailureTold : {E : Type 0} → Change E → Failure → ℕ → Type 0
-IsFailureTold err (Engine fault) status = IsFaultTold err fault status
-IsFailureTold err Clock status =
+abbrev pub IsTimingFailureTold : {E : Type 0} → Change E → Failure → ℕ → Type 0
+IsTimingFailureTold err (Engine fault) status = IsFaultTold err fault status
+IsTimingFailureTold err Clock status =
     IsTextTold err (codes "error: the clock can't be read\n") × (status ≡ 6)
 
 -- a whole text was written, or its first bytes
@@ -44,10 +44,10 @@ AreWritten runs out = (text : List ℕ) × AreLines runs THIRTEEN text × HasGai
 abbrev pub AreTimesTold : {S E : Type 0} → (runs : ℕ) → Change S → Change E → ℕ → Type 0
 AreTimesTold runs out err status =
     (AreWritten runs out × IsUntouched err × (status ≡ 0))
-    ⊎ (IsFolderRefused out err status ⊎ ((failure : Failure) × IsFailureTold err failure status))
+    ⊎ (IsFolderRefused out err status ⊎ ((failure : Failure) × IsTimingFailureTold err failure status))
 
 -- what the program tells for what its words ask for
-abbrev pub IsTold : {S E : Type 0} → Asked → Change S → Change E → ℕ → Type 0
-IsTold Usage out err status = IsTextTold out usage × IsUntouched err × (status ≡ 0)
-IsTold (Times folder runs) out err status = AreTimesTold runs out err status
-IsTold Nothing out err status = IsUntouched out × IsTextTold err usage × (status ≡ 2)
+abbrev pub IsTimingTold : {S E : Type 0} → Asked → Change S → Change E → ℕ → Type 0
+IsTimingTold Usage out err status = IsTextTold out usage × IsUntouched err × (status ≡ 0)
+IsTimingTold (Times folder runs) out err status = AreTimesTold runs out err status
+IsTimingTold Nothing out err status = IsUntouched out × IsTextTold err usage × (status ≡ 2)

@@ -4,7 +4,7 @@ ghost use Rattle.std.specs.Prelude.{◌≡◌, ◌<◌, OnOk, length, map, strin
 ghost use Rattle.star_engine.specs.Answered.{change};
 ghost use Rattle.star_timing.specs.Asked.{IsAsked};
 ghost use Rattle.star_timing.specs.Told as spec;
-ghost use Rattle.star_timing.specs.Told.{AreTimesTold, AreWritten, IsTold, IsWritten};
+ghost use Rattle.star_timing.specs.Told.{AreTimesTold, AreWritten, IsTimingTold, IsWritten};
 ghost use Rattle.star_timing.specs.declared.asked.Asked.{Asked};
 
 use crate::asked::{Asked, asked_of};
@@ -105,7 +105,7 @@ pub(crate) fn command<R: Files + Clock + AllocGlobal, S: Sink, E: Sink>(
     err: &mut E,
 ) -> u8
     ensures { (asked : Asked) × IsAsked (map string_bytes words.now) asked
-        × IsTold asked (change S.contents S.is_failed out.old out.new)
+        × IsTimingTold asked (change S.contents S.is_failed out.old out.new)
         (change E.contents E.is_failed err.old err.new) result }
 {
     match asked_of(words) {

@@ -4,7 +4,7 @@ ghost use Rattle.std.specs.Prelude.{◌≡◌};
 ghost use Rattle.star_common.specs.Memory.{TellsMemory};
 ghost use Rattle.star_engine.specs.Answered.{change};
 ghost use Rattle.star_engine.specs.declared.fault.EngineFault.TheVariants.{OutOfMemory};
-ghost use Rattle.star_timing.specs.Told.{IsFailureTold};
+ghost use Rattle.star_timing.specs.Told.{IsTimingFailureTold};
 ghost use Rattle.star_timing.specs.declared.failure.Failure.TheVariants.{Engine};
 
 use star_cli::{tell, tell_fault};
@@ -40,7 +40,7 @@ impl From<AllocError> for Failure {
 impl Failure {
     /// Tells what happened on `err`, faults as the commands of `star` do, and gives the exit status.
     pub(crate) fn tell<E: Sink>(&self, alloc: Global, err: &mut E) -> u8
-        ensures { IsFailureTold (change E.contents E.is_failed err.old err.new) self.now result }
+        ensures { IsTimingFailureTold (change E.contents E.is_failed err.old err.new) self.now result }
     {
         match self {
             Failure::Engine(fault) => tell_fault(alloc, err, fault),

@@ -1,7 +1,7 @@
 // The lines that tell the times of the queries.
 
 ghost use Rattle.std.specs.Prelude.{◌≡◌, ◌<◌, IfOk, string_bytes};
-ghost use Rattle.star_timing.specs.Lines.{AreLines, IsLine, line_text};
+ghost use Rattle.star_timing.specs.Lines.{AreLines, IsLine, timing_line};
 ghost use Rattle.star_engine.specs.declared.thirteen.TheConstants.{THIRTEEN};
 
 use crate::failure::Failure;
@@ -13,10 +13,10 @@ use std::alloc::{AllocError, Global};
 use std::rt::Clock;
 
 // The line of a query with its times.
-#[tactic(auto, unfolding(crate::specs::Lines::line_text))]
+#[tactic(auto, unfolding(crate::specs::Lines::timing_line))]
 fn line_told(alloc: Global, query: BenchmarkQuery, summary: Summary) -> Result<String, AllocError>
     ensures { IfOk result
-        (λ line. string_bytes line ≡ line_text query summary.best summary.median) }
+        (λ line. string_bytes line ≡ timing_line query summary.best summary.median) }
 {
     let name = query.name();
     let best = Seconds(summary.best);

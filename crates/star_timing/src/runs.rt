@@ -1,7 +1,7 @@
 // The runs of a query of the benchmark, and how long they take.
 
 ghost use Rattle.std.specs.Prelude.{◌≡◌, ◌<◌, IfOk, vec_len};
-ghost use Rattle.star_timing.specs.Runs.{IsProgramOf, IsReportOf};
+ghost use Rattle.star_timing.specs.Runs.{IsProgramOfQuery, IsReportOfProgram};
 
 use crate::failure::Failure;
 use crate::times::microseconds;
@@ -21,7 +21,7 @@ use std::time::{Duration, Instant};
 
 // The program of a query.
 fn program_of(alloc: Global, query: BenchmarkQuery) -> Result<Program, EngineFault>
-    ensures { IfOk result (IsProgramOf query) }
+    ensures { IfOk result (IsProgramOfQuery query) }
 {
     let parsed = Query::parse(alloc, query.text().as_bytes())?;
     let planned = plan(alloc, &parsed)?;
@@ -39,7 +39,7 @@ pub(crate) fn verified_of<'c>(
     query: BenchmarkQuery,
 ) -> Result<Verified<'c>, EngineFault>
     ensures tables { IfOk result (λ verified. verified.database ≡ catalogue.now) }
-    ensures program { IfOk result (λ verified. IsProgramOf query verified.program) }
+    ensures program { IfOk result (λ verified. IsProgramOfQuery query verified.program) }
 {
     let program = program_of(alloc, query)?;
     match verify(alloc, catalogue, program, Limits::widest()) {
@@ -50,7 +50,7 @@ pub(crate) fn verified_of<'c>(
 
 // What is timed: one run of a verified program, and its report made.
 fn report_of(alloc: Global, verified: &Verified<'_>) -> Result<Vec<u8>, AllocError>
-    ensures { IfOk result (λ report. IsReportOf verified.now.database verified.now.program report.items) }
+    ensures { IfOk result (λ report. IsReportOfProgram verified.now.database verified.now.program report.items) }
 {
     let outcome = run(alloc, verified)?;
     report_text(alloc, &outcome)

@@ -6,7 +6,7 @@ use Rattle.std.proofs.lemmas.List.Folds.{list_all-append, list_all-map}
 use Rattle.star_schema.specs.declared.group.GroupColumn.{GroupColumn}
 use Rattle.star_program.specs.declared.group.GroupDecl.{GroupDecl}
 use Rattle.star_program.specs.declared.program.Parts.{Parts}
-use Rattle.star_program.specs.Shown.{first_unshown, has_column, named_columns}
+use Rattle.star_program.specs.ShowLines.{first_unshown, has_column, named_columns}
 
 one_line : (b rest : Bool) (line : ℕ) (o : Option ℕ) → (rest ≡ true) ↔ (o ≡ None) → ((b && rest) ≡ true) ↔ ((if b then o else Some line) ≡ None)
 one_line true rest line o same = same

@@ -5,7 +5,7 @@ use Rattle.star_schema.specs.Database.{Database}
 use Rattle.star_program.specs.declared.op.Operator.{Operator}
 use Rattle.star_program.specs.declared.op.Operator.TheVariants.{Add, Sub, Mul, Less}
 use Rattle.star_program.specs.declared.program.Parts.{Parts}
-use Rattle.star_program.specs.Effects.{Store, Effect, GoesOn, Traps, answer_of, fits_register, unless_trap}
+use Rattle.star_program.specs.Effects.{State, Effect, GoesOn, Traps, answer_of, fits_register, unless_trap}
 use Rattle.star_program.specs.Faults.{unless}
 use Rattle.star_program.specs.Private.Doing.{fitting, puts, puts_update, sets_answer}
 use Rattle.star_program.specs.declared.fault.TrapKind.TheVariants.{Overflow}
@@ -31,7 +31,7 @@ answer_sound database Mul l r = tt
 answer_sound database Less l r = tt
 answer_sound database _ l r = tt
 
-module _ (database : Database) (parts : Parts) (registers : Registers) (run : Run) (s : Store) (done : HasDone database parts run s) (t : ℕ) where
+module _ (database : Database) (parts : Parts) (registers : Registers) (run : Run) (s : State) (done : HasDone database parts run s) (t : ℕ) where
   pub sets : (effect : Effect) (value : Value) → effect ≡ GoesOn (with_entry registers t value) s → IsSoundValue database value
       → Sets database parts registers run t effect value
   sets effect value does sound = record { s = s; does = does; done = done; sound = sound }
@@ -57,7 +57,7 @@ module _ (database : Database) (parts : Parts) (registers : Registers) (run : Ru
       (subst (λ (a : Option Value). MatchOption a (result ≡ Err (stop.Trap Overflow)) (λ value. result ≡ Ok value)) shown is)
 
 -- a put that is refused
-pub put_stops : (d : GroupDecl) (registers : Registers) (s : Store) (g : ℕ) (update : Update) (fault : PutFault) → (fault ≡ memory.OutOfMemory) ⊎ (overflows d (s.updates_of g) update ≡ true)
+pub put_stops : (d : GroupDecl) (registers : Registers) (s : State) (g : ℕ) (update : Update) (fault : PutFault) → (fault ≡ memory.OutOfMemory) ⊎ (overflows d.shape d.aggregates (s.updates_of g) update ≡ true)
     → IsStop (puts_update d registers s g update) (stop_of_put fault)
 put_stops d registers s g update memory.OutOfMemory why = tt
 put_stops d registers s g update memory.Overflow why = ⊎_elim {C = puts_update d registers s g update ≡ Traps Overflow} (λ memory. absurd (apart memory)) (λ leaves. ap (puts registers s g update) leaves) why

@@ -10,7 +10,7 @@ use Rattle.star_program.specs.declared.op.Op.{Op}
 use Rattle.star_program.specs.declared.program.Parts.{Parts}
 use Rattle.star_program.specs.Code.{Code, Each, code_size, scan_depth}
 use Rattle.star_program.specs.CodeOfSteps.{code_of_steps}
-use Rattle.star_program.specs.Effects.{Store, Effect, act}
+use Rattle.star_program.specs.Effects.{State, Effect, act}
 use Rattle.star_program.specs.Run.{End, after, begin, follow, meaning, scans, turns, visited}
 use Rattle.star_program.specs.Values.{Registers, with_entry}
 use Rattle.star_program.specs.declared.value.Value.TheVariants.{Row}
@@ -28,14 +28,14 @@ use Rattle.star_trial.specs.declared.fault.TrialFault.TheVariants as fault
 use Rattle.star_trial.specs.declared.machine.Machine.{Machine}
 use Rattle.star_trial.specs.Private.Acts.{Ends, Goes, IsFlow, IsStop}
 use Rattle.star_trial.specs.Private.Runs.{AreStores, HasDone, Run}
-use Rattle.star_trial.specs.Trials.{IsFaultOf}
+use Rattle.star_trial.specs.Trials.{IsFaultOfEnd}
 use Rattle.star_trial.specs.Private.Walks.{HasWorked, fault_at, means}
 use Rattle.star_world.specs.WorldOf.{world_of}
 
 -- ---- the steps of a body
 
 -- a scan and what follows it
-pub scan_then : (w : World) (parts : Parts) (may : ℕ → Bool) (table : TableId) (r : ℕ) (body rest : Code) (at : ℕ) (inside : Bool) (regs : Registers) (s : Store)
+pub scan_then : (w : World) (parts : Parts) (may : ℕ → Bool) (table : TableId) (r : ℕ) (body rest : Code) (at : ℕ) (inside : Bool) (regs : Registers) (s : State)
     → meaning w parts may (Each table r body rest) at inside regs s
     ≡ after (scans at (nat_lt r parts.registers) (λ _. turns may (w.size table) 0 (λ row. meaning w parts may body (at + 1) true (with_entry regs r (Row table row))) s)) (meaning w parts may rest (at + 1 + code_size body) inside regs)
 scan_then w parts may table r body rest at inside regs s = go (nat_lt r parts.registers)
@@ -65,7 +65,7 @@ one_more d n = let e : 1 + d ≡ suc d = omega arith in ap (λ m. m * n) e ∙ s
 
 -- ---- what is left of a walk
 
-module _ (m : Machine) (steps : List Step) {i : ℕ} {step : Step} (place : ℕ) (inside : Bool) (registers : Registers) (now : Store) where
+module _ (m : Machine) (steps : List Step) {i : ℕ} {step : Step} (place : ℕ) (inside : Bool) (registers : Registers) (now : State) where
   pub act_follows : {op : Op} {effect : Effect} → i < length steps → step ≡ get_or steps i step → step ≡ Act op → act (world_of m.catalogue.now) m.parts.now inside registers now op ≡ effect
       → means m (code_of_steps (drop i steps)) place inside registers now ≡ follow place effect (means m (code_of_steps (drop (i + 1) steps)) (place + 1) inside)
   act_follows {op = op} lt at is does =
@@ -82,10 +82,10 @@ module _ (m : Machine) (steps : List Step) {i : ℕ} {step : Step} (place : ℕ)
 
 -- ---- the beginning of a turn
 
-pub begin_turn : (most : ℕ) (s : Store) (turn : Store → End) → s.visits < most → begin (nat_lt s.visits most) s turn ≡ turn (visited s)
+pub begin_turn : (most : ℕ) (s : State) (turn : State → End) → s.visits < most → begin (nat_lt s.visits most) s turn ≡ turn (visited s)
 begin_turn most s turn h = ap (λ b. begin b s turn) (lt-ltb s.visits most h)
 
-pub done_visited : (database : Database) (parts : Parts) (run new : Run) (s : Store) → new.stores ≡ run.stores → new.visits ≡ run.visits + 1 → new.lookups ≡ run.lookups → new.updates ≡ run.updates
+pub done_visited : (database : Database) (parts : Parts) (run new : Run) (s : State) → new.stores ≡ run.stores → new.visits ≡ run.visits + 1 → new.lookups ≡ run.lookups → new.updates ≡ run.updates
     → HasDone database parts run s → HasDone database parts new (visited s)
 done_visited database parts run new s stores visits lookups updates done = record {
   stores = subst (λ v. AreStores parts v.items s.updates_of) (sym stores) done.stores;
@@ -97,18 +97,18 @@ done_visited database parts run new s stores visits lookups updates done = recor
 
 -- ---- how turns and walks end
 
-pub turns_fault : (may : ℕ → Bool) (n j : ℕ) (turn : ℕ → Store → End) (s : Store) (whole : End) (fault : TrialFault) → j < n → IsFaultOf (begin (may s.visits) s (turn j)) fault
-    → turns may (n - j) j turn s ≡ whole → IsFaultOf whole fault
+pub turns_fault : (may : ℕ → Bool) (n j : ℕ) (turn : ℕ → State → End) (s : State) (whole : End) (fault : TrialFault) → j < n → IsFaultOfEnd (begin (may s.visits) s (turn j)) fault
+    → turns may (n - j) j turn s ≡ whole → IsFaultOfEnd whole fault
 turns_fault may n j turn s whole fault.OutOfMemory lt ends same = tt
 turns_fault may n j turn s whole (fault.Trap at kind) lt ends same = sym same ∙ turn_trapped may n j turn s at kind lt ends
 turns_fault may n j turn s whole fault.Limit lt ends same = sym same ∙ turn_limited may n j turn s lt ends
 
-pub after_fault : (end whole : End) (next : Store → End) (fault : TrialFault) → IsFaultOf end fault → whole ≡ after end next → IsFaultOf whole fault
+pub after_fault : (end whole : End) (next : State → End) (fault : TrialFault) → IsFaultOfEnd end fault → whole ≡ after end next → IsFaultOfEnd whole fault
 after_fault end whole next fault.OutOfMemory ends is = tt
 after_fault end whole next (fault.Trap at kind) ends is = is ∙ ap (λ e. after e next) ends
 after_fault end whole next fault.Limit ends is = is ∙ ap (λ e. after e next) ends
 
-pub stop_fault : (whole : End) (at : ℕ) (effect : Effect) (next : Registers → Store → End) (stop : Stop) → IsStop effect stop → whole ≡ follow at effect next → IsFaultOf whole (fault_at at stop)
+pub stop_fault : (whole : End) (at : ℕ) (effect : Effect) (next : Registers → State → End) (stop : Stop) → IsStop effect stop → whole ≡ follow at effect next → IsFaultOfEnd whole (fault_at at stop)
 stop_fault whole at effect next stop.OutOfMemory stops is = tt
 stop_fault whole at effect next (stop.Trap kind) stops is = is ∙ ap (λ e. follow at e next) stops
 

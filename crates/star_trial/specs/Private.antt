@@ -1,5 +1,5 @@
 -- What the contracts of functions that are not public cite.
-pub mod Shown
+pub mod Views
 pub mod Stops
 pub mod Runs
 pub mod Puts

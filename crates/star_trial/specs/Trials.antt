@@ -9,13 +9,13 @@ use Rattle.star_trial.specs.declared.fault.TrialFault.{TrialFault}
 use Rattle.star_trial.specs.declared.fault.TrialFault.TheVariants as fault
 
 -- memory may be refused at any time; a trap and the limit are the run's own
-abbrev pub IsFaultOf : End → TrialFault → Type 0
-IsFaultOf end fault.OutOfMemory = Unit {0}
-IsFaultOf end (fault.Trap at kind) = end ≡ Trapped at kind
-IsFaultOf end fault.Limit = end ≡ Limited
+abbrev pub IsFaultOfEnd : End → TrialFault → Type 0
+IsFaultOfEnd end fault.OutOfMemory = Unit {0}
+IsFaultOfEnd end (fault.Trap at kind) = end ≡ Trapped at kind
+IsFaultOfEnd end fault.Limit = end ≡ Limited
 
 -- the answer of a trial with so many visits: the outcome where the bounded run comes to its end, else its trap or the limit
 abbrev pub IsTrial : World → Parts → ℕ → Result Outcome TrialFault → Type 0
 IsTrial w parts visits result =
     MatchResult result (Yields w parts (bounded_run_of w visits parts))
-    (IsFaultOf (bounded_run_of w visits parts))
+    (IsFaultOfEnd (bounded_run_of w visits parts))

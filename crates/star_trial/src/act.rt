@@ -2,7 +2,7 @@
 
 ghost use Rattle.std.specs.Prelude.{◌≡◌, ◌<◌, ◌^◌, ℕ, Bool, List, None, Ok, Err, MatchOption, Some, length, slice_get, unwrap_or};
 ghost use Rattle.star_group.specs.declared.eager.EagerStore.{EagerStore};
-ghost use Rattle.star_group.specs.Eager.{group_of};
+ghost use Rattle.star_group.specs.Eager.{group_view};
 ghost use Rattle.star_outcome.specs.Private.Placed.{IsPlaced};
 ghost use Rattle.star_program.specs.declared.fault.TrapKind.TheVariants as TrapKind;
 ghost use Rattle.star_program.specs.declared.op.Op.TheVariants as op;
@@ -18,7 +18,7 @@ ghost use Rattle.star_program.specs.Puts.{Update};
 ghost use Rattle.star_trial.specs.declared.fault.Stop.TheVariants as Stop;
 ghost use Rattle.star_trial.specs.Private.Acts.{CanAct, HasActed, HasWorkedOnce, Makes, does_op};
 ghost use Rattle.star_trial.specs.Private.Runs.{AreStores};
-ghost use Rattle.star_trial.specs.Private.Shown.{held};
+ghost use Rattle.star_trial.specs.Private.Views.{registers_view};
 ghost use Rattle.star_world.specs.WorldOf.{world_of};
 
 use crate::compute::{answer, flag, is_within, number, row, set};
@@ -77,7 +77,7 @@ fn update(
 ) -> Result<Flow, Stop>
     requires ready { CanAct machine.now registers.now run.old }
     requires placed { IsPlaced machine.now.parts.now group keys.now values.now }
-    requires keys { faults.keys_fault (length registers.now) (kinds_in (held registers.now))
+    requires keys { faults.keys_fault (length registers.now) (kinds_in (registers_view registers.now))
         (faults.group_at machine.now.parts.now group).keys keys.now ≡ None }
     ensures { HasActed machine.now registers.now registers.now run.old run.new
         (does_op machine.now (op.Put group keys.now values.now)) result }
@@ -113,11 +113,11 @@ fn narrowed(number: i128) -> Option<Value>
 fn read(run: &Work<EagerStore>, group: u16, aggregate: u16, default: i64) -> Option<Value>
     requires there { group < length run.now.stores.items }
     requires declared { (store : EagerStore) → slice_get run.now.stores.items group ≡ Some store
-        → aggregate < length (group_of store).aggregates }
+        → aggregate < length (group_view store).aggregates }
     ensures { (parts : Parts) (updates_of : ℕ → List Update)
         → AreStores parts run.now.stores.items updates_of
         → result ≡ fitting (Value.Number (unwrap_or
-        (puts.total (faults.group_at parts group) aggregate (updates_of group)) default)) }
+        (puts.total_over (faults.group_at parts group).aggregates aggregate (updates_of group)) default)) }
 {
     let total = run.total(group, aggregate);
     narrowed(total.unwrap_or(i128::from(default)))
@@ -134,7 +134,7 @@ fn operate(
     requires placed { (inside : Bool) × (target : ℕ)
         × (faults.place_fault machine.now.parts.now inside (op.Assign target operation.now) ≡ None) }
     requires operands { faults.operation_fault (length registers.now)
-        (kinds_in (held registers.now)) operation.now ≡ None }
+        (kinds_in (registers_view registers.now)) operation.now ≡ None }
     ensures does { Makes machine.now registers.now run.old run.new operation.now result }
     ensures work { HasWorkedOnce run.old run.new }
 {
@@ -174,7 +174,7 @@ fn assign(
         × (faults.place_fault machine.now.parts.now inside (op.Assign target operation.now) ≡ None) }
     requires declared { target < length registers.old }
     requires operands { faults.operation_fault (length registers.old)
-        (kinds_in (held registers.old)) operation.now ≡ None }
+        (kinds_in (registers_view registers.old)) operation.now ≡ None }
     ensures { HasActed machine.now registers.old registers.new run.old run.new
         (does_op machine.now (op.Assign target operation.now)) result }
 {
@@ -194,7 +194,7 @@ fn perform(
     requires placed { (inside : Bool)
         × (faults.place_fault machine.now.parts.now inside op.now ≡ None) }
     requires target { faults.target_fault (length registers.old) (faults.target_of op.now) ≡ None }
-    requires operands { faults.operands_fault machine.now.parts.now (kinds_in (held registers.old))
+    requires operands { faults.operands_fault machine.now.parts.now (kinds_in (registers_view registers.old))
         op.now ≡ None }
     ensures { HasActed machine.now registers.old registers.new run.old run.new
         (does_op machine.now op.now) result }

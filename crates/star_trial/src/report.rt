@@ -2,8 +2,8 @@
 
 ghost use Rattle.std.specs.Prelude.{◌≡◌, ◌↔◌, IsTrue, None};
 ghost use Rattle.std.specs.List.{list_all};
-ghost use Rattle.star_program.specs.Shown as shown;
-ghost use Rattle.star_program.specs.Shown.{first_unshown, named_columns, shown_fault};
+ghost use Rattle.star_program.specs.ShowLines as shown;
+ghost use Rattle.star_program.specs.ShowLines.{first_unshown, named_columns, shown_fault};
 
 use star_program::{GroupDecl, Parts, Show};
 use star_schema::{GroupColumn, SortKey};

@@ -2,7 +2,7 @@
 
 ghost use Rattle.std.specs.Prelude.{◌≡◌, IfOk, length};
 ghost use Rattle.star_program.specs.Values.{no_registers};
-ghost use Rattle.star_trial.specs.Private.Shown.{held};
+ghost use Rattle.star_trial.specs.Private.Views.{registers_view};
 
 use crate::value::Register;
 use std::alloc::{AllocError, Global};
@@ -10,7 +10,7 @@ use std::alloc::{AllocError, Global};
 // So many registers in which nothing stands.
 pub(crate) fn empty_registers(alloc: Global, count: usize) -> Result<Vec<Register>, AllocError>
     ensures len { IfOk result (λ registers. length registers.items ≡ count) }
-    ensures empty { IfOk result (λ registers. held registers.items ≡ no_registers) }
+    ensures empty { IfOk result (λ registers. registers_view registers.items ≡ no_registers) }
 {
     Ok(vec![in alloc; None; count]?)
 }

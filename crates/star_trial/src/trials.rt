@@ -3,7 +3,7 @@
 ghost use Rattle.std.specs.Prelude.{◌≤◌, ◌^◌, MatchResult, nat_lt};
 ghost use Rattle.star_program.specs.Limits.{IsWithinLimits};
 ghost use Rattle.star_program.specs.Run.{meaning_of};
-ghost use Rattle.star_trial.specs.Trials.{IsFaultOf, IsTrial};
+ghost use Rattle.star_trial.specs.Trials.{IsFaultOfEnd, IsTrial};
 ghost use Rattle.star_trial.specs.Private.Walks.{Finishes};
 ghost use Rattle.star_world.specs.WorldOf.{world_of};
 
@@ -31,7 +31,7 @@ fn run_through(
     ensures { MatchResult result
         (λ run. Finishes catalogue.now parts.now run
         (meaning_of (world_of catalogue.now) (λ visits. nat_lt visits most) parts.now))
-        (IsFaultOf (meaning_of (world_of catalogue.now) (λ visits. nat_lt visits most) parts.now)) }
+        (IsFaultOfEnd (meaning_of (world_of catalogue.now) (λ visits. nat_lt visits most) parts.now)) }
 {
     let wide = parts.registers as usize;
     let mut registers = empty_registers(alloc, wide)?;

@@ -1,7 +1,7 @@
 // What registers hold, and what an instruction reads of it.
 
 ghost use Rattle.std.specs.Prelude.{◌≡◌, None, slice_index_or};
-ghost use Rattle.star_program.specs.Values.{number_in, flag_in, row_in, key_in};
+ghost use Rattle.star_program.specs.Values.{number_read, flag_read, row_read, key_read};
 
 use star_program::{KeyValue, Value};
 
@@ -20,7 +20,7 @@ pub(crate) fn register(registers: &[Register], number: u16) -> Register
 
 // The number in a register: codes and places compare as numbers.
 pub(crate) fn number_of(register: Register) -> i64
-    ensures { result ≡ number_in register }
+    ensures { result ≡ number_read register }
 {
     match register {
         Some(Value::Number(number)) => number,
@@ -30,7 +30,7 @@ pub(crate) fn number_of(register: Register) -> i64
 }
 
 pub(crate) fn flag_of(register: Register) -> bool
-    ensures { result ≡ flag_in register }
+    ensures { result ≡ flag_read register }
 {
     match register {
         Some(Value::Flag(flag)) => flag,
@@ -39,7 +39,7 @@ pub(crate) fn flag_of(register: Register) -> bool
 }
 
 pub(crate) fn row_of(register: Register) -> u32
-    ensures { result ≡ row_in register }
+    ensures { result ≡ row_read register }
 {
     match register {
         Some(Value::Row(_, row)) => row,
@@ -48,7 +48,7 @@ pub(crate) fn row_of(register: Register) -> u32
 }
 
 pub(crate) fn key_of(register: Register) -> KeyValue
-    ensures { result ≡ key_in register }
+    ensures { result ≡ key_read register }
 {
     match register {
         Some(Value::Number(number)) => KeyValue::Number(number),

@@ -2,7 +2,7 @@
 
 ghost use Rattle.std.specs.Prelude.{◌≡◌, ◌≤◌, ◌<◌, ◌+◌, ◌^◌, OnOk, length};
 ghost use Rattle.star_program.specs.Code.{code_size, scan_depth};
-ghost use Rattle.star_trial.specs.Private.Shown.{held};
+ghost use Rattle.star_trial.specs.Private.Views.{registers_view};
 ghost use Rattle.star_outcome.specs.Sound.{IsSoundValue};
 ghost use Rattle.star_trial.specs.Private.Walks.{Does, HasWorked, IsReady, fault_at, means, means_scan, means_turn, means_turns};
 
@@ -56,7 +56,7 @@ fn turn(
         (scan_depth scanned.now.body.now) 0 }
     requires row { IsSoundValue machine.now.catalogue.now row }
     ensures ends { Does machine.now run.old run.new
-        (means_turn machine.now scanned.now (held scanned.now.before.now) row) result }
+        (means_turn machine.now scanned.now (registers_view scanned.now.before.now) row) result }
     ensures worked { OnOk result (HasWorked machine.now.most run.old run.new 0) }
     ensures len { length registers.new ≡ length registers.old }
     ensures frames { length frames.new ≡ length frames.old }
@@ -92,7 +92,7 @@ fn turns(
     requires ready { IsReady machine.now scanned.now.before.now frames.old run.old
         (scan_depth scanned.now.body.now) 0 }
     ensures ends { Does machine.now run.old run.new
-        (means_turns machine.now scanned.now (held scanned.now.before.now)) result }
+        (means_turns machine.now scanned.now (registers_view scanned.now.before.now)) result }
     ensures worked { OnOk result (HasWorked machine.now.most run.old run.new 0) }
 {
     for row in 0..machine.catalogue.rows(scanned.table) {
@@ -113,7 +113,7 @@ fn scan(
     requires ready { IsReady machine.now scanned.now.before.now frames.old run.old
         (1 + scan_depth scanned.now.body.now) 0 }
     ensures ends { Does machine.now run.old run.new
-        (means_scan machine.now scanned.now (held scanned.now.before.now)) result }
+        (means_scan machine.now scanned.now (registers_view scanned.now.before.now)) result }
     ensures worked { OnOk result (HasWorked machine.now.most run.old run.new 0) }
     ensures frames { length frames.new ≡ length frames.old }
 {
@@ -144,7 +144,7 @@ pub(crate) fn walk(
     requires ready { IsReady machine.now registers.old frames.old run.old (scan_depth body.now)
         (code_size body.now) }
     ensures ends { Does machine.now run.old run.new
-        (means machine.now body.now at inside (held registers.old)) result }
+        (means machine.now body.now at inside (registers_view registers.old)) result }
     ensures worked { OnOk result (HasWorked machine.now.most run.old run.new (code_size body.now)) }
     ensures len { length registers.new ≡ length registers.old }
     ensures frames { length frames.new ≡ length frames.old }

@@ -9,7 +9,7 @@ use Rattle.star_verify.specs.declared.tally.Tally.{Tally}
 use Rattle.star_verify.specs.Private.Bounded.{IsBounded}
 use Rattle.star_verify.specs.Private.Kept.{IsGrown}
 use Rattle.star_verify.specs.Private.Made.{IsTallyAt}
-use Rattle.star_verify.specs.Private.Shown.{IsTally}
+use Rattle.star_verify.specs.Private.Views.{IsTally}
 
 -- a tally that stays as it was
 same_tally : (old new : List Tally) (p : ℕ) (ss : List Share)

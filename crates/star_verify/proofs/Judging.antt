@@ -21,7 +21,7 @@ use Rattle.star_safety.specs.Tallies.{Share}
 use Rattle.star_verify.specs.declared.tally.Tally.{Tally}
 use Rattle.star_verify.specs.Private.Kept.{HasKeyShares, HasShares, numbers_known}
 use Rattle.star_verify.specs.Private.Made.{IsTallyAt}
-use Rattle.star_verify.specs.Private.Shown.{IsTally}
+use Rattle.star_verify.specs.Private.Views.{IsTally}
 
 -- ---- the first of two reasons
 
@@ -48,7 +48,7 @@ apart h g a n other small few = below (nat_lt h g) refl
     below false e = above (nat_lt g h) refl (ltb-false h g e)
 
 module _ (w : World) (parts : Parts) (x : Context) (old new : List Tally) (g met : ℕ)
-    (ks vs values : List ℕ) (gs : List Aggregate) (table : ranges.Table) where
+    (ks vs values : List ℕ) (gs : List Aggregate) (table : ranges.AllKnown) where
   pub put_shares : All IsSmall parts.groups → gs ≡ (group_at parts g).aggregates → values ≡ vs
       → table ≡ x.known → x.met ≡ met → g < length parts.groups → HasShares parts old x
       → ((a : ℕ) (ss : List Share) → a < length gs → IsTallyAt old (8 * g + a) ss
@@ -83,7 +83,7 @@ module _ (w : World) (parts : Parts) (x : Context) (old new : List Tally) (g met
 
 -- what a put gives the keys of its group
 pub put_key_shares : (w : World) (parts : Parts) (x : Context) (old new : List Tally) (g met : ℕ)
-    (ks vs keys : List ℕ) (table : ranges.Table)
+    (ks vs keys : List ℕ) (table : ranges.AllKnown)
     → All IsSmall parts.groups → keys ≡ ks → table ≡ x.known → x.met ≡ met
     → g < length parts.groups → length ks ≡ length (group_at parts g).keys
     → HasKeyShares parts old x

@@ -9,7 +9,7 @@ use Rattle.star_schema.specs.declared.group.GroupColumn.{GroupColumn}
 use Rattle.star_program.specs.declared.group.GroupDecl.{GroupDecl}
 use Rattle.star_program.specs.declared.program.Parts.{Parts}
 use Rattle.star_program.specs.Faults.{group_at}
-use Rattle.star_program.specs.Shown.{has_column, first_unshown, named_columns, shown_fault}
+use Rattle.star_program.specs.ShowLines.{has_column, first_unshown, named_columns, shown_fault}
 use Rattle.std.proofs.lemmas.List.{drop_all}
 
 module _ {X : Type 0} (col : X → GroupColumn) (d : GroupDecl) (line : ℕ) (xs : List X) (i : ℕ)

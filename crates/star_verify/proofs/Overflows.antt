@@ -9,7 +9,7 @@ use Rattle.star_safety.specs.declared.reason.Reason.TheVariants.{Overflow}
 use Rattle.star_safety.specs.Refusals.{overflow_of, reached, refuses}
 use Rattle.star_verify.specs.declared.known.Beyond.{Beyond}
 use Rattle.star_verify.specs.declared.known.Known.{Known}
-use Rattle.star_verify.specs.Private.Shown.{reach_shown}
+use Rattle.star_verify.specs.Private.Views.{reach_view}
 
 module _ (w : World) (r : Range) (reach : ranges.Reach) where
   pub fitting : FitsI64 r → overflow_of w (ranges.KnownNumber r reach None) ≡ None
@@ -29,7 +29,7 @@ pub computed_is : (operation : ℤ → ℤ → ℤ) (b from to : Range) (reach o
     → b ≡ corner_range operation from to → from ≡ ranges.range_at left → to ≡ ranges.range_at right
     → reach ≡ ranges.joined_reach on_left on_right
     → on_left ≡ ranges.reach_at left → on_right ≡ ranges.reach_at right
-    → ranges.KnownNumber b reach None ≡ ranges.computed operation left right
+    → ranges.KnownNumber b reach None ≡ ranges.known_arithmetic operation left right
 computed_is operation b from to reach on_left on_right left right e f g h j k =
     let ends : b ≡ corner_range operation (ranges.range_at left) (ranges.range_at right) =
     e ∙ (λ i. corner_range operation (f i) (g i)) in
@@ -40,9 +40,9 @@ computed_is operation b from to reach on_left on_right left right e f g h j k =
 -- what leaves 64 bits is told by its range and its columns
 pub overflow_as : (w : World) (result : Result Known Beyond) (k made : ranges.Known) → k ≡ made
     → MatchResult result (λ _. overflow_of w k ≡ None)
-    (λ beyond. overflow_of w k ≡ Some (Overflow beyond.range.low beyond.range.high (reached w (reach_shown beyond.reach))))
+    (λ beyond. overflow_of w k ≡ Some (Overflow beyond.range.low beyond.range.high (reached w (reach_view beyond.reach))))
     → MatchResult result (λ _. overflow_of w made ≡ None)
-    (λ beyond. overflow_of w made ≡ Some (Overflow beyond.range.low beyond.range.high (reached w (reach_shown beyond.reach))))
+    (λ beyond. overflow_of w made ≡ Some (Overflow beyond.range.low beyond.range.high (reached w (reach_view beyond.reach))))
 overflow_as w result k made e h =
     subst (λ (m : ranges.Known). MatchResult result (λ _. overflow_of w m ≡ None)
-    (λ beyond. overflow_of w m ≡ Some (Overflow beyond.range.low beyond.range.high (reached w (reach_shown beyond.reach))))) e h
+    (λ beyond. overflow_of w m ≡ Some (Overflow beyond.range.low beyond.range.high (reached w (reach_view beyond.reach))))) e h

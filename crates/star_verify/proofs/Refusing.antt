@@ -6,7 +6,7 @@ use Rattle.star_common.specs.First.{first_answer}
 use Rattle.star_common.specs.Memory.{UnlessMemory}
 use Rattle.star_schema.specs.Sizes.{size_of}
 use Rattle.star_program.specs.declared.program.Parts.{Parts}
-use Rattle.star_program.specs.Shown.{shown_fault}
+use Rattle.star_program.specs.ShowLines.{shown_fault}
 use Rattle.star_program.specs.World.{World}
 use Rattle.star_safety.specs.Admissible as admissible
 use Rattle.star_safety.specs.Admissible.{cost_refusal, first_refusal}
@@ -21,7 +21,7 @@ use Rattle.star_verify.specs.declared.refusal.Refusal.{Refusal}
 use Rattle.star_verify.specs.declared.refusal.Refusal.TheVariants as told
 use Rattle.star_verify.specs.Private.Facts.{AreFacts}
 use Rattle.star_verify.specs.Private.Judged.{IsFirst}
-use Rattle.star_verify.specs.Shown.{refusal_shown}
+use Rattle.star_verify.specs.Views.{refusal_view}
 
 pub same_quote : (w : World) (facts : Facts) → AreFacts w facts → (parts : Parts) (visits : ℕ)
     → visits ≡ quote (size_of facts.sizes) parts → visits ≡ quote w.size parts
@@ -57,7 +57,7 @@ module _ (w : World) (most : ℕ) (parts : Parts) (facts : Facts) (are : AreFact
   -- what a check tells of the instructions
   pub first_told : (held : Parts) → held ≡ parts → visits ≤ most → (refusal : Refusal)
       → IsFirst refusal (first_reason w held none_open at_first 1 held.body)
-      → UnlessMemory told.OutOfMemory refusal (first_refusal w most parts ≡ refusal_shown refusal)
+      → UnlessMemory told.OutOfMemory refusal (first_refusal w most parts ≡ refusal_view refusal)
   first_told held is cheap told.OutOfMemory first = inl refl
   first_told held is cheap (told.Refused at reason) first =
       inr (within held is cheap (Some (at, reason)) (shown_fault held) first refl)

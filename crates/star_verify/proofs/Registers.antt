@@ -3,35 +3,35 @@ use Rattle.std.proofs.Common.{◌≡◌, ℕ, ◌<◌, List, [], ◌∷◌, zero
 use Rattle.std.proofs.lemmas.Bool.Decides.{eqb_tells}
 use Rattle.std.proofs.lemmas.List.{get_or-set_same, get_or-set_other}
 use Rattle.std.specs.Prelude.{slice_set, if◌then◌else◌}
-use Rattle.star_kinds.specs.Kinds.{kinds_of}
+use Rattle.star_kinds.specs.Kinds.{register_kinds}
 use Rattle.star_program.specs.Values.{with_entry}
 use Rattle.star_safety.specs.Ranges.{kinds_known}
 use Rattle.star_verify.specs.declared.known.Known.{Known}
 use Rattle.star_verify.specs.declared.register.Register.{Register}
-use Rattle.star_verify.specs.Private.Shown.{kind_known, known_in, known_of, known_shown, nothing_known}
+use Rattle.star_verify.specs.Private.Views.{kind_known, known_in, known_of, known_view, nothing_known}
 
 known_set_at : (xs : List Register) (t : ℕ) (k : Known) (r : ℕ) → t < length xs
-    → known_in (slice_set xs t (record { known = Some k })) r ≡ with_entry (known_in xs) t (known_shown k) r
+    → known_in (slice_set xs t (record { known = Some k })) r ≡ with_entry (known_in xs) t (known_view k) r
 known_set_at xs t k r h =
     let new : Register = record { known = Some k } in
     ⊎_elim
     (λ p. ap (λ q. known_of (get_or (slice_set xs t new) q nothing_known)) p.1
     ∙ ap known_of (get_or-set_same xs t new nothing_known h)
-    ∙ ap (λ b. if b then Some (known_shown k) else known_in xs r) (sym p.0))
+    ∙ ap (λ b. if b then Some (known_view k) else known_in xs r) (sym p.0))
     (λ p. ap known_of (get_or-set_other xs t r new nothing_known p.1)
-    ∙ ap (λ b. if b then Some (known_shown k) else known_in xs r) (sym p.0))
+    ∙ ap (λ b. if b then Some (known_view k) else known_in xs r) (sym p.0))
     (eqb_tells r t)
 
 -- a register that is written
 pub known_set : (xs : List Register) (t : ℕ) (k : Known) → t < length xs
-    → known_in (slice_set xs t (record { known = Some k })) ≡ with_entry (known_in xs) t (known_shown k)
+    → known_in (slice_set xs t (record { known = Some k })) ≡ with_entry (known_in xs) t (known_view k)
 known_set xs t k h = λ i r. known_set_at xs t k r h i
 
-kind_at : (xs : List Register) (r : ℕ) → kinds_of kind_known xs r ≡ kinds_known (known_in xs) r
+kind_at : (xs : List Register) (r : ℕ) → register_kinds kind_known xs r ≡ kinds_known (known_in xs) r
 kind_at [] r = refl
 kind_at (x ∷ xs) zero = refl
 kind_at (x ∷ xs) (suc r) = kind_at xs r
 
 -- the kinds of registers are those of what is known of them
-pub same_kinds : (xs : List Register) → kinds_of kind_known xs ≡ kinds_known (known_in xs)
+pub same_kinds : (xs : List Register) → register_kinds kind_known xs ≡ kinds_known (known_in xs)
 same_kinds xs = λ i r. kind_at xs r i

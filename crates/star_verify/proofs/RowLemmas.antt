@@ -15,7 +15,7 @@ use Rattle.star_program.specs.declared.program.Parts.{Parts}
 use Rattle.star_program.specs.Faults.{group_at}
 use Rattle.star_program.specs.Puts.{masks}
 use Rattle.star_program.specs.World.{World}
-use Rattle.star_safety.specs.MostRows.{all_key_shares, each_values, lists_of, most_rows, numbers_to, rows_of_grouping, rows_of_groupings, width}
+use Rattle.star_safety.specs.MostRows.{all_key_shares, each_values, lists_of, most_report_rows, numbers_to, rows_of_grouping, rows_of_groupings, width}
 use Rattle.star_safety.specs.Tallies.{most_of}
 use Rattle.star_verify.specs.Private.Rows.{AgreeUpTo, MayHide, goes_on, groupings, lesser, may_hide, may_show, rows_behind, rows_of_rest}
 
@@ -235,7 +235,7 @@ no_keys Cube u = refl
 no_keys Rollup u = refl
 
 pub one_row : (w : World) (parts : Parts) → (group_at parts parts.report).keys ≡ []
-    → 1 ≡ most_rows w parts
+    → 1 ≡ most_report_rows w parts
 one_row w parts none =
     let d = group_at parts parts.report in
     let updates = most_of (all_key_shares w parts parts.report 0) in

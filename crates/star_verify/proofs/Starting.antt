@@ -10,7 +10,7 @@ use Rattle.star_program.specs.declared.program.Parts.{Parts}
 use Rattle.star_safety.specs.Contexts.{at_first}
 use Rattle.star_verify.specs.declared.tally.Tally.{Tally}
 use Rattle.star_verify.specs.Private.Kept.{HasKeyShares, HasShares, flag_at}
-use Rattle.star_verify.specs.Private.Shown.{IsTally, known_in, known_of, nothing_known}
+use Rattle.star_verify.specs.Private.Views.{IsTally, known_in, known_of, nothing_known}
 
 all_one : {X : Type 0} (n i : ℕ) (x : X) → get_or (replicate n x) i x ≡ x
 all_one n i x = ⊎_elim {C = get_or (replicate n x) i x ≡ x}

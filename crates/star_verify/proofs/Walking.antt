@@ -23,7 +23,7 @@ use Rattle.star_verify.specs.declared.refusal.Refusal.{Refusal}
 use Rattle.star_verify.specs.declared.refusal.Refusal.TheVariants as told
 use Rattle.star_verify.specs.declared.register.Register.{Register}
 use Rattle.star_verify.specs.Private.Judged.{AreFewAt, AreNoted, InEachContext, IsFirst, IsPlaced, IsSized, IsWalked, Keeps, scan_first}
-use Rattle.star_verify.specs.Private.Shown.{known_in}
+use Rattle.star_verify.specs.Private.Views.{known_in}
 use Rattle.star_verify.specs.Private.Walked.{IsLeft, Walk, after_step, step_first, step_size}
 use Rattle.star_verify.proofs.Firsts.{first_and_others}
 use Rattle.star_verify.proofs.Marks.{or_assoc as either_assoc}

@@ -1,4 +1,4 @@
 pub mod RefusalTexts
-pub mod Shown
+pub mod Views
 pub mod Checked
 pub mod Private

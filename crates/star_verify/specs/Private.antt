@@ -1,5 +1,5 @@
 -- What no public clause speaks of.
-pub mod Shown
+pub mod Views
 pub mod Facts
 pub mod Bounded
 pub mod Made

@@ -10,7 +10,7 @@ ghost use Rattle.star_safety.specs.Quote as spec;
 ghost use Rattle.star_verify.specs.Private.Facts.{AreFacts};
 ghost use Rattle.star_verify.specs.Private.Judged.{AreFewAt, AreNoted, IsChecked, IsFirst};
 ghost use Rattle.star_verify.specs.Private.Kept.{HasKeyShares};
-ghost use Rattle.star_verify.specs.Private.Shown.{known_in};
+ghost use Rattle.star_verify.specs.Private.Views.{known_in};
 
 use crate::facts::Facts;
 use crate::instructions::{Noted, Place};

@@ -10,7 +10,7 @@ ghost use Rattle.star_program.specs.World.{World};
 ghost use Rattle.star_safety.specs.Ranges as ranges;
 ghost use Rattle.star_safety.specs.Refusals as refusals;
 ghost use Rattle.star_verify.specs.Private.Facts.{AreFacts};
-ghost use Rattle.star_verify.specs.Private.Shown.{known_shown, reach_shown};
+ghost use Rattle.star_verify.specs.Private.Views.{known_view, reach_view};
 
 use crate::known::Known;
 use crate::reach::Reach;
@@ -78,7 +78,7 @@ impl Facts {
     // What is known of a column's value in a row.
     pub(crate) fn loaded(&self, column: ColumnId) -> Known
         ensures { (w : World) → AreFacts w self.now
-            → (known_shown result ≡ ranges.loaded_known w column (world.is_text column))
+            → (known_view result ≡ ranges.loaded_known w column (world.is_text column))
             × (refusals.overflow_of w (ranges.loaded_known w column (world.is_text column))
             ≡ None) }
     {
@@ -95,7 +95,7 @@ impl Facts {
     // Columns in their order, each with its bounds.
     pub(crate) fn reached(&self, alloc: Global, reach: Reach) -> Result<ReachedColumns, AllocError>
         ensures { (w : World) → AreFacts w self.now
-            → IfOk result (λ columns. columns ≡ refusals.reached w (reach_shown reach)) }
+            → IfOk result (λ columns. columns ≡ refusals.reached w (reach_view reach)) }
     {
         let mut columns = Vec::new(alloc);
         for column in &COLUMNS {

@@ -9,7 +9,7 @@ ghost use Rattle.star_safety.specs.Tallies.{Share};
 ghost use Rattle.star_verify.specs.Private.Bounded.{IsBounded};
 ghost use Rattle.star_verify.specs.Private.Kept.{HasRoom, IsGrown, numbers_known};
 ghost use Rattle.star_verify.specs.Private.Made.{IsTallyAt};
-ghost use Rattle.star_verify.specs.Private.Shown.{known_in, known_shown};
+ghost use Rattle.star_verify.specs.Private.Views.{known_in, known_view};
 
 use crate::known::{Known, given, range_at, reach_at};
 use crate::register::{Register, known_at};
@@ -23,7 +23,7 @@ fn add(tallies: &mut [Tally], place: usize, met: u64, known: Option<Known>)
     requires there { place < length tallies.old }
     requires room { (t : Tally) → HasRoom (slice_index_or tallies.old place t) met }
     ensures given { (ss : List Share) → IsTallyAt tallies.old place ss
-        → IsTallyAt tallies.new place (known_share met (option_map known_shown known) ∷ ss) }
+        → IsTallyAt tallies.new place (known_share met (option_map known_view known) ∷ ss) }
     ensures grown { (t : Tally) → IsGrown (slice_index_or tallies.old place t)
         (slice_index_or tallies.new place t) met }
     ensures others { (p : ℕ) (t : Tally) → ¬ (p ≡ place)
@@ -42,7 +42,7 @@ fn next_number<'v>(
 ) -> (Option<Known>, &'v [u16])
     ensures known { (others : List Kind) → length values.now ≡ value_count (aggregate ∷ others)
         → numbers_known (aggregate ∷ others) (known_in registers.now) values.now
-        ≡ option_map known_shown result.0
+        ≡ option_map known_view result.0
         ∷ numbers_known others (known_in registers.now) result.1.now }
     ensures left { (others : List Kind) → length values.now ≡ value_count (aggregate ∷ others)
         → length result.1.now ≡ value_count others }

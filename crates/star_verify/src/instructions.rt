@@ -16,9 +16,9 @@ ghost use Rattle.star_safety.specs.Refusals.{op_reason, range_reason, source_rea
 ghost use Rattle.star_verify.specs.Private.Facts.{AreFacts};
 ghost use Rattle.star_verify.specs.Private.Judged.{AreFewAt, InEachContext, IsFirst, IsJudged, IsReady, IsSized, Keeps};
 ghost use Rattle.star_verify.specs.Private.Kept.{AreFew, HasKeyShares, HasShares, flag_at};
-ghost use Rattle.star_verify.specs.Private.Made.{beyond_shown};
-ghost use Rattle.star_verify.specs.Private.Shown.{known_in};
-ghost use Rattle.star_verify.specs.Shown.{IsReason};
+ghost use Rattle.star_verify.specs.Private.Made.{beyond_view};
+ghost use Rattle.star_verify.specs.Private.Views.{known_in};
+ghost use Rattle.star_verify.specs.Views.{IsReason};
 
 use crate::gifts::{give, give_keys};
 use crate::known::Beyond;
@@ -52,7 +52,7 @@ pub(crate) struct Place {
 // The refusal by numbers that leave 64 bits.
 fn overflow(subject: &Subject<'_>, at: u16, beyond: Beyond) -> Refusal
     ensures { (w : World) → AreFacts w subject.now.facts.now
-        → IsFirst result (Some (at, beyond_shown w beyond)) }
+        → IsFirst result (Some (at, beyond_view w beyond)) }
 {
     match subject
         .facts

@@ -8,7 +8,7 @@ ghost use Rattle.star_program.specs.World.{World};
 ghost use Rattle.star_safety.specs.Ranges as ranges;
 ghost use Rattle.star_safety.specs.Refusals as refusals;
 ghost use Rattle.star_safety.specs.declared.reason.Reason.TheVariants as reason;
-ghost use Rattle.star_verify.specs.Private.Shown.{known_shown, reach_shown};
+ghost use Rattle.star_verify.specs.Private.Views.{known_view, reach_view};
 
 use crate::reach::Reach;
 use star_interval::{Interval, Wide};
@@ -39,7 +39,7 @@ pub(crate) struct Beyond {
 
 // A number that is computed from no column.
 pub(crate) fn given(range: Interval) -> Known
-    ensures { known_shown result ≡ ranges.given (range_of range) }
+    ensures { known_view result ≡ ranges.known_number (range_of range) }
 {
     Known::Number {
         range,
@@ -50,7 +50,7 @@ pub(crate) fn given(range: Interval) -> Known
 
 // The range of a number, which is that of 0 where nothing is known of one.
 pub(crate) fn range_at(known: Option<Known>) -> Interval
-    ensures { range_of result ≡ ranges.range_at (option_map known_shown known) }
+    ensures { range_of result ≡ ranges.range_at (option_map known_view known) }
 {
     match known {
         Some(Known::Number { range, .. }) => range,
@@ -59,7 +59,7 @@ pub(crate) fn range_at(known: Option<Known>) -> Interval
 }
 
 pub(crate) fn reach_at(known: Option<Known>) -> Reach
-    ensures { reach_shown result ≡ ranges.reach_at (option_map known_shown known) }
+    ensures { reach_view result ≡ ranges.reach_at (option_map known_view known) }
 {
     match known {
         Some(Known::Number { reach, .. }) => reach,
@@ -68,7 +68,7 @@ pub(crate) fn reach_at(known: Option<Known>) -> Reach
 }
 
 pub(crate) fn origin_at(known: Option<Known>) -> Option<ColumnId>
-    ensures { result ≡ ranges.origin_at (option_map known_shown known) }
+    ensures { result ≡ ranges.origin_at (option_map known_view known) }
 {
     match known {
         Some(Known::Number { origin, .. }) => origin,
@@ -79,15 +79,15 @@ pub(crate) fn origin_at(known: Option<Known>) -> Option<ColumnId>
 // What arithmetic makes, by its range and the columns that it is computed from.
 pub(crate) fn computed(range: Result<Interval, Wide>, reach: Reach) -> Result<Known, Beyond>
     requires { IsOk range ↔ FitsI64 (bounds_of range) }
-    ensures made { IfOk result (λ known. known_shown known
-        ≡ ranges.KnownNumber (bounds_of range) (reach_shown reach) None) }
+    ensures made { IfOk result (λ known. known_view known
+        ≡ ranges.KnownNumber (bounds_of range) (reach_view reach) None) }
     ensures overflow { (w : World) → MatchResult result
-        (λ _. refusals.overflow_of w (ranges.KnownNumber (bounds_of range) (reach_shown reach) None)
+        (λ _. refusals.overflow_of w (ranges.KnownNumber (bounds_of range) (reach_view reach) None)
         ≡ None)
         (λ beyond. refusals.overflow_of w
-        (ranges.KnownNumber (bounds_of range) (reach_shown reach) None)
+        (ranges.KnownNumber (bounds_of range) (reach_view reach) None)
         ≡ Some (reason.Overflow beyond.range.low beyond.range.high
-        (refusals.reached w (reach_shown beyond.reach)))) }
+        (refusals.reached w (reach_view beyond.reach)))) }
 {
     match range {
         Ok(range) => Ok(Known::Number {
@@ -105,17 +105,17 @@ pub(crate) fn answer(
     left: Option<Known>,
     right: Option<Known>,
 ) -> Result<Known, Beyond>
-    ensures made { IfOk result (λ known. known_shown known
-        ≡ ranges.answer_known operator (option_map known_shown left)
-        (option_map known_shown right)) }
+    ensures made { IfOk result (λ known. known_view known
+        ≡ ranges.answer_known operator (option_map known_view left)
+        (option_map known_view right)) }
     ensures overflow { (w : World) → MatchResult result
         (λ _. refusals.overflow_of w
-        (ranges.answer_known operator (option_map known_shown left) (option_map known_shown right))
+        (ranges.answer_known operator (option_map known_view left) (option_map known_view right))
         ≡ None)
         (λ beyond. refusals.overflow_of w
-        (ranges.answer_known operator (option_map known_shown left) (option_map known_shown right))
+        (ranges.answer_known operator (option_map known_view left) (option_map known_view right))
         ≡ Some (reason.Overflow beyond.range.low beyond.range.high
-        (refusals.reached w (reach_shown beyond.reach)))) }
+        (refusals.reached w (reach_view beyond.reach)))) }
 {
     let from = range_at(left);
     let to = range_at(right);

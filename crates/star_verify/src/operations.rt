@@ -15,8 +15,8 @@ ghost use Rattle.star_interval.specs.Range.{only};
 ghost use Rattle.star_verify.specs.Private.Facts.{AreFacts};
 ghost use Rattle.star_verify.specs.Private.Kept.{AreMarked, HasShares, flag_at};
 ghost use Rattle.star_verify.specs.Private.Made.{IsMade};
-ghost use Rattle.star_verify.specs.Private.Shown.{known_in};
-ghost use Rattle.star_verify.specs.Shown.{IsReason};
+ghost use Rattle.star_verify.specs.Private.Views.{known_in};
+ghost use Rattle.star_verify.specs.Views.{IsReason};
 
 use crate::facts::{Facts, refers_to};
 use crate::known::{Beyond, Known, answer, given, origin_at};
@@ -33,7 +33,7 @@ use star_schema::Aggregate;
 fn aggregate_at(parts: &Parts, group: u16, aggregate: u16) -> Aggregate
     requires group { group < length parts.now.groups }
     requires aggregate { aggregate < length (group_at parts.now group).aggregates }
-    ensures { result ≡ contexts.aggregate_at parts.now group aggregate }
+    ensures { result ≡ contexts.aggregate_in_group parts.now group aggregate }
 {
     parts.group_at(group).aggregates.as_slice()[aggregate as usize]
 }
@@ -50,10 +50,10 @@ fn read_total(
     requires aggregate { aggregate < length (group_at parts.now group).aggregates }
     requires there { 8 * group + aggregate < length tallies.now }
     ensures { (w : World) (x : Context) → HasShares parts.now tallies.now x
-        → IsMade w result (ranges.given (read_range
-        (contexts.aggregate_at parts.now group aggregate) (x.so_far group aggregate)
+        → IsMade w result (ranges.known_number (read_range
+        (contexts.aggregate_in_group parts.now group aggregate) (x.so_far group aggregate)
         (only default)))
-        (overflow w (read_range (contexts.aggregate_at parts.now group aggregate)
+        (overflow w (read_range (contexts.aggregate_in_group parts.now group aggregate)
         (x.so_far group aggregate) (only default)) (reach_of (x.so_far group aggregate))) }
 {
     let place = MOST_AGGREGATES * group as usize + aggregate as usize;

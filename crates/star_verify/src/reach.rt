@@ -3,7 +3,7 @@
 ghost use Rattle.std.specs.Prelude.{◌≡◌};
 ghost use Rattle.star_program.specs.World.{is_column};
 ghost use Rattle.star_safety.specs.Ranges.{joined_reach, no_reach};
-ghost use Rattle.star_verify.specs.Private.Shown.{reach_shown};
+ghost use Rattle.star_verify.specs.Private.Views.{reach_view};
 
 use star_schema::ColumnId;
 
@@ -15,13 +15,13 @@ pub(crate) struct Reach {
 
 impl Reach {
     pub(crate) fn none() -> Reach
-        ensures { reach_shown result ≡ no_reach }
+        ensures { reach_view result ≡ no_reach }
     {
         Reach { columns: 0 }
     }
 
     pub(crate) fn only(column: ColumnId) -> Reach
-        ensures { reach_shown result ≡ is_column column }
+        ensures { reach_view result ≡ is_column column }
     {
         Reach {
             columns: 1 << (column as u64),
@@ -30,7 +30,7 @@ impl Reach {
 
     // The columns of either.
     pub(crate) fn joined(self, other: Reach) -> Reach
-        ensures { reach_shown result ≡ joined_reach (reach_shown self) (reach_shown other) }
+        ensures { reach_view result ≡ joined_reach (reach_view self) (reach_view other) }
     {
         Reach {
             columns: self.columns | other.columns,
@@ -38,7 +38,7 @@ impl Reach {
     }
 
     pub(crate) fn has(self, column: ColumnId) -> bool
-        ensures { result ≡ reach_shown self column }
+        ensures { result ≡ reach_view self column }
     {
         (self.columns >> (column as u64)) & 1 == 1
     }

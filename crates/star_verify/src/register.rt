@@ -5,7 +5,7 @@ ghost use Rattle.star_kinds.specs.Kinds.{Answers};
 ghost use Rattle.star_program.specs.Faults.{fault_of};
 ghost use Rattle.star_program.specs.Values.{with_entry};
 ghost use Rattle.star_safety.specs.Ranges.{kinds_known, known_kind};
-ghost use Rattle.star_verify.specs.Private.Shown.{kind_known, known_in, known_of, known_shown};
+ghost use Rattle.star_verify.specs.Private.Views.{kind_known, known_in, known_of, known_view};
 
 use crate::known::Known;
 use star_kinds::{Kinded, check};
@@ -18,7 +18,7 @@ pub(crate) struct Register {
 }
 
 fn kind_of(known: Known) -> Kind
-    ensures { result ≡ known_kind (known_shown known) }
+    ensures { result ≡ known_kind (known_view known) }
 {
     match known {
         Known::Number { .. } => Kind::Number,
@@ -55,7 +55,7 @@ pub(crate) fn known_at(registers: &[Register], number: u16) -> Register
 pub(crate) fn learn(registers: &mut [Register], target: u16, known: Known)
     requires { target < length registers.old }
     ensures learned { known_in registers.new
-        ≡ with_entry (known_in registers.old) target (known_shown known) }
+        ≡ with_entry (known_in registers.old) target (known_view known) }
     ensures len { length registers.new ≡ length registers.old }
 {
     registers[target as usize] = Register { known: Some(known) };

@@ -2,7 +2,7 @@
 
 ghost use Rattle.std.specs.Prelude.{◌≡◌, ◌≤◌, length, map};
 ghost use Rattle.star_program.specs.Limits.{IsWithinLimits};
-ghost use Rattle.star_program.specs.Shown as shown;
+ghost use Rattle.star_program.specs.ShowLines as shown;
 
 use star_program::{GroupDecl, Parts, Show};
 use star_schema::{GroupColumn, SortKey};

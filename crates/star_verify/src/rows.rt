@@ -13,7 +13,7 @@ ghost use Rattle.star_verify.specs.Private.Kept.{HasKeyShares};
 ghost use Rattle.star_verify.specs.Private.Made.{IsTallyAt};
 ghost use Rattle.star_verify.specs.Private.Rows as spec;
 ghost use Rattle.star_verify.specs.Private.Rows.{AgreeUpTo, MayHide, groupings, rows_of_rest};
-ghost use Rattle.star_verify.specs.Private.Shown.{IsTally};
+ghost use Rattle.star_verify.specs.Private.Views.{IsTally};
 
 use crate::tally::Tally;
 use crate::totals::tally_at;
@@ -24,7 +24,7 @@ use star_schema::{Shape, is_text};
 
 // How many whole numbers lie in a range; none where there is no range.
 fn width(range: Option<Interval>) -> u128
-    ensures width { result ≡ bound.width_of (option_map range_of range) }
+    ensures width { result ≡ bound.range_width (option_map range_of range) }
     ensures few { result ≤ 2 ^ 64 }
 {
     match range {
@@ -36,7 +36,7 @@ fn width(range: Option<Interval>) -> u128
 // How many values a key may have.
 fn values(catalogue: &Catalogue, key: GroupKey, tally: Tally) -> u128
     ensures values { (ss : List Share) → IsTally tally ss
-        → result ≡ bound.values_of (world_of catalogue.now) ss key }
+        → result ≡ bound.possible_values (world_of catalogue.now) ss key }
     ensures few { result ≤ 2 ^ 64 }
 {
     match key {
@@ -195,7 +195,7 @@ pub(crate) fn most_rows(catalogue: &Catalogue, parts: &Parts, keys: &[Tally]) ->
     requires len { length keys.now ≡ 64 }
     ensures { HasKeyShares parts.now keys.now
         (at_end (world_of catalogue.now) parts.now at_first parts.now.body)
-        → result ≡ bound.most_rows (world_of catalogue.now) parts.now }
+        → result ≡ bound.most_report_rows (world_of catalogue.now) parts.now }
 {
     let Some(declared) = parts.group(parts.report) else {
         return 1;

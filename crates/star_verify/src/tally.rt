@@ -5,7 +5,7 @@ ghost use Rattle.std.specs.Option.{option_map};
 ghost use Rattle.star_interval.specs.Interval.{range_of};
 ghost use Rattle.star_safety.specs.Tallies.{Share, hull_with};
 ghost use Rattle.star_verify.specs.Private.Bounded.{IsBounded};
-ghost use Rattle.star_verify.specs.Private.Shown.{IsTally, reach_shown};
+ghost use Rattle.star_verify.specs.Private.Views.{IsTally, reach_view};
 
 use crate::reach::Reach;
 use star_interval::{Interval, Wide};
@@ -73,7 +73,7 @@ impl Tally {
             → IsTally result (record {
               met = times;
               range = range_of range;
-              reach = reach_shown reach;
+              reach = reach_view reach;
             } ∷ ss) }
         ensures many { result.many ≡ self.many + times }
         ensures bounded { IsBounded result }

@@ -9,7 +9,7 @@ ghost use Rattle.star_safety.specs.Ranges as ranges;
 ghost use Rattle.star_safety.specs.Refusals as refusals;
 ghost use Rattle.star_safety.specs.Tallies.{Share, aggregate_range, hull_with, reach_of, read_range};
 ghost use Rattle.star_verify.specs.Private.Made.{IsMade};
-ghost use Rattle.star_verify.specs.Private.Shown.{IsTally};
+ghost use Rattle.star_verify.specs.Private.Views.{IsTally};
 
 use crate::known::{Beyond, Known, given};
 use crate::tally::Tally;
@@ -54,7 +54,7 @@ fn with_default(range: Option<Wide>, default: i64) -> Wide
 // What is known of a read.
 pub(crate) fn read(aggregate: Aggregate, tally: Tally, default: i64) -> Result<Known, Beyond>
     ensures { (w : World) (ss : List Share) → IsTally tally ss
-        → IsMade w result (ranges.given (read_range aggregate ss (only default)))
+        → IsMade w result (ranges.known_number (read_range aggregate ss (only default)))
         (refusals.overflow w (read_range aggregate ss (only default)) (reach_of ss)) }
 {
     match with_default(total_range(aggregate, tally), default).narrow() {

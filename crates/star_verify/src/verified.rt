@@ -9,7 +9,7 @@ ghost use Rattle.star_safety.specs.Quote as spec;
 ghost use Rattle.star_program.specs.Limits.{IsWithinLimits};
 ghost use Rattle.star_verify.specs.declared.refusal.Refusal.TheVariants.{OutOfMemory};
 ghost use Rattle.star_verify.specs.Checked.{IsVerified};
-ghost use Rattle.star_verify.specs.Shown.{refusal_shown};
+ghost use Rattle.star_verify.specs.Views.{refusal_view};
 
 use crate::check::check;
 use crate::facts::Facts;
@@ -54,7 +54,7 @@ impl<'c> Model for Verified<'c> {
       database = v.catalogue.now;
       program = v.program;
     })) × (v.quote ≡ spec.quote (world_of v.catalogue.now).size v.program)
-        × (v.most_rows ≡ bound.most_rows (world_of v.catalogue.now) v.program) };
+        × (v.most_rows ≡ bound.most_report_rows (world_of v.catalogue.now) v.program) };
 }
 
 /// What refuses a program, with the program, unchanged.
@@ -99,7 +99,7 @@ impl<'c> Verified<'c> {
     /// where it shows no key, and else no more than updates can be made of the group, and than there
     /// are lists of values of the keys that it shows.
     pub fn most_rows(&self) -> u128
-        ensures { result ≡ bound.most_rows (world_of self.now.database) self.now.program }
+        ensures { result ≡ bound.most_report_rows (world_of self.now.database) self.now.program }
     {
         self.most_rows
     }
@@ -141,7 +141,7 @@ pub fn verify<'c>(
     ensures refused { IfErr result
         (λ refused. UnlessMemory OutOfMemory refused.refusal
         (first_refusal (world_of catalogue.now) limits.visits program
-        ≡ refusal_shown refused.refusal)) }
+        ≡ refusal_view refused.refusal)) }
     ensures handed_back { IfErr result (λ refused. refused.program ≡ program) }
 {
     admissible_programs_within_the_limit_are_not_refused();

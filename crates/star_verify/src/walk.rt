@@ -11,7 +11,7 @@ ghost use Rattle.star_safety.specs.Refusals.{scan_reason};
 ghost use Rattle.star_verify.specs.Private.Judged.{AreFewAt, AreNoted, InEachContext, IsReady, IsSized, IsWalked, Keeps, scan_first};
 ghost use Rattle.star_verify.specs.Private.Kept.{flag_at};
 ghost use Rattle.star_verify.specs.Private.Walked.{after_step, step_first, step_size};
-ghost use Rattle.star_verify.specs.Shown.{IsReason};
+ghost use Rattle.star_verify.specs.Views.{IsReason};
 
 use crate::instructions::{Noted, Place, is_written, judge, note};
 use crate::known::Known;

@@ -1,6 +1,6 @@
 pub mod Found
 pub mod Loaded
 pub mod TextBounds
-mod Shown
+mod RowsSeen
 mod Worked
 mod WorkedCodes

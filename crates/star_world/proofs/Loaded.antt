@@ -19,8 +19,9 @@ use Rattle.star_schema.proofs.Extremes.{least_below, greatest_above}
 use Rattle.star_schema.proofs.TextPlaces.{code_within}
 use Rattle.star_program.specs.declared.op.Edge.{Edge}
 use Rattle.star_program.specs.declared.op.Edge.TheVariants.{Low, High}
-use Rattle.star_program.specs.World.{World, IsLoaded, IsRowOf, edge_of}
-use Rattle.star_world.specs.WorldOf.{world_of, column_dictionary, column_numbers, column_texts}
+use Rattle.star_program.specs.World.{World, IsLoaded, IsRowNumberOf, edge_of}
+use Rattle.star_schema.specs.Columns.{column_dictionary, column_numbers, column_texts}
+use Rattle.star_world.specs.WorldOf.{world_of}
 use Rattle.star_world.proofs.Found.{IsFound, found_from}
 
 -- a column of numbers has one for each row
@@ -37,7 +38,7 @@ unfolding keys_of
 keys_len t rows = length-map rows _
 
 -- where a key is one of a table's, the answer is a row
-found_row : (w : World) (t : TableId) (n : ℤ) (keys : List (List ℤ)) (o : Option ℕ) → length keys ≡ w.size t → IsFound n keys 0 o → Contains keys (n ∷ []) → IsRowOf w t o
+found_row : (w : World) (t : TableId) (n : ℤ) (keys : List (List ℤ)) (o : Option ℕ) → length keys ≡ w.size t → IsFound n keys 0 o → Contains keys (n ∷ []) → IsRowNumberOf w t o
 found_row w t n keys None len none has = absurd (none has.0 (slice_get-get_or keys has.0 (n ∷ []) has.1 ∙ ap Some has.2))
 found_row w t n keys (Some i) len (row, at, is) has = omega (arith, len, at, slice_get_within keys row (n ∷ []) is)
 

@@ -14,7 +14,8 @@ use Rattle.star_schema.specs.declared.column.Kind.TheVariants as kind
 use Rattle.star_schema.proofs.Extremes.{least_there, greatest_there}
 use Rattle.star_schema.proofs.Places.{at_place}
 use Rattle.star_interval.specs.Range.{only}
-use Rattle.star_world.specs.WorldOf.{column_numbers, world_of}
+use Rattle.star_schema.specs.Columns.{column_numbers}
+use Rattle.star_world.specs.WorldOf.{world_of}
 
 abbrev IsZero : ℤ → Type 0
 IsZero n = n ≡ pos 0

@@ -13,7 +13,7 @@ use Rattle.star_schema.specs.Texts.{texts_at}
 use Rattle.star_interval.specs.Range.{only}
 use Rattle.star_program.specs.declared.op.Edge.TheVariants.{High}
 use Rattle.star_program.specs.World.{IsLoaded, World}
-use Rattle.star_world.specs.Shown.{IsWorldOf}
+use Rattle.star_world.specs.RowsSeen.{IsWorldOf}
 use Rattle.star_world.specs.WorldOf.{world_of}
 
 -- customers, as far as their names

@@ -3,7 +3,7 @@ use Rattle.std.proofs.Common.{◌≡◌, ℕ, true, false}
 use Rattle.std.specs.Prelude.{codes, nat_lt}
 use Rattle.star_schema.specs.declared.column.ColumnId.TheVariants.{CName}
 use Rattle.star_program.specs.World.{World}
-use Rattle.star_world.specs.Shown.{IsCodeOf}
+use Rattle.star_world.specs.RowsSeen.{IsCodeOf}
 
 -- of `b`: not below what is less than `b`, but below what is less than `c` or at most `b`
 code_of_b : (w : World) (code : ℕ) → IsCodeOf w CName (codes "b") code

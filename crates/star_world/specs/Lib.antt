@@ -1,2 +1,2 @@
 pub mod WorldOf
-pub mod Shown
+pub mod RowsSeen

@@ -1,28 +1,13 @@
 -- The world that programs see of the rows of five tables.
-use Rattle.std.specs.Prelude.{ℕ, ℤ, pos, List, [], ◌∷◌, Bool, length, slice_index_or}
+use Rattle.std.specs.Prelude.{ℤ, pos, List, [], ◌∷◌, Bool, length, slice_index_or}
 use Rattle.std.specs.Cmp.Lexicographic.{pointwise}
 use Rattle.std.specs.List.{position_from}
 use Rattle.std.specs.Ordering.{int_eq}
-use Rattle.star_schema.specs.declared.column.ColumnId.{ColumnId}
-use Rattle.star_schema.specs.Bounds.{least, greatest, numbers_of}
+use Rattle.star_schema.specs.Columns.{bounds_in, column_dictionary, column_numbers, column_texts}
 use Rattle.star_schema.specs.Database.{Database, rows_in}
-use Rattle.star_schema.specs.Dictionary.{dictionary_of, low_in, high_in}
+use Rattle.star_schema.specs.Dictionary.{low_in, high_in}
 use Rattle.star_schema.specs.Loadable.{keys_of}
-use Rattle.star_schema.specs.Schema.{table_of}
-use Rattle.star_schema.specs.Texts.{texts_of}
 use Rattle.star_program.specs.World.{World}
-
--- the numbers of a column of numbers, row by row
-abbrev pub column_numbers : Database → ColumnId → List ℤ
-column_numbers database c = numbers_of c (rows_in database (table_of c))
-
--- the texts of a column of texts, row by row
-abbrev pub column_texts : Database → ColumnId → List (List ℕ)
-column_texts database c = texts_of c (rows_in database (table_of c))
-
--- the different texts of a column, in the order of bytes: a code is a place among them
-abbrev pub column_dictionary : Database → ColumnId → List (List ℕ)
-column_dictionary database c = dictionary_of (column_texts database c)
 
 -- whether a key is this one number
 abbrev pub is_key : ℤ → List ℤ → Bool
@@ -39,5 +24,5 @@ world_of database = record {
   high = λ c text. high_in (column_dictionary database c) text;
   text = λ c code. slice_index_or (column_dictionary database c) code [];
   find = λ t n. position_from (is_key n) 0 (keys_of t (rows_in database t));
-  bounds = λ c. record { low = least (column_numbers database c); high = greatest (column_numbers database c) };
+  bounds = bounds_in (rows_in database);
 }

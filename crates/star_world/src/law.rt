@@ -3,7 +3,7 @@
 ghost use Rattle.star_schema.specs.Database.{Database};
 ghost use Rattle.star_schema.specs.Loadable.{IsSound};
 ghost use Rattle.star_program.specs.World.{IsLoaded};
-ghost use Rattle.star_world.specs.Shown.{IsWorldOf};
+ghost use Rattle.star_world.specs.RowsSeen.{IsWorldOf};
 ghost use Rattle.star_world.specs.WorldOf.{world_of};
 
 /// In the world of sound rows each column's bounds hold its numbers, its codes lie below how many

@@ -4,8 +4,8 @@ use Rattle.star_schema.specs.declared.table.TableId.TheVariants as id
 use Rattle.star_schema.specs.Database.{Database}
 use Rattle.star_catalogue.specs.declared.tables.Tables.TheInside.{Inside}
 
-abbrev pub database_kept : Inside → Database
-database_kept kept =
+abbrev pub database_view : Inside → Database
+database_view kept =
     record {
       date = kept.date.rows;
       customer = kept.customer.rows;

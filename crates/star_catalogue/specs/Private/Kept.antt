@@ -6,8 +6,8 @@ use Rattle.star_catalogue.specs.declared.table.LoadedTable.TheInside.{Inside}
 use Rattle.star_catalogue.specs.Private.Columns.{as_read}
 use Rattle.star_catalogue.specs.Private.Keys.{AreKept}
 
-abbrev pub table_kept : Inside → Table
-table_kept kept =
+abbrev pub table_view : Inside → Table
+table_view kept =
     record {
       table = kept.table;
       rows = first_rows kept.rows (map values (map as_read kept.columns.items));

@@ -9,8 +9,8 @@ use Rattle.star_schema.specs.Loadable.{keys_of}
 use Rattle.star_schema.specs.Schema.{index_of, references, table_of}
 use Rattle.star_catalogue.specs.declared.referred.Referred.{Referred}
 
-abbrev pub rows_kept : Referred → ColumnId → List ℕ
-rows_kept kept c = slice_index_or kept.rows.items (index_of c) []
+abbrev pub rows_view : Referred → ColumnId → List ℕ
+rows_view kept c = slice_index_or kept.rows.items (index_of c) []
 
 -- these are the rows whose keys some numbers are
 pub record AreFound (keys : List (List ℤ)) (numbers : List ℤ) (rows : List ℕ) : Type 0 where

@@ -3,7 +3,7 @@ use Rattle.std.specs.Prelude.{◌≡◌, ◌≤◌, ◌+◌, ℕ, List, Option, 
 use Rattle.std.specs.Io.KnownBytes.{Consumes}
 use Rattle.star_reader.specs.Partway.{Reading}
 use Rattle.star_engine.specs.declared.input.Input.{Input}
-use Rattle.star_engine.specs.Reading.{GoesOn, came_of, has_failed, reader_of, reads_of}
+use Rattle.star_engine.specs.Reading.{ReadingGoesOn, came_of, has_failed, reader_of, reads_of}
 
 -- so many reads gave so many bytes, none failed, and the table's reader has gone on by these bytes
 pub record HasFed {R : Type 0} (remaining : R → Option (List ℕ)) (first now : Input R)
@@ -11,7 +11,7 @@ pub record HasFed {R : Type 0} (remaining : R → Option (List ℕ)) (first now 
   pub bytes : List ℕ
   pub size : length bytes ≡ taken
   pub consumed : Consumes (remaining (reader_of first)) (remaining (reader_of now)) bytes
-  pub on : GoesOn before after bytes
+  pub on : ReadingGoesOn before after bytes
   pub counted : reads ≤ taken
   pub came : taken ≤ came_of now
   pub asked : reads_of now ≤ reads_of first + reads

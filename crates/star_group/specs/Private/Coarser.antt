@@ -8,9 +8,10 @@ use Rattle.star_schema.specs.declared.group.Shape.TheVariants.{Plain, Rollup}
 use Rattle.star_schema.specs.Groups.{is_grouping}
 use Rattle.star_program.specs.declared.key.KeyValue.{KeyValue}
 use Rattle.star_group.specs.declared.keyed.key.KeyPart.{KeyPart}
-use Rattle.star_group.specs.Base.{IsRowOver, key_of, row_at}
+use Rattle.star_group.specs.Base.{IsRowOver, key_view, row_found}
 use Rattle.star_group.specs.OwnKeys.{key_eq, padded, vary}
-use Rattle.star_group.specs.Stores.{Group, HasRoom, Put}
+use Rattle.star_program.specs.Puts.{Update}
+use Rattle.star_group.specs.Stores.{Group, HasRoom}
 use Rattle.star_group.specs.Private.BasePut.{group_with}
 use Rattle.star_group.specs.Private.Merged.{IsMergedAt}
 
@@ -23,13 +24,13 @@ abbrev pub is_among : Shape → ℕ → ℕ → List (Option KeyValue) → List 
 is_among s place count q ks = is_grouping s (take count q) && list_any (key_eq q) (keys_from place count ks)
 
 -- the rows are those of these puts in which no key before this place is ALL
-pub record IsRolledUp (d : Group) (place : ℕ) (entries : List (List KeyPart × List (Option ℤ))) (puts : List Put) : Type 0 where
+pub record IsRolledUp (d : Group) (place : ℕ) (entries : List (List KeyPart × List (Option ℤ))) (puts : List Update) : Type 0 where
   pub fit : AllByRecursion (λ put. length put.keys ≡ d.count) puts
-  pub rows : (q : List (Option KeyValue)) → IsRowOver d (filter (λ put. is_among d.shape place d.count q put.keys) puts) (row_at entries q)
+  pub rows : (q : List (Option KeyValue)) → IsRowOver d (filter (λ put. is_among d.shape place d.count q put.keys) puts) (row_found entries q)
 
 -- they are those of some puts that have room
 pub record IsRolledUpWithRoom (shape : Shape) (count : ℕ) (gs : List Aggregate) (place : ℕ) (entries : List (List KeyPart × List (Option ℤ))) : Type 0 where
-  pub puts : List Put
+  pub puts : List Update
   pub below : place ≤ count
   pub few : count ≤ 6
   pub rows : IsRolledUp (group_with shape count gs) place entries puts
@@ -37,7 +38,7 @@ pub record IsRolledUpWithRoom (shape : Shape) (count : ℕ) (gs : List Aggregate
 
 -- whichever puts the rows were those of, they now have those in which keys from the later place on are ALL too
 abbrev pub RollsUp : Shape → ℕ → List Aggregate → ℕ → List (List KeyPart × List (Option ℤ)) → ℕ → List (List KeyPart × List (Option ℤ)) → Type 0
-RollsUp shape count gs place entries place' entries' = (puts : List Put)
+RollsUp shape count gs place entries place' entries' = (puts : List Update)
     → place ≤ count → count ≤ 6
     → IsRolledUp (group_with shape count gs) place entries puts
     → IsRolledUp (group_with shape count gs) place' entries' puts
@@ -50,7 +51,7 @@ IsMergedWhere shape count gs key more entries entries' =
 -- of the rows before this one none has a coarser key, with ALL at this place, that is a grouping
 abbrev pub NoneCoarser : Shape → ℕ → ℕ → ℕ → List (List KeyPart × List (Option ℤ)) → Type 0
 NoneCoarser shape count place from entries = (number : ℕ) → number < from
-    → is_grouping shape (take count (slice_set (key_of (slice_index_or entries number ([], [])).0) place None)) ≡ false
+    → is_grouping shape (take count (slice_set (key_view (slice_index_or entries number ([], [])).0) place None)) ≡ false
 
 -- the first place that may be ALL in a row of these groups
 abbrev pub first_hidden : Shape → ℕ → ℕ
@@ -65,7 +66,7 @@ first_finer _ many = 0
 
 -- the rows with their keys as they are shown
 abbrev pub shown_entries : List (List KeyPart × List (Option ℤ)) → List (List (Option KeyValue) × List (Option ℤ))
-shown_entries entries = map (λ e. (key_of e.0, e.1)) entries
+shown_entries entries = map (λ e. (key_view e.0, e.1)) entries
 
 -- each key is there once
 abbrev pub AreOnce : List (List KeyPart × List (Option ℤ)) → Type 0

@@ -7,7 +7,7 @@ use Rattle.star_schema.specs.declared.group.Aggregate.TheVariants.{Sum, Count, M
 use Rattle.star_program.specs.Puts.{leaves}
 use Rattle.star_program.specs.declared.key.KeyValue.{KeyValue}
 use Rattle.star_group.specs.declared.keyed.key.KeyPart.{KeyPart}
-use Rattle.star_group.specs.Base.{row_at}
+use Rattle.star_group.specs.Base.{row_found}
 use Rattle.star_group.specs.OwnKeys.{key_eq}
 
 -- an aggregate over some puts and over some others, as one over all of them: sums and counts are added
@@ -50,11 +50,11 @@ IsMergedInto gs more held found = (row : List (Option ℤ)) × (found ≡ Some r
 
 -- the row with this key is this one, and the others are as they were
 abbrev pub IsWithRow : List (Option KeyValue) → List (Option ℤ) → List (List KeyPart × List (Option ℤ)) → List (List KeyPart × List (Option ℤ)) → Type 0
-IsWithRow key row entries entries' = (q : List (Option KeyValue)) → row_at entries' q ≡ (if key_eq q key then Some row else row_at entries q)
+IsWithRow key row entries entries' = (q : List (Option KeyValue)) → row_found entries' q ≡ (if key_eq q key then Some row else row_found entries q)
 
 -- the row with this key has one more merged in, and the others are as they were
 abbrev pub IsMergedAt : List Aggregate → List (Option KeyValue) → List (Option ℤ) → List (List KeyPart × List (Option ℤ)) → List (List KeyPart × List (Option ℤ)) → Type 0
-IsMergedAt gs key more entries entries' = (row : List (Option ℤ)) × IsMerged gs (unwrap_or (row_at entries key) []) more row × IsWithRow key row entries entries'
+IsMergedAt gs key more entries entries' = (row : List (Option ℤ)) × IsMerged gs (unwrap_or (row_found entries key) []) more row × IsWithRow key row entries entries'
 
 -- what one put adds to an aggregate
 abbrev pub cell_of : Aggregate → ℤ → ℤ

@@ -7,7 +7,7 @@ use Rattle.star_schema.specs.declared.group.Shape.{Shape}
 use Rattle.star_schema.specs.Groups.{is_grouping}
 use Rattle.star_program.specs.declared.key.KeyValue.{KeyValue}
 use Rattle.star_group.specs.declared.keyed.key.KeyPart.{KeyPart}
-use Rattle.star_group.specs.Base.{key_of}
+use Rattle.star_group.specs.Base.{key_view}
 use Rattle.star_group.specs.OwnKeys.{is_of_put, key_eq, padded}
 use Rattle.star_group.specs.Private.Merged.{IsMergedInto, MergeLeaves, MergeStays}
 
@@ -25,7 +25,7 @@ is_beside s ks q = not (key_eq q (padded 6 [])) && is_of_put s ks q
 
 -- the key is one of these
 abbrev pub is_one_of : List (List KeyPart) → List (Option KeyValue) → Bool
-is_one_of keys q = list_any (key_eq q) (map key_of keys)
+is_one_of keys q = list_any (key_eq q) (map key_view keys)
 
 -- with one more row merged in no aggregate of a row of these keys leaves its bits
 pub record AllStay (look : List (Option KeyValue) → Option (List (Option ℤ))) (own : List (Option KeyValue) → Bool) (gs : List Aggregate) (more : List (Option ℤ)) : Type 0 where

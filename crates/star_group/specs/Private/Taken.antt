@@ -7,7 +7,7 @@ use Rattle.star_program.specs.Rows.{cut}
 use Rattle.star_group.specs.declared.batch.PutBatch.{PutBatch}
 use Rattle.star_group.specs.Batches.{put_in}
 use Rattle.star_group.specs.Cells.{step}
-use Rattle.star_group.specs.Stores.{number_at}
+use Rattle.star_group.specs.Stores.{put_number}
 
 -- the items after the first rows, of which each changes that at its place
 unfoldable pub after_rows : {A : Type 0} → A → (ℕ → A → A) → List ℕ → List A → ℕ → List A
@@ -52,4 +52,4 @@ numbers_from number (suc rows) = number 0 ∷ numbers_from (λ row. number (suc 
 
 -- the lanes of the numbers of a batch's puts
 abbrev pub batch_lanes : PutBatch → ℕ → List ℤ
-batch_lanes b a = numbers_from (λ row. number_at a (put_in b row)) b.rows
+batch_lanes b a = numbers_from (λ row. put_number a (put_in b row)) b.rows

@@ -2,15 +2,15 @@
 
 ghost use Rattle.std.specs.Prelude.{◌≡◌, ◌≤◌, ◌<◌, ◌+◌, true, List, length, take, IfOk, OnOk};
 ghost use Rattle.star_schema.specs.Groups as groups;
-ghost use Rattle.star_group.specs.Base.{HasBaseWithRoom, IsBase, key_of, row_at};
+ghost use Rattle.star_group.specs.Base.{HasBaseWithRoom, IsBase, key_view, row_found};
 ghost use Rattle.star_group.specs.Entries.{entries_of};
 ghost use Rattle.star_group.specs.Private.Coarser as spec;
 ghost use Rattle.star_group.specs.Private.Coarser.{IsMergedWhere, IsRolledUpWithRoom, NoneCoarser, RollsUp};
 ghost use Rattle.star_group.specs.Private.BasePut.{group_with};
 ghost use Rattle.star_group.specs.Private.Merged.{RowsStay};
 ghost use Rattle.star_group.specs.Private.Numbers.{AreAsWide, FitsIn, IsGrown, IsNarrow};
-ghost use Rattle.star_group.specs.Shown.{AreRows};
-ghost use Rattle.star_group.specs.Stores.{Put};
+ghost use Rattle.star_group.specs.StoreRows.{AreRows};
+ghost use Rattle.star_program.specs.Puts.{Update};
 
 use crate::GroupRows;
 use crate::cell::{Held, Total};
@@ -32,9 +32,9 @@ fn merge_coarser(
     requires count { count ≤ 6 }
     requires narrow { IsNarrow rows.old.trie.width key.now }
     requires fits { FitsIn rows.old aggregates.now more.now }
-    requires stays { groups.is_grouping shape (take count (key_of key.now)) ≡ true
-        → RowsStay aggregates.now (row_at (entries_of rows.old) (key_of key.now)) more.now }
-    ensures ok { OnOk result (IsMergedWhere shape count aggregates.now (key_of key.now) more.now
+    requires stays { groups.is_grouping shape (take count (key_view key.now)) ≡ true
+        → RowsStay aggregates.now (row_found (entries_of rows.old) (key_view key.now)) more.now }
+    ensures ok { OnOk result (IsMergedWhere shape count aggregates.now (key_view key.now) more.now
         (entries_of rows.old) (entries_of rows.new)) }
     ensures grown { IsGrown rows.old rows.new }
 {
@@ -139,7 +139,7 @@ pub(crate) fn rows_of_base(
     requires many { length aggregates.now ≡ base.many }
     requires room { HasBaseWithRoom (group_with shape count aggregates.now) (entries_of base)
         total.now }
-    ensures { IfOk result (λ rows. (puts : List Put)
+    ensures { IfOk result (λ rows. (puts : List Update)
         → IsBase (group_with shape count aggregates.now) (entries_of base) total.now puts
         → AreRows (group_with shape count aggregates.now) puts rows) }
 {

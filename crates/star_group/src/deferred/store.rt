@@ -1,7 +1,7 @@
 // A deferred store is a store of groups.
 
 ghost use Rattle.std.specs.Prelude.{◌≡◌, List, ◌∷◌, []};
-ghost use Rattle.star_group.specs.Deferred.{group_of, Has};
+ghost use Rattle.star_group.specs.Deferred.{group_view, Has};
 
 use super::DeferredStore;
 use super::base::add_put;
@@ -15,7 +15,7 @@ use star_program::GroupDecl;
 use std::alloc::{AllocError, Global};
 
 impl GroupStore for DeferredStore {
-    ghost group = { group_of };
+    ghost group = { group_view };
 
     ghost has = { Has };
 

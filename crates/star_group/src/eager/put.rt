@@ -2,7 +2,7 @@
 
 ghost use Rattle.std.specs.Prelude.{◌≡◌, ◌≤◌, ◌||◌, [], length, IfErr, OnErr, OnOk};
 ghost use Rattle.star_common.specs.Memory.{UnlessMemory};
-ghost use Rattle.star_group.specs.Base.{key_of, row_at};
+ghost use Rattle.star_group.specs.Base.{key_view, row_found};
 ghost use Rattle.star_group.specs.Eager.{with_total};
 ghost use Rattle.star_group.specs.Entries.{entries_of};
 ghost use Rattle.star_group.specs.OwnKeys.{is_of_put, key_eq, padded};
@@ -29,11 +29,11 @@ fn put_row(
 ) -> Result<(), PutFault>
     requires narrow { IsNarrow rows.old.trie.width key.now }
     requires fits { FitsIn rows.old aggregates.now more.now }
-    ensures ok { OnOk result (PutsRows (λ q. key_eq q (key_of key.now)) aggregates.now more.now
-        (row_at (entries_of rows.old)) (row_at (entries_of rows.new))) }
+    ensures ok { OnOk result (PutsRows (λ q. key_eq q (key_view key.now)) aggregates.now more.now
+        (row_found (entries_of rows.old)) (row_found (entries_of rows.new))) }
     ensures refused { OnErr result (entries_of rows.new ≡ entries_of rows.old) }
     ensures overflow { IfErr result (λ fault. UnlessMemory PutFault.OutOfMemory fault
-        (SomeLeaves (row_at (entries_of rows.old)) (λ q. key_eq q (key_of key.now)) aggregates.now
+        (SomeLeaves (row_found (entries_of rows.old)) (λ q. key_eq q (key_view key.now)) aggregates.now
         more.now)) }
     ensures widths { AreAsWide rows.old rows.new }
 {
@@ -65,10 +65,10 @@ fn put_beside(
     requires narrow { length keys.now ≤ rows.old.trie.width }
     requires fits { FitsIn rows.old aggregates.now more.now }
     ensures ok { OnOk result (PutsRows (is_beside shape keys.now) aggregates.now more.now
-        (row_at (entries_of rows.old)) (row_at (entries_of rows.new))) }
+        (row_found (entries_of rows.old)) (row_found (entries_of rows.new))) }
     ensures refused { OnErr result (entries_of rows.new ≡ entries_of rows.old) }
     ensures overflow { IfErr result (λ fault. UnlessMemory PutFault.OutOfMemory fault
-        (SomeLeaves (row_at (entries_of rows.old)) (is_beside shape keys.now) aggregates.now
+        (SomeLeaves (row_found (entries_of rows.old)) (is_beside shape keys.now) aggregates.now
         more.now)) }
     ensures widths { AreAsWide rows.old rows.new }
 {
@@ -101,12 +101,12 @@ pub(super) fn put_all(
     requires fits { FitsIn rows.old aggregates.now more.now }
     ensures ok { OnOk result (PutsRows
         (λ q. key_eq q (padded 6 []) || is_of_put shape keys.now q) aggregates.now more.now
-        (with_total total.old (row_at (entries_of rows.old)))
-        (with_total total.new (row_at (entries_of rows.new)))) }
+        (with_total total.old (row_found (entries_of rows.old)))
+        (with_total total.new (row_found (entries_of rows.new)))) }
     ensures rows { OnErr result (entries_of rows.new ≡ entries_of rows.old) }
     ensures total { OnErr result (total.new ≡ total.old) }
     ensures overflow { IfErr result (λ fault. UnlessMemory PutFault.OutOfMemory fault
-        (SomeLeaves (with_total total.old (row_at (entries_of rows.old)))
+        (SomeLeaves (with_total total.old (row_found (entries_of rows.old)))
         (λ q. key_eq q (padded 6 []) || is_of_put shape keys.now q) aggregates.now more.now)) }
     ensures widths { AreAsWide rows.old rows.new }
 {

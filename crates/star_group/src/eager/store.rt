@@ -1,6 +1,6 @@
 // An eager store is a store of groups, which also refuses puts that overflow.
 
-ghost use Rattle.star_group.specs.Eager.{group_of, Has};
+ghost use Rattle.star_group.specs.Eager.{group_view, Has};
 
 use super::EagerStore;
 use super::put::put_all;
@@ -20,7 +20,7 @@ use std::alloc::{AllocError, Global};
 const MOST_OWN: usize = 63;
 
 impl GroupStore for EagerStore {
-    ghost group = { group_of };
+    ghost group = { group_view };
 
     ghost has = { Has };
 

@@ -6,7 +6,7 @@ ghost use Rattle.std.specs.Option.{is_some};
 ghost use Rattle.star_schema.specs.declared.group.Shape.TheVariants.{Rollup};
 ghost use Rattle.star_schema.specs.Groups as spec;
 ghost use Rattle.star_group.specs.OwnKeys.{padded};
-ghost use Rattle.star_group.specs.Base.{key_of, value_of};
+ghost use Rattle.star_group.specs.Base.{key_view, key_value_view};
 ghost use Rattle.star_group.specs.Keyed.{filled};
 ghost use Rattle.star_group.specs.Private.Rows as rows;
 
@@ -28,7 +28,7 @@ pub(crate) type OrderedKey = [KeyPart; 6];
 pub(crate) const ALL_HIDDEN: OrderedKey = [KeyPart::All; 6];
 
 fn part_of(value: KeyValue) -> KeyPart
-    ensures { value_of result ≡ Some value }
+    ensures { key_value_view result ≡ Some value }
 {
     match value {
         KeyValue::Number(number) => KeyPart::Number(number),
@@ -37,7 +37,7 @@ fn part_of(value: KeyValue) -> KeyPart
 }
 
 fn value_in(part: KeyPart) -> Option<KeyValue>
-    ensures { result ≡ value_of part }
+    ensures { result ≡ key_value_view part }
 {
     match part {
         KeyPart::All => None,
@@ -59,7 +59,7 @@ pub(crate) fn in_six_places(key: &[KeyPart]) -> OrderedKey
 // The key of the row that a put with these keys changes.
 pub(crate) fn base_key(keys: &[KeyValue]) -> OrderedKey
     requires { length keys.now ≤ 6 }
-    ensures { key_of result ≡ padded 6 keys.now }
+    ensures { key_view result ≡ padded 6 keys.now }
 {
     let mut parts = ALL_HIDDEN;
     for place in 0..keys.len() {
@@ -71,7 +71,7 @@ pub(crate) fn base_key(keys: &[KeyValue]) -> OrderedKey
 // The key with ALL at this place.
 pub(crate) fn hidden(parts: &OrderedKey, place: usize) -> OrderedKey
     requires { place < 6 }
-    ensures key { key_of result ≡ slice_set (key_of parts.now) place None }
+    ensures key { key_view result ≡ slice_set (key_view parts.now) place None }
     ensures parts { result ≡ slice_set parts.now place KeyPart.All }
 {
     let mut coarser = *parts;
@@ -80,7 +80,7 @@ pub(crate) fn hidden(parts: &OrderedKey, place: usize) -> OrderedKey
 }
 
 fn is_shown(part: &KeyPart) -> bool
-    ensures { result ≡ is_some (value_of part.now) }
+    ensures { result ≡ is_some (key_value_view part.now) }
 {
     match *part {
         KeyPart::All => false,
@@ -90,21 +90,21 @@ fn is_shown(part: &KeyPart) -> bool
 
 // Whether none of these parts is ALL.
 fn are_shown(parts: &[KeyPart]) -> bool
-    ensures { result ≡ list_all (λ part. is_some (value_of part)) parts.now }
+    ensures { result ≡ list_all (λ part. is_some (key_value_view part)) parts.now }
 {
     parts.iter().all(is_shown)
 }
 
 // Whether some part isn't ALL.
 fn shows_some(parts: &[KeyPart]) -> bool
-    ensures { result ≡ list_any (λ part. is_some (value_of part)) parts.now }
+    ensures { result ≡ list_any (λ part. is_some (key_value_view part)) parts.now }
 {
     parts.iter().any(is_shown)
 }
 
 // Whether no part that isn't ALL stands behind one that is.
 fn are_shown_first(parts: &[KeyPart]) -> bool
-    ensures { result ≡ spec.is_grouping Rollup (key_of parts.now) }
+    ensures { result ≡ spec.is_grouping Rollup (key_view parts.now) }
 {
     let mut hides = false;
     for part in parts {
@@ -120,7 +120,7 @@ fn are_shown_first(parts: &[KeyPart]) -> bool
 // Whether so many keys, of which some are hidden here, are a grouping of this shape.
 pub(crate) fn is_grouping(shape: Shape, count: usize, parts: &OrderedKey) -> bool
     requires { count ≤ 6 }
-    ensures { result ≡ spec.is_grouping shape (take count (key_of parts.now)) }
+    ensures { result ≡ spec.is_grouping shape (take count (key_view parts.now)) }
 {
     match shape {
         Shape::Plain => are_shown(&parts[..count]),
@@ -132,14 +132,14 @@ pub(crate) fn is_grouping(shape: Shape, count: usize, parts: &OrderedKey) -> boo
 // Whether a row has this key beside that of all puts: a grouping of this shape that shows a key.
 pub(crate) fn is_row_key(shape: Shape, count: usize, parts: &OrderedKey) -> bool
     requires { count ≤ 6 }
-    ensures { result ≡ rows.is_row_key shape count (key_of parts.now) }
+    ensures { result ≡ rows.is_row_key shape count (key_view parts.now) }
 {
     shows_some(parts) && is_grouping(shape, count, parts)
 }
 
 // The key as a row shows it.
 pub(crate) fn shown_key(parts: &OrderedKey) -> Key
-    ensures { result ≡ key_of parts.now }
+    ensures { result ≡ key_view parts.now }
 {
     let mut key = ALL;
     for place in 0..6 {

@@ -1,7 +1,7 @@
 // Rows by their keys: making, reading and changing them.
 
 ghost use Rattle.std.specs.Prelude.{◌≡◌, ◌≤◌, ◌<◌, ◌+◌, ℕ, List, [], length, slice_index_or, take, true, IfOk, IsOk, OnErr, OnOk};
-ghost use Rattle.star_group.specs.Base.{key_of, row_at};
+ghost use Rattle.star_group.specs.Base.{key_view, row_found};
 ghost use Rattle.star_group.specs.Entries.{entries_of};
 ghost use Rattle.star_group.specs.declared.keyed.key.KeyPart.{KeyPart};
 ghost use Rattle.star_program.specs.Rows.{cut};
@@ -110,7 +110,7 @@ impl KeyedRows {
         requires missing { IsMissing self.old.trie.width
             (cut self.old.trie.width self.old.trie.len self.old.trie.keys.items)
             self.old.trie.links.items (take self.old.trie.width key.now) node digit }
-        ensures ok { OnOk result (IsWithRow (key_of key.now) row.now
+        ensures ok { OnOk result (IsWithRow (key_view key.now) row.now
             (entries_of self.old) (entries_of self.new)) }
         ensures refused { OnErr result (entries_of self.new ≡ entries_of self.old) }
         ensures space { (count : ℕ) → HasSpace self.old (count + 1)
@@ -136,7 +136,7 @@ impl KeyedRows {
         ensures rows { (key : List KeyPart) → length key ≡ 6
             → IsNarrow self.old.trie.width key
             → IsHeld (keys_in self.old) (take self.old.trie.width key) number
-            → IsMergedAt aggregates.now (key_of key) more.now
+            → IsMergedAt aggregates.now (key_view key) more.now
             (entries_of self.old) (entries_of self.new) }
         ensures trie { self.new.trie ≡ self.old.trie }
         ensures space { (count : ℕ) → HasSpace self.old count → HasSpace self.new count }
@@ -158,8 +158,8 @@ impl KeyedRows {
         requires place { IsPlace self.old key.now place }
         requires fits { FitsIn self.old aggregates.now more.now }
         requires stays { RowsStay aggregates.now
-            (row_at (entries_of self.old) (key_of key.now)) more.now }
-        ensures ok { OnOk result (IsMergedAt aggregates.now (key_of key.now) more.now
+            (row_found (entries_of self.old) (key_view key.now)) more.now }
+        ensures ok { OnOk result (IsMergedAt aggregates.now (key_view key.now) more.now
             (entries_of self.old) (entries_of self.new)) }
         ensures refused { OnErr result (entries_of self.new ≡ entries_of self.old) }
         ensures enough { (is_missing place ≡ true → HasSpace self.old 1) → IsOk result }

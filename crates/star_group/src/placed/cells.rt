@@ -8,7 +8,7 @@ ghost use Rattle.star_program.specs.Rows.{cut};
 ghost use Rattle.star_group.specs.Batches.{IsPutBatch, put_in, word_in};
 ghost use Rattle.star_group.specs.Cells.{step};
 ghost use Rattle.star_group.specs.Private.PlacedPut.{CanTakeBatch, CanTakePut, TakesBatch, TakesPut};
-ghost use Rattle.star_group.specs.Stores.{number_at};
+ghost use Rattle.star_group.specs.Stores.{put_number};
 ghost use Rattle.star_group.specs.Private.Taken.{AreTaken, AreWithin, CanTake, CanTakeAll, after_rows, batch_lanes, column_after, lanes_of};
 
 use crate::batch::PutBatch;
@@ -277,7 +277,7 @@ fn lanes_are_narrow(aggregates: &[Aggregate], batch: &PutBatch<'_>)
     requires batch { IsPutBatch batch.now }
     requires declared { aggregates.now ≡ batch.now.declared.now.aggregates }
     ensures { (a : ℕ) → a < length aggregates.now → (row : ℕ) → row < batch.now.rows
-        → is_i64 (number_at a (put_in batch.now row)) ≡ true }
+        → is_i64 (put_number a (put_in batch.now row)) ≡ true }
 {
     let mut left = batch.values;
     for number in 0..aggregates.len() {

@@ -2,15 +2,15 @@
 
 ghost use Rattle.std.specs.Prelude.{◌≡◌, ◌≤◌, ◌*◌, ℕ, List, OnOk, Option, Some, length, ℤ};
 ghost use Rattle.star_schema.specs.declared.group.Shape.{Shape};
-ghost use Rattle.star_group.specs.Base.{HasAggregates, IsRowOver, key_of, puts_with, row_at as base_row};
+ghost use Rattle.star_group.specs.Base.{HasAggregates, IsRowOver, key_view, puts_with, row_found as base_row};
 ghost use Rattle.star_group.specs.ByPlace.{IsPlaced, IsPlacedWithRoom};
 ghost use Rattle.star_group.specs.Entries.{entries_of};
 ghost use Rattle.star_group.specs.OwnKeys.{padded};
 ghost use Rattle.star_group.specs.Places as spec;
 ghost use Rattle.star_group.specs.Private.BasePut.{group_with};
 ghost use Rattle.star_group.specs.Private.Numbers.{AreAsWide, IsNarrow};
-ghost use Rattle.star_group.specs.Stores.{Put};
-ghost use Rattle.star_group.specs.Placed.{Has, group_of};
+ghost use Rattle.star_program.specs.Puts.{Update};
+ghost use Rattle.star_group.specs.Placed.{Has, group_view};
 ghost use Rattle.star_program.specs.declared.key.KeyValue.{KeyValue as Value};
 
 use super::PlacedStore;
@@ -28,8 +28,8 @@ impl PlacedStore {
     // None is kept beside the places, so that a put changes its own cells alone. A group whose
     // total a program reads gets no places: a read in a scan would go over all of them each time.
     pub(super) fn whole_total(&self) -> Total
-        ensures { (puts : List Put) → Has self.now puts
-            → HasAggregates (group_of self.now) puts result }
+        ensures { (puts : List Update) → Has self.now puts
+            → HasAggregates (group_view self.now) puts result }
     {
         let aggregates = self.rest.aggregates.as_slice();
         let seen = self.seen.as_slice();
@@ -49,8 +49,8 @@ impl PlacedStore {
 // The key of a place.
 fn key_at(spans: &[Span], place: usize) -> OrderedKey
     requires { length spans.now ≤ 6 }
-    ensures key { (keys : List Value) → spec.place_of spans.now keys ≡ Some place
-        → key_of result ≡ padded 6 keys }
+    ensures key { (keys : List Value) → spec.cell_place spans.now keys ≡ Some place
+        → key_view result ≡ padded 6 keys }
     ensures narrow { (width : ℕ) → length spans.now ≤ width → IsNarrow width result }
 {
     let keys = keys_at(spans, place);
@@ -72,7 +72,7 @@ pub(super) fn add_places(
     requires room { (shape : Shape) × (total : List (Option ℤ))
         × IsPlacedWithRoom (group_with shape (length spans.now) aggregates.now) spans.now seen.now
         cells.now (entries_of rows.old) total }
-    ensures rows { OnOk result ((shape : Shape) (total : List (Option ℤ)) (puts : List Put)
+    ensures rows { OnOk result ((shape : Shape) (total : List (Option ℤ)) (puts : List Update)
         → IsPlaced (group_with shape (length spans.now) aggregates.now) spans.now seen.now cells.now
         (entries_of rows.old) total puts
         → (key : List (Option Value)) → IsRowOver (group_with shape (length spans.now) aggregates.now)

@@ -4,7 +4,7 @@ ghost use Rattle.std.specs.Prelude.{◌≡◌, ◌≤◌, ◌<◌, ◌+◌, ◌*
 ghost use Rattle.star_program.specs.declared.key.KeyValue.{KeyValue as Value};
 ghost use Rattle.star_group.specs.Batches.{IsPutBatch, put_in};
 ghost use Rattle.star_group.specs.Places as spec;
-ghost use Rattle.star_group.specs.Places.{above, places, up_to};
+ghost use Rattle.star_group.specs.Places.{above, places, place_up_to};
 
 use super::span::Span;
 use crate::KeyValue;
@@ -14,7 +14,7 @@ use star_program::GroupKey;
 impl Span {
     // Where a word lies in the range.
     pub(crate) fn offset(self, word: i64) -> Option<u32>
-        ensures { result ≡ up_to self.last (word -ℤ self.low) }
+        ensures { result ≡ place_up_to self.last (word -ℤ self.low) }
     {
         let high = self.low + i64::from(self.last);
         if word < self.low || high < word {
@@ -75,7 +75,7 @@ impl Span {
 pub(crate) fn place_of(spans: &[Span], keys: &[KeyValue]) -> Option<usize>
     requires same { length keys.now ≡ length spans.now }
     requires few { places spans.now ≤ 65536 }
-    ensures place { result ≡ spec.place_of spans.now keys.now }
+    ensures place { result ≡ spec.cell_place spans.now keys.now }
     ensures within { IfSome result (λ place. place < places spans.now) }
 {
     let mut place = Some(0);
@@ -90,7 +90,7 @@ pub(crate) fn place_of(spans: &[Span], keys: &[KeyValue]) -> Option<usize>
 // The keys whose place this is, where some list has it.
 pub(crate) fn keys_at(spans: &[Span], place: usize) -> [KeyValue; 6]
     requires few { length spans.now ≤ 6 }
-    ensures { (keys : List Value) → spec.place_of spans.now keys ≡ Some place
+    ensures { (keys : List Value) → spec.cell_place spans.now keys ≡ Some place
         → take (length spans.now) result ≡ keys }
 {
     let mut keys = [KeyValue::Code(0); 6];
@@ -120,7 +120,7 @@ fn add_lane(span: Span, lane: &[i64], at: &mut [u32]) -> bool
     requires small { (row : ℕ) → row < length lane.now
         → span.last + (span.last + 1) * slice_index_or at.old row 0 < 2 ^ 32 }
     ensures places { result ≡ true → (row : ℕ) → row < length lane.now
-        → above (up_to span.last (slice_index_or lane.now row (pos 0) -ℤ span.low))
+        → above (place_up_to span.last (slice_index_or lane.now row (pos 0) -ℤ span.low))
         (span.last + 1) (Some (slice_index_or at.old row 0))
         ≡ Some (slice_index_or at.new row 0) }
     ensures len { length at.new ≡ length at.old }
@@ -162,7 +162,7 @@ pub(crate) fn find_places(spans: &[Span], batch: &PutBatch<'_>, at: &mut [u32]) 
     requires few { places spans.now ≤ 65536 }
     requires rows { length at.old ≡ batch.now.rows }
     ensures places { result ≡ true → (row : ℕ) → row < batch.now.rows
-        → spec.place_of spans.now (put_in batch.now row).keys ≡ Some (slice_index_or at.new row 0) }
+        → spec.cell_place spans.now (put_in batch.now row).keys ≡ Some (slice_index_or at.new row 0) }
     ensures len { length at.new ≡ length at.old }
 {
     clear(at);

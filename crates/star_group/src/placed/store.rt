@@ -1,9 +1,10 @@
 // A placed store is a store of groups.
 
 ghost use Rattle.std.specs.Prelude.{◌≡◌, ◌≤◌, ℕ, List, [], IfOk, OnErr, OnOk, length};
-ghost use Rattle.star_group.specs.Batches.{HasRoomForRows, IsPutBatch, after, put_in};
-ghost use Rattle.star_group.specs.Placed.{group_of, Has};
-ghost use Rattle.star_group.specs.Stores.{Put, group_declared};
+ghost use Rattle.star_group.specs.Batches.{HasRoomForRows, IsPutBatch, puts_after, put_in};
+ghost use Rattle.star_group.specs.Placed.{group_view, Has};
+ghost use Rattle.star_program.specs.Puts.{Update};
+ghost use Rattle.star_group.specs.Stores.{group_declared};
 
 use super::PlacedStore;
 use super::cells::{take_batch, take_one};
@@ -30,7 +31,7 @@ impl PlacedStore {
     ) -> Result<PlacedStore, AllocError>
         requires few_keys { length declared.now.keys ≤ 6 }
         requires few { length declared.now.aggregates ≤ 8 }
-        ensures group { IfOk result (λ store. group_of store ≡ group_declared declared.now) }
+        ensures group { IfOk result (λ store. group_view store ≡ group_declared declared.now) }
         ensures empty { IfOk result (λ store. Has store []) }
     {
         let rest = DeferredStore::new(alloc, declared)?;
@@ -49,15 +50,15 @@ impl PlacedStore {
 impl PlacedStore {
     // The puts of some rows, one after another in order.
     fn put_rows(&mut self, batch: &PutBatch<'_>) -> Result<(), AllocError>
-        requires declared { group_declared batch.now.declared.now ≡ group_of self.old }
+        requires declared { group_declared batch.now.declared.now ≡ group_view self.old }
         requires batch { IsPutBatch batch.now }
-        requires room { (puts : List Put) × Has self.old puts
-            × HasRoomForRows (group_of self.old) (put_in batch.now) puts batch.now.rows }
-        ensures ok { OnOk result ((puts : List Put) → Has self.old puts
-            → Has self.new (after (put_in batch.now) puts batch.now.rows)) }
-        ensures refused { OnErr result ((puts : List Put) → Has self.old puts
-            → (rows : ℕ) × Has self.new (after (put_in batch.now) puts rows)) }
-        ensures group { group_of self.new ≡ group_of self.old }
+        requires room { (puts : List Update) × Has self.old puts
+            × HasRoomForRows (group_view self.old) (put_in batch.now) puts batch.now.rows }
+        ensures ok { OnOk result ((puts : List Update) → Has self.old puts
+            → Has self.new (puts_after (put_in batch.now) puts batch.now.rows)) }
+        ensures refused { OnErr result ((puts : List Update) → Has self.old puts
+            → (rows : ℕ) × Has self.new (puts_after (put_in batch.now) puts rows)) }
+        ensures group { group_view self.new ≡ group_view self.old }
     {
         for row in 0..batch.rows {
             let keys = batch.keys_in(row);
@@ -72,7 +73,7 @@ impl PlacedStore {
 }
 
 impl GroupStore for PlacedStore {
-    ghost group = { group_of };
+    ghost group = { group_view };
 
     ghost has = { Has };
 

@@ -10,11 +10,12 @@ use Rattle.star_program.specs.declared.key.KeyValue.{KeyValue}
 use Rattle.star_program.specs.declared.outcome.Cell.{Cell}
 use Rattle.star_program.specs.declared.program.Show.{Show}
 use Rattle.star_program.specs.Keys.{key_value_cmp}
-use Rattle.star_program.specs.Outcome.{cell_of, decoded_row}
+use Rattle.star_program.specs.Outcome.{decoded_row}
+use Rattle.star_program.specs.RowCells.{cell_of}
 use Rattle.star_program.specs.Puts.{Update}
 use Rattle.star_program.specs.World.{World}
 use Rattle.star_group.specs.declared.group_row.GroupRow.{GroupRow}
-use Rattle.star_group.specs.Shown.{row_shown}
+use Rattle.star_group.specs.StoreRows.{row_view}
 use Rattle.star_group.specs.Stores.{Group}
 use Rattle.star_outcome.specs.SoundKeys.{IsSoundKey}
 
@@ -31,10 +32,10 @@ AreDecodable database _ _ = ⊥
 
 -- the cells of a row, one for each show line
 abbrev pub row_cells : World → GroupDecl → List Show → GroupRow → List Cell
-row_cells w d shows row = map (λ show. cell_of (decoded_row w d (row_shown row)) show.column) shows
+row_cells w d shows row = map (λ show. cell_of (decoded_row w d (row_view row)) show.column) shows
 
 -- the groups of some updates as a report has them, but with codes for texts
 pub record AreSortedGroups (d : Group) (sorts : List SortKey) (updates : List Update)
     (rows : List GroupRow) : Type 0 where
-  pub groups : AreGroups key_value_cmp d.shape d.count d.aggregates updates (map row_shown rows)
-  pub in_order : AreInOrder key_value_cmp sorts (map row_shown rows)
+  pub groups : AreGroups key_value_cmp d.shape d.count d.aggregates updates (map row_view rows)
+  pub in_order : AreInOrder key_value_cmp sorts (map row_view rows)

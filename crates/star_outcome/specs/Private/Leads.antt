@@ -12,7 +12,7 @@ use Rattle.star_schema.specs.Groups.{GroupRow as Row}
 use Rattle.star_program.specs.declared.key.KeyValue.{KeyValue}
 use Rattle.star_program.specs.declared.key.KeyValue.TheVariants as key
 use Rattle.star_group.specs.declared.group_row.GroupRow.{GroupRow}
-use Rattle.star_group.specs.Shown.{row_at, row_shown}
+use Rattle.star_group.specs.StoreRows.{row_at, row_view}
 use Rattle.star_outcome.specs.Private.RowOrder.{row_order}
 use Rattle.star_outcome.specs.declared.outcome.leads.Lead.{Lead}
 use Rattle.star_outcome.specs.declared.outcome.leads.Led.{Led}
@@ -124,8 +124,8 @@ led_by lead next number = record {
 -- rows by their numbers, each beside what leads it
 abbrev pub led_cmp : List SortKey → List GroupRow → Led → Led → Ordering
 led_cmp sorts rows a b = ordering_then (leads_cmp a b)
-    (row_order sorts (row_shown (row_at rows a.number)) (row_shown (row_at rows b.number)))
+    (row_order sorts (row_view (row_at rows a.number)) (row_view (row_at rows b.number)))
 
 abbrev pub led_at : List SortKey → List GroupRow → ℕ → Led
-led_at sorts rows number = led_by (in_direction sorts (lead_of sorts (row_shown (row_at rows number))))
-    (next_beside sorts (row_shown (row_at rows number))) number
+led_at sorts rows number = led_by (in_direction sorts (lead_of sorts (row_view (row_at rows number))))
+    (next_beside sorts (row_view (row_at rows number))) number

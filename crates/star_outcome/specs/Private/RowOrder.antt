@@ -16,7 +16,7 @@ use Rattle.star_program.specs.declared.key.KeyValue.{KeyValue}
 use Rattle.star_program.specs.Keys.{key_value_cmp}
 use Rattle.star_group.specs.declared.group_row.GroupRow.{GroupRow}
 use Rattle.star_group.specs.OwnKeys.{key_eq}
-use Rattle.star_group.specs.Shown.{row_shown}
+use Rattle.star_group.specs.StoreRows.{row_view}
 
 -- ---- as reports are sorted, but with NULL before the numbers
 
@@ -53,4 +53,4 @@ pub record HaveSameNulls (a b : Row KeyValue) : Type 0 where
 
 pub record AllHaveSameNulls (rows : List GroupRow) : Type 0 where
   pub each : (a b : GroupRow) → Contains rows a → Contains rows b
-      → HaveSameNulls (row_shown a) (row_shown b)
+      → HaveSameNulls (row_view a) (row_view b)

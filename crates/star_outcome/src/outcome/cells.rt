@@ -5,12 +5,14 @@ ghost use Rattle.std.specs.List.{flat_map};
 ghost use Rattle.std.specs.Option.{option_map};
 ghost use Rattle.star_schema.specs.declared.column.Kind.TheVariants as kind;
 ghost use Rattle.star_schema.specs.Schema.{kind_of};
-ghost use Rattle.star_group.specs.Shown.{row_at, row_shown};
-ghost use Rattle.star_program.specs.Outcome as outcome;
-ghost use Rattle.star_program.specs.Outcome.{cell_of, decoded, decoded_row};
-ghost use Rattle.star_program.specs.Shown.{has_column};
+ghost use Rattle.star_group.specs.StoreRows.{row_at, row_view};
+ghost use Rattle.star_program.specs.RowCells as row_cells;
+ghost use Rattle.star_program.specs.Outcome.{decoded, decoded_row};
+ghost use Rattle.star_program.specs.RowCells.{cell_of};
+ghost use Rattle.star_program.specs.ShowLines.{has_column};
 ghost use Rattle.star_outcome.specs.Private.Decoded.{AreDecodable, IsDecodable, row_cells};
-ghost use Rattle.star_world.specs.WorldOf.{column_dictionary, world_of};
+ghost use Rattle.star_world.specs.WorldOf.{world_of};
+ghost use Rattle.star_schema.specs.Columns.{column_dictionary};
 
 use super::ahead::Ahead;
 use super::order::part_at;
@@ -45,7 +47,7 @@ fn key_cell(
     requires { IsDecodable catalogue.now declared key }
     ensures { IfOk result
         (λ cell. cell
-        ≡ outcome.key_cell (option_map (decoded (world_of catalogue.now) declared) key)) }
+        ≡ row_cells.key_cell (option_map (decoded (world_of catalogue.now) declared) key)) }
 {
     match (key, declared) {
         (None, _) => Ok(Cell::All),
@@ -59,7 +61,7 @@ fn key_cell(
 
 // An aggregate, as a report shows it.
 fn total_cell(total: Option<i128>) -> Cell
-    ensures { result ≡ outcome.total_cell total }
+    ensures { result ≡ row_cells.total_cell total }
 {
     match total {
         Some(number) => Cell::Number(number),
@@ -81,7 +83,7 @@ fn cell(
     ensures { IfOk result
         (λ cell. cell
         ≡ cell_of (decoded_row (world_of catalogue.now) declared.now
-        (row_shown (row_at rows.now number))) column) }
+        (row_view (row_at rows.now number))) column) }
 {
     match column {
         GroupColumn::Key(place) => key_cell(

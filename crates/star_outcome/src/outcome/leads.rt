@@ -3,7 +3,7 @@
 
 ghost use Rattle.std.specs.Prelude.{◌≡◌, IfOk, length, map};
 ghost use Rattle.std.specs.List.{range_with_len};
-ghost use Rattle.star_group.specs.Shown.{row_at, row_shown};
+ghost use Rattle.star_group.specs.StoreRows.{row_at, row_view};
 ghost use Rattle.star_outcome.specs.Private.Leads as spec;
 ghost use Rattle.star_outcome.specs.Private.Leads.{lead_cmp, leads_cmp, led_at};
 
@@ -184,7 +184,7 @@ fn first_lead(keys: &[Option<KeyValue>]) -> Lead
 }
 
 fn column_lead(column: GroupColumn, rows: &GroupRows, number: usize) -> Lead
-    ensures { result ≡ spec.column_lead column (row_shown (row_at rows.now number)) }
+    ensures { result ≡ spec.column_lead column (row_view (row_at rows.now number)) }
 {
     match column {
         GroupColumn::Key(place) => key_lead(part_at(rows.keys(number), place)),
@@ -203,7 +203,7 @@ fn second_lead(keys: &[Option<KeyValue>]) -> Lead
 
 // In the column of the first sort key, or else in that of the first key.
 fn lead_of(sorts: &[SortKey], rows: &GroupRows, number: usize) -> Lead
-    ensures { result ≡ spec.lead_of sorts.now (row_shown (row_at rows.now number)) }
+    ensures { result ≡ spec.lead_of sorts.now (row_view (row_at rows.now number)) }
 {
     match sorts {
         [] => first_lead(rows.keys(number)),
@@ -213,7 +213,7 @@ fn lead_of(sorts: &[SortKey], rows: &GroupRows, number: usize) -> Lead
 
 // In the column that is compared next.
 fn next_of(sorts: &[SortKey], rows: &GroupRows, number: usize) -> Lead
-    ensures { result ≡ spec.next_of sorts.now (row_shown (row_at rows.now number)) }
+    ensures { result ≡ spec.next_of sorts.now (row_view (row_at rows.now number)) }
 {
     match sorts {
         [] => second_lead(rows.keys(number)),
@@ -224,8 +224,8 @@ fn next_of(sorts: &[SortKey], rows: &GroupRows, number: usize) -> Lead
 // Of the column that is compared next, in its direction; nothing, where the first lead may be beyond
 // its end, so that rows whose leads are level there are read.
 fn next_beside(sorts: &[SortKey], rows: &GroupRows, number: usize, first: Lead) -> Lead
-    requires { first ≡ spec.lead_of sorts.now (row_shown (row_at rows.now number)) }
-    ensures { result ≡ spec.next_beside sorts.now (row_shown (row_at rows.now number)) }
+    requires { first ≡ spec.lead_of sorts.now (row_view (row_at rows.now number)) }
+    ensures { result ≡ spec.next_beside sorts.now (row_view (row_at rows.now number)) }
 {
     if is_end(first) {
         NULL

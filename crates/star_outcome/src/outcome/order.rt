@@ -3,7 +3,7 @@
 ghost use Rattle.std.specs.Prelude.{◌≡◌, IfOk, IsPermutation, None, map, slice_index_or};
 ghost use Rattle.std.specs.Cmp.Lexicographic.{slice_cmp};
 ghost use Rattle.star_schema.specs.Order.{AreInOrder, key_cmp};
-ghost use Rattle.star_group.specs.Shown.{row_at, row_shown};
+ghost use Rattle.star_group.specs.StoreRows.{row_at, row_view};
 ghost use Rattle.star_program.specs.Keys.{key_value_cmp};
 ghost use Rattle.star_outcome.specs.Private.Leads.{led_cmp};
 ghost use Rattle.star_outcome.specs.Private.RowOrder.{AllHaveSameNulls, AreApart, column_order, sort_order, row_order};
@@ -65,7 +65,7 @@ pub(super) fn part_at<T: Copy>(parts: &[Option<T>], place: u16) -> Option<T>
 
 fn compare_at(column: GroupColumn, rows: &GroupRows, a: usize, b: usize) -> Ordering
     ensures { result ≡ column_order column
-        (row_shown (row_at rows.now a)) (row_shown (row_at rows.now b)) }
+        (row_view (row_at rows.now a)) (row_view (row_at rows.now b)) }
 {
     match column {
         GroupColumn::Key(place) => {
@@ -80,7 +80,7 @@ fn compare_at(column: GroupColumn, rows: &GroupRows, a: usize, b: usize) -> Orde
 
 fn compare_by(sort: SortKey, rows: &GroupRows, a: usize, b: usize) -> Ordering
     ensures { result ≡ sort_order sort
-        (row_shown (row_at rows.now a)) (row_shown (row_at rows.now b)) }
+        (row_view (row_at rows.now a)) (row_view (row_at rows.now b)) }
 {
     match sort.direction {
         Direction::Ascending => compare_at(sort.column, rows, a, b),
@@ -93,7 +93,7 @@ fn compare_by(sort: SortKey, rows: &GroupRows, a: usize, b: usize) -> Ordering
 // row: an aggregate is NULL in all rows of a group or in none.
 fn compare_rows(sorts: &[SortKey], rows: &GroupRows, a: usize, b: usize) -> Ordering
     ensures { result ≡ row_order sorts.now
-        (row_shown (row_at rows.now a)) (row_shown (row_at rows.now b)) }
+        (row_view (row_at rows.now a)) (row_view (row_at rows.now b)) }
 {
     match sorts {
         [] => compare_key_lists(rows.keys(a), rows.keys(b)),
@@ -125,7 +125,7 @@ pub(super) fn sorted_numbers(
     ensures { IfOk result
         (λ numbers. IsPermutation rows.now (map (row_at rows.now) numbers.items)
         × AreInOrder key_value_cmp sorts.now
-        (map row_shown (map (row_at rows.now) numbers.items))) }
+        (map row_view (map (row_at rows.now) numbers.items))) }
 {
     let mut all = all_led(alloc, sorts, rows)?;
     all.sort_unstable_by(|a, b| compare_led(sorts, rows, a, b));

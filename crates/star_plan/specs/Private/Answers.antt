@@ -8,7 +8,7 @@ use Rattle.star_plan.specs.declared.fault.PlanFault.TheVariants.{OutOfMemory}
 use Rattle.star_query.specs.declared.tree.Comparison.{Comparison}
 use Rattle.star_query.specs.declared.tree.Condition as of_query
 use Rattle.star_plan.specs.Meaning.{RowCondition}
-use Rattle.star_plan.specs.Shown.{condition_shown}
+use Rattle.star_plan.specs.Views.{row_condition_view}
 
 -- the answer tells the fault that there is, or want of memory
 abbrev pub Tells : {X : Type 0} → Option PlanFault → Result X PlanFault → Type 0
@@ -20,5 +20,5 @@ abbrev pub Resolves : {X A : Type 0} → (X → A) → Option A → Result X Pla
 Resolves shown there (Ok x) = Some (shown x) ≡ there
 Resolves shown there (Err e) = UnlessMemory OutOfMemory e (None ≡ there)
 
-abbrev pub conditions_shown : Vec (of_query.Condition (Comparison ColumnId)) Global → List RowCondition
-conditions_shown cs = map condition_shown cs.items
+abbrev pub conditions_view : Vec (of_query.Condition (Comparison ColumnId)) Global → List RowCondition
+conditions_view cs = map row_condition_view cs.items

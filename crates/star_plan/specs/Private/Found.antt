@@ -5,14 +5,14 @@ use Rattle.star_plan.specs.declared.uses.Use as of_uses
 use Rattle.star_plan.specs.Joins.{Pair}
 use Rattle.star_plan.specs.Uses.{Use}
 
-abbrev pub pair_shown : of_joins.Pair → Pair
-pair_shown p = record { join = p.join; at = p.at }
+abbrev pub pair_view : of_joins.Pair → Pair
+pair_view p = record { join = p.join; at = p.at }
 
-abbrev pub use_shown : of_uses.Use → Use
-use_shown u = record { column = u.column; fits = u.fits; at = u.at }
+abbrev pub use_view : of_uses.Use → Use
+use_view u = record { column = u.column; fits = u.fits; at = u.at }
 
-abbrev pub pairs_shown : List of_joins.Pair → List Pair
-pairs_shown pairs = map pair_shown pairs
+abbrev pub pairs_view : List of_joins.Pair → List Pair
+pairs_view pairs = map pair_view pairs
 
-abbrev pub uses_shown : List of_uses.Use → List Use
-uses_shown uses = map use_shown uses
+abbrev pub uses_view : List of_uses.Use → List Use
+uses_view uses = map use_view uses

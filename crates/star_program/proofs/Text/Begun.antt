@@ -8,7 +8,7 @@ use Rattle.star_program.specs.Private.Drafts.{IsAdded, IsAt, IsInOrder, begun, c
 use Rattle.star_program.specs.Private.Followed.{followed}
 use Rattle.star_program.specs.Private.Places.{after, after_in, start}
 use Rattle.star_program.specs.Limits.{IsWithinLimits}
-use Rattle.star_program.specs.Text.Spelling.{statements_of}
+use Rattle.star_program.specs.Text.Spelling.{program_statements}
 use Rattle.star_program.specs.declared.program.Parts.{Parts}
 use Rattle.star_program.specs.declared.spelling.draft.Draft.{Draft}
 use Rattle.star_program.specs.declared.spelling.draft.OpenScan.{OpenScan}
@@ -28,11 +28,11 @@ use Rattle.star_program.proofs.Text.Takes.{takes}
 
 -- these statements begin a program
 abbrev pub Begun : List Statement → Type 0
-Begun ss = (p : Parts) × (more : List Statement) × (ss ++ more ≡ statements_of p)
+Begun ss = (p : Parts) × (more : List Statement) × (ss ++ more ≡ program_statements p)
 
 -- and one within the limits
 abbrev pub BegunWithin : List Statement → Type 0
-BegunWithin ss = (p : Parts) × IsWithinLimits p × (more : List Statement) × (ss ++ more ≡ statements_of p)
+BegunWithin ss = (p : Parts) × IsWithinLimits p × (more : List Statement) × (ss ++ more ≡ program_statements p)
 
 -- ---- drafts as programs
 
@@ -56,7 +56,7 @@ closed_says (o ∷ os) b =
     regrouped : (a b c : List Statement) (s : Statement) (x : List Statement) → a ++ s ∷ ((b ++ c) ++ x) ≡ ((a ++ s ∷ b) ++ c) ++ x
     regrouped a b c s x = simp append_assoc
 
-begun_more : (d : Draft) → begun d ++ (replicate (length d.scans) says.End ++ says.Report 0 ∷ []) ≡ statements_of (as_begun d)
+begun_more : (d : Draft) → begun d ++ (replicate (length d.scans) says.End ++ says.Report 0 ∷ []) ≡ program_statements (as_begun d)
 begun_more d =
     ap (λ ss. says.Header ∷ says.Registers d.registers ∷ ss)
     (regrouped (groups_say 0 d.groups) (opens_say d.scans ++ code_says d.body) (replicate (length d.scans) says.End) (says.Report 0)
@@ -69,7 +69,7 @@ begun_more d =
 begun_begins : (d : Draft) → Begun (begun d)
 begun_begins d = (as_begun d, replicate (length d.scans) says.End ++ says.Report 0 ∷ [], begun_more d)
 
-whole_is : (d : Draft) → whole d ≡ statements_of (finished d)
+whole_is : (d : Draft) → whole d ≡ program_statements (finished d)
 whole_is d = sym (program_said (finished d))
 
 whole_begins : (d : Draft) → Begun (whole d)
@@ -142,7 +142,7 @@ small_begun g i dp sh so st d at =
     }
 
 begins_in : (st : Stage) (g i dp sh so : ℕ) (d : Draft) → IsAt (place st g i dp sh so) d → BegunWithin (told st d)
-begins_in stage.Header g i dp sh so d at = (as_begun d, small_begun g i dp sh so stage.Header d at, statements_of (as_begun d), refl)
+begins_in stage.Header g i dp sh so d at = (as_begun d, small_begun g i dp sh so stage.Header d at, program_statements (as_begun d), refl)
 begins_in stage.Registers g i dp sh so d at =
     let p : Parts = as_begun d in
     (p, small_begun g i dp sh so stage.Registers d at, says.Registers p.registers ∷ (groups_say 0 p.groups ++ (code_says p.body ++ says.Report p.report ∷ [])), sym (program_said p))
@@ -233,14 +233,14 @@ begins_follows ss q s h begins =
     (through.2.0, subst (λ p. Follows p s through.2.0) same through.2.1)
 
 -- statements that are all of a program's end below its report
-pub ends_below : (ss : List Statement) (q : Place) (p : Parts) → Stands ss q → ss ≡ statements_of p → IsBelowReport q.stage
+pub ends_below : (ss : List Statement) (q : Place) (p : Parts) → Stands ss q → ss ≡ program_statements p → IsBelowReport q.stage
 ends_below ss q p h is =
     let path = program_path p in
     let same : path.0 ≡ q = path_one start path.0 q ss (subst (λ ts. Path start ts path.0) (sym is) path.1) (walk_path start q ss h.walk) in
     subst (λ r. IsBelowReport r.stage) same path.2
 
 -- and others end nowhere
-pub below_ends : (ss : List Statement) (q : Place) → Stands ss q → IsBelowReport q.stage → (p : Parts) × (ss ≡ statements_of p)
+pub below_ends : (ss : List Statement) (q : Place) → Stands ss q → IsBelowReport q.stage → (p : Parts) × (ss ≡ program_statements p)
 below_ends ss q h below = (finished h.draft, sym h.says ∙ all_told q.stage h.draft below ∙ whole_is h.draft)
   where
     all_told : (st : Stage) (d : Draft) → IsBelowReport st → told st d ≡ whole d

@@ -2,7 +2,7 @@
 use Rattle.std.specs.Prelude.{nat_le}
 use Rattle.std.proofs.Common.{◌≡◌, ◌+◌, ◌&&◌, ◌∷◌, [], ℕ, true, false, List, Some, Ok, Err, refl, lit≤}
 use Rattle.std.proofs.lemmas.Bool.{and_parts, leb-true}
-use Rattle.star_program.specs.Text.Lines.{is_blank, lines_of}
+use Rattle.star_program.specs.Text.Lines.{is_blank_line, lines_of}
 use Rattle.star_program.specs.Private.Within.{IsWithin}
 use Rattle.star_program.specs.Private.Places.{advance, end_in, fault_from, is_within, start, text_fault}
 use Rattle.star_program.specs.declared.spelling.fault.TextFault.{TextFault}
@@ -28,15 +28,15 @@ within_from p h =
       sorts = leb-true _ _ d.1;
     }
 
-pub blank_line : (p : Place) (n : ℕ) (text : List ℕ) (texts : List (List ℕ)) → is_blank text ≡ true → fault_from p n (text ∷ texts) ≡ fault_from p (n + 1) texts
+pub blank_line : (p : Place) (n : ℕ) (text : List ℕ) (texts : List (List ℕ)) → is_blank_line text ≡ true → fault_from p n (text ∷ texts) ≡ fault_from p (n + 1) texts
 unfolding fault_from
 blank_line p n text texts blank = rw blank refl
 
-pub advanced : (p : Place) (n : ℕ) (text : List ℕ) (texts : List (List ℕ)) (q : Place) → is_blank text ≡ false → advance p n text ≡ Ok q → fault_from p n (text ∷ texts) ≡ fault_from q (n + 1) texts
+pub advanced : (p : Place) (n : ℕ) (text : List ℕ) (texts : List (List ℕ)) (q : Place) → is_blank_line text ≡ false → advance p n text ≡ Ok q → fault_from p n (text ∷ texts) ≡ fault_from q (n + 1) texts
 unfolding fault_from
 advanced p n text texts q filled goes = rw (filled, goes) refl
 
-pub refused : (p : Place) (n : ℕ) (text : List ℕ) (texts : List (List ℕ)) (f : TextFault) → is_blank text ≡ false → advance p n text ≡ Err f → fault_from p n (text ∷ texts) ≡ Some f
+pub refused : (p : Place) (n : ℕ) (text : List ℕ) (texts : List (List ℕ)) (f : TextFault) → is_blank_line text ≡ false → advance p n text ≡ Err f → fault_from p n (text ∷ texts) ≡ Some f
 unfolding fault_from
 refused p n text texts f filled goes = rw (filled, goes) refl
 

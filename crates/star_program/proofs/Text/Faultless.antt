@@ -3,7 +3,7 @@ use Rattle.std.proofs.Common.{◌≡◌, ◌↔◌, ◌+◌, ◌∙◌, ◌∷�
 use Rattle.std.proofs.lemmas.Bool.{cases_Bool}
 use Rattle.star_program.specs.Private.Drafts.{IsAt, finished, nothing_read, told}
 use Rattle.star_program.specs.Limits.{IsWithinLimits}
-use Rattle.star_program.specs.Text.Lines.{is_blank, lines_of}
+use Rattle.star_program.specs.Text.Lines.{is_blank_line, lines_of}
 use Rattle.star_program.specs.Private.Places.{advance, end_in, fault_from, reached_by, start, text_fault}
 use Rattle.star_program.specs.Text.Said.{said, said_in}
 use Rattle.star_program.specs.Text.Spelling.{Spells}
@@ -29,7 +29,7 @@ advance_says p line text q h = elim (cases_Bool (opens_report p text)) [
   | inr other ↦ reached_says p line (said text) q (rw other at h)
 ]
 
-faultless_advances : (p : Place) (line : ℕ) (text : List ℕ) (texts : List (List ℕ)) → is_blank text ≡ false → fault_from p line (text ∷ texts) ≡ None → (q : Place) × (advance p line text ≡ Ok q)
+faultless_advances : (p : Place) (line : ℕ) (text : List ℕ) (texts : List (List ℕ)) → is_blank_line text ≡ false → fault_from p line (text ∷ texts) ≡ None → (q : Place) × (advance p line text ≡ Ok q)
 faultless_advances p line text texts filled h = settled (advance p line text) refl
   where
     settled : (r : Result Place TextFault) → advance p line text ≡ r → (q : Place) × (advance p line text ≡ Ok q)
@@ -43,7 +43,7 @@ Finishes p d texts =
 
 finishes : (texts : List (List ℕ)) (p : Place) (d : Draft) (line : ℕ) → IsAt p d → fault_from p line texts ≡ None → Finishes p d texts
 finishes [] p d line at h = (p, d, line, at, append-nil (map Some (told p.stage d)), sym (ended p line) ∙ h)
-finishes (text ∷ texts) p d line at h = elim (cases_Bool (is_blank text)) [
+finishes (text ∷ texts) p d line at h = elim (cases_Bool (is_blank_line text)) [
   | inl blank ↦
       let passed = blank_passed p d line text blank at in
       let rest = finishes texts p d (line + 1) at (sym (passed.faults texts) ∙ h) in

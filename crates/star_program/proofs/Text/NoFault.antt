@@ -11,11 +11,11 @@ use Rattle.star_program.specs.Code.{Code, Stop, Then, Each, code_size, scan_dept
 use Rattle.star_program.specs.Private.Drafts.{code_says, groups_say}
 use Rattle.star_program.specs.Text.Keywords.{keyword_name, keyword_of, same}
 use Rattle.star_program.specs.Limits.{IsSmall, IsWithinLimits}
-use Rattle.star_program.specs.Text.Lines.{is_blank, lines_of, words_of}
+use Rattle.star_program.specs.Text.Lines.{is_blank_line, lines_of, words_of}
 use Rattle.star_program.specs.Text.Numerals.{count_of}
 use Rattle.star_program.specs.Private.Places.{advance, after, after_in, after_step, begins_report, end_in, fault_from, is_small, is_within, start, text_fault}
 use Rattle.star_program.specs.Text.Said.{by_keyword, by_words, one, said}
-use Rattle.star_program.specs.Text.Spelling.{Spells, statements_of}
+use Rattle.star_program.specs.Text.Spelling.{Spells, program_statements}
 use Rattle.star_program.specs.declared.group.GroupDecl.{GroupDecl}
 use Rattle.star_program.specs.declared.op.Op.{Op}
 use Rattle.star_program.specs.declared.program.Parts.{Parts}
@@ -108,20 +108,20 @@ advances p q line text s is goes =
     let small = goes.small in
     rw (no_report p q text s is may, is, may, inside, small) refl
 
-walk_faults : (texts : List (List ℕ)) (ss : List Statement) (p q : Place) (line : ℕ) → map said (filter (λ text. not (is_blank text)) texts) ≡ map Some ss → Walks p ss q
+walk_faults : (texts : List (List ℕ)) (ss : List Statement) (p q : Place) (line : ℕ) → map said (filter (λ text. not (is_blank_line text)) texts) ≡ map Some ss → Walks p ss q
     → ((n : ℕ) → end_in q.stage q.depth n ≡ None) → fault_from p line texts ≡ None
 walk_faults [] [] p q line says walks ends = rw walks (ended q line ∙ ends line)
 walk_faults [] (s ∷ ss) p q line says walks ends = let bad : ⊥ = cc in absurd bad
-walk_faults (text ∷ texts) [] p q line says walks ends = elim (cases_Bool (is_blank text)) [
+walk_faults (text ∷ texts) [] p q line says walks ends = elim (cases_Bool (is_blank_line text)) [
   | inl blank ↦ blank_line p line text texts blank ∙ walk_faults texts [] p q (line + 1) (rw blank at says) walks ends
   | inr filled ↦ let bad : ⊥ = let none = rw filled at says in cc in absurd bad
 ]
-walk_faults (text ∷ texts) (s ∷ ss) p q line says walks ends = elim (cases_Bool (is_blank text)) [
+walk_faults (text ∷ texts) (s ∷ ss) p q line says walks ends = elim (cases_Bool (is_blank_line text)) [
   | inl blank ↦ blank_line p line text texts blank ∙ walk_faults texts (s ∷ ss) p q (line + 1) (rw blank at says) walks ends
   | inr filled ↦
       let all = rw filled at says in
       let here : said text ≡ Some s = cc in
-      let rest : map said (filter (λ t. not (is_blank t)) texts) ≡ map Some ss = cc in
+      let rest : map said (filter (λ t. not (is_blank_line t)) texts) ≡ map Some ss = cc in
       advanced p line text texts walks.0 filled (advances p walks.0 line text s here walks.1) ∙ walk_faults texts ss walks.0 q (line + 1) rest walks.2 ends
 ]
 
@@ -269,7 +269,7 @@ header_follows = record { after = refl; within = refl; small = refl }
 body_first : (gs code tail : List Statement) (r : Statement) → gs ++ (code ++ r ∷ tail) ≡ gs ++ ((code ++ r ∷ []) ++ tail)
 body_first gs code tail r = ap (λ ss. gs ++ ss) (sym (append_assoc code (r ∷ []) tail))
 
-pub program_ends : (p : Parts) → IsWithinLimits p → Ends start (statements_of p)
+pub program_ends : (p : Parts) → IsWithinLimits p → Ends start (program_statements p)
 program_ends p h =
     let g : ℕ = length p.groups in
     let i : ℕ = code_size p.body in
@@ -285,7 +285,7 @@ program_ends p h =
     ends_on (place stage.Groups 0 0 0 0 0) (place stage.Groups g 0 0 0 0) (groups_say 0 p.groups) ((code_says p.body ++ says.Report p.report ∷ []) ++ tail_of p) groups below in
     let all : Ends start (says.Header ∷ says.Registers p.registers ∷ (groups_say 0 p.groups ++ ((code_says p.body ++ says.Report p.report ∷ []) ++ tail_of p))) =
     (after_head.0, (place stage.Registers 0 0 0 0 0, header_follows, (place stage.Groups 0 0 0 0 0, registers_follow p.registers h.registers, after_head.1)), after_head.2) in
-    let is : statements_of p ≡ says.Header ∷ says.Registers p.registers ∷ (groups_say 0 p.groups ++ ((code_says p.body ++ says.Report p.report ∷ []) ++ tail_of p)) =
+    let is : program_statements p ≡ says.Header ∷ says.Registers p.registers ∷ (groups_say 0 p.groups ++ ((code_says p.body ++ says.Report p.report ∷ []) ++ tail_of p)) =
     program_said p ∙ ap (λ ss. says.Header ∷ says.Registers p.registers ∷ ss) (body_first (groups_say 0 p.groups) (code_says p.body) (tail_of p) (says.Report p.report)) in
     subst (Ends start) (sym is) all
 
@@ -293,4 +293,4 @@ pub no_fault : (text : List ℕ) (p : Parts) → Spells text p → IsWithinLimit
 unfolding Spells
 no_fault text p spells small =
     let end = program_ends p small in
-    text_fault_is text ∙ walk_faults (lines_of text) (statements_of p) start end.0 1 spells end.1 end.2
+    text_fault_is text ∙ walk_faults (lines_of text) (program_statements p) start end.0 1 spells end.1 end.2

@@ -6,7 +6,7 @@ use Rattle.std.proofs.lemmas.List.{map-append}
 use Rattle.star_schema.specs.declared.group.SortKey.{SortKey}
 use Rattle.star_program.specs.Code.{Code, Stop, Then, Each}
 use Rattle.star_program.specs.Private.Drafts.{code_says, groups_say}
-use Rattle.star_program.specs.Text.Spelling.{OneProgram, Spells, statements_of}
+use Rattle.star_program.specs.Text.Spelling.{OneProgram, Spells, program_statements}
 use Rattle.star_program.specs.Text.Statements.{Line, group_lines, line, lines_of_code, show_line, sort_line}
 use Rattle.star_program.specs.declared.group.GroupDecl.{GroupDecl}
 use Rattle.star_program.specs.declared.program.Parts.{Parts}
@@ -130,7 +130,7 @@ sorts_said (k ∷ ks) = ap (λ ss. says.Sort k ∷ ss) (sorts_said ks)
 abbrev pub tail_of : Parts → List Statement
 tail_of p = map says.Show p.shows ++ map says.Sort p.sorts
 
-pub program_said : (p : Parts) → statements_of p ≡ says.Header ∷ says.Registers p.registers ∷ (groups_say 0 p.groups ++ (code_says p.body ++ says.Report p.report ∷ tail_of p))
+pub program_said : (p : Parts) → program_statements p ≡ says.Header ∷ says.Registers p.registers ∷ (groups_say 0 p.groups ++ (code_says p.body ++ says.Report p.report ∷ tail_of p))
 program_said p =
     let last : said_by (map show_line p.shows ++ map sort_line p.sorts) ≡ tail_of p =
     map-append (λ (l : Line). l.says) (map show_line p.shows) (map sort_line p.sorts)
@@ -161,7 +161,7 @@ bodies_apart c d g h ss ts e =
     let rest : ss ≡ ts = cc in
     (both.0, group, rest)
 
-programs_apart : (p q : Parts) → statements_of p ≡ statements_of q → p ≡ q
+programs_apart : (p q : Parts) → program_statements p ≡ program_statements q → p ≡ q
 programs_apart p q e =
     let all : says.Header ∷ says.Registers p.registers ∷ (groups_say 0 p.groups ++ (code_says p.body ++ says.Report p.report ∷ tail_of p))
     ≡ says.Header ∷ says.Registers q.registers ∷ (groups_say 0 q.groups ++ (code_says q.body ++ says.Report q.report ∷ tail_of q)) =
@@ -175,4 +175,4 @@ programs_apart p q e =
 
 pub one_program : OneProgram
 unfolding Spells
-one_program text p q spells also = programs_apart p q (map_some_apart (statements_of p) (statements_of q) (sym spells ∙ also))
+one_program text p q spells also = programs_apart p q (map_some_apart (program_statements p) (program_statements q) (sym spells ∙ also))

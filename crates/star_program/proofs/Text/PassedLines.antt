@@ -7,7 +7,7 @@ use Rattle.star_program.specs.Code.{Stop, Then, code_size}
 use Rattle.star_program.specs.Private.Drafts.{Counts, IsAdded, IsAt, IsClosed, IsInOrder, IsPassed, IsRefused, begun, closed, finished, nothing_read, told, whole}
 use Rattle.star_program.specs.Private.Followed.{followed}
 use Rattle.star_program.specs.Limits.{IsSmall, IsWithinLimits}
-use Rattle.star_program.specs.Text.Lines.{is_blank, lines_of, words_of}
+use Rattle.star_program.specs.Text.Lines.{is_blank_line, lines_of, words_of}
 use Rattle.star_program.specs.Private.Within.{IsWithin}
 use Rattle.star_program.specs.Private.Places.{advance, after, after_in, after_step, begins_report, end_in, is_small, is_within, reached, start}
 use Rattle.star_program.specs.Text.Said.{said, said_in}
@@ -199,14 +199,14 @@ advance_ok p line text s q is h = elim (cases_Bool (opens_report p text)) [
   | inr other ↦ rw (other, is) at h
 ]
 
-said_more : (p : Place) (d : Draft) (s : Statement) (q : Place) (e : Draft) (text : List ℕ) (texts : List (List ℕ)) → is_blank text ≡ false → said text ≡ Some s
+said_more : (p : Place) (d : Draft) (s : Statement) (q : Place) (e : Draft) (text : List ℕ) (texts : List (List ℕ)) → is_blank_line text ≡ false → said text ≡ Some s
     → told q.stage e ≡ told p.stage d ++ s ∷ [] → map Some (told p.stage d) ++ said_in (text ∷ texts) ≡ map Some (told q.stage e) ++ said_in texts
 said_more p d s q e text texts filled is more =
     let all : map Some (told q.stage e) ≡ map Some (told p.stage d) ++ Some s ∷ [] = ap (map Some) more ∙ map_push Some (told p.stage d) s in
     rw (filled, is, all) (sym (append_assoc (map Some (told p.stage d)) (Some s ∷ []) (said_in texts)))
 
 -- a line whose statement was added
-pub line_passed : (p : Place) (d : Draft) (line : ℕ) (text : List ℕ) (s : Statement) (q : Place) (e : Draft) → is_blank text ≡ false → IsAt p d → said text ≡ Some s
+pub line_passed : (p : Place) (d : Draft) (line : ℕ) (text : List ℕ) (s : Statement) (q : Place) (e : Draft) → is_blank_line text ≡ false → IsAt p d → said text ≡ Some s
     → advance p line text ≡ Ok q → IsAdded d s e → IsPassed p d line text q e
 line_passed p d line text s q e filled at is goes_there added =
     let reaches = reached_ok p line s (after p s) q (advance_ok p line text s q is goes_there) in
@@ -217,7 +217,7 @@ line_passed p d line text s q e filled at is goes_there added =
       says = λ texts. said_more p d s q e text texts filled is next.1;
     }
 
-pub blank_passed : (p : Place) (d : Draft) (line : ℕ) (text : List ℕ) → is_blank text ≡ true → IsAt p d → IsPassed p d line text p d
+pub blank_passed : (p : Place) (d : Draft) (line : ℕ) (text : List ℕ) → is_blank_line text ≡ true → IsAt p d → IsPassed p d line text p d
 blank_passed p d line text blank at = record {
   at = at;
   faults = λ texts. blank_line p line text texts blank;
@@ -284,6 +284,6 @@ end_spelled p d line text at h all =
     all ∙ ap (map Some) (last.1 ∙ sym (program_said (finished d)))
 
 -- a line that was refused
-pub line_refused : (p : Place) (line : ℕ) (text : List ℕ) (f : TextFault) → is_blank text ≡ false → (f ≡ fault.OutOfMemory) ⊎ (advance p line text ≡ Err f) → IsRefused f p line text
+pub line_refused : (p : Place) (line : ℕ) (text : List ℕ) (f : TextFault) → is_blank_line text ≡ false → (f ≡ fault.OutOfMemory) ⊎ (advance p line text ≡ Err f) → IsRefused f p line text
 line_refused p line text f filled (inl memory) = inl memory
 line_refused p line text f filled (inr refusal) = inr (λ texts. refused p line text texts f filled refusal)

@@ -4,7 +4,7 @@ use Rattle.std.proofs.lemmas.Bool.{eq-eqb, ne_eqb}
 use Rattle.star_program.specs.Code.{Code, Stop, Then, Each, code_size}
 use Rattle.star_program.specs.Private.Drafts.{code_says, groups_say}
 use Rattle.star_program.specs.Private.Places.{after, start}
-use Rattle.star_program.specs.Text.Spelling.{statements_of}
+use Rattle.star_program.specs.Text.Spelling.{program_statements}
 use Rattle.star_program.specs.declared.group.GroupDecl.{GroupDecl}
 use Rattle.star_program.specs.declared.program.Parts.{Parts}
 use Rattle.star_program.specs.declared.program.Show.{Show}
@@ -133,7 +133,7 @@ unfolding after start
 header_goes = refl
 
 -- any program can be followed from the start to where a text may end
-pub program_path : (p : Parts) → (q : Place) × Path start (statements_of p) q × IsBelowReport q.stage
+pub program_path : (p : Parts) → (q : Place) × Path start (program_statements p) q × IsBelowReport q.stage
 program_path p =
     let g : ℕ = length p.groups in
     let i : ℕ = code_size p.body in

@@ -12,13 +12,13 @@ use Rattle.star_schema.specs.declared.column.ColumnId.{ColumnId}
 use Rattle.star_schema.specs.declared.group.GroupColumn.{GroupColumn}
 use Rattle.star_schema.specs.declared.group.GroupColumn.TheVariants as column
 use Rattle.star_schema.specs.declared.group.SortKey.{SortKey}
-use Rattle.star_program.specs.Text.Keywords.{aggregate_of, column_of, direction_of, keyword_of, mnemonic_of, same, shape_of, table_of}
-use Rattle.star_program.specs.Text.Lines.{begins_with, is_blank, lines_of, pieces_of, words_of}
+use Rattle.star_program.specs.Text.Keywords.{aggregate_of_word, column_of_word, direction_of, keyword_of, mnemonic_of, same, shape_of_word, table_of_word}
+use Rattle.star_program.specs.Text.Lines.{begins_with, is_blank_line, lines_of, pieces_of, words_of}
 use Rattle.star_common.specs.Numerals.{numeral_of}
-use Rattle.star_program.specs.Text.Numerals.{constant_of, count_of, is_name, register_of, up_to}
-use Rattle.star_program.specs.Text.Said.{assigned, both, by_first, by_keyword, by_words, each, end_of, group_column_of, group_head, group_key_of, group_of, header_of, lists, name_of, one, only, operation_of, put_head, put_of, quoted_text_of, said, show_of, sort_of, text_key, three, two, unquoted, until_colon}
-use Rattle.star_program.specs.Text.Spellable.{IsConstant, IsKey, IsPrinted, IsSayable, IsShort, IsShortColumn, IsSpellableOp, IsSpellableOperation, OnlySpellable}
-use Rattle.star_program.specs.Text.Spelling.{Spells, statements_of}
+use Rattle.star_program.specs.Text.Numerals.{constant_of, count_of, is_show_name, register_of, up_to}
+use Rattle.star_program.specs.Text.Said.{assigned, both, by_first, by_keyword, by_words, each, end_of, group_column_of, group_head, group_key_of, group_of, header_of, lists, name_of, one, only_word, operation_of, put_head, put_of, quoted_text_of, said, show_of, sort_of, text_key, three, two, unquoted, until_colon}
+use Rattle.star_program.specs.Text.Spellable.{IsConstant, IsKey, IsPrinted, IsSayable, HasFourDigits, IsShortColumn, IsSpellableOp, IsSpellableOperation, OnlySpellable}
+use Rattle.star_program.specs.Text.Spelling.{Spells, program_statements}
 use Rattle.star_program.specs.World.{is_text}
 use Rattle.star_program.specs.declared.group.GroupKey.TheVariants as key
 use Rattle.star_program.specs.declared.op.Op.{Op}
@@ -58,7 +58,7 @@ abbrev Gives : {A : Type 0} → (List ℕ → Option A) → (A → Type 0) → T
 Gives {A} f P = (w : List ℕ) (x : A) → f w ≡ Some x → P x
 
 one_gives : {A : Type 0} (f : List ℕ → Option A) (P : A → Type 0) (ws : List (List ℕ)) (x : A) → Gives f P → one f ws ≡ Some x → P x
-one_gives f P ws x gives h = let c = chained f (only ws) x h in gives c.0 x c.2
+one_gives f P ws x gives h = let c = chained f (only_word ws) x h in gives c.0 x c.2
 
 two_gives : {A B : Type 0} (f : List ℕ → Option A) (g : List ℕ → Option B) (P : A → Type 0) (Q : B → Type 0) (ws : List (List ℕ)) (p : A × B) → Gives f P → Gives g Q → two f g ws ≡ Some p
     → P p.0 × Q p.1
@@ -110,14 +110,14 @@ Any x = Unit {0}
 
 -- ---- numbers
 
-count_short : Gives count_of IsShort
+count_short : Gives count_of HasFourDigits
 unfolding count_of
 count_short w n h =
     let below : n < 10 ^ 4 = numeral_below 4 w n h in
     let big : 10 ^ 4 ≡ 10000 = refl in
     omega (arith, below, big)
 
-register_short : Gives register_of IsShort
+register_short : Gives register_of HasFourDigits
 unfolding register_of
 register_short w n h = count_short (drop 1 w) n (chosen (begins_with 114 w) (count_of (drop 1 w)) n h).1
 
@@ -193,7 +193,7 @@ unquoted_printed (b ∷ d ∷ rest) text h printed =
       | inr others ↦ elim (cases_Bool (b == 39)) [
         | inl quote ↦
             let there = rw (others, quote) at h in
-            let e = chosen (is_blank (d ∷ rest)) (Some []) text there in
+            let e = chosen (is_blank_line (d ∷ rest)) (Some []) text there in
             let is : [] ≡ text = cc (e.1) in
             subst IsPrinted is refl
         | inr plain ↦
@@ -210,7 +210,7 @@ quoted_printed (b ∷ rest) text h printed =
     let c = chosen (b == 39) (unquoted rest) text h in
     unquoted_printed rest text c.1 (and_parts (is_printable b) (list_all is_printable rest) printed).1
 
-only_printed : (ws : List (List ℕ)) (w : List ℕ) → only ws ≡ Some w → all_printed ws ≡ true → IsPrinted w
+only_printed : (ws : List (List ℕ)) (w : List ℕ) → only_word ws ≡ Some w → all_printed ws ≡ true → IsPrinted w
 only_printed [] w h all = let bad : ⊥ = cc in absurd bad
 only_printed (v ∷ []) w h all =
     let is : v ≡ w = cc in
@@ -218,19 +218,19 @@ only_printed (v ∷ []) w h all =
 only_printed (v ∷ u ∷ ws) w h all = let bad : ⊥ = cc in absurd bad
 
 -- a column and a text
-search_printed : (ws : List (List ℕ)) (p : ColumnId × List ℕ) → two column_of quoted_text_of ws ≡ Some p → all_printed ws ≡ true → IsPrinted p.1
+search_printed : (ws : List (List ℕ)) (p : ColumnId × List ℕ) → two column_of_word quoted_text_of ws ≡ Some p → all_printed ws ≡ true → IsPrinted p.1
 search_printed [] p h all = let bad : ⊥ = cc in absurd bad
 search_printed (w ∷ ws) p h all =
-    let parts = paired (column_of w) (one quoted_text_of ws) p h in
-    let c = chained quoted_text_of (only ws) p.1 parts.1 in
+    let parts = paired (column_of_word w) (one quoted_text_of ws) p h in
+    let c = chained quoted_text_of (only_word ws) p.1 parts.1 in
     quoted_printed c.0 p.1 c.2 (only_printed ws c.0 c.1 (and_parts (list_all is_printable w) (all_printed ws) all).1)
 
 -- ---- instructions
 
-any_column : Gives column_of Any
+any_column : Gives column_of_word Any
 any_column w c h = tt
 
-any_table : Gives table_of Any
+any_table : Gives table_of_word Any
 any_table w t h = tt
 
 operation_spellable : (m : Mnemonic) (ws : List (List ℕ)) (o : Operation) → all_printed ws ≡ true → operation_of m ws ≡ Some o → IsSpellableOperation o
@@ -239,28 +239,28 @@ operation_spellable mnemonic.Const ws o all h =
     let c = mapped operation.Const (one constant_of ws) o h in
     subst IsSpellableOperation c.2 (one_gives constant_of IsConstant ws c.0 constant_fits c.1)
 operation_spellable (mnemonic.Edge e) ws o all h =
-    let c = mapped (λ (k, text). operation.Edge e k text) (two column_of quoted_text_of ws) o h in
+    let c = mapped (λ (k, text). operation.Edge e k text) (two column_of_word quoted_text_of ws) o h in
     subst IsSpellableOperation c.2 (search_printed ws c.0 c.1 all)
 operation_spellable mnemonic.Load ws o all h =
-    let c = mapped (λ (k, row). operation.Load k row) (two column_of register_of ws) o h in
-    subst IsSpellableOperation c.2 (two_gives column_of register_of Any IsShort ws c.0 any_column register_short c.1).1
+    let c = mapped (λ (k, row). operation.Load k row) (two column_of_word register_of ws) o h in
+    subst IsSpellableOperation c.2 (two_gives column_of_word register_of Any HasFourDigits ws c.0 any_column register_short c.1).1
 operation_spellable mnemonic.Find ws o all h =
-    let c = mapped (λ (table, k). operation.Find table k) (two table_of register_of ws) o h in
-    subst IsSpellableOperation c.2 (two_gives table_of register_of Any IsShort ws c.0 any_table register_short c.1).1
+    let c = mapped (λ (table, k). operation.Find table k) (two table_of_word register_of ws) o h in
+    subst IsSpellableOperation c.2 (two_gives table_of_word register_of Any HasFourDigits ws c.0 any_table register_short c.1).1
 operation_spellable (mnemonic.Binary x) ws o all h =
     let c = mapped (λ (a, b). operation.Binary x a b) (two register_of register_of ws) o h in
-    subst IsSpellableOperation c.2 (two_gives register_of register_of IsShort IsShort ws c.0 register_short register_short c.1)
+    subst IsSpellableOperation c.2 (two_gives register_of register_of HasFourDigits HasFourDigits ws c.0 register_short register_short c.1)
 operation_spellable mnemonic.Within ws o all h =
     let c = mapped (λ (y, (a, b)). operation.Within y a b) (three register_of register_of register_of ws) o h in
-    subst IsSpellableOperation c.2 (three_gives register_of register_of register_of IsShort IsShort IsShort ws c.0 register_short register_short register_short c.1)
+    subst IsSpellableOperation c.2 (three_gives register_of register_of register_of HasFourDigits HasFourDigits HasFourDigits ws c.0 register_short register_short register_short c.1)
 operation_spellable mnemonic.Not ws o all h =
     let c = mapped operation.Not (one register_of ws) o h in
-    subst IsSpellableOperation c.2 (one_gives register_of IsShort ws c.0 register_short c.1)
+    subst IsSpellableOperation c.2 (one_gives register_of HasFourDigits ws c.0 register_short c.1)
 operation_spellable mnemonic.Read ws o all h =
     let c = mapped (λ (g, (a, n)). operation.Read g a n) (three count_of count_of constant_of ws) o h in
-    subst IsSpellableOperation c.2 (three_gives count_of count_of constant_of IsShort IsShort IsConstant ws c.0 count_short count_short constant_fits c.1)
+    subst IsSpellableOperation c.2 (three_gives count_of count_of constant_of HasFourDigits HasFourDigits IsConstant ws c.0 count_short count_short constant_fits c.1)
 
-assigned_spellable : (t : ℕ) (ws : List (List ℕ)) (x : Op) → IsShort t → all_printed ws ≡ true → assigned t ws ≡ Some x → IsSpellableOp x
+assigned_spellable : (t : ℕ) (ws : List (List ℕ)) (x : Op) → HasFourDigits t → all_printed ws ≡ true → assigned t ws ≡ Some x → IsSpellableOp x
 assigned_spellable t [] x short all h = let bad : ⊥ = cc in absurd bad
 assigned_spellable t (w ∷ []) x short all h = let bad : ⊥ = cc in absurd bad
 assigned_spellable t (w ∷ name ∷ ws) x short all h =
@@ -276,7 +276,7 @@ put_spellable (w ∷ ws) x h =
     let c = chained (λ (group, rest). option_map (λ (keys, values). op.Put group keys values) (lists register_of register_of rest)) (put_head (w ∷ ws)) x h in
     let head = paired (count_of w) (Some ws) c.0 c.1 in
     let d = mapped (λ (keys, values). op.Put c.0.0 keys values) (lists register_of register_of c.0.1) x c.2 in
-    let items = lists_gives register_of register_of IsShort IsShort c.0.1 d.0 register_short register_short d.1 in
+    let items = lists_gives register_of register_of HasFourDigits HasFourDigits c.0.1 d.0 register_short register_short d.1 in
     subst IsSpellableOp d.2 (count_short w c.0.0 head.0, items.0, items.1)
 
 -- ---- statements
@@ -284,8 +284,8 @@ put_spellable (w ∷ ws) x h =
 header_sayable : (ws : List (List ℕ)) (s : Statement) → header_of ws ≡ Some s → IsSayable s
 header_sayable [] s h = let bad : ⊥ = cc in absurd bad
 header_sayable (w ∷ ws) s h =
-    let c = chosen (same w (codes "program")) (option_and_then (λ version. if same version (codes "1") then Some says.Header else None) (only ws)) s h in
-    let d = chained (λ version. if same version (codes "1") then Some says.Header else None) (only ws) s c.1 in
+    let c = chosen (same w (codes "program")) (option_and_then (λ version. if same version (codes "1") then Some says.Header else None) (only_word ws)) s h in
+    let d = chained (λ version. if same version (codes "1") then Some says.Header else None) (only_word ws) s c.1 in
     let e = chosen (same d.0 (codes "1")) (Some says.Header) s d.2 in
     let is : says.Header ≡ s = cc (e.1) in
     subst IsSayable is tt
@@ -298,7 +298,7 @@ key_given word k h = elim (cases_Bool (same word (codes "number"))) [
       let is : key.Number ≡ k = cc (there) in
       subst IsKey is tt
   | inr other ↦
-      let c = chained text_key (column_of word) k (rw other at h) in
+      let c = chained text_key (column_of_word word) k (rw other at h) in
       let d = chosen (is_text c.0) (Some (key.Text c.0)) k c.2 in
       let is : key.Text c.0 ≡ k = cc (d.1) in
       subst IsKey is d.0
@@ -308,11 +308,11 @@ group_sayable : (ws : List (List ℕ)) (s : Statement) → group_of ws ≡ Some 
 group_sayable [] s h = let bad : ⊥ = cc in absurd bad
 group_sayable (w ∷ []) s h = let bad : ⊥ = cc in absurd bad
 group_sayable (w ∷ v ∷ ws) s h =
-    let c = chained (λ (place, (shape, rest)). option_map (λ (keys, aggregates). says.Group place (record { shape = shape; keys = keys; aggregates = aggregates })) (lists group_key_of aggregate_of rest))
+    let c = chained (λ (place, (shape, rest)). option_map (λ (keys, aggregates). says.Group place (record { shape = shape; keys = keys; aggregates = aggregates })) (lists group_key_of aggregate_of_word rest))
     (group_head (w ∷ v ∷ ws)) s h in
-    let head = paired (count_of w) (both (shape_of v) (Some ws)) c.0 c.1 in
-    let d = mapped (λ (keys, aggregates). says.Group c.0.0 (record { shape = c.0.1.0; keys = keys; aggregates = aggregates })) (lists group_key_of aggregate_of c.0.1.1) s c.2 in
-    let items = lists_gives group_key_of aggregate_of IsKey Any c.0.1.1 d.0 key_given (λ w x e. tt) d.1 in
+    let head = paired (count_of w) (both (shape_of_word v) (Some ws)) c.0 c.1 in
+    let d = mapped (λ (keys, aggregates). says.Group c.0.0 (record { shape = c.0.1.0; keys = keys; aggregates = aggregates })) (lists group_key_of aggregate_of_word c.0.1.1) s c.2 in
+    let items = lists_gives group_key_of aggregate_of_word IsKey Any c.0.1.1 d.0 key_given (λ w x e. tt) d.1 in
     subst IsSayable d.2 (count_short w c.0.0 head.0, items.0)
 
 end_sayable : (ws : List (List ℕ)) (s : Statement) → end_of ws ≡ Some s → IsSayable s
@@ -336,12 +336,12 @@ show_sayable : (ws : List (List ℕ)) (s : Show) → show_of ws ≡ Some s → I
 show_sayable [] s h = let bad : ⊥ = cc in absurd bad
 show_sayable (name ∷ []) s h = let bad : ⊥ = cc in absurd bad
 show_sayable (name ∷ word ∷ ws) s h =
-    let c = mapped (λ (n, k). record { name = n; column = k }) (both (name_of name) (option_and_then (group_column_of word) (only ws))) s h in
-    let parts = paired (name_of name) (option_and_then (group_column_of word) (only ws)) c.0 c.1 in
-    let d = chained (group_column_of word) (only ws) c.0.1 parts.1 in
-    let e = chosen (is_name name) (Some name) c.0.0 parts.0 in
+    let c = mapped (λ (n, k). record { name = n; column = k }) (both (name_of name) (option_and_then (group_column_of word) (only_word ws))) s h in
+    let parts = paired (name_of name) (option_and_then (group_column_of word) (only_word ws)) c.0 c.1 in
+    let d = chained (group_column_of word) (only_word ws) c.0.1 parts.1 in
+    let e = chosen (is_show_name name) (Some name) c.0.0 parts.0 in
     let same_name : name ≡ c.0.0 = cc (e.1) in
-    subst (λ x. IsSayable (says.Show x)) c.2 (subst (λ n. is_name n ≡ true) same_name e.0, column_short word d.0 c.0.1 d.2)
+    subst (λ x. IsSayable (says.Show x)) c.2 (subst (λ n. is_show_name n ≡ true) same_name e.0, column_short word d.0 c.0.1 d.2)
 
 sort_sayable : (ws : List (List ℕ)) (k : SortKey) → sort_of ws ≡ Some k → IsSayable (says.Sort k)
 sort_sayable [] k h = let bad : ⊥ = cc in absurd bad
@@ -356,21 +356,21 @@ unfolding by_keyword
 by_keyword_sayable keyword.Star ws s h = header_sayable ws s h
 by_keyword_sayable keyword.Registers ws s h =
     let c = mapped says.Registers (one count_of ws) s h in
-    subst IsSayable c.2 (one_gives count_of IsShort ws c.0 count_short c.1)
+    subst IsSayable c.2 (one_gives count_of HasFourDigits ws c.0 count_short c.1)
 by_keyword_sayable keyword.Group ws s h = group_sayable ws s h
 by_keyword_sayable keyword.Keep ws s h =
     let c = mapped (λ f. says.Act (op.Keep f)) (one register_of ws) s h in
-    subst IsSayable c.2 (one_gives register_of IsShort ws c.0 register_short c.1)
+    subst IsSayable c.2 (one_gives register_of HasFourDigits ws c.0 register_short c.1)
 by_keyword_sayable keyword.Put ws s h =
     let c = mapped says.Act (put_of ws) s h in
     subst IsSayable c.2 (put_spellable ws c.0 c.1)
 by_keyword_sayable keyword.Scan ws s h =
-    let c = mapped (λ (table, t). says.Scan table t) (two table_of register_of ws) s h in
-    subst IsSayable c.2 (two_gives table_of register_of Any IsShort ws c.0 any_table register_short c.1).1
+    let c = mapped (λ (table, t). says.Scan table t) (two table_of_word register_of ws) s h in
+    subst IsSayable c.2 (two_gives table_of_word register_of Any HasFourDigits ws c.0 any_table register_short c.1).1
 by_keyword_sayable keyword.End ws s h = end_sayable ws s h
 by_keyword_sayable keyword.Report ws s h =
     let c = mapped says.Report (one count_of ws) s h in
-    subst IsSayable c.2 (one_gives count_of IsShort ws c.0 count_short c.1)
+    subst IsSayable c.2 (one_gives count_of HasFourDigits ws c.0 count_short c.1)
 by_keyword_sayable keyword.Show ws s h =
     let c = mapped says.Show (show_of ws) s h in
     subst IsSayable c.2 (show_sayable ws c.0 c.1)
@@ -408,4 +408,4 @@ all_sayable (text ∷ texts) (s ∷ ss) h =
 
 pub only_spellable : OnlySpellable
 unfolding Spells
-only_spellable text p spells = all_sayable (filter (λ line. not (is_blank line)) (lines_of text)) (statements_of p) spells
+only_spellable text p spells = all_sayable (filter (λ line. not (is_blank_line line)) (lines_of text)) (program_statements p) spells

@@ -14,15 +14,15 @@ use Rattle.star_schema.specs.declared.column.ColumnId.{ColumnId}
 use Rattle.star_schema.specs.declared.group.Direction.{Direction}
 use Rattle.star_schema.specs.declared.group.GroupColumn.{GroupColumn}
 use Rattle.star_schema.specs.declared.group.GroupColumn.TheVariants as column
-use Rattle.star_program.specs.Text.Keywords.{aggregate_name, aggregate_of, column_of, direction_name, keyword_name, keyword_of, mnemonic_name, same, shape_name}
-use Rattle.star_program.specs.Text.Lines.{is_blank, lines_of, words_of}
-use Rattle.star_program.specs.Text.Numerals.{is_name, register_of}
+use Rattle.star_program.specs.Text.Keywords.{aggregate_name, aggregate_of_word, column_of_word, direction_name, keyword_name, keyword_of, mnemonic_name, same, shape_name}
+use Rattle.star_program.specs.Text.Lines.{is_blank_line, lines_of, words_of}
+use Rattle.star_program.specs.Text.Numerals.{is_show_name, register_of}
 use Rattle.star_program.specs.Text.Said.{by_keyword, by_words, each, group_column_of, group_key_of, lists, operation_of, said, until_colon}
-use Rattle.star_program.specs.Text.Spellable.{IsKey, IsPrinted, IsSayable, IsShort, IsShortColumn, IsSpellableOp, IsSpellableOperation, Written}
+use Rattle.star_program.specs.Text.Spellable.{IsKey, IsPrinted, IsSayable, HasFourDigits, IsShortColumn, IsSpellableOp, IsSpellableOperation, Written}
 use Rattle.star_program.specs.Text.Spelling.{Spells}
 use Rattle.star_program.specs.Text.Statements.{Line, lines_of_program}
 use Rattle.star_common.specs.Quotes.{doubled, quoted}
-use Rattle.star_program.specs.Text.Written.{aggregate_text, assigned_text, column_text, group_text, key_text, line_text, op_text, register_text, show_text, sort_text, statement_text, target_text, text_of}
+use Rattle.star_program.specs.Text.Written.{aggregate_text, assigned_text, written_column, group_text, key_text, written_line, op_text, register_text, show_text, sort_text, statement_text, target_text, program_text}
 use Rattle.star_schema.specs.declared.table.TableId.{TableId}
 use Rattle.star_program.specs.declared.group.GroupDecl.{GroupDecl}
 use Rattle.star_program.specs.declared.group.GroupKey.{GroupKey}
@@ -46,10 +46,10 @@ use Rattle.star_program.proofs.Text.WrittenLemmas.{flat_map_map}
 -- the text of a statement is printable, begins with no space and says the statement
 record IsSpoken (s : Statement) : Type 0 where
   printable : IsPrinted (statement_text s)
-  starts : is_blank (statement_text s) ≡ false
+  starts : is_blank_line (statement_text s) ≡ false
   means : by_words (words_of (statement_text s)) ≡ Some s
 
-word_starts : (w t : List ℕ) → is_word w ≡ true → is_blank (w ++ t) ≡ false
+word_starts : (w t : List ℕ) → is_word w ≡ true → is_blank_line (w ++ t) ≡ false
 word_starts [] t h = let bad : ⊥ = cc in absurd bad
 word_starts (b ∷ w) t h =
     let bytes = and_parts (is_word_byte b) (list_all is_word_byte w) h in
@@ -83,7 +83,7 @@ three_behind u v w = ap (λ t. 32 ∷ (u ++ 32 ∷ (v ++ 32 ∷ t))) (sym (appen
 
 -- ---- instructions that write a register
 
-by_target : (t : ℕ) (m : Mnemonic) (operands : List (List ℕ)) (o : Operation) → IsShort t → operation_of m operands ≡ Some o
+by_target : (t : ℕ) (m : Mnemonic) (operands : List (List ℕ)) (o : Operation) → HasFourDigits t → operation_of m operands ≡ Some o
     → by_words (register_word t ∷ codes "=" ∷ mnemonic_name m ∷ operands) ≡ Some (says.Act (op.Assign t o))
 unfolding by_words
 by_target t m operands o h is = rw (register_no_keyword t h, register_read t h, mnemonic_read m, is) refl
@@ -94,7 +94,7 @@ target_words t m rest =
     let end : mnemonic_name m ++ rest ≡ (mnemonic_name m ++ []) ++ rest = ap (λ x. x ++ rest) (sym (append-nil (mnemonic_name m))) in
     ap (λ x. 114 ∷ x) (append_assoc (decimal t) (32 ∷ 61 ∷ 32 ∷ mnemonic_name m) rest) ∙ ap (λ x. 114 ∷ (decimal t ++ 32 ∷ 61 ∷ 32 ∷ x)) end
 
-spoken_target : (t : ℕ) (m : Mnemonic) (operands : List (List ℕ)) (o : Operation) (text : List ℕ) → IsShort t → assigned_text t o ≡ target_text t m ++ text → text ≡ behind operands → list_all is_word operands ≡ true
+spoken_target : (t : ℕ) (m : Mnemonic) (operands : List (List ℕ)) (o : Operation) (text : List ℕ) → HasFourDigits t → assigned_text t o ≡ target_text t m ++ text → text ≡ behind operands → list_all is_word operands ≡ true
     → operation_of m operands ≡ Some o → IsSpoken (says.Act (op.Assign t o))
 unfolding op_text
 spoken_target t m operands o text h is follow all means =
@@ -103,7 +103,7 @@ spoken_target t m operands o text h is follow all means =
     (is ∙ ap (λ y. target_text t m ++ y) follow ∙ target_words t m (behind operands) ∙ ap (λ y. register_word t ++ y) parted)
     (register_is_word t h) (rw (mnemonic_word m, all) refl) (by_target t m operands o h means)
 
-spoken_edge : (t : ℕ) (e : Edge) (c : ColumnId) (text : List ℕ) → IsShort t → IsPrinted text → IsSpoken (says.Act (op.Assign t (operation.Edge e c text)))
+spoken_edge : (t : ℕ) (e : Edge) (c : ColumnId) (text : List ℕ) → HasFourDigits t → IsPrinted text → IsSpoken (says.Act (op.Assign t (operation.Edge e c text)))
 unfolding op_text assigned_text operation_of quoted
 spoken_edge t e c text h printed =
     let m : Mnemonic = mnemonic.Edge e in
@@ -168,10 +168,10 @@ lists_text v w xs ys =
     ∙ ap (λ t. t ++ (32 ∷ 58 ∷ behind (map w ys))) (flat_map_map (λ u. 32 ∷ u) v xs)
     ∙ ap (λ t. flat_map (λ x. 32 ∷ v x) xs ++ (32 ∷ 58 ∷ t)) (flat_map_map (λ u. 32 ∷ u) w ys))
 
-register_items : (rs : List ℕ) → All IsShort rs → All (IsItem register_of register_word) rs
+register_items : (rs : List ℕ) → All HasFourDigits rs → All (IsItem register_of register_word) rs
 register_items rs h k d small = (register_read (slice_index_or rs k d) (h k d small), refl)
 
-spoken_put : (g : ℕ) (keys values : List ℕ) → IsShort g → All IsShort keys → All IsShort values → IsSpoken (says.Act (op.Put g keys values))
+spoken_put : (g : ℕ) (keys values : List ℕ) → HasFourDigits g → All HasFourDigits keys → All HasFourDigits values → IsSpoken (says.Act (op.Put g keys values))
 unfolding op_text register_text by_words by_keyword keyword_of keyword_name
 spoken_put g keys values h front back =
     let ws : List (List ℕ) = map register_word keys ++ codes ":" ∷ map register_word values in
@@ -182,7 +182,7 @@ spoken_put g keys values h front back =
     spoken (says.Act (op.Put g keys values)) (codes "put") (decimal g ∷ ws) (ap (λ y. codes "put " ++ (decimal g ++ y)) (lists_text register_word register_word keys values)) refl
     (rw (count_word g h, all) refl) (rw (count_decimal g h, read) refl)
 
-spoken_keep : (f : ℕ) → IsShort f → IsSpoken (says.Act (op.Keep f))
+spoken_keep : (f : ℕ) → HasFourDigits f → IsSpoken (says.Act (op.Keep f))
 unfolding op_text register_text by_words by_keyword keyword_of keyword_name
 spoken_keep f h =
     spoken (says.Act (op.Keep f)) (codes "keep") (register_word f ∷ []) (ap (λ y. codes "keep" ++ y) (one_behind (register_word f))) refl
@@ -190,7 +190,7 @@ spoken_keep f h =
 
 -- ---- any instruction
 
-spoken_assigned : (t : ℕ) (o : Operation) → IsShort t → IsSpellableOperation o → IsSpoken (says.Act (op.Assign t o))
+spoken_assigned : (t : ℕ) (o : Operation) → HasFourDigits t → IsSpellableOperation o → IsSpoken (says.Act (op.Assign t o))
 unfolding assigned_text operation_of register_text
 spoken_assigned t (operation.Const n) s h =
     spoken_target t mnemonic.Const (signed_decimal n ∷ []) (operation.Const n) _ s refl (one_behind (signed_decimal n)) (rw (constant_word n h) refl) (rw (constant_decimal n h) refl)
@@ -233,12 +233,12 @@ keys_text : (ks : List GroupKey) → flat_map key_text ks ≡ flat_map (λ k. 32
 keys_text [] = refl
 keys_text (k ∷ ks) = rw (key_text_is k, keys_text ks) refl
 
-number_no_column : column_of (codes "number") ≡ None
-unfolding column_of schema_column
+number_no_column : column_of_word (codes "number") ≡ None
+unfolding column_of_word schema_column
 number_no_column = refl
 
-colon_no_column : column_of (codes ":") ≡ None
-unfolding column_of schema_column
+colon_no_column : column_of_word (codes ":") ≡ None
+unfolding column_of_word schema_column
 colon_no_column = refl
 
 key_item : (k : GroupKey) → IsKey k → IsItem group_key_of key_word k
@@ -251,12 +251,12 @@ unfolding key_word
 key_is_word key.Number = refl
 key_is_word (key.Text c) = column_word c
 
-spoken_group : (place : ℕ) (group : GroupDecl) → IsShort place × All IsKey group.keys → IsSpoken (says.Group place group)
+spoken_group : (place : ℕ) (group : GroupDecl) → HasFourDigits place × All IsKey group.keys → IsSpoken (says.Group place group)
 unfolding group_text by_words by_keyword keyword_of keyword_name
 spoken_group place group h =
     let ws : List (List ℕ) = map key_word group.keys ++ codes ":" ∷ map aggregate_name group.aggregates in
-    let read : lists group_key_of aggregate_of ws ≡ Some (group.keys, group.aggregates) =
-    lists_read group_key_of aggregate_of key_word aggregate_name group.keys group.aggregates (λ k d small. key_item (slice_index_or group.keys k d) (h.1 k d small)) (λ k d small. aggregate_read (slice_index_or group.aggregates k d)) in
+    let read : lists group_key_of aggregate_of_word ws ≡ Some (group.keys, group.aggregates) =
+    lists_read group_key_of aggregate_of_word key_word aggregate_name group.keys group.aggregates (λ k d small. key_item (slice_index_or group.keys k d) (h.1 k d small)) (λ k d small. aggregate_read (slice_index_or group.aggregates k d)) in
     let all : list_all is_word ws ≡ true =
     lists_are_words key_word aggregate_name group.keys group.aggregates (λ k d small. key_is_word (slice_index_or group.keys k d)) (λ k d small. aggregate_word (slice_index_or group.aggregates k d)) in
     let text_is : group_text place group ≡ codes "group" ++ behind (decimal place ∷ shape_name group.shape ∷ ws) =
@@ -275,24 +275,24 @@ spoken_end : IsSpoken says.End
 unfolding by_words by_keyword keyword_of keyword_name
 spoken_end = spoken says.End (codes "end") [] refl refl refl refl
 
-spoken_registers : (n : ℕ) → IsShort n → IsSpoken (says.Registers n)
+spoken_registers : (n : ℕ) → HasFourDigits n → IsSpoken (says.Registers n)
 unfolding by_words by_keyword keyword_of keyword_name
 spoken_registers n h =
     spoken (says.Registers n) (codes "registers") (decimal n ∷ []) (ap (λ y. codes "registers" ++ y) (one_behind (decimal n))) refl (rw (count_word n h) refl) (rw (count_decimal n h) refl)
 
-spoken_report : (n : ℕ) → IsShort n → IsSpoken (says.Report n)
+spoken_report : (n : ℕ) → HasFourDigits n → IsSpoken (says.Report n)
 unfolding by_words by_keyword keyword_of keyword_name
 spoken_report n h =
     spoken (says.Report n) (codes "report") (decimal n ∷ []) (ap (λ y. codes "report" ++ y) (one_behind (decimal n))) refl (rw (count_word n h) refl) (rw (count_decimal n h) refl)
 
-spoken_scan : (table : TableId) (t : ℕ) → IsShort t → IsSpoken (says.Scan table t)
+spoken_scan : (table : TableId) (t : ℕ) → HasFourDigits t → IsSpoken (says.Scan table t)
 unfolding by_words by_keyword keyword_of keyword_name register_text
 spoken_scan table t h =
     spoken (says.Scan table t) (codes "scan") (table_name table ∷ register_word t ∷ []) (ap (λ y. codes "scan" ++ y) (two_behind (table_name table) (register_word t))) refl
     (rw (table_word table, register_is_word t h) refl) (rw (table_read table, register_read t h) refl)
 
-spoken_show : (name : List ℕ) (c : GroupColumn) → is_name name ≡ true → IsShortColumn c → IsSpoken (says.Show (record { name = name; column = c }))
-unfolding by_words by_keyword keyword_of keyword_name show_text column_text group_column_of
+spoken_show : (name : List ℕ) (c : GroupColumn) → is_show_name name ≡ true → IsShortColumn c → IsSpoken (says.Show (record { name = name; column = c }))
+unfolding by_words by_keyword keyword_of keyword_name show_text written_column group_column_of
 spoken_show name (column.Key k) named h =
     spoken (says.Show (record { name = name; column = column.Key k })) (codes "show") (name ∷ codes "key" ∷ decimal k ∷ []) (ap (λ y. codes "show" ++ y) (three_behind name (codes "key") (decimal k))) refl
     (rw (name_word name named, count_word k h) refl) (rw (named, count_decimal k h) refl)
@@ -301,7 +301,7 @@ spoken_show name (column.Aggregate a) named h =
     (rw (name_word name named, count_word a h) refl) (rw (named, count_decimal a h) refl)
 
 spoken_sort : (c : GroupColumn) (d : Direction) → IsShortColumn c → IsSpoken (says.Sort (record { column = c; direction = d }))
-unfolding by_words by_keyword keyword_of keyword_name sort_text column_text group_column_of
+unfolding by_words by_keyword keyword_of keyword_name sort_text written_column group_column_of
 spoken_sort (column.Key k) d h =
     spoken (says.Sort (record { column = column.Key k; direction = d })) (codes "sort") (codes "key" ∷ decimal k ∷ direction_name d ∷ []) (ap (λ y. codes "sort" ++ y) (three_behind (codes "key") (decimal k) (direction_name d))) refl
     (rw (count_word k h, direction_word d) refl) (rw (count_decimal k h, direction_read d) refl)
@@ -344,7 +344,7 @@ spaces_words : (k : ℕ) (t : List ℕ) → words_of (replicate k 32 ++ t) ≡ w
 spaces_words zero t = refl
 spaces_words (suc k) t = space_first (replicate k 32 ++ t) ∙ spaces_words k t
 
-spaces_blank : (k : ℕ) (t : List ℕ) → is_blank (replicate k 32 ++ t) ≡ is_blank t
+spaces_blank : (k : ℕ) (t : List ℕ) → is_blank_line (replicate k 32 ++ t) ≡ is_blank_line t
 spaces_blank zero t = refl
 spaces_blank (suc k) t = spaces_blank k t
 
@@ -355,8 +355,8 @@ said_line : (l : Line) → IsSpoken l.says → said (content_of l) ≡ Some l.sa
 unfolding said
 said_line l h = rw (indented_printable (2 * l.depth) (statement_text l.says) h.printable, spaces_words (2 * l.depth) (statement_text l.says)) h.means
 
-line_first : (l : Line) (rest : List ℕ) → IsSpoken l.says → lines_of (line_text l ++ rest) ≡ content_of l ∷ lines_of rest
-unfolding line_text
+line_first : (l : Line) (rest : List ℕ) → IsSpoken l.says → lines_of (written_line l ++ rest) ≡ content_of l ∷ lines_of rest
+unfolding written_line
 line_first l rest h =
     let spaces : List ℕ = replicate (2 * l.depth) 32 in
     let text : List ℕ = statement_text l.says in
@@ -364,14 +364,14 @@ line_first l rest h =
     ap lines_of regrouped ∙ line_cut (spaces ++ text) rest (indented_printable (2 * l.depth) text h.printable)
 
 lines_said : (ls : List Line) → All IsSayable (map (λ l. l.says) ls)
-    → map said (filter (λ line. not (is_blank line)) (lines_of (flat_map line_text ls))) ≡ map Some (map (λ l. l.says) ls)
+    → map said (filter (λ line. not (is_blank_line line)) (lines_of (flat_map written_line ls))) ≡ map Some (map (λ l. l.says) ls)
 lines_said [] h = rw no_lines refl
 lines_said (l ∷ ls) h =
     let here : IsSpoken l.says = spoken_statement l.says (All-head IsSayable l.says (map (λ k. k.says) ls) h) in
-    let filled : is_blank (content_of l) ≡ false = spaces_blank (2 * l.depth) (statement_text l.says) ∙ here.starts in
+    let filled : is_blank_line (content_of l) ≡ false = spaces_blank (2 * l.depth) (statement_text l.says) ∙ here.starts in
     let later = lines_said ls (All-tail IsSayable l.says (map (λ k. k.says) ls) h) in
-    rw (line_first l (flat_map line_text ls) here, filled, said_line l here, later) refl
+    rw (line_first l (flat_map written_line ls) here, filled, said_line l here, later) refl
 
 pub written : Written
-unfolding Spells text_of
+unfolding Spells program_text
 written p h = lines_said (lines_of_program p) h

@@ -25,12 +25,12 @@ use Rattle.star_schema.specs.declared.group.Direction.TheVariants as direction
 use Rattle.star_schema.specs.declared.group.Shape.{Shape}
 use Rattle.star_schema.specs.declared.group.Shape.TheVariants as shape
 use Rattle.star_schema.proofs.NamesApart.{column_by_name, table_by_name}
-use Rattle.star_program.specs.Text.Keywords.{aggregate_name, aggregate_of, column_of, direction_name, direction_of, keyword_name, keyword_of, mnemonic_name, mnemonic_of, same, shape_name, shape_of, table_of}
+use Rattle.star_program.specs.Text.Keywords.{aggregate_name, aggregate_of_word, column_of_word, direction_name, direction_of, keyword_name, keyword_of, mnemonic_name, mnemonic_of, same, shape_name, shape_of_word, table_of_word}
 use Rattle.star_program.specs.Text.Lines.{pieces_of, words_of}
 use Rattle.star_common.specs.Numerals.{numeral_of}
-use Rattle.star_program.specs.Text.Numerals.{constant_of, count_of, is_name, is_name_byte, register_of}
+use Rattle.star_program.specs.Text.Numerals.{constant_of, count_of, is_show_name, is_name_byte, register_of}
 use Rattle.star_program.specs.Text.Said.{quoted_text_of, unquoted}
-use Rattle.star_program.specs.Text.Spellable.{IsConstant, IsPrinted, IsShort}
+use Rattle.star_program.specs.Text.Spellable.{IsConstant, IsPrinted, HasFourDigits}
 use Rattle.star_common.specs.Quotes.{doubled, quoted}
 use Rattle.star_program.specs.declared.op.Edge.TheVariants as edge
 use Rattle.star_program.specs.declared.op.Operator.TheVariants as operator
@@ -162,25 +162,25 @@ numeral_decimal places n some short small =
     let digits : list_all is_ascii_digit (decimal n) ≡ true = decimal_digits n small in
     rw (least, most, digits) (ap Some numeral.1)
 
-short_below : (n : ℕ) → IsShort n → n < 2 ^ 64
+short_below : (n : ℕ) → HasFourDigits n → n < 2 ^ 64
 short_below n h = let big : 9999 < 2 ^ 64 = lit< tt in omega arith
 
-pub count_decimal : (n : ℕ) → IsShort n → count_of (decimal n) ≡ Some n
+pub count_decimal : (n : ℕ) → HasFourDigits n → count_of (decimal n) ≡ Some n
 unfolding count_of
 count_decimal n h = let big : 9999 < 10 ^ 4 = lit< tt in numeral_decimal 4 n (lit< tt) (omega arith) (short_below n h)
 
-pub count_word : (n : ℕ) → IsShort n → is_word (decimal n) ≡ true
+pub count_word : (n : ℕ) → HasFourDigits n → is_word (decimal n) ≡ true
 count_word n h = decimal_word n (short_below n h)
 
 -- the word of a register
 abbrev pub register_word : ℕ → List ℕ
 register_word r = 114 ∷ decimal r
 
-pub register_read : (r : ℕ) → IsShort r → register_of (register_word r) ≡ Some r
+pub register_read : (r : ℕ) → HasFourDigits r → register_of (register_word r) ≡ Some r
 unfolding register_of
 register_read r h = count_decimal r h
 
-pub register_is_word : (r : ℕ) → IsShort r → is_word (register_word r) ≡ true
+pub register_is_word : (r : ℕ) → HasFourDigits r → is_word (register_word r) ≡ true
 register_is_word r h = digits_word_bytes (decimal r) (decimal_digits r (short_below r h))
 
 -- no keyword is a register
@@ -192,7 +192,7 @@ keyword_none (d ∷ ds) h =
     let other : (101 == d) ≡ false = ne_eqb 101 d (λ e. absurd (omega arith)) in
     rw other refl
 
-pub register_no_keyword : (r : ℕ) → IsShort r → keyword_of (register_word r) ≡ None
+pub register_no_keyword : (r : ℕ) → HasFourDigits r → keyword_of (register_word r) ≡ None
 register_no_keyword r h = keyword_none (decimal r) (decimal_digits r (short_below r h))
 
 first_digit : (ds : List ℕ) → list_all is_ascii_digit ds ≡ true → starts_with_minus ds ≡ false
@@ -232,8 +232,8 @@ constant_word (negsuc n) h =
 
 -- ---- fixed words
 
-pub column_read : (c : ColumnId) → column_of (column_name c) ≡ Some c
-unfolding column_of
+pub column_read : (c : ColumnId) → column_of_word (column_name c) ≡ Some c
+unfolding column_of_word
 column_read c = column_by_name c
 
 pub column_word : (c : ColumnId) → is_word (column_name c) ≡ true
@@ -242,17 +242,17 @@ column_word DDatekey = refl
 column_word _ = refl
 
 -- no column has a fixed word's name
-pub column_apart : (c : ColumnId) (word : List ℕ) → column_of word ≡ None → same (column_name c) word ≡ false
+pub column_apart : (c : ColumnId) (word : List ℕ) → column_of_word word ≡ None → same (column_name c) word ≡ false
 column_apart c word none = elim (cases_Bool (same (column_name c) word)) [
-  | inl is ↦ let found : column_of word ≡ Some c = rw (same_word (column_name c) word is) at (column_read c) in let bad : ⊥ = cc in absurd bad
+  | inl is ↦ let found : column_of_word word ≡ Some c = rw (same_word (column_name c) word is) at (column_read c) in let bad : ⊥ = cc in absurd bad
   | inr other ↦ other
 ]
   where
     same_word : (a b : List ℕ) → same a b ≡ true → a ≡ b
     same_word a b h = (bytes_decides a b).0 h
 
-pub table_read : (t : TableId) → table_of (table_name t) ≡ Some t
-unfolding table_of
+pub table_read : (t : TableId) → table_of_word (table_name t) ≡ Some t
+unfolding table_of_word
 table_read t = table_by_name t
 
 pub table_word : (t : TableId) → is_word (table_name t) ≡ true
@@ -276,8 +276,8 @@ mnemonic_word (mnemonic.Binary operator.Add) = refl
 mnemonic_word (mnemonic.Binary _) = refl
 mnemonic_word _ = refl
 
-pub shape_read : (s : Shape) → shape_of (shape_name s) ≡ Some s
-unfolding shape_of shape_name
+pub shape_read : (s : Shape) → shape_of_word (shape_name s) ≡ Some s
+unfolding shape_of_word shape_name
 shape_read shape.Plain = refl
 shape_read shape.Cube = refl
 shape_read shape.Rollup = refl
@@ -288,8 +288,8 @@ shape_word shape.Plain = refl
 shape_word shape.Cube = refl
 shape_word shape.Rollup = refl
 
-pub aggregate_read : (a : Aggregate) → aggregate_of (aggregate_name a) ≡ Some a
-unfolding aggregate_of aggregate_name
+pub aggregate_read : (a : Aggregate) → aggregate_of_word (aggregate_name a) ≡ Some a
+unfolding aggregate_of_word aggregate_name
 aggregate_read aggregate.Sum = refl
 aggregate_read _ = refl
 
@@ -319,8 +319,8 @@ name_bytes (b ∷ w) h =
     let parts = and_parts (is_name_byte b) (list_all is_name_byte w) h in
     rw (name_byte b parts.0) (name_bytes w parts.1)
 
-pub name_word : (w : List ℕ) → is_name w ≡ true → is_word w ≡ true
-unfolding is_name
+pub name_word : (w : List ℕ) → is_show_name w ≡ true → is_word w ≡ true
+unfolding is_show_name
 name_word w h =
     let all = and_parts (nat_le 1 (length w) && nat_le (length w) 64) (list_all is_name_byte w) h in
     let some = and_parts (nat_le 1 (length w)) (nat_le (length w) 64) all.0 in

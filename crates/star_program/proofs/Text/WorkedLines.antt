@@ -25,16 +25,16 @@ use Rattle.star_program.specs.declared.spelling.fault.TextFault.TheVariants.{Bad
 use Rattle.star_program.specs.Code.{Code, Each, Stop, Then, code_size, scan_depth}
 use Rattle.star_program.specs.Text.FaultTexts.{text_fault_text}
 use Rattle.star_program.specs.TrapTexts.{kind_text, wrong_text}
-use Rattle.star_program.specs.Text.Keywords.{aggregate_name, aggregate_of, column_of, direction_name, direction_of, keyword_name, keyword_of, mnemonic_name, mnemonic_of, shape_name, shape_of, table_of}
-use Rattle.star_program.specs.Text.Lines.{is_blank, lines_of, pieces_of, words_of}
-use Rattle.star_program.specs.Text.Numerals.{constant_of, count_of, is_name, register_of}
-use Rattle.star_program.specs.Text.FirstFaults.{FirstFault}
+use Rattle.star_program.specs.Text.Keywords.{aggregate_name, aggregate_of_word, column_of_word, direction_name, direction_of, keyword_name, keyword_of, mnemonic_name, mnemonic_of, shape_name, shape_of_word, table_of_word}
+use Rattle.star_program.specs.Text.Lines.{is_blank_line, lines_of, pieces_of, words_of}
+use Rattle.star_program.specs.Text.Numerals.{constant_of, count_of, is_show_name, register_of}
+use Rattle.star_program.specs.Text.FirstFaults.{FirstTextFault}
 use Rattle.star_program.proofs.Text.FirstFaultLaw.{first_refused, refused_first}
 use Rattle.star_program.specs.Private.Places.{advance, after, fault_from, is_small, is_within, start, text_fault}
 use Rattle.star_program.specs.Text.Said.{by_keyword, by_words, group_column_of, group_key_of, operation_of, said, unquoted}
-use Rattle.star_program.specs.Text.Spelling.{statements_of}
+use Rattle.star_program.specs.Text.Spelling.{program_statements}
 use Rattle.star_program.specs.Text.Statements.{lines_of_code}
-use Rattle.star_program.specs.Text.Written.{assigned_text, column_text, group_text, key_text, line_text, op_text, register_text, show_text, sort_text, target_text, text_of}
+use Rattle.star_program.specs.Text.Written.{assigned_text, written_column, group_text, key_text, written_line, op_text, register_text, show_text, sort_text, target_text, program_text}
 
 -- ---- a program of all there is
 
@@ -63,16 +63,16 @@ whole = record {
 abbrev whole_text : List ℕ
 whole_text = codes "star program 1\nregisters 15\ngroup 0 cube number c_region : sum count min max\ngroup 1 plain : count\ngroup 2 rollup number c_region : sum count\nr1 = const -5\nscan lineorder r0\n  r10 = load lo_quantity r0\n  r11 = find customer r10\n  r12 = within r10 r11 r1\n  r13 = not r12\n  put 0 r10 r11 : r10 r1 r2\n  scan customer r14\n    r2 = add r1 r0\n    r3 = sub r1 r0\n    r4 = mul r1 r0\n    r5 = lt r1 r0\n    r6 = le r1 r0\n    r7 = eq r1 r0\n    r8 = and r5 r6\n    r9 = or r5 r6\n    keep r9\n  end\nend\nr1 = low c_region 'a''b'\nr1 = high c_region ''\nr1 = read 1 0 7\nreport 0\nshow a_1 key 1\nshow b aggregate 2\nsort aggregate 0 descending\nsort key 0 ascending\n"
 
-is_written : text_of whole ≡ whole_text
-unfolding quoted text_of line_text lines_of_code digits group_text key_text shape_name aggregate_name op_text assigned_text target_text mnemonic_name register_text column_text show_text sort_text direction_name table_name schema.column_of
+is_written : program_text whole ≡ whole_text
+unfolding quoted program_text written_line lines_of_code digits group_text key_text shape_name aggregate_name op_text assigned_text target_text mnemonic_name register_text written_column show_text sort_text direction_name table_name schema.column_of
 is_written = refl
 
-is_said : map said (lines_of whole_text) ≡ map Some (statements_of whole)
-unfolding said by_words by_keyword lines_of lines_of_code words_of pieces_of keyword_of keyword_name count_of register_of constant_of is_name shape_of aggregate_of group_key_of column_of table_of table_name mnemonic_of mnemonic_name operation_of unquoted group_column_of direction_of schema.column_of
+is_said : map said (lines_of whole_text) ≡ map Some (program_statements whole)
+unfolding said by_words by_keyword lines_of lines_of_code words_of pieces_of keyword_of keyword_name count_of register_of constant_of is_show_name shape_of_word aggregate_of_word group_key_of column_of_word table_of_word table_name mnemonic_of mnemonic_name operation_of unquoted group_column_of direction_of schema.column_of
 is_said = refl
 
-is_faultless : (f : TextFault) → FirstFault whole_text f → ⊥
-unfolding text_fault fault_from start advance after is_within is_small said by_words by_keyword lines_of lines_of_code words_of pieces_of keyword_of keyword_name count_of register_of constant_of is_name shape_of aggregate_of group_key_of column_of table_of table_name mnemonic_of mnemonic_name operation_of unquoted group_column_of direction_of schema.column_of
+is_faultless : (f : TextFault) → FirstTextFault whole_text f → ⊥
+unfolding text_fault fault_from start advance after is_within is_small said by_words by_keyword lines_of lines_of_code words_of pieces_of keyword_of keyword_name count_of register_of constant_of is_show_name shape_of_word aggregate_of_word group_key_of column_of_word table_of_word table_name mnemonic_of mnemonic_name operation_of unquoted group_column_of direction_of schema.column_of
 is_faultless f first = none (first_refused whole_text f first)
   where
     none : None ≡ Some f → ⊥
@@ -100,8 +100,8 @@ ends_of_constants : map constant_of (codes "9223372036854775807" ∷ codes "9223
 unfolding constant_of
 ends_of_constants = refl
 
-names : map is_name (codes "aZ_9" ∷ [] ∷ replicate 64 97 ∷ replicate 65 97 ∷ codes "a-b" ∷ codes "a`" ∷ []) ≡ true ∷ false ∷ true ∷ false ∷ false ∷ false ∷ []
-unfolding is_name
+names : map is_show_name (codes "aZ_9" ∷ [] ∷ replicate 64 97 ∷ replicate 65 97 ∷ codes "a-b" ∷ codes "a`" ∷ []) ≡ true ∷ false ∷ true ∷ false ∷ false ∷ false ∷ []
+unfolding is_show_name
 names = refl
 
 -- ---- words and quotes
@@ -110,7 +110,7 @@ words_apart : words_of (codes "  a  b 'c  d") ≡ codes "a" ∷ codes "b" ∷ co
 unfolding words_of pieces_of
 words_apart = refl
 
-blanks : (is_blank [] ≡ true) × (is_blank (codes "  ") ≡ true) × (is_blank (codes " a ") ≡ false)
+blanks : (is_blank_line [] ≡ true) × (is_blank_line (codes "  ") ≡ true) × (is_blank_line (codes " a ") ≡ false)
 blanks = (refl, refl, refl)
 
 -- a lone carriage return ends no line
@@ -131,12 +131,12 @@ quotes = refl
 
 says_nothing : map said (codes "star program" ∷ codes "star programs 1" ∷ codes "registers" ∷ codes "registers 1 2" ∷ codes "group 0 plain count" ∷ codes "group 0 plane : count" ∷ codes "group 0 rollups : count" ∷ codes "group 0 plain d_year : count" ∷ codes "group 0 plain : mean" ∷ [])
     ≡ replicate 9 None
-unfolding said by_words by_keyword words_of pieces_of keyword_of keyword_name count_of shape_of aggregate_of group_key_of column_of schema.column_of
+unfolding said by_words by_keyword words_of pieces_of keyword_of keyword_name count_of shape_of_word aggregate_of_word group_key_of column_of_word schema.column_of
 says_nothing = refl
 
 says_nothing_either : map said (codes "r1 const 1" ∷ codes "r1 = constant 1" ∷ codes "r1 = add r1" ∷ codes "r1 = add r1 r2 r3" ∷ codes "r1 =" ∷ codes "r1" ∷ codes "keep r1 r2" ∷ codes "put 0" ∷ codes "end r0" ∷ codes "show a key" ∷ codes "show a keys 0" ∷ codes "sort key 0" ∷ codes "sort key 0 up" ∷ [])
     ≡ replicate 13 None
-unfolding said by_words by_keyword words_of pieces_of keyword_of keyword_name count_of register_of constant_of is_name mnemonic_of mnemonic_name operation_of group_column_of direction_of
+unfolding said by_words by_keyword words_of pieces_of keyword_of keyword_name count_of register_of constant_of is_show_name mnemonic_of mnemonic_name operation_of group_column_of direction_of
 says_nothing_either = refl
 
 -- ---- lines where they may not stand
@@ -144,8 +144,8 @@ says_nothing_either = refl
 abbrev behind : List ℕ → List ℕ
 behind text = codes "star program 1\nregisters 4096\n" ++ text
 
-misplaced : FirstFault (behind (codes "registers 1\n")) (BadLine 3) × FirstFault (behind (codes "group 1 plain : count\n")) (BadLine 3) × FirstFault (behind (codes "end\n")) (BadLine 3) × FirstFault (behind (codes "report 0\nkeep r0\n")) (BadLine 4) × FirstFault (behind (codes "report 0\nshow a key 0\nsort key 0 ascending\nshow a key 0\n")) (BadLine 6) × FirstFault (behind (codes "keep r0\ngroup 0 plain : count\n")) (BadLine 4) × FirstFault (behind (codes "scan customer r0\nend\n")) (BadLine 5)
-unfolding text_fault fault_from start advance after is_within is_small said by_words by_keyword lines_of words_of pieces_of keyword_of keyword_name count_of register_of constant_of is_name shape_of aggregate_of group_key_of table_of table_name group_column_of direction_of
+misplaced : FirstTextFault (behind (codes "registers 1\n")) (BadLine 3) × FirstTextFault (behind (codes "group 1 plain : count\n")) (BadLine 3) × FirstTextFault (behind (codes "end\n")) (BadLine 3) × FirstTextFault (behind (codes "report 0\nkeep r0\n")) (BadLine 4) × FirstTextFault (behind (codes "report 0\nshow a key 0\nsort key 0 ascending\nshow a key 0\n")) (BadLine 6) × FirstTextFault (behind (codes "keep r0\ngroup 0 plain : count\n")) (BadLine 4) × FirstTextFault (behind (codes "scan customer r0\nend\n")) (BadLine 5)
+unfolding text_fault fault_from start advance after is_within is_small said by_words by_keyword lines_of words_of pieces_of keyword_of keyword_name count_of register_of constant_of is_show_name shape_of_word aggregate_of_word group_key_of table_of_word table_name group_column_of direction_of
 misplaced = (
   refused_first (behind (codes "registers 1\n")) (BadLine 3) refl,
   refused_first (behind (codes "group 1 plain : count\n")) (BadLine 3) refl,
@@ -156,8 +156,8 @@ misplaced = (
   refused_first (behind (codes "scan customer r0\nend\n")) (BadLine 5) refl,
 )
 
-too_large : FirstFault (behind (codes "scan part r0\nscan part r0\nscan part r0\nscan part r0\n")) (TooLarge 6) × FirstFault (behind (codes "group 0 plain number number number number number number number : count\n")) (TooLarge 3) × FirstFault (behind (codes "group 0 plain : sum sum sum sum sum sum sum sum sum\n")) (TooLarge 3)
-unfolding text_fault fault_from start advance after is_within is_small said by_words by_keyword lines_of words_of pieces_of keyword_of keyword_name count_of register_of shape_of aggregate_of group_key_of table_of table_name
+too_large : FirstTextFault (behind (codes "scan part r0\nscan part r0\nscan part r0\nscan part r0\n")) (TooLarge 6) × FirstTextFault (behind (codes "group 0 plain number number number number number number number : count\n")) (TooLarge 3) × FirstTextFault (behind (codes "group 0 plain : sum sum sum sum sum sum sum sum sum\n")) (TooLarge 3)
+unfolding text_fault fault_from start advance after is_within is_small said by_words by_keyword lines_of words_of pieces_of keyword_of keyword_name count_of register_of shape_of_word aggregate_of_word group_key_of table_of_word table_name
 too_large = (
   refused_first (behind (codes "scan part r0\nscan part r0\nscan part r0\nscan part r0\n")) (TooLarge 6) refl,
   refused_first (behind (codes "group 0 plain number number number number number number number : count\n")) (TooLarge 3) refl,

@@ -4,9 +4,9 @@ use Rattle.star_program.specs.declared.outcome.Cell.TheVariants as cell
 use Rattle.star_program.specs.declared.outcome.Kept.{Kept}
 use Rattle.star_program.specs.declared.outcome.Kept.TheVariants.{Number, Wide, Text, All, Null}
 
-abbrev pub cell_kept : Kept → Cell
-cell_kept (Number z) = cell.Number z
-cell_kept (Wide number) = cell.Number number.value
-cell_kept (Text text) = cell.Text text
-cell_kept All = cell.All
-cell_kept Null = cell.Null
+abbrev pub cell_view : Kept → Cell
+cell_view (Number z) = cell.Number z
+cell_view (Wide number) = cell.Number number.value
+cell_view (Text text) = cell.Text text
+cell_view All = cell.All
+cell_view Null = cell.Null

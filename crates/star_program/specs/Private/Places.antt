@@ -2,7 +2,7 @@
 use Rattle.std.specs.Prelude.{◌≡◌, ◌==◌, ◌+◌, ◌-◌, ◌&&◌, if◌then◌else◌, Bool, true, false, ℕ, List, [], ◌∷◌, Option, Some, None, Result, Ok, Err, codes, length, nat_le, nat_lt}
 use Rattle.star_common.specs.Memory.{UnlessMemory}
 use Rattle.star_program.specs.Text.Keywords.{same}
-use Rattle.star_program.specs.Text.Lines.{is_blank, lines_of, words_of}
+use Rattle.star_program.specs.Text.Lines.{is_blank_line, lines_of, words_of}
 use Rattle.star_program.specs.Text.Said.{said}
 use Rattle.star_program.specs.declared.spelling.place.Place.{Place}
 use Rattle.star_program.specs.declared.spelling.place.Stage.{Stage}
@@ -86,7 +86,7 @@ then_from (Ok p) go = go p
 unfoldable pub fault_from : Place → ℕ → List (List ℕ) → Option TextFault
 fault_from p line [] = end_in p.stage p.depth line
 fault_from p line (text ∷ texts) =
-    if is_blank text then fault_from p (line + 1) texts
+    if is_blank_line text then fault_from p (line + 1) texts
     else then_from (advance p line text) (λ q. fault_from q (line + 1) texts)
 
 -- the first fault of a text that spells no program within the limits

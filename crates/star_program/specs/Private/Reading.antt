@@ -1,7 +1,7 @@
 -- What is read of a line's words.
 use Rattle.std.specs.Prelude.{ℕ, ◌==◌, ◌&&◌, ◌≡◌, Bool, false, List, [], ◌∷◌, Option, Some, None, Result, MatchResult}
 use Rattle.star_common.specs.Memory.{UnlessMemory}
-use Rattle.star_program.specs.Text.Lines.{is_blank}
+use Rattle.star_program.specs.Text.Lines.{is_blank_line}
 use Rattle.star_program.specs.declared.spelling.fault.LineFault.{LineFault}
 use Rattle.star_program.specs.declared.spelling.fault.LineFault.TheVariants.{OutOfMemory, Unreadable}
 
@@ -16,4 +16,4 @@ Reads result expected = MatchResult result (λ x. expected ≡ Some x) (λ fault
 -- a quote after which only spaces follow
 abbrev pub closes : List ℕ → Bool
 closes [] = false
-closes (b ∷ rest) = (b == 39) && is_blank rest
+closes (b ∷ rest) = (b == 39) && is_blank_line rest

@@ -61,19 +61,19 @@ mnemonic_name mnemonic.Read = codes "read"
 unfoldable pub mnemonic_of : List ℕ → Option Mnemonic
 mnemonic_of word = find (λ m. same (mnemonic_name m) word) MNEMONICS
 
-unfoldable pub column_of : List ℕ → Option ColumnId
-column_of word = find (λ c. same (column_name c) word) COLUMNS
+unfoldable pub column_of_word : List ℕ → Option ColumnId
+column_of_word word = find (λ c. same (column_name c) word) COLUMNS
 
-unfoldable pub table_of : List ℕ → Option TableId
-table_of word = find (λ t. same (table_name t) word) TABLES
+unfoldable pub table_of_word : List ℕ → Option TableId
+table_of_word word = find (λ t. same (table_name t) word) TABLES
 
 unfoldable pub shape_name : Shape → List ℕ
 shape_name shape.Plain = codes "plain"
 shape_name shape.Cube = codes "cube"
 shape_name shape.Rollup = codes "rollup"
 
-unfoldable pub shape_of : List ℕ → Option Shape
-shape_of word =
+unfoldable pub shape_of_word : List ℕ → Option Shape
+shape_of_word word =
     if same word (codes "plain") then Some shape.Plain
     else if same word (codes "cube") then Some shape.Cube
     else if same word (codes "rollup") then Some shape.Rollup
@@ -85,8 +85,8 @@ aggregate_name aggregate.Count = codes "count"
 aggregate_name aggregate.Min = codes "min"
 aggregate_name aggregate.Max = codes "max"
 
-unfoldable pub aggregate_of : List ℕ → Option Aggregate
-aggregate_of word =
+unfoldable pub aggregate_of_word : List ℕ → Option Aggregate
+aggregate_of_word word =
     if same word (codes "sum") then Some aggregate.Sum
     else if same word (codes "count") then Some aggregate.Count
     else if same word (codes "min") then Some aggregate.Min

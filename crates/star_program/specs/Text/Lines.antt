@@ -28,5 +28,5 @@ unfoldable pub words_of : List ℕ → List (List ℕ)
 words_of line = filter is_filled (pieces_of line)
 
 -- a line of spaces alone, or of nothing
-abbrev pub is_blank : List ℕ → Bool
-is_blank line = list_all (λ b. b == 32) line
+abbrev pub is_blank_line : List ℕ → Bool
+is_blank_line line = list_all (λ b. b == 32) line

@@ -30,5 +30,5 @@ abbrev pub is_name_byte : ℕ → Bool
 is_name_byte b = is_ascii_alphanumeric b || (b == 95)
 
 -- 1 to 64 of them
-unfoldable pub is_name : List ℕ → Bool
-is_name word = nat_le 1 (length word) && nat_le (length word) 64 && list_all is_name_byte word
+unfoldable pub is_show_name : List ℕ → Bool
+is_show_name word = nat_le 1 (length word) && nat_le (length word) 64 && list_all is_name_byte word

@@ -9,9 +9,9 @@ use Rattle.star_schema.specs.declared.group.GroupColumn.TheVariants as column
 use Rattle.star_schema.specs.declared.group.Shape.{Shape}
 use Rattle.star_schema.specs.declared.group.SortKey.{SortKey}
 use Rattle.star_program.specs.World.{is_text}
-use Rattle.star_program.specs.Text.Keywords.{aggregate_of, column_of, direction_of, keyword_of, mnemonic_of, same, shape_of, table_of}
-use Rattle.star_program.specs.Text.Lines.{is_blank, words_of}
-use Rattle.star_program.specs.Text.Numerals.{constant_of, count_of, is_name, register_of}
+use Rattle.star_program.specs.Text.Keywords.{aggregate_of_word, column_of_word, direction_of, keyword_of, mnemonic_of, same, shape_of_word, table_of_word}
+use Rattle.star_program.specs.Text.Lines.{is_blank_line, words_of}
+use Rattle.star_program.specs.Text.Numerals.{constant_of, count_of, is_show_name, register_of}
 use Rattle.star_program.specs.declared.group.GroupKey.{GroupKey}
 use Rattle.star_program.specs.declared.group.GroupKey.TheVariants as key
 use Rattle.star_program.specs.declared.op.Op.{Op}
@@ -34,13 +34,13 @@ both (Some x) None = None
 both (Some x) (Some y) = Some (x, y)
 
 -- the only word
-abbrev pub only : List (List ℕ) → Option (List ℕ)
-only [] = None
-only (w ∷ []) = Some w
-only (w ∷ v ∷ ws) = None
+abbrev pub only_word : List (List ℕ) → Option (List ℕ)
+only_word [] = None
+only_word (w ∷ []) = Some w
+only_word (w ∷ v ∷ ws) = None
 
 abbrev pub one : {A : Type 0} → (List ℕ → Option A) → List (List ℕ) → Option A
-one f ws = option_and_then f (only ws)
+one f ws = option_and_then f (only_word ws)
 
 abbrev pub two : {A B : Type 0} → (List ℕ → Option A) → (List ℕ → Option B) → List (List ℕ) → Option (A × B)
 two f g [] = None
@@ -74,7 +74,7 @@ unquoted [] = None
 unquoted (b ∷ []) = if b == 39 then Some [] else option_map (λ text. b ∷ text) None
 unquoted (b ∷ c ∷ rest) =
     if (b == 39) && (c == 39) then option_map (λ text. 39 ∷ text) (unquoted rest)
-    else if b == 39 then (if is_blank (c ∷ rest) then Some [] else None)
+    else if b == 39 then (if is_blank_line (c ∷ rest) then Some [] else None)
     else option_map (λ text. b ∷ text) (unquoted (c ∷ rest))
 
 -- a text in quotes, in which a quote is doubled
@@ -87,9 +87,9 @@ quoted_text_of (b ∷ rest) = if b == 39 then unquoted rest else None
 -- an operation, by the words behind its own
 unfoldable pub operation_of : Mnemonic → List (List ℕ) → Option Operation
 operation_of mnemonic.Const ws = option_map operation.Const (one constant_of ws)
-operation_of (mnemonic.Edge e) ws = option_map (λ (c, text). operation.Edge e c text) (two column_of quoted_text_of ws)
-operation_of mnemonic.Load ws = option_map (λ (c, row). operation.Load c row) (two column_of register_of ws)
-operation_of mnemonic.Find ws = option_map (λ (table, k). operation.Find table k) (two table_of register_of ws)
+operation_of (mnemonic.Edge e) ws = option_map (λ (c, text). operation.Edge e c text) (two column_of_word quoted_text_of ws)
+operation_of mnemonic.Load ws = option_map (λ (c, row). operation.Load c row) (two column_of_word register_of ws)
+operation_of mnemonic.Find ws = option_map (λ (table, k). operation.Find table k) (two table_of_word register_of ws)
 operation_of (mnemonic.Binary o) ws = option_map (λ (a, b). operation.Binary o a b) (two register_of register_of ws)
 operation_of mnemonic.Within ws = option_map (λ (x, (a, b)). operation.Within x a b) (three register_of register_of register_of ws)
 operation_of mnemonic.Not ws = option_map operation.Not (one register_of ws)
@@ -106,17 +106,17 @@ abbrev pub text_key : ColumnId → Option GroupKey
 text_key c = if is_text c then Some (key.Text c) else None
 
 unfoldable pub group_key_of : List ℕ → Option GroupKey
-group_key_of word = if same word (codes "number") then Some key.Number else option_and_then text_key (column_of word)
+group_key_of word = if same word (codes "number") then Some key.Number else option_and_then text_key (column_of_word word)
 
 -- the number of a group, its shape and the words after them
 abbrev pub group_head : List (List ℕ) → Option (ℕ × (Shape × List (List ℕ)))
 group_head [] = None
 group_head (w ∷ []) = None
-group_head (w ∷ v ∷ ws) = both (count_of w) (both (shape_of v) (Some ws))
+group_head (w ∷ v ∷ ws) = both (count_of w) (both (shape_of_word v) (Some ws))
 
 abbrev pub group_of : List (List ℕ) → Option Statement
 group_of ws = option_and_then (λ (place, (shape, rest)).
-    option_map (λ (keys, aggregates). says.Group place (record { shape = shape; keys = keys; aggregates = aggregates })) (lists group_key_of aggregate_of rest))
+    option_map (λ (keys, aggregates). says.Group place (record { shape = shape; keys = keys; aggregates = aggregates })) (lists group_key_of aggregate_of_word rest))
     (group_head ws)
 
 -- the number of a group and the words after it
@@ -128,7 +128,7 @@ abbrev pub put_of : List (List ℕ) → Option Op
 put_of ws = option_and_then (λ (group, rest). option_map (λ (keys, values). op.Put group keys values) (lists register_of register_of rest)) (put_head ws)
 
 abbrev pub name_of : List ℕ → Option (List ℕ)
-name_of word = if is_name word then Some word else None
+name_of word = if is_show_name word then Some word else None
 
 -- which column of a group
 unfoldable pub group_column_of : List ℕ → List ℕ → Option GroupColumn
@@ -140,7 +140,7 @@ group_column_of word place =
 abbrev pub show_of : List (List ℕ) → Option Show
 show_of [] = None
 show_of (name ∷ []) = None
-show_of (name ∷ word ∷ ws) = option_map (λ (n, c). record { name = n; column = c }) (both (name_of name) (option_and_then (group_column_of word) (only ws)))
+show_of (name ∷ word ∷ ws) = option_map (λ (n, c). record { name = n; column = c }) (both (name_of name) (option_and_then (group_column_of word) (only_word ws)))
 
 abbrev pub sort_of : List (List ℕ) → Option SortKey
 sort_of [] = None
@@ -149,7 +149,7 @@ sort_of (word ∷ place ∷ ws) = option_map (λ (c, d). record { column = c; di
 
 abbrev pub header_of : List (List ℕ) → Option Statement
 header_of [] = None
-header_of (program ∷ ws) = if same program (codes "program") then option_and_then (λ version. if same version (codes "1") then Some says.Header else None) (only ws) else None
+header_of (program ∷ ws) = if same program (codes "program") then option_and_then (λ version. if same version (codes "1") then Some says.Header else None) (only_word ws) else None
 
 abbrev pub end_of : List (List ℕ) → Option Statement
 end_of [] = Some says.End
@@ -162,7 +162,7 @@ by_keyword keyword.Registers ws = option_map says.Registers (one count_of ws)
 by_keyword keyword.Group ws = group_of ws
 by_keyword keyword.Keep ws = option_map (λ f. says.Act (op.Keep f)) (one register_of ws)
 by_keyword keyword.Put ws = option_map says.Act (put_of ws)
-by_keyword keyword.Scan ws = option_map (λ (table, t). says.Scan table t) (two table_of register_of ws)
+by_keyword keyword.Scan ws = option_map (λ (table, t). says.Scan table t) (two table_of_word register_of ws)
 by_keyword keyword.End ws = end_of ws
 by_keyword keyword.Report ws = option_map says.Report (one count_of ws)
 by_keyword keyword.Show ws = option_map says.Show (show_of ws)
@@ -183,4 +183,4 @@ said line = if list_all is_printable line then by_words (words_of line) else Non
 
 -- what lines say that aren't blank, one after another
 abbrev pub said_in : List (List ℕ) → List (Option Statement)
-said_in lines = map said (filter (λ line. not (is_blank line)) lines)
+said_in lines = map said (filter (λ line. not (is_blank_line line)) lines)

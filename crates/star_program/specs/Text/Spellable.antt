@@ -5,9 +5,9 @@ use Rattle.star_schema.specs.Tables.{is_printable}
 use Rattle.star_schema.specs.declared.group.GroupColumn.{GroupColumn}
 use Rattle.star_schema.specs.declared.group.GroupColumn.TheVariants as column
 use Rattle.star_program.specs.World.{is_text}
-use Rattle.star_program.specs.Text.Numerals.{is_name}
-use Rattle.star_program.specs.Text.Spelling.{Spells, statements_of}
-use Rattle.star_program.specs.Text.Written.{text_of}
+use Rattle.star_program.specs.Text.Numerals.{is_show_name}
+use Rattle.star_program.specs.Text.Spelling.{Spells, program_statements}
+use Rattle.star_program.specs.Text.Written.{program_text}
 use Rattle.star_program.specs.declared.group.GroupKey.{GroupKey}
 use Rattle.star_program.specs.declared.group.GroupKey.TheVariants as key
 use Rattle.star_program.specs.declared.op.Op.{Op}
@@ -19,8 +19,8 @@ use Rattle.star_program.specs.declared.spelling.statement.Statement.{Statement}
 use Rattle.star_program.specs.declared.spelling.statement.Statement.TheVariants as says
 
 -- the number of a register, a count or a place has at most four digits
-abbrev pub IsShort : ℕ → Type 0
-IsShort n = n ≤ 9999
+abbrev pub HasFourDigits : ℕ → Type 0
+HasFourDigits n = n ≤ 9999
 
 -- a constant has 64 bits
 abbrev pub IsConstant : ℤ → Type 0
@@ -32,8 +32,8 @@ abbrev pub IsPrinted : List ℕ → Type 0
 IsPrinted text = list_all is_printable text ≡ true
 
 abbrev pub IsShortColumn : GroupColumn → Type 0
-IsShortColumn (column.Key k) = IsShort k
-IsShortColumn (column.Aggregate a) = IsShort a
+IsShortColumn (column.Key k) = HasFourDigits k
+IsShortColumn (column.Aggregate a) = HasFourDigits a
 
 -- a key of a group is a number or of a column of texts
 abbrev pub IsKey : GroupKey → Type 0
@@ -43,37 +43,37 @@ IsKey (key.Text c) = is_text c ≡ true
 abbrev pub IsSpellableOperation : Operation → Type 0
 IsSpellableOperation (operation.Const n) = IsConstant n
 IsSpellableOperation (operation.Edge e c text) = IsPrinted text
-IsSpellableOperation (operation.Load c row) = IsShort row
-IsSpellableOperation (operation.Find table k) = IsShort k
-IsSpellableOperation (operation.Binary o a b) = IsShort a × IsShort b
-IsSpellableOperation (operation.Within x a b) = IsShort x × IsShort a × IsShort b
-IsSpellableOperation (operation.Not f) = IsShort f
-IsSpellableOperation (operation.Read g a n) = IsShort g × IsShort a × IsConstant n
+IsSpellableOperation (operation.Load c row) = HasFourDigits row
+IsSpellableOperation (operation.Find table k) = HasFourDigits k
+IsSpellableOperation (operation.Binary o a b) = HasFourDigits a × HasFourDigits b
+IsSpellableOperation (operation.Within x a b) = HasFourDigits x × HasFourDigits a × HasFourDigits b
+IsSpellableOperation (operation.Not f) = HasFourDigits f
+IsSpellableOperation (operation.Read g a n) = HasFourDigits g × HasFourDigits a × IsConstant n
 
 abbrev pub IsSpellableOp : Op → Type 0
-IsSpellableOp (op.Assign t o) = IsShort t × IsSpellableOperation o
-IsSpellableOp (op.Keep f) = IsShort f
-IsSpellableOp (op.Put g keys values) = IsShort g × All IsShort keys × All IsShort values
+IsSpellableOp (op.Assign t o) = HasFourDigits t × IsSpellableOperation o
+IsSpellableOp (op.Keep f) = HasFourDigits f
+IsSpellableOp (op.Put g keys values) = HasFourDigits g × All HasFourDigits keys × All HasFourDigits values
 
 -- a statement that some line says
 abbrev pub IsSayable : Statement → Type 0
 IsSayable says.Header = Unit {0}
-IsSayable (says.Registers n) = IsShort n
-IsSayable (says.Group place group) = IsShort place × All IsKey group.keys
+IsSayable (says.Registers n) = HasFourDigits n
+IsSayable (says.Group place group) = HasFourDigits place × All IsKey group.keys
 IsSayable (says.Act o) = IsSpellableOp o
-IsSayable (says.Scan table t) = IsShort t
+IsSayable (says.Scan table t) = HasFourDigits t
 IsSayable says.End = Unit {0}
-IsSayable (says.Report g) = IsShort g
-IsSayable (says.Show show) = (is_name show.name ≡ true) × IsShortColumn show.column
+IsSayable (says.Report g) = HasFourDigits g
+IsSayable (says.Show show) = (is_show_name show.name ≡ true) × IsShortColumn show.column
 IsSayable (says.Sort key) = IsShortColumn key.column
 
 -- a program that some text spells: each of its statements can be said
 abbrev pub IsSpellable : Parts → Type 0
-IsSpellable p = All IsSayable (statements_of p)
+IsSpellable p = All IsSayable (program_statements p)
 
 -- the text of a program that can be spelled spells it
 abbrev pub Written : Type 0
-Written = (p : Parts) → IsSpellable p → Spells (text_of p) p
+Written = (p : Parts) → IsSpellable p → Spells (program_text p) p
 
 -- no text spells another
 abbrev pub OnlySpellable : Type 0
@@ -81,4 +81,4 @@ OnlySpellable = (text : List ℕ) (p : Parts) → Spells text p → IsSpellable 
 
 -- so where some text spells a program, its own text does
 abbrev pub WrittenBack : Type 0
-WrittenBack = (text : List ℕ) (p : Parts) → Spells text p → Spells (text_of p) p
+WrittenBack = (text : List ℕ) (p : Parts) → Spells text p → Spells (program_text p) p

@@ -9,12 +9,12 @@ use Rattle.star_program.specs.declared.spelling.fault.TextFault.TheVariants as f
 use Rattle.star_program.specs.declared.spelling.statement.Statement.{Statement}
 
 -- what the lines of a program say, one after another
-abbrev pub statements_of : Parts → List Statement
-statements_of p = map (λ line. line.says) (lines_of_program p)
+abbrev pub program_statements : Parts → List Statement
+program_statements p = map (λ line. line.says) (lines_of_program p)
 
 -- a text spells a program: its lines that aren't blank say the program's statements, one after another
 unfoldable pub Spells : List ℕ → Parts → Type 0
-Spells text p = said_in (lines_of text) ≡ map Some (statements_of p)
+Spells text p = said_in (lines_of text) ≡ map Some (program_statements p)
 
 -- no text spells two programs
 abbrev pub OneProgram : Type 0

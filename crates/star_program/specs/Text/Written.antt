@@ -60,15 +60,15 @@ group_text place group =
     codes "group " ++ (decimal place ++ (codes " " ++ (shape_name group.shape
     ++ (flat_map key_text group.keys ++ (codes " :" ++ flat_map aggregate_text group.aggregates)))))
 
-unfoldable pub column_text : GroupColumn → List ℕ
-column_text (Key k) = codes " key " ++ decimal k
-column_text (Aggregate a) = codes " aggregate " ++ decimal a
+unfoldable pub written_column : GroupColumn → List ℕ
+written_column (Key k) = codes " key " ++ decimal k
+written_column (Aggregate a) = codes " aggregate " ++ decimal a
 
 unfoldable pub show_text : Show → List ℕ
-show_text show = codes "show " ++ (show.name ++ column_text show.column)
+show_text show = codes "show " ++ (show.name ++ written_column show.column)
 
 unfoldable pub sort_text : SortKey → List ℕ
-sort_text key = codes "sort" ++ (column_text key.column ++ (codes " " ++ direction_name key.direction))
+sort_text key = codes "sort" ++ (written_column key.column ++ (codes " " ++ direction_name key.direction))
 
 abbrev pub statement_text : Statement → List ℕ
 statement_text says.Header = codes "star program 1"
@@ -82,9 +82,9 @@ statement_text (says.Show show) = show_text show
 statement_text (says.Sort key) = sort_text key
 
 -- two spaces for each scan round it, the statement, and a line feed
-unfoldable pub line_text : Line → List ℕ
-line_text l = replicate (2 * l.depth) 32 ++ (statement_text l.says ++ 10 ∷ [])
+unfoldable pub written_line : Line → List ℕ
+written_line l = replicate (2 * l.depth) 32 ++ (statement_text l.says ++ 10 ∷ [])
 
 -- the text of a program
-unfoldable pub text_of : Parts → List ℕ
-text_of p = flat_map line_text (lines_of_program p)
+unfoldable pub program_text : Parts → List ℕ
+program_text p = flat_map written_line (lines_of_program p)

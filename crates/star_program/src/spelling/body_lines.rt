@@ -5,7 +5,7 @@ ghost use Rattle.std.specs.List.{flat_map};
 ghost use Rattle.star_program.specs.Code.{scan_depth};
 ghost use Rattle.star_program.specs.Private.Followed.{code_of_step};
 ghost use Rattle.star_program.specs.Text.Statements.{lines_of_code};
-ghost use Rattle.star_program.specs.Text.Written.{line_text};
+ghost use Rattle.star_program.specs.Text.Written.{written_line};
 
 use crate::body::{Body, Step};
 use crate::spelling::program_lines::{push_end_line, push_op_line, push_scan_line};
@@ -16,7 +16,7 @@ use std::alloc::AllocError;
 pub(crate) fn push_body(out: &mut Vec<u8>, depth: u8, body: &Body) -> Result<(), AllocError>
     requires { depth + scan_depth body.now ≤ 3 }
     ensures { OnOk result (out.new.items ≡ out.old.items
-        ++ flat_map line_text (lines_of_code depth body.now)) }
+        ++ flat_map written_line (lines_of_code depth body.now)) }
 {
     for step in body.as_slice() {
         push_step(out, depth, step)?;
@@ -28,7 +28,7 @@ pub(crate) fn push_body(out: &mut Vec<u8>, depth: u8, body: &Body) -> Result<(),
 fn push_step(out: &mut Vec<u8>, depth: u8, step: &Step) -> Result<(), AllocError>
     requires { depth + scan_depth (code_of_step step.now) ≤ 3 }
     ensures { OnOk result (out.new.items ≡ out.old.items
-        ++ flat_map line_text (lines_of_code depth (code_of_step step.now))) }
+        ++ flat_map written_line (lines_of_code depth (code_of_step step.now))) }
 {
     match step {
         Step::Act(op) => push_op_line(out, depth, op),

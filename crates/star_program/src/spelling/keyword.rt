@@ -155,9 +155,9 @@ pub(crate) fn shape_name(shape: Shape) -> &'static str
     }
 }
 
-#[tactic(auto, unfolding(crate::specs::Text::Keywords::shape_of))]
+#[tactic(auto, unfolding(crate::specs::Text::Keywords::shape_of_word))]
 pub(crate) fn read_shape(word: &[u8]) -> Option<Shape>
-    ensures { result ≡ spec.shape_of word.now }
+    ensures { result ≡ spec.shape_of_word word.now }
 {
     if word == "plain".as_bytes() {
         Some(Shape::Plain)
@@ -182,9 +182,9 @@ pub(crate) fn aggregate_name(aggregate: Aggregate) -> &'static str
     }
 }
 
-#[tactic(auto, unfolding(crate::specs::Text::Keywords::aggregate_of))]
+#[tactic(auto, unfolding(crate::specs::Text::Keywords::aggregate_of_word))]
 pub(crate) fn read_aggregate(word: &[u8]) -> Option<Aggregate>
-    ensures { result ≡ spec.aggregate_of word.now }
+    ensures { result ≡ spec.aggregate_of_word word.now }
 {
     if word == "sum".as_bytes() {
         Some(Aggregate::Sum)

@@ -77,7 +77,7 @@ pub(crate) fn split_word(line: &[u8]) -> Option<(&[u8], &[u8])>
 
 /// Whether a line has nothing but spaces.
 pub(crate) fn is_blank(line: &[u8]) -> bool
-    ensures { result ≡ spec.is_blank line.now }
+    ensures { result ≡ spec.is_blank_line line.now }
 {
     line.iter().all(|&b| b == b' ')
 }

@@ -37,7 +37,7 @@ impl Listed for u16 {
 }
 
 impl Listed for Aggregate {
-    ghost meaning = { words.aggregate_of };
+    ghost meaning = { words.aggregate_of_word };
 
     fn read(word: &[u8]) -> Option<Aggregate> {
         read_aggregate(word)
@@ -62,13 +62,13 @@ impl Listed for GroupKey {
 }
 
 pub(crate) fn read_column(word: &[u8]) -> Option<ColumnId>
-    ensures { result ≡ words.column_of word.now }
+    ensures { result ≡ words.column_of_word word.now }
 {
     column_named(word)
 }
 
 pub(crate) fn read_table(word: &[u8]) -> Option<TableId>
-    ensures { result ≡ words.table_of word.now }
+    ensures { result ≡ words.table_of_word word.now }
 {
     table_named(word)
 }

@@ -88,9 +88,9 @@ fn is_of_name_bytes(word: &[u8]) -> bool
 }
 
 /// Whether a word is a name of 1 to 64 bytes.
-#[tactic(auto, unfolding(crate::specs::Text::Numerals::is_name))]
+#[tactic(auto, unfolding(crate::specs::Text::Numerals::is_show_name))]
 pub(crate) fn is_name(word: &[u8]) -> bool
-    ensures { result ≡ spec.is_name word.now }
+    ensures { result ≡ spec.is_show_name word.now }
 {
     !word.is_empty() && word.len() <= 64 && is_of_name_bytes(word)
 }

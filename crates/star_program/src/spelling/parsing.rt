@@ -3,7 +3,7 @@
 ghost use Rattle.std.specs.Prelude.{◌≡◌, None, MatchResult, false};
 ghost use Rattle.star_program.specs.Private.Drafts as spec;
 ghost use Rattle.star_program.specs.Limits.{IsWithinLimits};
-ghost use Rattle.star_program.specs.Text.Lines.{is_blank as blank};
+ghost use Rattle.star_program.specs.Text.Lines.{is_blank_line as blank};
 ghost use Rattle.star_program.specs.Private.Places.{IsRefusedText};
 ghost use Rattle.star_program.specs.Text.Spelling.{Spells};
 

@@ -30,10 +30,10 @@ fn push_indent(out: &mut Vec<u8>, depth: u8) -> Result<(), AllocError>
 }
 
 /// Adds the line of an instruction.
-#[tactic(auto, unfolding(crate::specs::Text::Written::line_text))]
+#[tactic(auto, unfolding(crate::specs::Text::Written::written_line))]
 pub(crate) fn push_op_line(out: &mut Vec<u8>, depth: u8, op: &Op) -> Result<(), AllocError>
     ensures { OnOk result (out.new.items ≡ out.old.items
-        ++ spec.line_text (lines.line depth (says.Act op.now))) }
+        ++ spec.written_line (lines.line depth (says.Act op.now))) }
 {
     push_indent(out, depth)?;
     push_op(out, op)?;
@@ -42,7 +42,7 @@ pub(crate) fn push_op_line(out: &mut Vec<u8>, depth: u8, op: &Op) -> Result<(), 
 }
 
 /// Adds the line that begins a scan.
-#[tactic(auto, unfolding(crate::specs::Text::Written::line_text))]
+#[tactic(auto, unfolding(crate::specs::Text::Written::written_line))]
 pub(crate) fn push_scan_line(
     out: &mut Vec<u8>,
     depth: u8,
@@ -50,7 +50,7 @@ pub(crate) fn push_scan_line(
     target: u16,
 ) -> Result<(), AllocError>
     ensures { OnOk result (out.new.items ≡ out.old.items
-        ++ spec.line_text (lines.line depth (says.Scan table target))) }
+        ++ spec.written_line (lines.line depth (says.Scan table target))) }
 {
     push_indent(out, depth)?;
     let text = format!(in *out.allocator(); "scan {table}")?;
@@ -61,29 +61,29 @@ pub(crate) fn push_scan_line(
 }
 
 /// Adds the line that ends a scan.
-#[tactic(auto, unfolding(crate::specs::Text::Written::line_text))]
+#[tactic(auto, unfolding(crate::specs::Text::Written::written_line))]
 pub(crate) fn push_end_line(out: &mut Vec<u8>, depth: u8) -> Result<(), AllocError>
     ensures { OnOk result (out.new.items ≡ out.old.items
-        ++ spec.line_text (lines.line depth says.End)) }
+        ++ spec.written_line (lines.line depth says.End)) }
 {
     push_indent(out, depth)?;
     out.extend_from_slice(b"end\n")
 }
 
-#[tactic(auto, unfolding(crate::specs::Text::Written::line_text))]
+#[tactic(auto, unfolding(crate::specs::Text::Written::written_line))]
 fn push_head(out: &mut Vec<u8>, registers: u16) -> Result<(), AllocError>
     ensures { OnOk result (out.new.items ≡ out.old.items
-        ++ (spec.line_text (lines.line 0 says.Header)
-        ++ spec.line_text (lines.line 0 (says.Registers registers)))) }
+        ++ (spec.written_line (lines.line 0 says.Header)
+        ++ spec.written_line (lines.line 0 (says.Registers registers)))) }
 {
     let text = format!(in *out.allocator(); "star program 1\nregisters {registers}\n")?;
     out.extend_from_slice(text.as_bytes())
 }
 
-#[tactic(auto, unfolding(crate::specs::Text::Written::line_text))]
+#[tactic(auto, unfolding(crate::specs::Text::Written::written_line))]
 fn push_group_line(out: &mut Vec<u8>, place: u16, group: &GroupDecl) -> Result<(), AllocError>
     ensures { OnOk result (out.new.items ≡ out.old.items
-        ++ spec.line_text (lines.line 0 (says.Group place group.now))) }
+        ++ spec.written_line (lines.line 0 (says.Group place group.now))) }
 {
     push_group(out, place, group)?;
     out.push(b'\n')?;
@@ -100,7 +100,7 @@ fn group_at(groups: &[GroupDecl], place: usize) -> &GroupDecl
 fn push_groups(out: &mut Vec<u8>, groups: &[GroupDecl]) -> Result<(), AllocError>
     requires { length groups.now ≤ 8 }
     ensures { OnOk result (out.new.items ≡ out.old.items
-        ++ flat_map spec.line_text (lines.group_lines 0 groups.now)) }
+        ++ flat_map spec.written_line (lines.group_lines 0 groups.now)) }
 {
     for place in 0..groups.len() {
         push_group_line(out, place as u16, group_at(groups, place))?;
@@ -108,10 +108,10 @@ fn push_groups(out: &mut Vec<u8>, groups: &[GroupDecl]) -> Result<(), AllocError
     Ok(())
 }
 
-#[tactic(auto, unfolding(crate::specs::Text::Written::line_text))]
+#[tactic(auto, unfolding(crate::specs::Text::Written::written_line))]
 fn push_report(out: &mut Vec<u8>, group: u16) -> Result<(), AllocError>
     ensures { OnOk result (out.new.items ≡ out.old.items
-        ++ spec.line_text (lines.line 0 (says.Report group))) }
+        ++ spec.written_line (lines.line 0 (says.Report group))) }
 {
     let text = format!(in *out.allocator(); "report {group}\n")?;
     out.extend_from_slice(text.as_bytes())
@@ -119,9 +119,9 @@ fn push_report(out: &mut Vec<u8>, group: u16) -> Result<(), AllocError>
 
 /// The line of a column that is shown.
 impl Written for Show {
-    ghost text = { λ show. spec.line_text (lines.show_line show) };
+    ghost text = { λ show. spec.written_line (lines.show_line show) };
 
-    #[tactic(auto, unfolding(crate::specs::Text::Written::line_text))]
+    #[tactic(auto, unfolding(crate::specs::Text::Written::written_line))]
     fn push(&self, out: &mut Vec<u8>) -> Result<(), AllocError> {
         push_show(out, self)?;
         out.push(b'\n')?;
@@ -131,9 +131,9 @@ impl Written for Show {
 
 /// The line of a key that is sorted by.
 impl Written for SortKey {
-    ghost text = { λ key. spec.line_text (lines.sort_line key) };
+    ghost text = { λ key. spec.written_line (lines.sort_line key) };
 
-    #[tactic(auto, unfolding(crate::specs::Text::Written::line_text))]
+    #[tactic(auto, unfolding(crate::specs::Text::Written::written_line))]
     fn push(&self, out: &mut Vec<u8>) -> Result<(), AllocError> {
         push_sort(out, *self)?;
         out.push(b'\n')?;
@@ -144,7 +144,7 @@ impl Written for SortKey {
 /// The text of a program's parts.
 pub(crate) fn write_parts(alloc: Global, parts: &Parts) -> Result<Vec<u8>, AllocError>
     requires { IsWithinLimits parts.now }
-    ensures { IfOk result (λ text. text.items ≡ spec.text_of parts.now) }
+    ensures { IfOk result (λ text. text.items ≡ spec.program_text parts.now) }
 {
     let mut out = Vec::new(alloc);
     push_head(&mut out, parts.registers)?;

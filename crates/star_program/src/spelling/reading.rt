@@ -67,7 +67,7 @@ fn constant(operands: &[u8]) -> Option<Operation>
 
 fn load(operands: &[u8]) -> Option<Operation>
     ensures { result ≡ option_map (λ (c, row). operation.Load c row)
-        (spec.two words.column_of numerals.register_of (words_of operands.now)) }
+        (spec.two words.column_of_word numerals.register_of (words_of operands.now)) }
 {
     let (column, row) = two_words(operands)?;
     Some(Operation::Load {
@@ -78,7 +78,7 @@ fn load(operands: &[u8]) -> Option<Operation>
 
 fn find(operands: &[u8]) -> Option<Operation>
     ensures { result ≡ option_map (λ (table, k). operation.Find table k)
-        (spec.two words.table_of numerals.register_of (words_of operands.now)) }
+        (spec.two words.table_of_word numerals.register_of (words_of operands.now)) }
 {
     let (table, key) = two_words(operands)?;
     Some(Operation::Find {
@@ -155,7 +155,7 @@ fn read_first(line: &[u8]) -> Result<(&[u8], &[u8]), LineFault>
 
 fn read_edge(alloc: Global, edge: Edge, operands: &[u8]) -> Result<Operation, LineFault>
     ensures { Reads result (option_map (λ (c, text). operation.Edge edge c text)
-        (spec.two words.column_of spec.quoted_text_of (words_of operands.now))) }
+        (spec.two words.column_of_word spec.quoted_text_of (words_of operands.now))) }
 {
     let (column, text) = readable(two_words(operands))?;
     let column = readable(read_column(column))?;
@@ -331,7 +331,7 @@ fn read_keep(line: &[u8]) -> Option<Statement>
 
 fn read_scan(line: &[u8]) -> Option<Statement>
     ensures { result ≡ option_map (λ (table, t). says.Scan table t)
-        (spec.two words.table_of numerals.register_of (words_of line.now)) }
+        (spec.two words.table_of_word numerals.register_of (words_of line.now)) }
 {
     let (table, target) = two_words(line)?;
     Some(Statement::Scan {

@@ -280,9 +280,9 @@ pub(crate) fn push_group(out: &mut Vec<u8>, place: u16, group: &GroupDecl) -> Re
 }
 
 // Adds which column of a group is meant.
-#[tactic(auto, unfolding(crate::specs::Text::Written::column_text))]
+#[tactic(auto, unfolding(crate::specs::Text::Written::written_column))]
 fn push_place(out: &mut Vec<u8>, column: GroupColumn) -> Result<(), AllocError>
-    ensures { OnOk result (out.new.items ≡ out.old.items ++ spec.column_text column) }
+    ensures { OnOk result (out.new.items ≡ out.old.items ++ spec.written_column column) }
 {
     let text = match column {
         GroupColumn::Key(place) => format!(in *out.allocator(); " key {place}")?,

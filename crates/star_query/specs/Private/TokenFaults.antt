@@ -10,18 +10,18 @@ use Rattle.star_query.specs.declared.fault.ParseError.TheVariants as errors
 use Rattle.star_query.specs.declared.fault.QueryFault.{QueryFault}
 use Rattle.star_query.specs.declared.fault.QueryFault.TheVariants as faults
 use Rattle.star_query.specs.Symbols.{Placed, symbols}
-use Rattle.star_query.specs.Derives.{FirstFault, place_of}
+use Rattle.star_query.specs.Derives.{FirstQueryFault, first_place}
 
 -- the tokens have this first fault, before these that are left
 pub record TokensStopAt (tokens : List Placed) (fault : Fault) (left : List Placed) : Type 0 where
   pub front : List Placed
   pub cut : tokens ≡ front ++ left
-  pub first : FirstFault (symbols tokens) fault (symbols left)
+  pub first : FirstQueryFault (symbols tokens) fault (symbols left)
 
 -- the fault of tokens whose text has this length; want of memory may come before it
 abbrev pub IsTokenFault : List Placed → ℕ → QueryFault → Type 0
 IsTokenFault tokens end faults.OutOfMemory = Unit {0}
-IsTokenFault tokens end (faults.Unexpected place) = (left : List Placed) × TokensStopAt tokens Unexpected left × (place ≡ place_of left end)
+IsTokenFault tokens end (faults.Unexpected place) = (left : List Placed) × TokensStopAt tokens Unexpected left × (place ≡ first_place left end)
 IsTokenFault tokens end faults.TooDeep = (left : List Placed) × TokensStopAt tokens TooDeep left
 IsTokenFault tokens end faults.TooMany = (left : List Placed) × TokensStopAt tokens TooMany left
 IsTokenFault tokens end _ = ⊥

@@ -1,8 +1,9 @@
 -- A statement that is being read.
 use Rattle.std.specs.Prelude.{◌≡◌, ◌==◌, ◌&&◌, ◌||◌, ◌++◌, ℕ, List, [], ◌∷◌, Bool, true, false, Option, if◌then◌else◌, length, nat_lt, take}
 use Rattle.std.specs.Io.KnownBytes.{Consumes}
-use Rattle.star_statements.specs.Blanks.{is_blank, without_blanks}
-use Rattle.star_statements.specs.Statements.{joined, statements_of}
+use Rattle.star_statements.specs.Blanks.{without_blanks}
+use Rattle.star_common.specs.WhiteSpace.{is_blank}
+use Rattle.star_statements.specs.Statements.{joined_to_first, statements_of}
 
 -- what is kept of a statement: no blanks before it, and at most one byte more than it may have
 unfoldable pub kept : List ℕ → List ℕ
@@ -32,7 +33,7 @@ unfoldable pub cut : Bool → List ℕ → List (List ℕ)
 cut ends [] = [] ∷ []
 cut ends (c ∷ rest) =
     if closes ends c then (c ∷ []) ∷ cut false rest
-    else joined (c ∷ []) (cut (ends_behind ends c) rest)
+    else joined_to_first (c ∷ []) (cut (ends_behind ends c) rest)
 
 -- a statement that has begun, and that no line has ended yet, where a reader has these bytes left before
 -- and behind it
@@ -40,4 +41,4 @@ pub record IsDraft (old new : Option (List ℕ)) (text : List ℕ) (ends : Bool)
     (begun : List ℕ) : Type 0 where
   pub read : Consumes old new begun
   pub keeps : text ≡ kept begun
-  pub splits : (rest : List ℕ) → statements_of (begun ++ rest) ≡ joined begun (cut ends rest)
+  pub splits : (rest : List ℕ) → statements_of (begun ++ rest) ≡ joined_to_first begun (cut ends rest)

@@ -2,7 +2,7 @@
 use Rattle.std.specs.Prelude.{◌≡◌, ◌≤◌, ◌<◌, ◌+◌, ◌^◌, ℕ, List, Option, length, Result, MatchResult, OnOk}
 use Rattle.star_schema.specs.Database.{Database}
 use Rattle.star_program.specs.declared.program.Parts.{Parts}
-use Rattle.star_program.specs.Effects.{Store, Effect, GoesOn, EndsTurn, Traps}
+use Rattle.star_program.specs.Effects.{State, Effect, GoesOn, EndsTurn, Traps}
 use Rattle.star_program.specs.Values.{Registers, with_entry}
 use Rattle.star_outcome.specs.declared.flow.Flow.{Flow}
 use Rattle.star_outcome.specs.declared.flow.Flow.TheVariants as flow
@@ -14,26 +14,26 @@ use Rattle.star_program.specs.declared.value.Value.{Value}
 use Rattle.star_program.specs.Private.Doing.{assigns, does}
 use Rattle.star_trial.specs.declared.machine.Machine.{Machine}
 use Rattle.star_trial.specs.Private.Runs.{HasDone, Run}
-use Rattle.star_trial.specs.Private.Shown.{held}
+use Rattle.star_trial.specs.Private.Views.{registers_view}
 use Rattle.star_outcome.specs.Sound.{AreSound, IsSoundValue}
 use Rattle.star_world.specs.WorldOf.{world_of}
 
 -- an effect that sets a register
 pub record Sets (database : Database) (parts : Parts) (registers : Registers) (run : Run)
     (target : ℕ) (effect : Effect) (value : Value) : Type 0 where
-  pub s : Store
+  pub s : State
   pub does : effect ≡ GoesOn (with_entry registers target value) s
   pub done : HasDone database parts run s
   pub sound : IsSoundValue database value
 
 pub record Goes (database : Database) (parts : Parts) (registers : Registers) (run : Run)
     (effect : Effect) : Type 0 where
-  pub s : Store
+  pub s : State
   pub does : effect ≡ GoesOn registers s
   pub done : HasDone database parts run s
 
 pub record Ends (database : Database) (parts : Parts) (run : Run) (effect : Effect) : Type 0 where
-  pub s : Store
+  pub s : State
   pub does : effect ≡ EndsTurn s
   pub done : HasDone database parts run s
 
@@ -63,8 +63,8 @@ IsAnswer database parts registers run effect result =
 pub record CanAct (m : Machine) (registers : List (Option Value)) (run : Run) : Type 0 where
   pub few : run.lookups + run.updates < 2 ^ 63
   pub wide : length registers ≡ m.parts.now.registers
-  pub sound : AreSound m.catalogue.now (held registers)
-  pub done : (s : Store) × HasDone m.catalogue.now m.parts.now run s
+  pub sound : AreSound m.catalogue.now (registers_view registers)
+  pub done : (s : State) × HasDone m.catalogue.now m.parts.now run s
 
 -- no turn was begun, and one look-up made at most, or one update
 pub record HasWorkedOnce (old new : Run) : Type 0 where
@@ -75,20 +75,20 @@ pub record HasWorkedOnce (old new : Run) : Type 0 where
 abbrev pub Makes : Machine → List (Option Value) → Run → Run → Operation → Result Value Stop
     → Type 0
 Makes m registers old new operation result =
-    (s : Store) (target : ℕ) → HasDone m.catalogue.now m.parts.now old s
-    → IsMade m.catalogue.now m.parts.now (held registers) new target
-    (assigns (world_of m.catalogue.now) m.parts.now (held registers) s target operation) result
+    (s : State) (target : ℕ) → HasDone m.catalogue.now m.parts.now old s
+    → IsMade m.catalogue.now m.parts.now (registers_view registers) new target
+    (assigns (world_of m.catalogue.now) m.parts.now (registers_view registers) s target operation) result
 
 -- what an instruction does in which nothing is wrong
-abbrev pub does_op : Machine → Op → Registers → Store → Effect
+abbrev pub does_op : Machine → Op → Registers → State → Effect
 does_op m op registers s = does (world_of m.catalogue.now) m.parts.now registers s op
 
 -- after an instruction that means this
 pub record HasActed (m : Machine) (registers new_registers : List (Option Value)) (run new : Run)
-    (meant : Registers → Store → Effect) (result : Result Flow Stop) : Type 0 where
-  pub does : (s : Store) → HasDone m.catalogue.now m.parts.now run s
-      → IsAnswer m.catalogue.now m.parts.now (held new_registers) new (meant (held registers) s)
+    (meant : Registers → State → Effect) (result : Result Flow Stop) : Type 0 where
+  pub does : (s : State) → HasDone m.catalogue.now m.parts.now run s
+      → IsAnswer m.catalogue.now m.parts.now (registers_view new_registers) new (meant (registers_view registers) s)
       result
-  pub sound : OnOk result (AreSound m.catalogue.now (held new_registers))
+  pub sound : OnOk result (AreSound m.catalogue.now (registers_view new_registers))
   pub len : length new_registers ≡ length registers
   pub work : HasWorkedOnce run new

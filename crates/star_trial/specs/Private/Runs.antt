@@ -2,9 +2,9 @@
 use Rattle.std.specs.Prelude.{ℕ, List}
 use Rattle.star_schema.specs.Database.{Database}
 use Rattle.star_group.specs.declared.eager.EagerStore.{EagerStore}
-use Rattle.star_group.specs.Eager.{group_of, Has}
+use Rattle.star_group.specs.Eager.{group_view, Has}
 use Rattle.star_program.specs.declared.program.Parts.{Parts}
-use Rattle.star_program.specs.Effects.{Store}
+use Rattle.star_program.specs.Effects.{State}
 use Rattle.star_program.specs.Puts.{Update}
 use Rattle.star_outcome.specs.declared.work.Work.{Work}
 use Rattle.star_outcome.specs.Done as done
@@ -13,7 +13,7 @@ abbrev pub Run : Type 0
 Run = Work EagerStore
 
 abbrev pub AreStores : Parts → List EagerStore → (ℕ → List Update) → Type 0
-AreStores parts stores updates_of = done.AreStores group_of Has parts stores updates_of
+AreStores parts stores updates_of = done.AreStores group_view Has parts stores updates_of
 
-abbrev pub HasDone : Database → Parts → Run → Store → Type 0
-HasDone database parts run s = done.HasDone group_of Has database parts run s
+abbrev pub HasDone : Database → Parts → Run → State → Type 0
+HasDone database parts run s = done.HasDone group_view Has database parts run s

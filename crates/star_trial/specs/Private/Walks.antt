@@ -3,7 +3,7 @@ use Rattle.std.specs.Prelude.{◌≡◌, ◌≤◌, ◌+◌, ◌*◌, ℕ, Bool,
 use Rattle.star_schema.specs.Database.{Database, rows_in}
 use Rattle.star_program.specs.declared.program.Parts.{Parts}
 use Rattle.star_program.specs.Code.{Code}
-use Rattle.star_program.specs.Effects.{Store}
+use Rattle.star_program.specs.Effects.{State}
 use Rattle.star_program.specs.Run.{End, Ended, begin, meaning, scans, turns}
 use Rattle.star_program.specs.Values.{Registers, with_entry}
 use Rattle.star_program.specs.declared.value.Value.TheVariants.{Row}
@@ -15,52 +15,52 @@ use Rattle.star_trial.specs.declared.fault.TrialFault.TheVariants as fault
 use Rattle.star_trial.specs.declared.machine.Machine.{Machine}
 use Rattle.star_trial.specs.declared.machine.Scanned.{Scanned}
 use Rattle.star_trial.specs.Private.Runs.{HasDone, Run}
-use Rattle.star_trial.specs.Private.Shown.{held}
+use Rattle.star_trial.specs.Private.Views.{registers_view}
 use Rattle.star_outcome.specs.Sound.{AreSound}
-use Rattle.star_trial.specs.Trials.{IsFaultOf}
+use Rattle.star_trial.specs.Trials.{IsFaultOfEnd}
 use Rattle.star_world.specs.WorldOf.{world_of}
 
 pub record Finishes (database : Database) (parts : Parts) (run : Run) (end : End) : Type 0 where
-  pub s : Store
+  pub s : State
   pub is : end ≡ Ended s
   pub done : HasDone database parts run s
 
 -- Ok with what was done where the run comes to its end, else the trap or the limit
 abbrev pub IsEnd : Database → Parts → Run → End → Result (Unit {0}) TrialFault → Type 0
 IsEnd database parts run end result =
-    MatchResult result (λ _. Finishes database parts run end) (IsFaultOf end)
+    MatchResult result (λ _. Finishes database parts run end) (IsFaultOfEnd end)
 
 -- what is left of a body, from an instruction on
-abbrev pub means : Machine → Code → ℕ → Bool → Registers → Store → End
+abbrev pub means : Machine → Code → ℕ → Bool → Registers → State → End
 means m code at inside registers s =
     meaning (world_of m.catalogue.now) m.parts.now (λ visits. nat_lt visits m.most) code at
     inside registers s
 
 -- the body of a scan at a row, with the registers before the scan
-abbrev pub means_at : Machine → Scanned → Registers → Value → Store → End
+abbrev pub means_at : Machine → Scanned → Registers → Value → State → End
 means_at m scan before row s =
     means m scan.body.now (scan.at + 1) true (with_entry before scan.target row) s
 
-abbrev pub means_turn : Machine → Scanned → Registers → Value → Store → End
+abbrev pub means_turn : Machine → Scanned → Registers → Value → State → End
 means_turn m scan before row s = begin (nat_lt s.visits m.most) s (means_at m scan before row)
 
-abbrev pub means_turns : Machine → Scanned → Registers → Store → End
+abbrev pub means_turns : Machine → Scanned → Registers → State → End
 means_turns m scan before s =
     turns (λ visits. nat_lt visits m.most) (length (rows_in m.catalogue.now scan.table)) 0
     (λ row. means_at m scan before (Row scan.table row)) s
 
-abbrev pub means_scan : Machine → Scanned → Registers → Store → End
+abbrev pub means_scan : Machine → Scanned → Registers → State → End
 means_scan m scan before s =
     scans scan.at (nat_lt scan.target m.parts.now.registers) (λ _. means_turns m scan before s)
 
 -- a run has done something
 abbrev pub HasRun : Machine → Run → Type 0
-HasRun m run = (s : Store) × HasDone m.catalogue.now m.parts.now run s
+HasRun m run = (s : State) × HasDone m.catalogue.now m.parts.now run s
 
 -- what was done before, and then what this means
-abbrev pub Does : Machine → Run → Run → (Store → End) → Result (Unit {0}) TrialFault → Type 0
+abbrev pub Does : Machine → Run → Run → (State → End) → Result (Unit {0}) TrialFault → Type 0
 Does m old new meant result =
-    (s : Store) → HasDone m.catalogue.now m.parts.now old s
+    (s : State) → HasDone m.catalogue.now m.parts.now old s
     → IsEnd m.catalogue.now m.parts.now new (meant s) result
 
 abbrev pub fault_at : ℕ → Stop → TrialFault
@@ -84,7 +84,7 @@ pub record IsReady (m : Machine) (registers frames : List (Option Value)) (run :
   pub wide : length registers ≡ m.parts.now.registers
   pub deep : depth * m.parts.now.registers ≤ length frames
   pub few : IsFew m.most run instructions
-  pub sound : AreSound m.catalogue.now (held registers)
+  pub sound : AreSound m.catalogue.now (registers_view registers)
   pub done : HasRun m run
 
 -- what was done by so many instructions and by the turns of the scans among them

@@ -22,8 +22,8 @@ use Rattle.star_verify.specs.declared.register.Register.{Register}
 use Rattle.star_verify.specs.declared.subject.Subject.{Subject}
 use Rattle.star_verify.specs.Private.Facts.{AreFacts}
 use Rattle.star_verify.specs.Private.Kept.{AreFew, AreMarked, HasKeyShares, HasShares, flag_at}
-use Rattle.star_verify.specs.Private.Shown.{known_in}
-use Rattle.star_verify.specs.Shown.{refusal_shown}
+use Rattle.star_verify.specs.Private.Views.{known_in}
+use Rattle.star_verify.specs.Views.{refusal_view}
 
 -- this reason at this instruction, or want of memory
 abbrev pub IsFirst : Refusal → Option (ℕ × Reason) → Type 0
@@ -107,4 +107,4 @@ IsChecked result w most parts =
     × (length accepted.keys.items ≡ 64)
     × HasKeyShares parts accepted.keys.items (at_end w parts at_first parts.body))
     (λ refusal. UnlessMemory told.OutOfMemory refusal
-    (first_refusal w most parts ≡ refusal_shown refusal))
+    (first_refusal w most parts ≡ refusal_view refusal))

@@ -27,9 +27,9 @@ HasKeyShares parts tallies x =
     → IsTallyAt tallies (8 * g + place) (x.keys_so_far g place)
 
 -- what is known of the numbers of a put, one for each aggregate
-abbrev pub numbers_known : List Aggregate → ranges.Table → List ℕ → List (Option ranges.Known)
+abbrev pub numbers_known : List Aggregate → ranges.AllKnown → List ℕ → List (Option ranges.Known)
 numbers_known aggregates known values =
-    aligned (Some (ranges.given (only (pos 1)))) aggregates (map known values)
+    aligned (Some (ranges.known_number (only (pos 1)))) aggregates (map known values)
 
 -- ---- how much is put
 

@@ -10,17 +10,17 @@ use Rattle.star_safety.specs.Tallies.{Share}
 use Rattle.star_verify.specs.declared.known.Beyond.{Beyond}
 use Rattle.star_verify.specs.declared.known.Known.{Known}
 use Rattle.star_verify.specs.declared.tally.Tally.{Tally}
-use Rattle.star_verify.specs.Private.Shown.{IsTally, known_shown, reach_shown}
+use Rattle.star_verify.specs.Private.Views.{IsTally, known_view, reach_view}
 
-abbrev pub beyond_shown : World → Beyond → Reason
-beyond_shown w beyond =
-    Overflow beyond.range.low beyond.range.high (reached w (reach_shown beyond.reach))
+abbrev pub beyond_view : World → Beyond → Reason
+beyond_view w beyond =
+    Overflow beyond.range.low beyond.range.high (reached w (reach_view beyond.reach))
 
 -- Ok with what is known where there is no reason, else the reason, which tells what leaves 64 bits
 abbrev pub IsMade : World → Result Known Beyond → ranges.Known → Option Reason → Type 0
 IsMade w result k reason =
-    MatchResult result (λ known. (known_shown known ≡ k) × (reason ≡ None))
-    (λ beyond. reason ≡ Some (beyond_shown w beyond))
+    MatchResult result (λ known. (known_view known ≡ k) × (reason ≡ None))
+    (λ beyond. reason ≡ Some (beyond_view w beyond))
 
 -- ---- tallies in a list
 

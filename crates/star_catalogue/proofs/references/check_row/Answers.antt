@@ -5,7 +5,7 @@ use Rattle.star_schema.specs.declared.column.ColumnId.TheVariants.{DDatekey}
 use Rattle.star_schema.specs.declared.table.TableId.TheVariants.{Lineorder}
 use Rattle.star_schema.specs.Database.{rows_in}
 use Rattle.star_schema.specs.Loadable.{foreign_keys}
-use Rattle.star_catalogue.specs.Load.{cell_fault}
+use Rattle.star_catalogue.specs.Load.{foreign_key_fault}
 use Rattle.star_catalogue.proofs.Refers.{after_all, listed_at, row_here, row_on}
 use Rattle.star_catalogue.proofs.references.check_row.Goals as goal
 
@@ -38,7 +38,7 @@ returns c =
     (exactly c.foreign_key_columns-column-items.result.now c.loop-column.column-index
     c.loop-column.auto.column-index-end c.loop-column-test.false) in
     c.loop-column.invariant
-    ∙ after_all (cell_fault c.args.tables.now (c.args.row + 1) row) foreign_keys
+    ∙ after_all (foreign_key_fault c.args.tables.now (c.args.row + 1) row) foreign_keys
     c.loop-column.column-index all
   where
     exactly : (columns : List ColumnId) (i : ℕ) → i ≤ length columns → length columns ≤ i

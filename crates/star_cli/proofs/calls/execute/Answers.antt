@@ -1,4 +1,4 @@
-use Rattle.star_catalogue.specs.Load.{text_of}
+use Rattle.star_catalogue.specs.Load.{texts_view}
 use Rattle.star_engine.specs.Executions.{IsQuoteOf, IsToldOf, IsUntold}
 use Rattle.star_engine.specs.Answered.{change}
 use Rattle.star_engine.specs.Noted.{IsNoted}
@@ -11,14 +11,14 @@ returns g c = (
   c.answer_program.result,
   widest (λ rows visits. IsNoted (change g.S.Sink.contents g.S.Sink.is_failed c.args.out.now c.answer_program.new.out)
       (change g.N.Sink.contents g.N.Sink.is_failed c.args.notes.now c.answer_program.new.notes)
-      (IsQuoteOf rows (text_of c.args.texts.now) c.args.file.now) (IsToldOf rows visits (text_of c.args.texts.now) c.args.file.now)
-      (IsUntold rows visits (text_of c.args.texts.now) c.args.file.now) c.answer_program.result)
+      (IsQuoteOf rows (texts_view c.args.texts.now) c.args.file.now) (IsToldOf rows visits (texts_view c.args.texts.now) c.args.file.now)
+      (IsUntold rows visits (texts_view c.args.texts.now) c.args.file.now) c.answer_program.result)
       c.widest.result.rows c.widest.result.visits c.widest.ensures.rows c.widest.ensures.visits
       (is_noted (change g.S.Sink.contents g.S.Sink.is_failed c.args.out.now c.answer_program.new.out)
       (change g.N.Sink.contents g.N.Sink.is_failed c.args.notes.now c.answer_program.new.notes)
-      (IsQuoteOf c.widest.result.rows (text_of c.args.texts.now) c.args.file.now)
-      (IsToldOf c.widest.result.rows c.widest.result.visits (text_of c.args.texts.now) c.args.file.now)
-      (IsUntold c.widest.result.rows c.widest.result.visits (text_of c.args.texts.now) c.args.file.now) c.answer_program.result
+      (IsQuoteOf c.widest.result.rows (texts_view c.args.texts.now) c.args.file.now)
+      (IsToldOf c.widest.result.rows c.widest.result.visits (texts_view c.args.texts.now) c.args.file.now)
+      (IsUntold c.widest.result.rows c.widest.result.visits (texts_view c.args.texts.now) c.args.file.now) c.answer_program.result
       c.answer_program.ensures.noted c.answer_program.ensures.broken c.answer_program.ensures.refused
       c.answer_program.ensures.memory),
   c.whole.ensures,

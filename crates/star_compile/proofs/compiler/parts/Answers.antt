@@ -1,11 +1,11 @@
 use Rattle.std.proofs.Common.{rules, arith}
-use Rattle.star_plan.specs.Shown.{shown}
+use Rattle.star_plan.specs.Views.{plan_view}
 use Rattle.star_compile_laws.proofs.Programs.{is_within_limits}
 use Rattle.star_compile.proofs.compiler.parts.Goals as goal
 
 pub turn-requires-clause-room : goal.turn-requires-clause-room
 turn-requires-clause-room c =
-    let limits = is_within_limits (shown c.args.tree.now) c.requires.limits in
+    let limits = is_within_limits (plan_view c.args.tree.now) c.requires.limits in
     omega (arith, limits.registers)
 
 pub returns : goal.returns

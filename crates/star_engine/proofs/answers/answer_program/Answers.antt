@@ -1,8 +1,8 @@
-use Rattle.star_catalogue.specs.Load.{text_of}
+use Rattle.star_catalogue.specs.Load.{texts_view}
 use Rattle.star_engine.proofs.answers.answer_program.Goals as goal
 
 pub answer_program_read-requires : goal.answer_program_read-requires
-answer_program_read-requires g c = (text_of c.args.texts.now, c.in_ok-read.ensures)
+answer_program_read-requires g c = (texts_view c.args.texts.now, c.in_ok-read.ensures)
 
 pub returns : goal.returns
-returns g c = c.answer_program_read.ensures (text_of c.args.texts.now) c.in_ok-read.ensures
+returns g c = c.answer_program_read.ensures (texts_view c.args.texts.now) c.in_ok-read.ensures

@@ -1,4 +1,4 @@
-use Rattle.star_catalogue.specs.Load.{text_of}
+use Rattle.star_catalogue.specs.Load.{texts_view}
 use Rattle.star_engine.specs.Listing.{IsListing}
 use Rattle.star_engine.specs.Loads.{IsUnloaded}
 use Rattle.star_engine.specs.Answered.{change}
@@ -8,27 +8,27 @@ use Rattle.star_engine.proofs.calls.check.Goals as goal
 pub returns-clause-written : goal.returns-clause-written
 returns-clause-written g c =
     (has_written (change g.S.Sink.contents g.S.Sink.is_failed c.args.out.now c.check.new.out)
-    (IsListing c.args.limits.rows (text_of c.args.texts.now))
-    (IsUnloaded c.args.limits.rows (text_of c.args.texts.now))
+    (IsListing c.args.limits.rows (texts_view c.args.texts.now))
+    (IsUnloaded c.args.limits.rows (texts_view c.args.texts.now))
     c.check.result c.check.ensures)
 
 pub returns-clause-broken : goal.returns-clause-broken
 returns-clause-broken g c =
     (is_broken_off (change g.S.Sink.contents g.S.Sink.is_failed c.args.out.now c.check.new.out)
-    (IsListing c.args.limits.rows (text_of c.args.texts.now))
-    (IsUnloaded c.args.limits.rows (text_of c.args.texts.now))
+    (IsListing c.args.limits.rows (texts_view c.args.texts.now))
+    (IsUnloaded c.args.limits.rows (texts_view c.args.texts.now))
     c.check.result c.check.ensures)
 
 pub returns-clause-refused : goal.returns-clause-refused
 returns-clause-refused g c =
     (is_refused (change g.S.Sink.contents g.S.Sink.is_failed c.args.out.now c.check.new.out)
-    (IsListing c.args.limits.rows (text_of c.args.texts.now))
-    (IsUnloaded c.args.limits.rows (text_of c.args.texts.now))
+    (IsListing c.args.limits.rows (texts_view c.args.texts.now))
+    (IsUnloaded c.args.limits.rows (texts_view c.args.texts.now))
     c.check.result c.check.ensures)
 
 pub returns-clause-memory : goal.returns-clause-memory
 returns-clause-memory g c =
     (is_untouched (change g.S.Sink.contents g.S.Sink.is_failed c.args.out.now c.check.new.out)
-    (IsListing c.args.limits.rows (text_of c.args.texts.now))
-    (IsUnloaded c.args.limits.rows (text_of c.args.texts.now))
+    (IsListing c.args.limits.rows (texts_view c.args.texts.now))
+    (IsUnloaded c.args.limits.rows (texts_view c.args.texts.now))
     c.check.result c.check.ensures)

@@ -1,7 +1,7 @@
 use Rattle.std.proofs.Common.{◌∙◌, ap, subst, sym}
 use Rattle.star_program.specs.Text.Spellable.{IsSpellable}
 use Rattle.star_program.specs.Text.Spelling.{Spells}
-use Rattle.star_program.specs.Text.Written.{text_of}
+use Rattle.star_program.specs.Text.Written.{program_text}
 use Rattle.star_engine.proofs.queries.explanation.Goals as goal
 
 pub returns : goal.returns
@@ -14,7 +14,7 @@ returns c =
     record {
       p = program.p;
       meant = program.meant;
-      written = text.ensures.written ∙ ap text_of program.made;
+      written = text.ensures.written ∙ ap program_text program.made;
       spelled =
           subst (Spells text.field-0.items) program.made
           (text.ensures.spells (subst IsSpellable (sym program.made) spellable));

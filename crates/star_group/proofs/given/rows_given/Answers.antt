@@ -2,7 +2,7 @@ use Rattle.std.proofs.Common.{◌≡◌, ◌<◌, ◌∙◌, ◌++◌, ◌∷◌
 use Rattle.std.specs.Prelude.{if◌then◌else◌}
 use Rattle.star_schema.specs.Groups.{is_grouping}
 use Rattle.star_program.specs.declared.key.KeyValue.{KeyValue}
-use Rattle.star_group.specs.Base.{key_of}
+use Rattle.star_group.specs.Base.{key_view}
 use Rattle.star_group.specs.Private.Listed.{listed_entries}
 use Rattle.star_group.specs.Private.Coarser.{shown_entries}
 use Rattle.star_group.specs.Private.FlatRows.{AreParts}
@@ -23,7 +23,7 @@ loop-number-init c =
     let new = c.in_ok-all.all in
     let first : (if c.is_grouping-given.result then c.total_given-first.result ∷ [] else []) ≡ given_of s count gs total [] =
     (λ i. if c.is_grouping-given.result then c.total_given-first.ensures.given i ∷ [] else [])
-    ∙ ap (λ b. if_given b count gs (key_of all_hidden, total)) c.is_grouping-given.ensures ∙ ap (λ q. if_given (is_grouping s (take count q)) count gs (q, total)) (sym all_padded) ∙ sym (given_none s count gs total) in
+    ∙ ap (λ b. if_given b count gs (key_view all_hidden, total)) c.is_grouping-given.ensures ∙ ap (λ q. if_given (is_grouping s (take count q)) count gs (q, total)) (sym all_padded) ∙ sym (given_none s count gs total) in
     subst (AreParts count (length gs) new.count new.keys.items (new.total.items ++ new.aggregates.items)) first c.in_ok-all.ensures
 
 pub loop-number-preserved : goal.loop-number-preserved
@@ -37,10 +37,10 @@ loop-number-preserved c =
     let number = c.loop-number.number in
     let new = c.push_given.new.all in
     let there : number < length all = omega (arith, c.len-number-end.ensures, c.loop-number-test.true) in
-    let e : List (Option KeyValue) × List (Option ℤ) = (key_of (get_or all number ([], [])).0, (get_or all number ([], [])).1) in
-    let same : (key_of c.key-key.result, c.row.result.now) ≡ e = λ i. (key_of (c.key-key.ensures.key i), c.row.ensures.row i) in
-    let one : if_given c.is_row_key-given.result count gs (key_of c.key-key.result, c.row.result.now) ≡ if_given (is_row_key s count e.0) count gs e =
-    ap (λ b. if_given b count gs (key_of c.key-key.result, c.row.result.now)) c.is_row_key-given.ensures ∙ ap (λ (x : List (Option KeyValue) × List (Option ℤ)). if_given (is_row_key s count x.0) count gs x) same in
+    let e : List (Option KeyValue) × List (Option ℤ) = (key_view (get_or all number ([], [])).0, (get_or all number ([], [])).1) in
+    let same : (key_view c.key-key.result, c.row.result.now) ≡ e = λ i. (key_view (c.key-key.ensures.key i), c.row.ensures.row i) in
+    let one : if_given c.is_row_key-given.result count gs (key_view c.key-key.result, c.row.result.now) ≡ if_given (is_row_key s count e.0) count gs e =
+    ap (λ b. if_given b count gs (key_view c.key-key.result, c.row.result.now)) c.is_row_key-given.ensures ∙ ap (λ (x : List (Option KeyValue) × List (Option ℤ)). if_given (is_row_key s count x.0) count gs x) same in
     subst (AreParts count (length gs) new.count new.keys.items (new.total.items ++ new.aggregates.items))
     (ap (λ rows. given_of s count gs total (take number es) ++ rows) one ∙ given_more s count gs total es number e (shown_at all number there))
     (c.in_ok-push_given.ensures (given_of s count gs total (take number es)) c.loop-number.invariant)

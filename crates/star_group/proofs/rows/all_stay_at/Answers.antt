@@ -1,6 +1,6 @@
 use Rattle.std.proofs.Common.{◌≡◌, ◌+◌, [], false, get_or, length, map, rules, take, true, MatchBool}
 use Rattle.std.proofs.lemmas.Bool.{MatchBool-at_false, MatchBool-at_true}
-use Rattle.star_group.specs.Base.{key_of, row_at}
+use Rattle.star_group.specs.Base.{key_view, row_found}
 use Rattle.star_group.specs.Entries.{entries_of}
 use Rattle.star_group.specs.Private.Rows.{AllStay, SomeLeaves, is_one_of}
 use Rattle.star_group.specs.declared.keyed.trie.Place.TheVariants.{Held}
@@ -15,15 +15,15 @@ stays_at-requires-clause-within c =
 
 -- whether the row of this key stays tells whether all so far do
 told : (c : After-stays_at) → MatchBool c.stays_at.result
-    (AllStay (row_at (entries_of c.args.rows.now)) (among (take (c.loop-index.index + 1) (map key_of c.args.own.now))) c.args.aggregates.now c.args.more.now)
-    (SomeLeaves (row_at (entries_of c.args.rows.now)) (is_one_of c.args.own.now) c.args.aggregates.now c.args.more.now)
+    (AllStay (row_found (entries_of c.args.rows.now)) (among (take (c.loop-index.index + 1) (map key_view c.args.own.now))) c.args.aggregates.now c.args.more.now)
+    (SomeLeaves (row_found (entries_of c.args.rows.now)) (is_one_of c.args.own.now) c.args.aggregates.now c.args.more.now)
 told c =
     let own = c.args.own.now in
     let i = c.loop-index.index in
     let h = c.loop-index-test.true in
     let key = get_or own i [] in
     let six : length key ≡ 6 = search rules in
-    told_more (map key_of own) i (key_of key) (key_within own i h) (key_here own i h) c.args.aggregates.now c.args.more.now (row_at (entries_of c.args.rows.now)) c.loop-index.invariant c.stays_at.result
+    told_more (map key_view own) i (key_view key) (key_within own i h) (key_here own i h) c.args.aggregates.now c.args.more.now (row_found (entries_of c.args.rows.now)) c.loop-index.invariant c.stays_at.result
     (c.stays_at.ensures key six (narrow_at c.args.rows.now.trie.width own i [] h c.requires.narrow) (c.requires.places.each i h))
 
 pub returns-then-not-stays_at : goal.returns-then-not-stays_at

@@ -1,9 +1,9 @@
 use Rattle.std.proofs.Common.{map, take}
-use Rattle.star_group.specs.Base.{key_of, row_at}
+use Rattle.star_group.specs.Base.{key_view, row_found}
 use Rattle.star_group.specs.Entries.{entries_of}
 use Rattle.star_group.specs.Private.Rows.{AllStay}
 use Rattle.star_group.proofs.MergedRows.{among}
 use Rattle.star_group.proofs.rows.all_stay_at.Given as goal
 
 abbrev pub invariant-loop-index : goal.invariant-loop-index
-invariant-loop-index l = AllStay (row_at (entries_of l.rows)) (among (take l.index (map key_of l.own))) l.aggregates l.more
+invariant-loop-index l = AllStay (row_found (entries_of l.rows)) (among (take l.index (map key_view l.own))) l.aggregates l.more

@@ -1,5 +1,5 @@
 use Rattle.star_group_tests.proofs.BatchPuts.{is_batch, rows_few, rows_room}
-use Rattle.star_group.specs.Batches.{after, put_in}
+use Rattle.star_group.specs.Batches.{puts_after, put_in}
 use Rattle.star_group_tests.proofs.batches.put_at_once.Goals as goal
 
 pub put_batch-requires-clause-batch : goal.put_batch-requires-clause-batch
@@ -14,4 +14,4 @@ pub returns-clause-few : goal.returns-clause-few
 returns-clause-few g c =
     let few = c.requires.few in
     let b = c.args.batch.now in
-    (after (put_in b) few.0 b.rows, c.in_ok-put_batch.ensures.ok few.0 few.1, rows_few b c.requires.batch c.are_narrow.ensures c.args.made few.0 few.2)
+    (puts_after (put_in b) few.0 b.rows, c.in_ok-put_batch.ensures.ok few.0 few.1, rows_few b c.requires.batch c.are_narrow.ensures c.args.made few.0 few.2)

@@ -5,7 +5,7 @@ use Rattle.star_schema.specs.Schema.{table_of}
 use Rattle.star_schema.specs.Dictionary.{dictionary_of}
 use Rattle.star_schema.proofs.Dictionaries.{IsDictionary-dictionary_of}
 use Rattle.star_schema.proofs.TextPlaces.{low_in-place}
-use Rattle.star_world.specs.WorldOf.{column_texts}
+use Rattle.star_schema.specs.Columns.{column_texts}
 use Rattle.star_world.proofs.Loaded.{texts_len}
 use Rattle.star_outcome.proofs.lookups.code.Goals as goal
 

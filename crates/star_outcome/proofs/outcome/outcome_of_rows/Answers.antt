@@ -1,6 +1,6 @@
 use Rattle.std.proofs.Common.{ap, map, refl, sym, ◌∙◌}
 use Rattle.std.proofs.lemmas.Simd.{map-map}
-use Rattle.star_group.specs.Shown.{row_at}
+use Rattle.star_group.specs.StoreRows.{row_at}
 use Rattle.star_group.specs.Stores.{group_declared}
 use Rattle.star_program.specs.Faults.{group_at}
 use Rattle.star_outcome.specs.Private.Decoded.{row_cells}

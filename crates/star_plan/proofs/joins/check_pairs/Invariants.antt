@@ -1,7 +1,7 @@
 use Rattle.star_plan.specs.Faults.{pair_fault}
-use Rattle.star_plan.specs.Private.Found.{pair_shown}
+use Rattle.star_plan.specs.Private.Found.{pair_view}
 use Rattle.star_plan.proofs.Viewed.{BesideSoFar}
 use Rattle.star_plan.proofs.joins.check_pairs.Given as goal
 
 abbrev pub invariant-loop-place : goal.invariant-loop-place
-invariant-loop-place l = BesideSoFar pair_shown pair_fault l.pairs l.place
+invariant-loop-place l = BesideSoFar pair_view pair_fault l.pairs l.place

@@ -1,7 +1,7 @@
 use Rattle.std.proofs.Common.{◌≡◌, ◌++◌, drop}
 use Rattle.star_plan.specs.Joins.{joins_of}
-use Rattle.star_plan.specs.Private.Found.{pairs_shown}
+use Rattle.star_plan.specs.Private.Found.{pairs_view}
 use Rattle.star_plan.proofs.joins.joins_of.Given as goal
 
 abbrev pub invariant-loop-pair : goal.invariant-loop-pair
-invariant-loop-pair l = l.joins.items ++ joins_of (pairs_shown (drop l.pair-index l.pairs)) ≡ joins_of (pairs_shown l.pairs)
+invariant-loop-pair l = l.joins.items ++ joins_of (pairs_view (drop l.pair-index l.pairs)) ≡ joins_of (pairs_view l.pairs)

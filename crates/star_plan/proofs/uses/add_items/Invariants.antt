@@ -1,8 +1,8 @@
 use Rattle.std.proofs.Common.{◌≡◌, ◌++◌, drop, map}
 use Rattle.star_query.specs.Views.{item_view}
 use Rattle.star_plan.specs.Uses.{items_uses}
-use Rattle.star_plan.specs.Private.Found.{uses_shown}
+use Rattle.star_plan.specs.Private.Found.{uses_view}
 use Rattle.star_plan.proofs.uses.add_items.Given as goal
 
 abbrev pub invariant-loop-item : goal.invariant-loop-item
-invariant-loop-item l = uses_shown l.uses.items ++ items_uses (map item_view (drop l.item-index l.items)) ≡ uses_shown l.initial.uses.items ++ items_uses (map item_view l.items)
+invariant-loop-item l = uses_view l.uses.items ++ items_uses (map item_view (drop l.item-index l.items)) ≡ uses_view l.initial.uses.items ++ items_uses (map item_view l.items)

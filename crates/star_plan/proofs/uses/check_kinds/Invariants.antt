@@ -1,7 +1,7 @@
-use Rattle.star_plan.specs.Faults.{kind_fault}
-use Rattle.star_plan.specs.Private.Found.{use_shown}
+use Rattle.star_plan.specs.Faults.{use_kind_fault}
+use Rattle.star_plan.specs.Private.Found.{use_view}
 use Rattle.star_plan.proofs.Viewed.{AnswerSoFar}
 use Rattle.star_plan.proofs.uses.check_kinds.Given as goal
 
 abbrev pub invariant-loop-named : goal.invariant-loop-named
-invariant-loop-named l = AnswerSoFar use_shown kind_fault l.uses l.named-index
+invariant-loop-named l = AnswerSoFar use_view use_kind_fault l.uses l.named-index

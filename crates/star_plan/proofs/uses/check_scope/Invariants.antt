@@ -1,9 +1,9 @@
 use Rattle.std.proofs.Common.{map}
 use Rattle.star_query.specs.Views.{name_view}
 use Rattle.star_plan.specs.Faults.{scope_fault}
-use Rattle.star_plan.specs.Private.Found.{use_shown}
+use Rattle.star_plan.specs.Private.Found.{use_view}
 use Rattle.star_plan.proofs.Viewed.{AnswerSoFar}
 use Rattle.star_plan.proofs.uses.check_scope.Given as goal
 
 abbrev pub invariant-loop-named : goal.invariant-loop-named
-invariant-loop-named l = AnswerSoFar use_shown (scope_fault (map name_view l.tables)) l.uses l.named-index
+invariant-loop-named l = AnswerSoFar use_view (scope_fault (map name_view l.tables)) l.uses l.named-index

@@ -3,20 +3,20 @@ use Rattle.std.specs.List.{slice_get}
 use Rattle.std.proofs.lemmas.List.{length-map}
 use Rattle.std.proofs.lemmas.Option.{slice_get-get_or}
 use Rattle.star_reader.specs.declared.column.RawColumn.{RawColumn}
-use Rattle.star_reader.specs.Columns.{kind_of}
+use Rattle.star_reader.specs.Columns.{raw_kind}
 use Rattle.star_reader.proofs.LineSteps as steps
 use Rattle.star_reader.proofs.Pushes as pushes
 use Rattle.star_reader.proofs.line.push_line.Goals as goal
 use Rattle.star_reader.proofs.line.push_line.Goals.{After-index-columns-place}
 
 pub loop-place-init : goal.loop-place-init
-loop-place-init c = steps.start c.args.line.now (map kind_of c.args.columns.now) c.args.columns.now
+loop-place-init c = steps.start c.args.line.now (map raw_kind c.args.columns.now) c.args.columns.now
 
 pub returns-then-at-line-clause-pushed : goal.returns-then-at-line-clause-pushed
 returns-then-at-line-clause-pushed c = λ at_row.
-    steps.short_line c.args.line.now (map kind_of c.args.columns.now) c.loop-place.place
+    steps.short_line c.args.line.now (map raw_kind c.args.columns.now) c.loop-place.place
     c.loop-place.at at_row c.args.columns.now c.loop-place.columns c.loop-place.invariant
-    (omega (arith, c.loop-place-test.true, length-map c.args.columns.now kind_of))
+    (omega (arith, c.loop-place-test.true, length-map c.args.columns.now raw_kind))
     c.if-at-line.true
 
 pub returns-then-at-line-clause-kinds : goal.returns-then-at-line-clause-kinds
@@ -33,13 +33,13 @@ column_there c =
     (omega (arith, c.loop-place.auto.columns, c.loop-place-test.true))
 
 kind_there : (c : After-index-columns-place)
-    → slice_get (map kind_of c.args.columns.now) c.loop-place.place ≡ Some (kind_of (column c))
+    → slice_get (map raw_kind c.args.columns.now) c.loop-place.place ≡ Some (raw_kind (column c))
 kind_there c =
     pushes.kind_there c.args.columns.now c.loop-place.columns c.loop-place.place (column c)
     (c.loop-place.invariant.pushed 0).kinds (column_there c)
 
-kinds_kept : (c : After-index-columns-place) (next : RawColumn) → kind_of next ≡ kind_of (column c)
-    → map kind_of (set c.loop-place.columns c.loop-place.place next) ≡ map kind_of c.args.columns.now
+kinds_kept : (c : After-index-columns-place) (next : RawColumn) → raw_kind next ≡ raw_kind (column c)
+    → map raw_kind (set c.loop-place.columns c.loop-place.place next) ≡ map raw_kind c.args.columns.now
 kinds_kept c next kind =
     pushes.kinds_kept c.args.columns.now c.loop-place.columns c.loop-place.place (column c) next
     (c.loop-place.invariant.pushed 0).kinds (column_there c) kind
@@ -52,10 +52,10 @@ returns-in_err-count-clause-kinds c =
 pub returns-in-None-clause-pushed : goal.returns-in-None-clause-pushed
 returns-in-None-clause-pushed c = λ at_row.
     let at = (goal.at.returns-in-None-clause-pushed c).After-index-columns-place in
-    steps.no_cell c.args.line.now (map kind_of c.args.columns.now) c.loop-place.place
+    steps.no_cell c.args.line.now (map raw_kind c.args.columns.now) c.loop-place.place
     c.loop-place.at at_row c.args.columns.now c.loop-place.columns
-    (kind_of (column at)) c.loop-place.invariant
-    (omega (arith, c.loop-place-test.true, length-map c.args.columns.now kind_of))
+    (raw_kind (column at)) c.loop-place.invariant
+    (omega (arith, c.loop-place-test.true, length-map c.args.columns.now raw_kind))
     c.if-at-line.false (kind_there at)
     (rw (c.in-None.is, c.from.ensures) at c.in_ok-count.ensures.pushed)
 
@@ -68,23 +68,23 @@ pub loop-place-preserved : goal.loop-place-preserved
 loop-place-preserved c =
     let at = (goal.at.loop-place-preserved c).After-index-columns-place in
     let pushed = rw (c.in-Some.is, c.from.ensures) at c.in_ok-count.ensures.pushed in
-    steps.more c.args.line.now (map kind_of c.args.columns.now) c.loop-place.place
+    steps.more c.args.line.now (map raw_kind c.args.columns.now) c.loop-place.place
     c.loop-place.at c.in-Some.count c.args.columns.now c.loop-place.columns
-    (kind_of (column at)) (column at) c.push_front.new.self
+    (raw_kind (column at)) (column at) c.push_front.new.self
     c.loop-place.invariant
-    (omega (arith, c.loop-place-test.true, length-map c.args.columns.now kind_of))
+    (omega (arith, c.loop-place-test.true, length-map c.args.columns.now raw_kind))
     c.if-at-line.false pushed.0 (kind_there at) pushed.1 (column_there at) pushed.2
     c.push_front.ensures.kind
 
 pub returns-then-at-line-2-clause-pushed : goal.returns-then-at-line-2-clause-pushed
 returns-then-at-line-2-clause-pushed c = λ at_row.
-    steps.long_line c.args.line.now (map kind_of c.args.columns.now) c.loop-place.place
+    steps.long_line c.args.line.now (map raw_kind c.args.columns.now) c.loop-place.place
     c.loop-place.at at_row c.args.columns.now c.loop-place.columns c.loop-place.invariant
     (omega (
       arith,
       c.loop-place-test.false,
       c.loop-place.auto.place-end,
-      length-map c.args.columns.now kind_of,
+      length-map c.args.columns.now raw_kind,
     ))
     c.if-at-line-2.true
 

@@ -1,8 +1,8 @@
 use Rattle.std.proofs.Common.{map}
-use Rattle.star_reader.specs.Columns.{kind_of}
+use Rattle.star_reader.specs.Columns.{raw_kind}
 use Rattle.star_reader.specs.Private.Steps.{HasPushedTo}
 use Rattle.star_reader.proofs.line.push_line.Given as goal
 
 abbrev pub invariant-loop-place : goal.invariant-loop-place
 invariant-loop-place l =
-    HasPushedTo l.line (map kind_of l.fn.columns) l.place l.at l.fn.columns l.columns
+    HasPushedTo l.line (map raw_kind l.fn.columns) l.place l.at l.fn.columns l.columns

@@ -5,7 +5,7 @@ use Rattle.std.proofs.lemmas.Option.{slice_get-get_or}
 use Rattle.csv.specs.Records.{fields_of as fields_read}
 use Rattle.star_schema.specs.declared.column.Kind.{Kind}
 use Rattle.star_schema.specs.Tables.{cells_of}
-use Rattle.star_reader.specs.Columns.{kind_of}
+use Rattle.star_reader.specs.Columns.{raw_kind}
 use Rattle.star_reader.proofs.Counts.{right_count, wrong_count}
 use Rattle.star_reader.proofs.Fields.{cell_at, field_there}
 use Rattle.star_reader.proofs.PassedOn.{passed_on}
@@ -15,12 +15,12 @@ use Rattle.star_reader.proofs.record.push_record.Goals.{After-index-columns-plac
 
 pub returns-then-cell_count-columns-clause-pushed : goal.returns-then-cell_count-columns-clause-pushed
 returns-then-cell_count-columns-clause-pushed c =
-    let width = length-map c.args.columns.now kind_of in
-    inr (wrong_count (map kind_of c.args.columns.now) c.args.at_row (fields_read c.args.line.now)
+    let width = length-map c.args.columns.now raw_kind in
+    inr (wrong_count (map raw_kind c.args.columns.now) c.args.at_row (fields_read c.args.line.now)
     (rw width (λ same. c.if-cell_count-columns.true (c.cell_count.ensures ∙ same))))
 
 pub loop-place-init : goal.loop-place-init
-loop-place-init c = pushes.start c.args.at_row (map kind_of c.args.columns.now) _ c.args.columns.now
+loop-place-init c = pushes.start c.args.at_row (map raw_kind c.args.columns.now) _ c.args.columns.now
 
 -- the column at the loop's place, its kind, and the cell there
 column_there : (c : After-index-columns-place)
@@ -31,27 +31,27 @@ column_there c =
     (omega (arith, c.loop-place.auto.columns, c.loop-place-test.true))
 
 kind_there : (c : After-index-columns-place)
-    → slice_get (map kind_of c.args.columns.now) c.loop-place.place
-    ≡ Some (kind_of (get_or c.loop-place.columns c.loop-place.place c.index-columns-place.result))
+    → slice_get (map raw_kind c.args.columns.now) c.loop-place.place
+    ≡ Some (raw_kind (get_or c.loop-place.columns c.loop-place.place c.index-columns-place.result))
 kind_there c =
     pushes.kind_there c.args.columns.now c.loop-place.columns c.loop-place.place _
     c.loop-place.invariant.kinds (column_there c)
 
 cell_there : (c : After-index-columns-place)
-    → slice_get (cells_of (length (map kind_of c.args.columns.now)) (fields_read c.args.line.now))
+    → slice_get (cells_of (length (map raw_kind c.args.columns.now)) (fields_read c.args.line.now))
     c.loop-place.place
     ≡ Some c.in-Some.field.now
 cell_there c =
-    let width = length-map c.args.columns.now kind_of in
-    cell_at (length (map kind_of c.args.columns.now)) (fields_read c.args.line.now)
+    let width = length-map c.args.columns.now raw_kind in
+    cell_at (length (map raw_kind c.args.columns.now)) (fields_read c.args.line.now)
     c.loop-place.place (omega (arith, width, c.loop-place-test.true)) ∙ sym c.in-Some.ensures
 
 pub returns-in_err-push_cell-in-Some-clause-pushed : goal.returns-in_err-push_cell-in-Some-clause-pushed
 returns-in_err-push_cell-in-Some-clause-pushed c =
-    let ks : List Kind = map kind_of c.args.columns.now in
+    let ks : List Kind = map raw_kind c.args.columns.now in
     let fields : List (List ℕ) = fields_read c.args.line.now in
     let all : length (cells_of (length ks) fields) ≡ length ks =
-    rw (length-map c.args.columns.now kind_of)
+    rw (length-map c.args.columns.now raw_kind)
     (sym c.cell_count.ensures ∙ c.if-cell_count-columns.false) in
     let at = (goal.at.returns-in_err-push_cell-in-Some-clause-pushed c).After-index-columns-place in
     passed_on _ _ _ c.in_err-push_cell-in-Some.ensures.pushed c.from_residual.ensures.1
@@ -74,7 +74,7 @@ unreachable-requires c =
 
 pub loop-place-preserved : goal.loop-place-preserved
 loop-place-preserved c =
-    let ks : List Kind = map kind_of c.args.columns.now in
+    let ks : List Kind = map raw_kind c.args.columns.now in
     let fields : List (List ℕ) = fields_read c.args.line.now in
     let at = (goal.at.loop-place-preserved c).After-index-columns-place in
     pushes.more c.args.at_row ks
@@ -86,9 +86,9 @@ loop-place-preserved c =
 
 pub returns-clause-pushed : goal.returns-clause-pushed
 returns-clause-pushed c =
-    let ks : List Kind = map kind_of c.args.columns.now in
+    let ks : List Kind = map raw_kind c.args.columns.now in
     let fields : List (List ℕ) = fields_read c.args.line.now in
-    let width : length ks ≡ length c.args.columns.now = length-map c.args.columns.now kind_of in
+    let width : length ks ≡ length c.args.columns.now = length-map c.args.columns.now raw_kind in
     let all : length (cells_of (length ks) fields) ≡ length ks =
     rw width (sym c.cell_count.ensures ∙ c.if-cell_count-columns.false) in
     let past : length ks ≤ c.loop-place.place = omega (arith, width) in

@@ -1,12 +1,12 @@
 use Rattle.std.proofs.Common.{length, map}
 use Rattle.csv.specs.Records.{fields_of as fields_read}
 use Rattle.star_schema.specs.Tables.{cells_of}
-use Rattle.star_reader.specs.Columns.{kind_of}
+use Rattle.star_reader.specs.Columns.{raw_kind}
 use Rattle.star_reader.specs.Private.Steps.{HasPushed}
 use Rattle.star_reader.proofs.record.push_record.Given as goal
 
 abbrev pub invariant-loop-place : goal.invariant-loop-place
 invariant-loop-place l =
-    HasPushed l.at_row (map kind_of l.fn.columns)
-    (cells_of (length (map kind_of l.fn.columns)) (fields_read l.line)) l.place l.fn.columns
+    HasPushed l.at_row (map raw_kind l.fn.columns)
+    (cells_of (length (map raw_kind l.fn.columns)) (fields_read l.line)) l.place l.fn.columns
     l.columns

@@ -4,7 +4,7 @@ use Rattle.std.proofs.lemmas.List.{map-append}
 use Rattle.std.proofs.lemmas.List.Elements.{All-append, All-cons, All-nil}
 use Rattle.std.proofs.lemmas.Option.{slice_get-map}
 use Rattle.star_schema.specs.Schema.{columns_of, kind_of as kind_in_schema, kinds_of}
-use Rattle.star_reader.specs.Columns.{kind_of, values}
+use Rattle.star_reader.specs.Columns.{raw_kind, values}
 use Rattle.star_reader.specs.declared.column.RawColumn.{RawColumn}
 use Rattle.star_reader.proofs.ListSteps.{take_one_more}
 use Rattle.star_reader.proofs.table_reader.empty_columns.Goals as goal
@@ -18,7 +18,7 @@ loop-place-preserved c =
     let kind = c.new.ensures.kind ∙ c.kind_of.ensures in
     let none : length (values c.new.result) ≡ 0 = ap length c.new.ensures.values in
     rw c.in_ok-push.ensures.items (
-      map-append kind_of c.loop-place.empty.items (c.new.result ∷ [])
+      map-append raw_kind c.loop-place.empty.items (c.new.result ∷ [])
           ∙ rw (c.loop-place.invariant.0, kind)
           (sym (take_one_more (kinds_of c.args.table) c.loop-place.place _ there)),
       All-append (λ (column : RawColumn). length (values column) ≡ 0) c.loop-place.empty.items

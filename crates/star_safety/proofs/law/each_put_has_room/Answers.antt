@@ -5,7 +5,7 @@ use Rattle.std.proofs.lemmas.Bool.{eq-eqb}
 use Rattle.star_program.specs.declared.fault.TrapKind.{TrapKind}
 use Rattle.star_program.specs.declared.op.Op.TheVariants.{Put}
 use Rattle.star_program.specs.declared.program.Parts.{Parts}
-use Rattle.star_program.specs.Effects.{GoesOn, Store, Updates, act, marked, trap_of, unless_trap, update_of}
+use Rattle.star_program.specs.Effects.{GoesOn, State, Updates, act, marked, trap_of, unless_trap, update_of}
 use Rattle.star_program.specs.Faults.{group_at}
 use Rattle.star_program.specs.Values.{Registers}
 use Rattle.star_program.specs.World.{World}
@@ -15,12 +15,12 @@ use Rattle.star_safety.specs.Moments.{behind, moment}
 use Rattle.star_safety.proofs.law.each_put_has_room.Goals as goal
 
 -- what goes on did not trap
-went_on : (o : Option TrapKind) (r after : Registers) (s t : Store) → unless_trap o (GoesOn r s) ≡ GoesOn after t → t ≡ s
+went_on : (o : Option TrapKind) (r after : Registers) (s t : State) → unless_trap o (GoesOn r s) ≡ GoesOn after t → t ≡ s
 went_on None r after s t e = cc
 went_on (Some trap) r after s t e = let bad : ⊥ = cc in absurd bad
 
 -- its store has the update
-with_it : (w : World) (parts : Parts) (inside : Bool) (before after : Registers) (s t : Store) (g : ℕ) (keys values : List ℕ)
+with_it : (w : World) (parts : Parts) (inside : Bool) (before after : Registers) (s t : State) (g : ℕ) (keys values : List ℕ)
     → act w parts inside before s (Put g keys values) ≡ GoesOn after t
     → t.updates_of g ≡ update_of (group_at parts g) before keys values ∷ s.updates_of g
 with_it w parts inside before after s t g keys values goes =

@@ -1,6 +1,7 @@
 use Rattle.std.proofs.Common.{◌≡◌, ◌∙◌, [], true, false, ap, refl, rules, sym}
 use Rattle.std.proofs.lemmas.List.{nil_from_length}
-use Rattle.star_statements.specs.Blanks.{is_blank, without_blanks}
+use Rattle.star_statements.specs.Blanks.{without_blanks}
+use Rattle.star_common.specs.WhiteSpace.{is_blank}
 use Rattle.star_statements.proofs.BlankLemmas.{no_blank, past_blank}
 use Rattle.star_statements.proofs.blanks.without_blanks.Goals as goal
 

@@ -1,6 +1,6 @@
 use Rattle.std.proofs.Common.{ap, sym, subst, ◌∙◌}
 use Rattle.star_program.specs.Effects.{GoesOn}
-use Rattle.star_trial.specs.Private.Shown.{held}
+use Rattle.star_trial.specs.Private.Views.{registers_view}
 use Rattle.star_outcome.specs.Sound.{AreSound}
 use Rattle.star_outcome.proofs.Registers.{sound_set}
 use Rattle.star_trial.proofs.act.assign.Goals as goal
@@ -17,7 +17,7 @@ returns c =
             done = made.done;
           };
       sound = subst (AreSound m.catalogue.now) (sym c.set.ensures.set)
-          (sound_set m.catalogue.now (held c.args.registers.now) c.args.target _ c.requires.ready.sound
+          (sound_set m.catalogue.now (registers_view c.args.registers.now) c.args.target _ c.requires.ready.sound
           (c.in_ok-value.ensures.does c.requires.ready.done.0 c.args.target c.requires.ready.done.1).sound);
       len = c.set.ensures.len;
       work = c.operate.ensures.work;

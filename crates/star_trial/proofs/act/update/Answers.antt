@@ -6,19 +6,19 @@ use Rattle.star_program.specs.Faults.{group_at}
 use Rattle.star_program.specs.Private.Doing.{puts}
 use Rattle.star_program.specs.Puts.{Update, overflows}
 use Rattle.star_trial.specs.Private.Runs.{AreStores}
-use Rattle.star_trial.specs.Private.Shown.{held}
+use Rattle.star_trial.specs.Private.Views.{registers_view}
 use Rattle.star_trial.proofs.act.update.Goals as goal
 
 pub returns-in-Ok : goal.returns-in-Ok
 returns-in-Ok c =
     let m = c.args.machine.now in
-    let registers = held c.args.registers.now in
+    let registers = registers_view c.args.registers.now in
     let d = group_at m.parts.now c.args.group in
     let put = of_same (λ d ks vs. (updates_of : ℕ → List Update)
     → AreStores m.parts.now c.args.run.now.stores.items updates_of
     → AreStores m.parts.now c.put.new.stores.items
     (with_update updates_of c.args.group (update_of d registers ks vs))
-    × (overflows (group_at m.parts.now c.args.group) (updates_of c.args.group)
+    × (overflows (group_at m.parts.now c.args.group).shape (group_at m.parts.now c.args.group).aggregates (updates_of c.args.group)
     (update_of d registers ks vs) ≡ false))
     c.group_at.result.now _ c.as_slice.result.now _ c.as_slice-2.result.now _
     c.group_at.ensures c.as_slice.ensures c.as_slice-2.ensures

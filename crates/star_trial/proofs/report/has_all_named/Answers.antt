@@ -1,6 +1,6 @@
 use Rattle.std.proofs.Common.{◌∙◌, ap, refl, sym, true, false}
 use Rattle.std.specs.List.{list_all}
-use Rattle.star_program.specs.Shown.{has_column}
+use Rattle.star_program.specs.ShowLines.{has_column}
 use Rattle.star_trial.proofs.NamedColumns.{has_named}
 use Rattle.star_trial.proofs.report.has_all_named.Goals as goal
 

@@ -1,11 +1,11 @@
 use Rattle.std.proofs.Common.{◌≡◌, ◌∙◌, ap, arith, rules, subst, false}
 use Rattle.std.specs.Prelude.{nat_lt}
 use Rattle.std.proofs.lemmas.Result.{err_from_is_err_and}
-use Rattle.star_program.specs.Effects.{empty_store}
+use Rattle.star_program.specs.Effects.{empty_state}
 use Rattle.star_program.specs.Run.{meaning}
 use Rattle.star_program.specs.Values.{no_registers}
-use Rattle.star_trial.specs.Private.Shown.{held}
-use Rattle.star_trial.specs.Trials.{IsFaultOf}
+use Rattle.star_trial.specs.Private.Views.{registers_view}
+use Rattle.star_trial.specs.Trials.{IsFaultOfEnd}
 use Rattle.star_trial.specs.Private.Walks.{Finishes}
 use Rattle.star_world.specs.WorldOf.{world_of}
 use Rattle.star_trial.proofs.Registers.{sound_nothing}
@@ -14,7 +14,7 @@ use Rattle.star_trial.proofs.trials.run_through.Goals as goal
 pub walk-requires-clause-ready : goal.walk-requires-clause-ready
 walk-requires-clause-ready c =
     let done = c.in_ok-run.ensures c.args.catalogue.now in
-    let empty = ap held c.as_mut_slice.ensures.value ∙ c.in_ok-registers.ensures.empty in
+    let empty = ap registers_view c.as_mut_slice.ensures.value ∙ c.in_ok-registers.ensures.empty in
     record {
       wide = search rules;
       deep = search (arith, rules);
@@ -22,20 +22,20 @@ walk-requires-clause-ready c =
         visits = omega (arith, done.visits);
         work = omega (arith, done.visits, done.lookups, done.updates, c.requires.limits.instructions);
       };
-      sound = sound_nothing c.args.catalogue.now (held c.as_mut_slice.result.now) empty;
-      done = (empty_store, done);
+      sound = sound_nothing c.args.catalogue.now (registers_view c.as_mut_slice.result.now) empty;
+      done = (empty_state, done);
     }
 
 pub returns-in_err-walk : goal.returns-in_err-walk
 returns-in_err-walk c =
     let p = err_from_is_err_and c.from_residual-in_err-walk.result c.from_residual-in_err-walk.ensures.1 in
-    let nothing : held c.as_mut_slice.result.now ≡ no_registers = ap held c.as_mut_slice.ensures.value ∙ c.in_ok-registers.ensures.empty in
+    let nothing : registers_view c.as_mut_slice.result.now ≡ no_registers = ap registers_view c.as_mut_slice.ensures.value ∙ c.in_ok-registers.ensures.empty in
     rw (p.1, p.2)
-    (subst (λ registers. IsFaultOf (meaning (world_of c.args.catalogue.now) c.args.parts.now (λ visits. nat_lt visits c.args.most) c.args.parts.now.body 1 false registers empty_store) c.in_err-walk.field-0.0) nothing
-    (c.in_err-walk.ensures.ends empty_store (c.in_ok-run.ensures c.args.catalogue.now)))
+    (subst (λ registers. IsFaultOfEnd (meaning (world_of c.args.catalogue.now) c.args.parts.now (λ visits. nat_lt visits c.args.most) c.args.parts.now.body 1 false registers empty_state) c.in_err-walk.field-0.0) nothing
+    (c.in_err-walk.ensures.ends empty_state (c.in_ok-run.ensures c.args.catalogue.now)))
 
 pub returns : goal.returns
 returns c =
-    let nothing : held c.as_mut_slice.result.now ≡ no_registers = ap held c.as_mut_slice.ensures.value ∙ c.in_ok-registers.ensures.empty in
-    subst (λ registers. Finishes c.args.catalogue.now c.args.parts.now c.walk.new.run (meaning (world_of c.args.catalogue.now) c.args.parts.now (λ visits. nat_lt visits c.args.most) c.args.parts.now.body 1 false registers empty_store)) nothing
-    (c.in_ok-walk.ensures.ends empty_store (c.in_ok-run.ensures c.args.catalogue.now))
+    let nothing : registers_view c.as_mut_slice.result.now ≡ no_registers = ap registers_view c.as_mut_slice.ensures.value ∙ c.in_ok-registers.ensures.empty in
+    subst (λ registers. Finishes c.args.catalogue.now c.args.parts.now c.walk.new.run (meaning (world_of c.args.catalogue.now) c.args.parts.now (λ visits. nat_lt visits c.args.most) c.args.parts.now.body 1 false registers empty_state)) nothing
+    (c.in_ok-walk.ensures.ends empty_state (c.in_ok-run.ensures c.args.catalogue.now))

@@ -8,9 +8,9 @@ use Rattle.star_program.specs.CodeOfSteps.{code_of_steps}
 use Rattle.star_program.specs.Run.{visited}
 use Rattle.star_program.specs.Values.{Registers, with_entry}
 use Rattle.star_program.specs.declared.value.Value.TheVariants.{Row}
-use Rattle.star_trial.specs.Private.Shown.{held}
+use Rattle.star_trial.specs.Private.Views.{registers_view}
 use Rattle.star_outcome.specs.Sound.{AreSound}
-use Rattle.star_trial.specs.Trials.{IsFaultOf}
+use Rattle.star_trial.specs.Trials.{IsFaultOfEnd}
 use Rattle.star_trial.specs.Private.Walks.{HasWorked, IsEnd, means, means_at}
 use Rattle.star_trial.specs.Private.Runs.{HasDone}
 use Rattle.star_program.proofs.Steps.{next_act, next_scan}
@@ -25,7 +25,7 @@ turn-walk-requires t c =
     let m = c.args.machine.now in
     let scanned = c.args.scanned.now in
     let at_row = c.set.ensures.set
-    ∙ ap (λ xs. with_entry (held xs) scanned.target c.args.row) c.copy_from_slice.ensures.after in
+    ∙ ap (λ xs. with_entry (registers_view xs) scanned.target c.args.row) c.copy_from_slice.ensures.after in
     let done = c.requires.ready.done in (
       omega (arith, c.decreases),
       (
@@ -40,7 +40,7 @@ turn-walk-requires t c =
               work = omega (arith, c.requires.ready.few.work, scanned.size);
             };
             sound = subst (AreSound m.catalogue.now) (sym at_row)
-                (sound_set m.catalogue.now (held scanned.before.now) scanned.target c.args.row
+                (sound_set m.catalogue.now (registers_view scanned.before.now) scanned.target c.args.row
                 c.requires.ready.sound c.requires.row);
             done = (
               visited done.0,
@@ -55,17 +55,17 @@ pub turn-returns-clause-ends : goal.turn-returns-clause-ends
 turn-returns-clause-ends t c = λ s h.
     let m = c.args.machine.now in
     let meant = λ (registers : Registers). means m c.args.scanned.now.body.now (c.args.scanned.now.at + 1) true registers in
-    let at_row = c.set.ensures.set ∙ ap (λ xs. with_entry (held xs) c.args.scanned.now.target c.args.row) c.copy_from_slice.ensures.after in
+    let at_row = c.set.ensures.set ∙ ap (λ xs. with_entry (registers_view xs) c.args.scanned.now.target c.args.row) c.copy_from_slice.ensures.after in
     let may : s.visits < m.most = omega (arith, h.visits, c.if-run-machine.false) in
     subst (λ end. IsEnd m.catalogue.now m.parts.now c.walk.new.run end c.walk.result)
-    (ap (λ registers. meant registers (visited s)) at_row ∙ sym (begin_turn m.most s (means_at m c.args.scanned.now (held c.args.scanned.now.before.now) c.args.row) may))
+    (ap (λ registers. meant registers (visited s)) at_row ∙ sym (begin_turn m.most s (means_at m c.args.scanned.now (registers_view c.args.scanned.now.before.now) c.args.row) may))
     (c.walk.ensures.ends (visited s) (done_visited m.catalogue.now m.parts.now c.args.run.now _ s refl refl refl refl h))
 
 pub turns-returns-in_err-turn-clause-ends : goal.turns-returns-in_err-turn-clause-ends
 turns-returns-in_err-turn-clause-ends t c = λ s h.
     let p = err_from_is_err_and c.from_residual.result c.from_residual.ensures.1 in
     let at = c.loop-row.invariant.ends s h in
-    rw (p.1, p.2) (turns_fault (λ visits. nat_lt visits c.args.machine.now.most) (length (rows_in c.args.machine.now.catalogue.now c.args.scanned.now.table)) c.loop-row.row (λ row. means_at c.args.machine.now c.args.scanned.now (held c.args.scanned.now.before.now) (Row c.args.scanned.now.table row)) at.0 _ c.in_err-turn.field-0.0
+    rw (p.1, p.2) (turns_fault (λ visits. nat_lt visits c.args.machine.now.most) (length (rows_in c.args.machine.now.catalogue.now c.args.scanned.now.table)) c.loop-row.row (λ row. means_at c.args.machine.now c.args.scanned.now (registers_view c.args.scanned.now.before.now) (Row c.args.scanned.now.table row)) at.0 _ c.in_err-turn.field-0.0
     (omega (arith, c.loop-row-test.true, c.rows-row-end.ensures)) (c.in_err-turn.ensures.ends at.0 at.1) at.2)
 
 pub turns-loop-row-preserved : goal.turns-loop-row-preserved
@@ -73,26 +73,26 @@ turns-loop-row-preserved t c = record {
   ends = λ s h.
       let at = c.loop-row.invariant.ends s h in
       let done = c.in_ok-turn.ensures.ends at.0 at.1 in
-      (done.s, done.done, sym (turn_done (λ visits. nat_lt visits c.args.machine.now.most) (length (rows_in c.args.machine.now.catalogue.now c.args.scanned.now.table)) c.loop-row.row (λ row. means_at c.args.machine.now c.args.scanned.now (held c.args.scanned.now.before.now) (Row c.args.scanned.now.table row)) at.0 done.s (omega (arith, c.loop-row-test.true, c.rows-row-end.ensures)) done.is) ∙ at.2);
+      (done.s, done.done, sym (turn_done (λ visits. nat_lt visits c.args.machine.now.most) (length (rows_in c.args.machine.now.catalogue.now c.args.scanned.now.table)) c.loop-row.row (λ row. means_at c.args.machine.now c.args.scanned.now (registers_view c.args.scanned.now.before.now) (Row c.args.scanned.now.table row)) at.0 done.s (omega (arith, c.loop-row-test.true, c.rows-row-end.ensures)) done.is) ∙ at.2);
   worked = worked_more c.loop-row.invariant.worked c.in_ok-turn.ensures.worked (omega arith);
 }
 
 pub walk-returns-in-Ok-EndsTurn-clause-ends : goal.walk-returns-in-Ok-EndsTurn-clause-ends
 walk-returns-in-Ok-EndsTurn-clause-ends t c = λ s h.
     let at = c.loop-step.invariant.ends s h in
-    let ends = turn_ended (held c.act.new.registers) c.in-Ok-EndsTurn.field-0-is (c.in-Ok-EndsTurn.ensures.does at.0 at.1) in
+    let ends = turn_ended (registers_view c.act.new.registers) c.in-Ok-EndsTurn.field-0-is (c.in-Ok-EndsTurn.ensures.does at.0 at.1) in
     record {
       s = ends.s;
-      is = sym at.2 ∙ act_follows c.args.machine.now _ c.loop-step.place c.args.inside (held c.loop-step.registers) at.0 c.loop-step-test.true c.step-item.is c.in-Act.is ends.does;
+      is = sym at.2 ∙ act_follows c.args.machine.now _ c.loop-step.place c.args.inside (registers_view c.loop-step.registers) at.0 c.loop-step-test.true c.step-item.is c.in-Act.is ends.does;
       done = ends.done;
     }
 
 pub walk-returns-in-Err-clause-ends : goal.walk-returns-in-Err-clause-ends
 walk-returns-in-Err-clause-ends t c = λ s h.
     let at = c.loop-step.invariant.ends s h in
-    subst (IsFaultOf _) (sym c.stopped.ensures)
+    subst (IsFaultOfEnd _) (sym c.stopped.ensures)
     (stop_fault _ c.loop-step.place _ _ c.in-Err.stop (c.in-Err.ensures.does at.0 at.1)
-    (sym at.2 ∙ act_follows c.args.machine.now _ c.loop-step.place c.args.inside (held c.loop-step.registers) at.0 c.loop-step-test.true c.step-item.is c.in-Act.is refl))
+    (sym at.2 ∙ act_follows c.args.machine.now _ c.loop-step.place c.args.inside (registers_view c.loop-step.registers) at.0 c.loop-step-test.true c.step-item.is c.in-Act.is refl))
 
 pub walk-scan-requires : goal.walk-scan-requires
 walk-scan-requires t c =
@@ -118,7 +118,7 @@ walk-returns-in_err-scan-in-Scan-clause-ends t c = λ s h.
     let p = err_from_is_err_and c.from_residual.result c.from_residual.ensures.1 in
     let at = c.loop-step.invariant.ends s h in
     rw (p.1, p.2) (after_fault _ _ _ c.in_err-scan-in-Scan.field-0.0 (c.in_err-scan-in-Scan.ensures.ends at.0 at.1)
-    (sym at.2 ∙ scan_follows c.args.machine.now _ c.loop-step.place c.args.inside (held c.loop-step.registers) at.0 c.loop-step-test.true c.step-item.is c.in-Scan.is refl))
+    (sym at.2 ∙ scan_follows c.args.machine.now _ c.loop-step.place c.args.inside (registers_view c.loop-step.registers) at.0 c.loop-step-test.true c.step-item.is c.in-Scan.is refl))
 
 pub walk-loop-step-preserved : goal.walk-loop-step-preserved
 walk-loop-step-preserved t c =
@@ -129,14 +129,14 @@ walk-loop-step-preserved t c =
           record {
             ends = λ s h.
                 let at = c.loop-step.invariant.ends s h in
-                let goes = gone_on (held w.act.new.registers) w.in-Ok-GoesOn.field-0-is (w.in-Ok-GoesOn.ensures.does at.0 at.1) in (
+                let goes = gone_on (registers_view w.act.new.registers) w.in-Ok-GoesOn.field-0-is (w.in-Ok-GoesOn.ensures.does at.0 at.1) in (
                   goes.s,
                   subst (λ r. HasDone c.args.machine.now.catalogue.now c.args.machine.now.parts.now r goes.s) (sym w.run-is) goes.done,
-                  (λ i. means c.args.machine.now (code_of_steps (drop (c.loop-step.step-index + 1) c.as_slice-step-items.result.now)) (w.place-is i) c.args.inside (held (w.registers-is i)) goes.s)
-                      ∙ sym (act_follows c.args.machine.now _ c.loop-step.place c.args.inside (held c.loop-step.registers) at.0 c.loop-step-test.true c.step-item.is w.in-Act.is goes.does)
+                  (λ i. means c.args.machine.now (code_of_steps (drop (c.loop-step.step-index + 1) c.as_slice-step-items.result.now)) (w.place-is i) c.args.inside (registers_view (w.registers-is i)) goes.s)
+                      ∙ sym (act_follows c.args.machine.now _ c.loop-step.place c.args.inside (registers_view c.loop-step.registers) at.0 c.loop-step-test.true c.step-item.is w.in-Act.is goes.does)
                       ∙ at.2,
                 );
-            sound = subst (λ xs. AreSound c.args.machine.now.catalogue.now (held xs)) (sym w.registers-is) w.in-Ok-GoesOn.ensures.sound;
+            sound = subst (λ xs. AreSound c.args.machine.now.catalogue.now (registers_view xs)) (sym w.registers-is) w.in-Ok-GoesOn.ensures.sound;
             worked = subst (λ r. HasWorked c.args.machine.now.most c.args.run.now r (c.match-step.place - c.args.at)) (sym w.run-is)
                 (worked_act c.loop-step.invariant.worked w.act.ensures.work.visits w.act.ensures.work.work (omega (arith, w.place-is, c.loop-step.invariant.after)));
             placed = omega (arith, left, c.loop-step.invariant.placed, w.place-is);
@@ -154,12 +154,12 @@ walk-loop-step-preserved t c =
                 let place : c.loop-step.place + (1 + w.size.result) ≡ c.loop-step.place + 1 + code_size w.in-Scan.body = omega (arith, w.size.ensures) in (
                   done.s,
                   subst (λ r. HasDone c.args.machine.now.catalogue.now c.args.machine.now.parts.now r done.s) (sym w.run-is) done.done,
-                  (λ i. means c.args.machine.now (code_of_steps (drop (c.loop-step.step-index + 1) c.as_slice-step-items.result.now)) (w.place-is i) c.args.inside (held (w.registers-is i)) done.s)
-                      ∙ ap (λ n. means c.args.machine.now (code_of_steps (drop (c.loop-step.step-index + 1) c.as_slice-step-items.result.now)) n c.args.inside (held c.loop-step.registers) done.s) place
-                      ∙ sym (scan_follows c.args.machine.now _ c.loop-step.place c.args.inside (held c.loop-step.registers) at.0 c.loop-step-test.true c.step-item.is w.in-Scan.is done.is)
+                  (λ i. means c.args.machine.now (code_of_steps (drop (c.loop-step.step-index + 1) c.as_slice-step-items.result.now)) (w.place-is i) c.args.inside (registers_view (w.registers-is i)) done.s)
+                      ∙ ap (λ n. means c.args.machine.now (code_of_steps (drop (c.loop-step.step-index + 1) c.as_slice-step-items.result.now)) n c.args.inside (registers_view c.loop-step.registers) done.s) place
+                      ∙ sym (scan_follows c.args.machine.now _ c.loop-step.place c.args.inside (registers_view c.loop-step.registers) at.0 c.loop-step-test.true c.step-item.is w.in-Scan.is done.is)
                       ∙ at.2,
                 );
-            sound = subst (λ xs. AreSound c.args.machine.now.catalogue.now (held xs)) (sym w.registers-is) c.loop-step.invariant.sound;
+            sound = subst (λ xs. AreSound c.args.machine.now.catalogue.now (registers_view xs)) (sym w.registers-is) c.loop-step.invariant.sound;
             worked = subst (λ r. HasWorked c.args.machine.now.most c.args.run.now r (c.match-step.place - c.args.at)) (sym w.run-is)
                 (worked_more c.loop-step.invariant.worked w.in_ok-scan-in-Scan.ensures.worked (omega (arith, w.place-is, c.loop-step.invariant.after)));
             placed = omega (arith, left, c.loop-step.invariant.placed, w.place-is, w.size.ensures);
@@ -174,6 +174,6 @@ walk-returns-clause-ends t c = λ s h.
     let at = c.loop-step.invariant.ends s h in
     record {
       s = at.0;
-      is = sym at.2 ∙ ap (λ k. means c.args.machine.now k c.loop-step.place c.args.inside (held c.loop-step.registers) at.0) (ap code_of_steps (drop_all c.loop-step.step-index c.as_slice-step-items.result.now c.loop-step-test.false));
+      is = sym at.2 ∙ ap (λ k. means c.args.machine.now k c.loop-step.place c.args.inside (registers_view c.loop-step.registers) at.0) (ap code_of_steps (drop_all c.loop-step.step-index c.as_slice-step-items.result.now c.loop-step-test.false));
       done = at.1;
     }

@@ -1,7 +1,7 @@
 use Rattle.std.proofs.Common.{◌+◌, ◌<◌, [], ◌∷◌, List, Option, None, get_or, ap, map, sym, subst, length}
 use Rattle.star_safety.specs.Contexts.{known_share}
 use Rattle.star_safety.specs.Ranges as ranges
-use Rattle.star_verify.specs.Private.Shown.{IsTally, known_in}
+use Rattle.star_verify.specs.Private.Views.{IsTally, known_in}
 use Rattle.star_verify.proofs.Firsts.{first_and_others}
 use Rattle.star_verify.proofs.Giving.{given_more, grown_more}
 use Rattle.star_verify.proofs.gifts.+give_keys.Goals as goal

@@ -5,17 +5,17 @@ use Rattle.star_interval.specs.declared.Wide.{Wide}
 use Rattle.star_interval.specs.Interval.{bounds_of}
 use Rattle.star_safety.specs.declared.reason.Reason.TheVariants.{Overflow}
 use Rattle.star_safety.specs.Refusals.{reached}
-use Rattle.star_verify.specs.Private.Shown.{reach_shown}
+use Rattle.star_verify.specs.Private.Views.{reach_view}
 use Rattle.star_verify.proofs.Overflows.{fitting, leaving}
 use Rattle.star_verify.proofs.known.computed.Goals as goal
 
 pub returns-in-Ok-clause-overflow : goal.returns-in-Ok-clause-overflow
 returns-in-Ok-clause-overflow c = λ w.
-    fitting w (bounds_of c.args.range) (reach_shown c.args.reach)
+    fitting w (bounds_of c.args.range) (reach_view c.args.reach)
     (c.requires.0 (subst (λ (x : Result Interval Wide). IsOk x) (sym c.in-Ok.is) refl))
 
 pub returns-in-Err-clause-overflow : goal.returns-in-Err-clause-overflow
 returns-in-Err-clause-overflow c = λ w.
-    leaving w (bounds_of c.args.range) (reach_shown c.args.reach)
+    leaving w (bounds_of c.args.range) (reach_view c.args.reach)
     (λ fits. let never : false ≡ true = subst (λ (x : Result Interval Wide). IsOk x) c.in-Err.is (c.requires.1 fits) in cc)
-    ∙ ap (λ (x : Result Interval Wide). Some (Overflow (bounds_of x).low (bounds_of x).high (reached w (reach_shown c.args.reach)))) c.in-Err.is
+    ∙ ap (λ (x : Result Interval Wide). Some (Overflow (bounds_of x).low (bounds_of x).high (reached w (reach_view c.args.reach)))) c.in-Err.is

@@ -4,12 +4,12 @@ use Rattle.star_interval.specs.Range.{only}
 use Rattle.star_program.specs.declared.op.Op.TheVariants.{Assign}
 use Rattle.star_program.specs.declared.op.Operation.{Operation}
 use Rattle.star_program.specs.Faults.{group_at}
-use Rattle.star_safety.specs.Contexts.{aggregate_at, operation_known}
+use Rattle.star_safety.specs.Contexts.{aggregate_in_group, operation_known}
 use Rattle.star_safety.specs.Ranges as ranges
 use Rattle.star_safety.specs.Refusals.{range_reason}
 use Rattle.star_safety.specs.Tallies.{reach_of, read_range}
 use Rattle.star_verify.specs.Private.Made.{IsMade}
-use Rattle.star_verify.specs.Private.Shown.{known_shown}
+use Rattle.star_verify.specs.Private.Views.{known_view}
 use Rattle.star_verify.proofs.Made.{made_as, read_as}
 use Rattle.star_verify.proofs.Overflows.{fitting}
 use Rattle.star_verify.proofs.operations.make.Goals as goal
@@ -24,13 +24,13 @@ pub returns-in-Const : goal.returns-in-Const
 returns-in-Const c = λ w x target facts known shares.
     let fits : FitsSigned w64 c.in-Const.number = search rules in
     let range : range_of c.point.result ≡ only c.in-Const.number = search rules in
-    subst (λ (o : Operation). (known_shown c.given.result ≡ operation_known w c.args.parts.now x o)
+    subst (λ (o : Operation). (known_view c.given.result ≡ operation_known w c.args.parts.now x o)
     × (range_reason w c.args.parts.now x (Assign target o) ≡ None)) (sym c.in-Const.is)
-    (c.given.ensures ∙ ap (λ r. ranges.given r) range, fitting w _ _ (fits, fits))
+    (c.given.ensures ∙ ap (λ r. ranges.known_number r) range, fitting w _ _ (fits, fits))
 
 pub returns-in-Load : goal.returns-in-Load
 returns-in-Load c = λ w x target facts known shares.
-    subst (λ (o : Operation). (known_shown c.loaded.result ≡ operation_known w c.args.parts.now x o)
+    subst (λ (o : Operation). (known_view c.loaded.result ≡ operation_known w c.args.parts.now x o)
     × (range_reason w c.args.parts.now x (Assign target o) ≡ None)) (sym c.in-Load.is)
     (c.loaded.ensures w facts)
 
@@ -47,6 +47,6 @@ returns-in-Read c = λ w x target facts known shares.
     let fits : FitsSigned w64 c.in-Read.default = search rules in
     subst (λ (o : Operation). IsMade w c.read_total.result (operation_known w c.args.parts.now x o) (range_reason w c.args.parts.now x (Assign target o))) (sym c.in-Read.is)
     (read_as w c.read_total.result (reach_of (x.so_far c.in-Read.group c.in-Read.aggregate)) _ _
-    (λ i. read_range (aggregate_at c.args.parts.now c.in-Read.group c.in-Read.aggregate)
+    (λ i. read_range (aggregate_in_group c.args.parts.now c.in-Read.group c.in-Read.aggregate)
     (x.so_far c.in-Read.group c.in-Read.aggregate) (only (to_z-of_z fits i)))
     (c.read_total.ensures w x shares))

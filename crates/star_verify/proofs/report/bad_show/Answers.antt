@@ -1,5 +1,5 @@
 use Rattle.std.proofs.Common.{sym, ap, ◌∙◌, arith}
-use Rattle.star_program.specs.Shown.{has_column}
+use Rattle.star_program.specs.ShowLines.{has_column}
 use Rattle.star_verify.proofs.Lines.{unshown_next, unshown_here, unshown_end}
 use Rattle.star_verify.proofs.report.bad_show.Goals as goal
 

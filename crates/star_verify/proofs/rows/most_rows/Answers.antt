@@ -6,7 +6,7 @@ use Rattle.star_world.specs.WorldOf.{world_of}
 use Rattle.star_safety.specs.MostRows.{all_key_shares, each_values, rows_of_groupings}
 use Rattle.star_safety.specs.Tallies.{most_of}
 use Rattle.star_verify.specs.Private.Made.{IsTallyAt}
-use Rattle.star_verify.specs.Private.Shown.{IsTally}
+use Rattle.star_verify.specs.Private.Views.{IsTally}
 use Rattle.star_verify.proofs.RowLemmas.{all_rows, empty_list, one_row}
 use Rattle.star_verify.proofs.rows.most_rows.Goals as goal
 

@@ -1,7 +1,7 @@
 use Rattle.std.proofs.Common.{◌+◌, FitsSigned, ap, rules, sym, to_z-of_z, w64, ◌∙◌}
 use Rattle.std.specs.Option.{option_map}
 use Rattle.star_interval.specs.Interval.{range_of}
-use Rattle.star_safety.specs.MostRows.{width_of}
+use Rattle.star_safety.specs.MostRows.{range_width}
 use Rattle.star_verify.proofs.RowLemmas.{width_is}
 use Rattle.star_verify.proofs.rows.width.Goals as goal
 
@@ -12,4 +12,4 @@ returns-in-Some-clause-width c =
     let apart = rw (to_z-of_z low, to_z-of_z high) at c.abs_diff.ensures in
     ap (λ n. n + 1) (c.from.ensures ∙ apart)
     ∙ sym (width_is c.in-Some.range.low c.in-Some.range.high c.in-Some.range.ordered)
-    ∙ ap (λ o. width_of (option_map range_of o)) (sym c.in-Some.is)
+    ∙ ap (λ o. range_width (option_map range_of o)) (sym c.in-Some.is)

@@ -5,7 +5,7 @@ use Rattle.star_interval.specs.Interval.{wide_range_of}
 use Rattle.star_interval.specs.Range.{FitsI64, only}
 use Rattle.star_safety.specs.Refusals.{overflow}
 use Rattle.star_safety.specs.Tallies.{hull_with, reach_of, read_range}
-use Rattle.star_verify.specs.Private.Shown.{reach_shown}
+use Rattle.star_verify.specs.Private.Views.{reach_view}
 use Rattle.star_verify.proofs.Overflows.{fitting, leaving}
 use Rattle.star_verify.proofs.totals.read.Goals as goal
 
@@ -24,9 +24,9 @@ returns-in-Err c = λ w ss is.
     let range : wide_range_of c.in-Err.range ≡ read_range c.args.aggregate ss (only c.args.default) =
     c.in-Err.ensures.bounds ∙ c.with_default.ensures
     ∙ (λ i. hull_with (c.total_range.ensures ss is i) (only (to_z-of_z number i))) in
-    let told : overflow w (wide_range_of c.in-Err.range) (reach_shown c.args.tally.reach)
+    let told : overflow w (wide_range_of c.in-Err.range) (reach_view c.args.tally.reach)
     ≡ overflow w (read_range c.args.aggregate ss (only c.args.default)) (reach_of ss) =
     λ i. overflow w (range i) (is.reach i) in
     sym told
-    ∙ leaving w (wide_range_of c.in-Err.range) (reach_shown c.args.tally.reach)
+    ∙ leaving w (wide_range_of c.in-Err.range) (reach_view c.args.tally.reach)
     (λ fits. false≢true (c.in-Err.ensures.fits.1 (subst FitsI64 c.in-Err.ensures.bounds fits)))

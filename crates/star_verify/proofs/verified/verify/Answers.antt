@@ -1,7 +1,7 @@
 use Rattle.std.proofs.Common.{◌≡◌, arith, subst, sym}
 use Rattle.star_world.specs.WorldOf.{world_of}
 use Rattle.star_safety.specs.Contexts.{at_end, at_first}
-use Rattle.star_safety.specs.MostRows.{most_rows}
+use Rattle.star_safety.specs.MostRows.{most_report_rows}
 use Rattle.star_verify.specs.Private.Kept.{HasKeyShares}
 use Rattle.star_verify.proofs.verified.verify.Goals as goal
 
@@ -17,5 +17,5 @@ invariant_of-result c =
     (sym c.deref.ensures.value) checked.3) in (
       record { admissible = accepted.0; cheap = omega (arith, accepted.1, c.args.limits.visits_in_range) },
       checked.1,
-      subst (λ p. c.most_rows-most_rows.result ≡ most_rows w p) same (c.most_rows-most_rows.ensures kept),
+      subst (λ p. c.most_rows-most_rows.result ≡ most_report_rows w p) same (c.most_rows-most_rows.ensures kept),
     )

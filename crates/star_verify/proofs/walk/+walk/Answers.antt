@@ -13,7 +13,7 @@ use Rattle.star_safety.specs.Ranges.{KnownRow}
 use Rattle.star_safety.specs.Refusals.{scan_reason}
 use Rattle.star_verify.specs.Private.Judged.{AreNoted, IsWalked}
 use Rattle.star_verify.specs.Private.Kept.{flag_at}
-use Rattle.star_verify.specs.Private.Shown.{known_in}
+use Rattle.star_verify.specs.Private.Views.{known_in}
 use Rattle.star_verify.proofs.Walking.{act_walked, all_walked, code_first, opened_in, one_walked, others, scan_entered, scan_walked, step_refused}
 use Rattle.star_verify.proofs.walk.+walk.Goals as goal
 

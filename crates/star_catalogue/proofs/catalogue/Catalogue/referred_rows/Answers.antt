@@ -1,6 +1,6 @@
 -- What was found at the load.
 use Rattle.std.proofs.Common.{◌∙◌, ap, sym, subst}
-use Rattle.star_catalogue.specs.Private.Referred.{rows_kept}
+use Rattle.star_catalogue.specs.Private.Referred.{rows_view}
 use Rattle.star_catalogue.specs.ReferredRows.{AreReferredRows}
 use Rattle.star_catalogue.proofs.ReferredRows.{are_rows, index_kept}
 use Rattle.star_catalogue.proofs.catalogue.Catalogue.referred_rows.Goals as goal
@@ -11,4 +11,4 @@ returns c =
     c.self.invariant.3 c.requires in
     subst (λ d. AreReferredRows d c.args.column c.rows.result.now) c.self.view_is
     (subst (AreReferredRows c.self.inside.tables.value c.args.column)
-    (sym (c.rows.ensures ∙ ap (λ kept. rows_kept kept c.args.column) c.deref.ensures)) are)
+    (sym (c.rows.ensures ∙ ap (λ kept. rows_view kept c.args.column) c.deref.ensures)) are)

@@ -1,17 +1,17 @@
 use Rattle.std.proofs.Common.{arith, rules}
-use Rattle.star_plan.specs.Shown.{expression_shown}
+use Rattle.star_plan.specs.Views.{column_expression_view}
 use Rattle.star_compile_laws.specs.Compiled.{expression_code}
 use Rattle.star_compile.proofs.Emits.{some_operand, room_for_right}
 use Rattle.star_compile.proofs.emitter.Emitter.+expression.Goals as goal
 
 pub arithmetic-expression-requires : goal.arithmetic-expression-requires
 arithmetic-expression-requires t c =
-    (omega (arith, some_operand (expression_shown c.args.right.now)), search rules)
+    (omega (arith, some_operand (column_expression_view c.args.right.now)), search rules)
 
 pub arithmetic-expression-requires-2 : goal.arithmetic-expression-requires-2
 arithmetic-expression-requires-2 t c = (
-  omega (arith, some_operand (expression_shown c.args.left.now)),
-  room_for_right (expression_code c.args.joins.now (expression_shown c.args.right.now))
+  omega (arith, some_operand (column_expression_view c.args.left.now)),
+  room_for_right (expression_code c.args.joins.now (column_expression_view c.args.right.now))
       c.args.operator c.in_ok-left.ensures.written c.requires.room,
 )
 

@@ -1,7 +1,7 @@
 -- The conjuncts so far and those to come are the conjuncts.
 use Rattle.std.proofs.Common.{◌≡◌, drop, map, true}
 use Rattle.std.specs.List.{list_all}
-use Rattle.star_plan.specs.Shown.{condition_shown}
+use Rattle.star_plan.specs.Views.{row_condition_view}
 use Rattle.star_plan.specs.Spelled.{condition_is_spelled}
 use Rattle.star_compile_laws.specs.Compiled.{conjuncts_code}
 use Rattle.star_compile.proofs.Emits.{Follows}
@@ -9,8 +9,8 @@ use Rattle.star_compile.proofs.emitter.Emitter.conjuncts.Given as goal
 
 abbrev pub invariant-loop-condition : goal.invariant-loop-condition
 invariant-loop-condition l = record {
-  rest : Follows l.fn.self l.self (conjuncts_code l.joins (map condition_shown l.conditions))
-      (conjuncts_code l.joins (map condition_shown (drop l.condition-index l.conditions)));
+  rest : Follows l.fn.self l.self (conjuncts_code l.joins (map row_condition_view l.conditions))
+      (conjuncts_code l.joins (map row_condition_view (drop l.condition-index l.conditions)));
   spelled : list_all condition_is_spelled
-      (map condition_shown (drop l.condition-index l.conditions)) ≡ true;
+      (map row_condition_view (drop l.condition-index l.conditions)) ≡ true;
 }

@@ -1,6 +1,6 @@
 use Rattle.std.proofs.Common.{◌+◌, drop, ◌∷◌, refl, sym, ap, ◌∙◌, drop_of_length-le}
 use Rattle.std.proofs.lemmas.List.{drop_more}
-use Rattle.star_plan.specs.Shown.{measure_shown, measures_shown}
+use Rattle.star_plan.specs.Views.{column_measure_view, measures_view}
 use Rattle.star_compile_laws.specs.Compiled.{values_code}
 use Rattle.star_compile.specs.Private.Emitted.{values_after}
 use Rattle.star_compile.proofs.Emits.{values_behind, room_for_value, all_written}
@@ -12,10 +12,10 @@ value-requires c =
     let at = c.loop-aggregate.aggregate-index in
     record {
       room =
-          room_for_value c.args.joins.now (measures_shown aggregates)
+          room_for_value c.args.joins.now (measures_view aggregates)
           c.loop-aggregate.registers.items
-          (ap measures_shown (drop_more aggregates at c.aggregate-item.result c.loop-aggregate-test.true)
-          ∙ ap (λ a. measure_shown a.measure ∷ measures_shown (drop (at + 1) aggregates))
+          (ap measures_view (drop_more aggregates at c.aggregate-item.result c.loop-aggregate-test.true)
+          ∙ ap (λ a. column_measure_view a.measure ∷ measures_view (drop (at + 1) aggregates))
           (sym c.aggregate-item.is))
           c.loop-aggregate.invariant c.requires.room;
     }
@@ -27,8 +27,8 @@ returns c =
     record {
       written =
           all_written (values_after joins) (values_code joins) (values_behind joins)
-          (measures_shown aggregates)
-          (measures_shown (drop c.loop-aggregate.aggregate-index aggregates))
+          (measures_view aggregates)
+          (measures_view (drop c.loop-aggregate.aggregate-index aggregates))
           c.loop-aggregate.registers.items c.loop-aggregate.invariant (λ env k. refl)
-          (ap measures_shown (drop_of_length-le aggregates c.loop-aggregate-test.false));
+          (ap measures_view (drop_of_length-le aggregates c.loop-aggregate-test.false));
     }

@@ -1,7 +1,7 @@
 use Rattle.std.proofs.Common.{◌≡◌, ◌<◌, ◌+◌, ◌∙◌, ℕ, ℤ, [], List, None, Option, Some, ap, arith, drop, get_or, length, length-drop, refl, set, slice_get, subst, sym}
 use Rattle.std.proofs.lemmas.List.{drop-set-lt, get_or-drop}
 use Rattle.std.proofs.lemmas.Option.{slice_get-get_or}
-use Rattle.star_group.specs.Base.{key_of, row_at}
+use Rattle.star_group.specs.Base.{key_view, row_found}
 use Rattle.star_group.specs.declared.keyed.key.KeyPart.{KeyPart}
 use Rattle.star_group.specs.declared.keyed.key.KeyPart.TheVariants.{All}
 use Rattle.star_group.specs.Entries.{entries_of}
@@ -46,8 +46,8 @@ merge_coarser-requires-clause-stays c = λ grouping.
     let finer = listed_entries c.in_ok-finer.finer in
     let index = c.loop-index.index in
     let at = listed_at finer es c.args.from index c.in_ok-finer.ensures.rows (omega (arith, c.loop-index-test.true, c.len-index-end.ensures)) in
-    let key = c.hidden-key.ensures.key ∙ ap (λ ps. set (key_of ps) c.args.place None) c.key.ensures.key in
-    subst (RowsStay c.args.aggregates.now (row_at (entries_of c.loop-index.rows) (key_of c.hidden-key.result))) (sym c.row.ensures.row)
+    let key = c.hidden-key.ensures.key ∙ ap (λ ps. set (key_view ps) c.args.place None) c.key.ensures.key in
+    subst (RowsStay c.args.aggregates.now (row_found (entries_of c.loop-index.rows) (key_view c.hidden-key.result))) (sym c.row.ensures.row)
     (turn_stays c.args.shape c.args.count c.args.aggregates.now c.args.place es (once_rows c.args.rows.now) (c.args.from + index) (get_or finer index ([], [])) at (entries_of c.loop-index.rows) c.hidden-key.result key c.loop-index.invariant.merged c.requires.room grouping)
 
 pub loop-index-preserved : goal.loop-index-preserved
@@ -56,12 +56,12 @@ loop-index-preserved c =
     let finer = listed_entries c.in_ok-finer.finer in
     let index = c.loop-index.index in
     let at = listed_at finer es c.args.from index c.in_ok-finer.ensures.rows (omega (arith, c.loop-index-test.true, c.len-index-end.ensures)) in
-    let key = c.hidden-key.ensures.key ∙ ap (λ ps. set (key_of ps) c.args.place None) c.key.ensures.key in
+    let key = c.hidden-key.ensures.key ∙ ap (λ ps. set (key_view ps) c.args.place None) c.key.ensures.key in
     let next : c.args.from + index + 1 ≡ c.args.from + (index + 1) = omega arith in
     record {
       merged = subst (λ n. IsMergedSoFar c.args.shape c.args.count c.args.aggregates.now c.args.place es n (entries_of c.merge_coarser.new.rows)) next
           (turn_merges c.args.shape c.args.count c.args.aggregates.now c.args.place es (once_rows c.args.rows.now) (c.args.from + index) (get_or finer index ([], [])) at (entries_of c.loop-index.rows) c.hidden-key.result key c.loop-index.invariant.merged (entries_of c.merge_coarser.new.rows)
-          (subst (λ more. IsMergedWhere c.args.shape c.args.count c.args.aggregates.now (key_of c.hidden-key.result) more (entries_of c.loop-index.rows) (entries_of c.merge_coarser.new.rows)) c.row.ensures.row c.in_ok-merge_coarser.ensures.ok));
+          (subst (λ more. IsMergedWhere c.args.shape c.args.count c.args.aggregates.now (key_view c.hidden-key.result) more (entries_of c.loop-index.rows) (entries_of c.merge_coarser.new.rows)) c.row.ensures.row c.in_ok-merge_coarser.ensures.ok));
       grown = grown_more c.args.rows.now c.loop-index.rows c.merge_coarser.new.rows c.loop-index.invariant.grown c.merge_coarser.ensures.grown;
     }
 

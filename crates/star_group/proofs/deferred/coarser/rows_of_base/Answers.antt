@@ -4,7 +4,7 @@ use Rattle.std.proofs.Common.{◌≤◌, ◌∙◌, arith, subst, sym}
 use Rattle.star_group.specs.Private.Coarser.{shown_entries}
 use Rattle.star_group.specs.Private.Given.{rows_given}
 use Rattle.star_group.specs.Private.BasePut.{group_with}
-use Rattle.star_group.specs.Shown.{AreRows}
+use Rattle.star_group.specs.StoreRows.{AreRows}
 use Rattle.star_group.proofs.AllRows.{are_rows, base_room, base_rolled, holds_all}
 use Rattle.star_group.proofs.Contents.{if_ok}
 use Rattle.star_group.proofs.deferred.coarser.rows_of_base.Goals as goal

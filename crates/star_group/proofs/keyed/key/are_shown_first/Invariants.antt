@@ -1,9 +1,9 @@
 use Rattle.std.proofs.Common.{◌≡◌, drop}
 use Rattle.star_schema.specs.declared.group.Shape.TheVariants.{Rollup}
 use Rattle.star_schema.specs.Groups.{is_grouping}
-use Rattle.star_group.specs.Base.{key_of}
+use Rattle.star_group.specs.Base.{key_view}
 use Rattle.star_group.proofs.OwnKeyLemmas.{goes_on}
 use Rattle.star_group.proofs.keyed.key.are_shown_first.Given as goal
 
 abbrev pub invariant-loop-part : goal.invariant-loop-part
-invariant-loop-part l = goes_on l.hides (key_of (drop l.part-index l.parts)) ≡ is_grouping Rollup (key_of l.parts)
+invariant-loop-part l = goes_on l.hides (key_view (drop l.part-index l.parts)) ≡ is_grouping Rollup (key_view l.parts)

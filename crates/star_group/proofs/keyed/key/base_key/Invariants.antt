@@ -1,7 +1,7 @@
 use Rattle.std.proofs.Common.{◌≡◌, take}
-use Rattle.star_group.specs.Base.{key_of}
+use Rattle.star_group.specs.Base.{key_view}
 use Rattle.star_group.specs.OwnKeys.{padded}
 use Rattle.star_group.proofs.keyed.key.base_key.Given as goal
 
 abbrev pub invariant-loop-place : goal.invariant-loop-place
-invariant-loop-place l = key_of l.parts ≡ padded 6 (take l.place l.keys)
+invariant-loop-place l = key_view l.parts ≡ padded 6 (take l.place l.keys)

@@ -1,7 +1,7 @@
 use Rattle.std.proofs.lemmas.List.{map-set}
-use Rattle.star_group.specs.Base.{value_of}
+use Rattle.star_group.specs.Base.{key_value_view}
 use Rattle.star_group.specs.declared.keyed.key.KeyPart.TheVariants.{All}
 use Rattle.star_group.proofs.keyed.key.hidden.Goals as goal
 
 pub returns-clause-key : goal.returns-clause-key
-returns-clause-key c = map-set value_of c.args.parts.now c.args.place All
+returns-clause-key c = map-set key_value_view c.args.parts.now c.args.place All

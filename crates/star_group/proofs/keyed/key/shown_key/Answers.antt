@@ -1,7 +1,7 @@
 use Rattle.std.proofs.Common.{◌≡◌, ◌<◌, ◌++◌, ◌∷◌, [], length, arith, ◌∙◌, sym}
 use Rattle.std.proofs.lemmas.Grind.{common_steps}
 use Rattle.std.proofs.lemmas.List.{map_more, take_more_set}
-use Rattle.star_group.specs.Base.{value_of}
+use Rattle.star_group.specs.Base.{key_value_view}
 use Rattle.star_group.specs.declared.keyed.key.KeyPart.TheVariants.{All}
 use Rattle.star_group.proofs.keyed.key.shown_key.Goals as goal
 
@@ -13,6 +13,6 @@ loop-place-preserved c =
     let inside : place < length c.args.parts.now = omega arith in (
       take_more_set c.loop-place.key place c.value_in.result within
           ∙ (λ i. c.loop-place.invariant.0 i ++ c.value_in.ensures i ∷ [])
-          ∙ sym (map_more value_of c.args.parts.now place All inside),
+          ∙ sym (map_more key_value_view c.args.parts.now place All inside),
       grind (arith, common_steps),
     )

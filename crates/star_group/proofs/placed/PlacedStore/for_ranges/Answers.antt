@@ -9,7 +9,7 @@ use Rattle.star_group.proofs.placed.PlacedStore.for_ranges.Goals as goal
 pub invariant_of-result : goal.invariant_of-result
 invariant_of-result c =
     let rest = c.in_ok-rest.rest in
-    let d = deferred.group_of rest in
+    let d = deferred.group_view rest in
     let seen = c.in_ok-seen.seen.items in
     let cells = c.in_ok-cells.cells.items in
     let n = c.in_ok-spans.places in
@@ -33,7 +33,7 @@ invariant_of-result c =
 pub returns-clause-empty : goal.returns-clause-empty
 returns-clause-empty c =
     let rest = c.in_ok-rest.rest in
-    let d = deferred.group_of rest in
+    let d = deferred.group_view rest in
     let seen = c.in_ok-seen.seen.items in
     let cells = c.in_ok-cells.cells.items in
     let n = c.in_ok-spans.places in

@@ -1,6 +1,6 @@
 use Rattle.std.proofs.Common.{◌≡◌, ◌≤◌, ◌∷◌, ◌∙◌, add-one, ap, arith, length, rules, subst, sym, take}
-use Rattle.star_group.specs.Batches.{after, put_in}
-use Rattle.star_group.specs.Placed.{Has, group_of}
+use Rattle.star_group.specs.Batches.{puts_after, put_in}
+use Rattle.star_group.specs.Placed.{Has, group_view}
 use Rattle.star_group.specs.Stores.{HasRoom}
 use Rattle.star_group.proofs.PlacedPuts.{err_any}
 use Rattle.star_group.proofs.placed.PlacedStore.put_rows.Goals as goal
@@ -27,16 +27,16 @@ put-requires-clause-room c =
     let numbers = ap (λ gs. take (length gs) c.numbers_in-numbers.result) c.as_slice.ensures ∙ c.numbers_in-numbers.ensures in
     let same : put_in b row ≡ record { keys = take (length b.keys.now) c.keys_in-keys.result; values = take (length c.as_slice.result.now) c.numbers_in-numbers.result } =
     (λ i. record { keys = sym c.keys_in-keys.ensures i; values = sym numbers i }) in (
-      after (put_in b) room.0 row,
+      puts_after (put_in b) room.0 row,
       c.loop-row.invariant.has room.0 room.1,
-      subst (λ d. HasRoom d (record { keys = take (length b.keys.now) c.keys_in-keys.result; values = take (length c.as_slice.result.now) c.numbers_in-numbers.result } ∷ after (put_in b) room.0 row)) (sym c.loop-row.invariant.group)
-          (subst (λ u. HasRoom (group_of c.args.self.now) (u ∷ after (put_in b) room.0 row)) same (room.2 row c.loop-row-test.true)),
+      subst (λ d. HasRoom d (record { keys = take (length b.keys.now) c.keys_in-keys.result; values = take (length c.as_slice.result.now) c.numbers_in-numbers.result } ∷ puts_after (put_in b) room.0 row)) (sym c.loop-row.invariant.group)
+          (subst (λ u. HasRoom (group_view c.args.self.now) (u ∷ puts_after (put_in b) room.0 row)) same (room.2 row c.loop-row-test.true)),
     )
 
 pub returns-in_err-put-clause-refused : goal.returns-in_err-put-clause-refused
 returns-in_err-put-clause-refused c =
     err_any c.from_residual.result
-    (λ puts has. (c.loop-row.row, c.in_err-put.ensures.refused (after (put_in c.args.batch.now) puts c.loop-row.row) (c.loop-row.invariant.has puts has)))
+    (λ puts has. (c.loop-row.row, c.in_err-put.ensures.refused (puts_after (put_in c.args.batch.now) puts c.loop-row.row) (c.loop-row.invariant.has puts has)))
 
 pub loop-row-preserved : goal.loop-row-preserved
 loop-row-preserved c =
@@ -46,7 +46,7 @@ loop-row-preserved c =
     let same : record { keys = take (length b.keys.now) c.keys_in-keys.result; values = take (length c.as_slice.result.now) c.numbers_in-numbers.result } ≡ put_in b row =
     (λ i. record { keys = c.keys_in-keys.ensures i; values = numbers i }) in
     record {
-      has = λ puts has. subst (λ n. Has c.put.new.self (after (put_in b) puts n)) (sym (add-one row))
-          (subst (λ u. Has c.put.new.self (u ∷ after (put_in b) puts row)) same (c.in_ok-put.ensures.ok (after (put_in b) puts row) (c.loop-row.invariant.has puts has)));
+      has = λ puts has. subst (λ n. Has c.put.new.self (puts_after (put_in b) puts n)) (sym (add-one row))
+          (subst (λ u. Has c.put.new.self (u ∷ puts_after (put_in b) puts row)) same (c.in_ok-put.ensures.ok (puts_after (put_in b) puts row) (c.loop-row.invariant.has puts has)));
       group = c.in_ok-put.ensures.group ∙ c.loop-row.invariant.group;
     }

@@ -7,7 +7,7 @@ use Rattle.star_program.specs.Rows.{cut}
 use Rattle.star_program.proofs.Rows.{length-cut}
 use Rattle.star_group.specs.Batches.{put_in, word_in}
 use Rattle.star_group.specs.Private.Taken.{CanTake, batch_lanes, column_after}
-use Rattle.star_group.specs.Stores.{number_at}
+use Rattle.star_group.specs.Stores.{put_number}
 use Rattle.star_group.proofs.PlacedLanes.{count_left, lane_same, next_numbers}
 use Rattle.star_group.proofs.placed.cells.take_lanes.Goals as goal
 
@@ -17,7 +17,7 @@ take_column-requires-clause-stays c =
     let gs = c.args.aggregates.now in
     let a = c.loop-number.number in
     let lane = c.next_lane.result.0.now in
-    let same : lane ≡ batch_lanes b a = lane_same lane (λ row. number_at a (put_in b row)) b.rows c.next_lane.ensures.len (λ row h.
+    let same : lane ≡ batch_lanes b a = lane_same lane (λ row. put_number a (put_in b row)) b.rows c.next_lane.ensures.len (λ row h.
     sym (next_numbers gs a Sum (put_in b row).values (map (word_in b.lanes.now row) c.loop-number.left.now) (map (word_in b.lanes.now row) c.next_lane.result.1.now) (get_or lane row (pos 0)) c.loop-number-test.true
     (c.loop-number.invariant.numbers row h) (c.next_lane.ensures.next row h (drop (suc a) gs))).0) in
     subst (λ g. CanTake g lane c.args.at.now (get_or (cut c.args.places (length gs) c.loop-number.cells) a [])) (sym (get_or_default gs a Sum Count c.loop-number-test.true))
@@ -32,7 +32,7 @@ loop-number-preserved c =
     let many = length gs in
     let a = c.loop-number.number in
     let lane = c.next_lane.result.0.now in
-    let same : lane ≡ batch_lanes b a = lane_same lane (λ row. number_at a (put_in b row)) b.rows c.next_lane.ensures.len (λ row h.
+    let same : lane ≡ batch_lanes b a = lane_same lane (λ row. put_number a (put_in b row)) b.rows c.next_lane.ensures.len (λ row h.
     sym (next_numbers gs a Sum (put_in b row).values (map (word_in b.lanes.now row) c.loop-number.left.now) (map (word_in b.lanes.now row) c.next_lane.result.1.now) (get_or lane row (pos 0)) c.loop-number-test.true
     (c.loop-number.invariant.numbers row h) (c.next_lane.ensures.next row h (drop (suc a) gs))).0) in
     let old = cut places many c.loop-number.cells in

@@ -1,10 +1,10 @@
 use Rattle.std.proofs.Common.{◌≡◌, ◌≤◌, ◌<◌, ◌+◌, ◌-ℤ◌, ℕ, Some, pos}
 use Rattle.std.specs.Prelude.{slice_index_or}
-use Rattle.star_group.specs.Places.{above, up_to}
+use Rattle.star_group.specs.Places.{above, place_up_to}
 use Rattle.star_group.proofs.placed.places.add_lane.Given as goal
 
 abbrev pub invariant-loop-row : goal.invariant-loop-row
 invariant-loop-row l = record {
-  done : (row : ℕ) → row < l.row → above (up_to l.span.last (slice_index_or l.lane row (pos 0) -ℤ l.span.low)) (l.span.last + 1) (Some (slice_index_or l.fn.at row 0)) ≡ Some (slice_index_or l.at row 0);
+  done : (row : ℕ) → row < l.row → above (place_up_to l.span.last (slice_index_or l.lane row (pos 0) -ℤ l.span.low)) (l.span.last + 1) (Some (slice_index_or l.fn.at row 0)) ≡ Some (slice_index_or l.at row 0);
   later : (row : ℕ) → l.row ≤ row → slice_index_or l.at row 0 ≡ slice_index_or l.fn.at row 0;
 }

@@ -33,7 +33,7 @@ add_lane-requires-clause-small c = λ row h.
     let back : c.loop-index.index ≡ suc i = omega (arith, c.loop-index-test.true) in
     let here : i < length spans = omega (arith, c.loop-index-test.true, c.loop-index.invariant.within) in
     let ks = (put_in c.args.batch.now row).keys in
-    let behind = subst (λ n. spec.place_of (drop n spans) (drop n ks) ≡ Some (get_or c.loop-index.at row 0)) back (c.loop-index.invariant.behind row (omega (arith, h, c.lane-lane.ensures.len))) in
+    let behind = subst (λ n. spec.cell_place (drop n spans) (drop n ks) ≡ Some (get_or c.loop-index.at row 0)) back (c.loop-index.invariant.behind row (omega (arith, h, c.lane-lane.ensures.len))) in
     few_places spans i c.index-spans-index.result ks (get_or c.loop-index.at row 0) here c.index-spans-index.is c.requires.few behind
 
 pub loop-index-preserved : goal.loop-index-preserved
@@ -54,7 +54,7 @@ loop-index-preserved c =
           let many : length kinds ≡ length spans = sym (c.requires.keys ∙ c.requires.batch.keys) in
           let within : i < length b.keys.now = omega (arith, here, c.requires.keys) in
           let word = word_there f b.keys.now i within in
-          let behind = subst (λ n. spec.place_of (drop n spans) (drop n (put_in b row).keys) ≡ Some (get_or c.loop-index.at row 0)) back (c.loop-index.invariant.behind row h) in
+          let behind = subst (λ n. spec.cell_place (drop n spans) (drop n (put_in b row).keys) ≡ Some (get_or c.loop-index.at row 0)) back (c.loop-index.invariant.behind row h) in
           batch_place spans s i kinds zs (get_or c.lane-lane.result.now row (pos 0)) (get_or c.loop-index.at row 0) (get_or c.add_lane.new.at row 0) here many wide c.index-spans-index.is own
           (subst (IsKeyWord (get_or kinds i declared.Number)) (sym word) (c.requires.batch.words row h i within)) (word ∙ sym (c.lane-lane.ensures.words row h)) behind
           (c.add_lane.ensures.places c.if-not-add_lane.false row (omega (arith, h, c.lane-lane.ensures.len)));

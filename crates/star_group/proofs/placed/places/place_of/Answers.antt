@@ -18,7 +18,7 @@ loop-index-preserved c =
     let back : suc i ≡ c.loop-index.index = omega (arith, c.loop-index-test.true) in
     let here : i < length c.args.spans.now = omega (arith, c.loop-index-test.true, c.loop-index.invariant.within) in
     let s = c.index-spans-index.result in
-    let behind = c.loop-index.invariant.behind ∙ ap (λ n. spec.place_of (drop n c.args.spans.now) (drop n c.args.keys.now)) (sym back) in record {
+    let behind = c.loop-index.invariant.behind ∙ ap (λ n. spec.cell_place (drop n c.args.spans.now) (drop n c.args.keys.now)) (sym back) in record {
       behind = c.above-place.ensures
           ∙ (λ j. spec.above (spec.offset_of (c.index-spans-index.is j) (get_or c.args.keys.now i (Number (pos 0)))) ((c.index-spans-index.is j).last + 1) (behind j))
           ∙ sym (more c.args.spans.now c.args.keys.now i s (Number (pos 0)) here (omega (arith, here, c.requires.same)));
@@ -29,4 +29,4 @@ pub returns-clause-within : goal.returns-clause-within
 returns-clause-within c =
     let spans = c.args.spans.now in
     let none : c.loop-index.index ≡ 0 = omega (arith, c.loop-index-test.false) in
-    if_within spans c.args.keys.now c.loop-index.place (c.loop-index.invariant.behind ∙ ap (λ n. spec.place_of (drop n spans) (drop n c.args.keys.now)) none)
+    if_within spans c.args.keys.now c.loop-index.place (c.loop-index.invariant.behind ∙ ap (λ n. spec.cell_place (drop n spans) (drop n c.args.keys.now)) none)

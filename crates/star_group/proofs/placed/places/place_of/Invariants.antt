@@ -4,7 +4,7 @@ use Rattle.star_group.proofs.placed.places.place_of.Given as goal
 
 abbrev pub invariant-loop-index : goal.invariant-loop-index
 invariant-loop-index l = record {
-  behind : l.place ≡ spec.place_of (drop l.index l.spans) (drop l.index l.keys);
+  behind : l.place ≡ spec.cell_place (drop l.index l.spans) (drop l.index l.keys);
   within : l.index ≤ length l.spans;
 }
 

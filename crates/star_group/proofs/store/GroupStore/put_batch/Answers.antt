@@ -1,5 +1,5 @@
 use Rattle.std.proofs.Common.{◌≡◌, ◌≤◌, ◌∷◌, ◌∙◌, ap, arith, length, rules, subst, sym, take}
-use Rattle.star_group.specs.Batches.{after, put_in}
+use Rattle.star_group.specs.Batches.{puts_after, put_in}
 use Rattle.star_group.specs.Stores.{HasRoom}
 use Rattle.star_group.proofs.store.GroupStore.put_batch.Goals as goal
 
@@ -25,8 +25,8 @@ put-requires-clause-room g c =
     let numbers = ap (λ gs. take (length gs) c.numbers_in-numbers.result) c.as_slice.ensures ∙ c.numbers_in-numbers.ensures in
     let same : put_in b row ≡ record { keys = take (length b.keys.now) c.keys_in-keys.result; values = take (length c.as_slice.result.now) c.numbers_in-numbers.result } =
     (λ i. record { keys = sym c.keys_in-keys.ensures i; values = sym numbers i }) in (
-      after (put_in b) room.0 row,
+      puts_after (put_in b) room.0 row,
       c.loop-row.invariant.has room.0 room.1,
-      subst (λ d. HasRoom d (record { keys = take (length b.keys.now) c.keys_in-keys.result; values = take (length c.as_slice.result.now) c.numbers_in-numbers.result } ∷ after (put_in b) room.0 row)) (sym c.loop-row.invariant.group)
-          (subst (λ u. HasRoom (g.Self.GroupStore.group c.args.self.now) (u ∷ after (put_in b) room.0 row)) same (room.2 row c.loop-row-test.true)),
+      subst (λ d. HasRoom d (record { keys = take (length b.keys.now) c.keys_in-keys.result; values = take (length c.as_slice.result.now) c.numbers_in-numbers.result } ∷ puts_after (put_in b) room.0 row)) (sym c.loop-row.invariant.group)
+          (subst (λ u. HasRoom (g.Self.GroupStore.group c.args.self.now) (u ∷ puts_after (put_in b) room.0 row)) same (room.2 row c.loop-row-test.true)),
     )

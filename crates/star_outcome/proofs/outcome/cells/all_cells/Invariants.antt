@@ -1,6 +1,6 @@
 use Rattle.std.proofs.Common.{◌≡◌, take}
 use Rattle.std.specs.List.{flat_map}
-use Rattle.star_group.specs.Shown.{row_at}
+use Rattle.star_group.specs.StoreRows.{row_at}
 use Rattle.star_outcome.specs.Private.Decoded.{row_cells}
 use Rattle.star_world.specs.WorldOf.{world_of}
 use Rattle.star_outcome.proofs.outcome.cells.all_cells.Given as goal

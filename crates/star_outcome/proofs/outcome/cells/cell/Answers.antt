@@ -1,7 +1,8 @@
 use Rattle.std.proofs.Common.{ap, sym, ◌∙◌}
 use Rattle.star_group.proofs.Contents.{if_ok}
-use Rattle.star_group.specs.Shown.{row_at, row_shown}
-use Rattle.star_program.specs.Outcome.{cell_of, decoded_row, key_cell}
+use Rattle.star_group.specs.StoreRows.{row_at, row_view}
+use Rattle.star_program.specs.Outcome.{decoded_row}
+use Rattle.star_program.specs.RowCells.{cell_of, key_cell}
 use Rattle.star_world.specs.WorldOf.{world_of}
 use Rattle.star_outcome.proofs.DecodedRows.{decodable_at, decoded_at}
 use Rattle.star_outcome.proofs.outcome.cells.cell.Goals as goal
@@ -16,5 +17,5 @@ returns-in-Key c =
     if_ok _ _ c.key_cell.result (λ cell is.
     is
     ∙ ap key_cell (sym (decoded_at c.args.catalogue.now c.args.declared.now.keys (row_at c.args.rows.now c.args.number).keys c.in-Key.place c.requires.keys))
-    ∙ ap (cell_of (decoded_row (world_of c.args.catalogue.now) c.args.declared.now (row_shown (row_at c.args.rows.now c.args.number)))) (sym c.in-Key.is))
+    ∙ ap (cell_of (decoded_row (world_of c.args.catalogue.now) c.args.declared.now (row_view (row_at c.args.rows.now c.args.number)))) (sym c.in-Key.is))
     shown

@@ -1,9 +1,10 @@
 use Rattle.std.proofs.Common.{length, ap, ◌∙◌}
 use Rattle.std.proofs.lemmas.List.{length-map}
-use Rattle.star_program.specs.Outcome.{cell_of, decoded_row}
+use Rattle.star_program.specs.Outcome.{decoded_row}
+use Rattle.star_program.specs.RowCells.{cell_of}
 use Rattle.star_program.specs.Rows.{cut}
 use Rattle.star_program.proofs.Rows.{cut_rows, length-rows}
-use Rattle.star_group.specs.Shown.{row_at, row_shown}
+use Rattle.star_group.specs.StoreRows.{row_at, row_view}
 use Rattle.star_outcome.specs.Private.Decoded.{row_cells}
 use Rattle.star_world.specs.WorldOf.{world_of}
 use Rattle.star_outcome.proofs.outcome.cells.cell_rows.Goals as goal
@@ -14,7 +15,7 @@ from_cells-requires c =
     let d = c.args.declared.now in
     let shows = c.args.shows.now in
     ap length c.in_ok-cells.ensures
-    ∙ length-rows (length shows) (λ number. row_cells w d shows (row_at c.args.rows.now number)) (λ number. length-map shows (λ show. cell_of (decoded_row w d (row_shown (row_at c.args.rows.now number))) show.column)) c.args.numbers.now
+    ∙ length-rows (length shows) (λ number. row_cells w d shows (row_at c.args.rows.now number)) (λ number. length-map shows (λ show. cell_of (decoded_row w d (row_view (row_at c.args.rows.now number))) show.column)) c.args.numbers.now
 
 pub returns : goal.returns
 returns c =
@@ -23,4 +24,4 @@ returns c =
     let shows = c.args.shows.now in
     c.from_cells.ensures
     ∙ ap (cut (length shows) (length c.args.numbers.now)) c.in_ok-cells.ensures
-    ∙ cut_rows (length shows) (λ number. row_cells w d shows (row_at c.args.rows.now number)) (λ number. length-map shows (λ show. cell_of (decoded_row w d (row_shown (row_at c.args.rows.now number))) show.column)) c.args.numbers.now
+    ∙ cut_rows (length shows) (λ number. row_cells w d shows (row_at c.args.rows.now number)) (λ number. length-map shows (λ show. cell_of (decoded_row w d (row_view (row_at c.args.rows.now number))) show.column)) c.args.numbers.now

@@ -5,7 +5,7 @@ use Rattle.star_program.specs.Code.{code_size, scan_depth}
 use Rattle.star_program.specs.CodeOfSteps.{code_of_steps}
 use Rattle.star_program.specs.Private.Followed.{code_of_step}
 use Rattle.star_program.specs.Text.Statements.{lines_of_code}
-use Rattle.star_program.specs.Text.Written.{line_text}
+use Rattle.star_program.specs.Text.Written.{written_line}
 use Rattle.star_program.proofs.spelling.body_lines.+writing.Given as goal
 
 abbrev pub decreases-push_body : goal.decreases-push_body
@@ -16,7 +16,7 @@ decreases-push_step l = 2 * code_size (code_of_step l.step.now)
 
 abbrev pub invariant-push_body-loop-step : goal.invariant-push_body-loop-step
 invariant-push_body-loop-step l = record {
-  lines : l.out.items ++ flat_map line_text (lines_of_code l.depth (code_of_steps (drop l.step-index l.step-items))) ≡ l.fn.out.items ++ flat_map line_text (lines_of_code l.depth l.body);
+  lines : l.out.items ++ flat_map written_line (lines_of_code l.depth (code_of_steps (drop l.step-index l.step-items))) ≡ l.fn.out.items ++ flat_map written_line (lines_of_code l.depth l.body);
   size : code_size (code_of_steps (drop l.step-index l.step-items)) ≤ code_size l.body;
   depth : l.depth + scan_depth (code_of_steps (drop l.step-index l.step-items)) ≤ 3;
 }

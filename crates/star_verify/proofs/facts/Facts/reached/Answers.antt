@@ -5,7 +5,7 @@ use Rattle.star_schema.specs.declared.column.ColumnId.{ColumnId}
 use Rattle.star_schema.specs.declared.column.TheConstants.{COLUMNS}
 use Rattle.star_safety.specs.declared.reason.Reached.{Reached}
 use Rattle.star_safety.specs.Refusals.{reached, with_bounds}
-use Rattle.star_verify.specs.Private.Shown.{reach_shown}
+use Rattle.star_verify.specs.Private.Views.{reach_view}
 use Rattle.star_verify.proofs.Chosen.{picked, left_out}
 use Rattle.star_verify.proofs.facts.Facts.reached.Goals as goal
 use Rattle.star_verify.proofs.facts.Facts.reached.Goals.{then-has+in_ok-push, else-has}
@@ -15,7 +15,7 @@ loop-column-preserved c =
     elim c.if-has.branch [
       | then-has+in_ok-push t ↦
           (λ w facts.
-          let p = reach_shown c.args.reach in
+          let p = reach_view c.args.reach in
           let f : ColumnId → Reached = with_bounds w in
           let so_far = c.loop-column.columns.items in
           let rest = map f (filter p (drop (c.loop-column.column-index + 1) COLUMNS)) in
@@ -27,7 +27,7 @@ loop-column-preserved c =
           ∙ c.loop-column.invariant w facts)
       | else-has t ↦
           (λ w facts.
-          let p = reach_shown c.args.reach in
+          let p = reach_view c.args.reach in
           let f : ColumnId → Reached = with_bounds w in
           let rest = map f (filter p (drop (c.loop-column.column-index + 1) COLUMNS)) in
           ap (λ columns. columns.items ++ rest) t.columns-is
@@ -38,7 +38,7 @@ loop-column-preserved c =
 pub returns : goal.returns
 unfolding reached
 returns c = λ w facts.
-    let p = reach_shown c.args.reach in
+    let p = reach_view c.args.reach in
     let f : ColumnId → Reached = with_bounds w in
     c.from_vec.ensures
     ∙ sym (append-nil c.loop-column.columns.items)

@@ -4,10 +4,10 @@ use Rattle.std.specs.List.{filter}
 use Rattle.star_program.specs.World.{World}
 use Rattle.star_safety.specs.Refusals.{with_bounds}
 use Rattle.star_verify.specs.Private.Facts.{AreFacts}
-use Rattle.star_verify.specs.Private.Shown.{reach_shown}
+use Rattle.star_verify.specs.Private.Views.{reach_view}
 use Rattle.star_verify.proofs.facts.Facts.reached.Given as goal
 
 abbrev pub invariant-loop-column : goal.invariant-loop-column
 invariant-loop-column l = (w : World) → AreFacts w l.self
-    → l.columns.items ++ map (with_bounds w) (filter (reach_shown l.reach) (drop l.column-index l.column-items))
-    ≡ map (with_bounds w) (filter (reach_shown l.reach) l.column-items)
+    → l.columns.items ++ map (with_bounds w) (filter (reach_view l.reach) (drop l.column-index l.column-items))
+    ≡ map (with_bounds w) (filter (reach_view l.reach) l.column-items)

@@ -2,9 +2,9 @@ use Rattle.std.proofs.Common.{◌≡◌, ◌∙◌, ◌+◌, ◌-◌, ◌*◌, �
 use Rattle.std.specs.Prelude.{if◌then◌else◌}
 use Rattle.star_program.specs.declared.group.GroupKey.TheVariants.{Number}
 use Rattle.star_world.specs.WorldOf.{world_of}
-use Rattle.star_safety.specs.MostRows.{each_values, values_of}
+use Rattle.star_safety.specs.MostRows.{each_values, possible_values}
 use Rattle.star_verify.specs.Private.Made.{IsTallyAt}
-use Rattle.star_verify.specs.Private.Shown.{IsTally}
+use Rattle.star_verify.specs.Private.Views.{IsTally}
 use Rattle.star_verify.specs.Private.Rows as spec
 use Rattle.star_verify.specs.Private.Rows.{AgreeUpTo, MayHide, groupings, may_show, may_hide}
 use Rattle.star_verify.proofs.Firsts.{first_and_others}
@@ -47,7 +47,7 @@ rows_behind-returns-clause-rows t c = λ shares place lists tallied agree.
     subst (λ p. IsTallyAt tallies c.args.first (shares p)) (let z : place + 0 ≡ place = omega arith in z)
     (subst (λ p. IsTallyAt tallies p (shares (place + 0))) (let z : c.args.first + 0 ≡ c.args.first = omega arith in z) first) in
     let is_tally = subst (λ tally. IsTally tally (shares place)) (c.tally_at.ensures c.tally_at.result) (here c.tally_at.result) in
-    let value : v ≡ values_of w (shares place) (get_or keys 0 Number) = c.values.ensures.values (shares place) is_tally in
+    let value : v ≡ possible_values w (shares place) (get_or keys 0 Number) = c.values.ensures.values (shares place) is_tally in
     let later : (k : ℕ) → k < length others → IsTallyAt tallies (c.args.first + 1 + k) (shares (suc place + k)) =
     λ k lt. subst (λ p. IsTallyAt tallies (c.args.first + 1 + k) (shares p)) (let z : place + suc k ≡ suc place + k = omega arith in z)
     (subst (λ p. IsTallyAt tallies p (shares (place + suc k))) (let z : c.args.first + suc k ≡ c.args.first + 1 + k = omega arith in z)

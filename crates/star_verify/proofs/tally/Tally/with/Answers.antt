@@ -5,7 +5,7 @@ use Rattle.star_interval.specs.Interval.{range_of, wide_range_of}
 use Rattle.star_interval.specs.Range.{corner_range, hull, multiple_range, only}
 use Rattle.star_safety.specs.Ranges.{joined_reach}
 use Rattle.star_safety.specs.Tallies.{hull_with}
-use Rattle.star_verify.specs.Private.Shown.{reach_shown}
+use Rattle.star_verify.specs.Private.Views.{reach_view}
 use Rattle.star_interval.proofs.Ranges.{range_same}
 use Rattle.star_interval.proofs.Sums.{sum_ends}
 use Rattle.star_verify.proofs.Multiples.{above, below, small_down, small_up}
@@ -38,7 +38,7 @@ returns-clause-shares c = λ ss is.
           ∙ ap (λ r. corner_range ◌+ℤ◌ r more) is.sum;
       many = ap (λ n. n + c.args.times) is.many;
       each = ap Some (c.with_range.ensures ∙ ap (λ o. hull_with o (range_of c.args.range)) is.each);
-      reach = c.joined.ensures ∙ ap (λ r. joined_reach r (reach_shown c.args.reach)) is.reach;
+      reach = c.joined.ensures ∙ ap (λ r. joined_reach r (reach_view c.args.reach)) is.reach;
     }
 
 pub returns-clause-bounded : goal.returns-clause-bounded

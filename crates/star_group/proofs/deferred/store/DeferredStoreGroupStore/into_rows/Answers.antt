@@ -2,7 +2,7 @@ use Rattle.star_group.specs.Entries.{entries_of}
 use Rattle.std.proofs.Common.{subst, sym}
 use Rattle.star_group.specs.Base.{HasBaseWithRoom, IsBase}
 use Rattle.star_group.specs.Private.BasePut.{group_with}
-use Rattle.star_group.specs.Shown.{AreRows}
+use Rattle.star_group.specs.StoreRows.{AreRows}
 use Rattle.star_group.proofs.Contents.{if_ok}
 use Rattle.star_group.proofs.deferred.store.DeferredStoreGroupStore.into_rows.Goals as goal
 

@@ -1,4 +1,4 @@
-use Rattle.star_group.specs.Base.{row_at}
+use Rattle.star_group.specs.Base.{row_found}
 use Rattle.star_group.specs.Eager.{with_total}
 use Rattle.star_group.specs.Entries.{entries_of}
 use Rattle.star_group.proofs.Contents.{put_holds, put_leaves, put_stays}
@@ -6,11 +6,11 @@ use Rattle.star_group.proofs.eager.store.EagerStoreTryPut.try_put.Goals as goal
 
 pub returns-clause-has : goal.returns-clause-has
 returns-clause-has c = put_holds c.args.self.now (record { keys = c.args.keys.now; values = c.args.values.now }) _ _
-    c.as_slice-aggregates.ensures.value c.row_of_put-more.ensures c.requires.keys (with_total c.put_all.new.total (row_at (entries_of c.put_all.new.rows))) c.put_all.result c.put_all.ensures.ok
+    c.as_slice-aggregates.ensures.value c.row_of_put-more.ensures c.requires.keys (with_total c.put_all.new.total (row_found (entries_of c.put_all.new.rows))) c.put_all.result c.put_all.ensures.ok
 
 pub returns-clause-stays : goal.returns-clause-stays
 returns-clause-stays c = put_stays c.args.self.now (record { keys = c.args.keys.now; values = c.args.values.now }) _ _
-    c.as_slice-aggregates.ensures.value c.row_of_put-more.ensures c.requires.keys (with_total c.put_all.new.total (row_at (entries_of c.put_all.new.rows))) c.put_all.result c.put_all.ensures.ok
+    c.as_slice-aggregates.ensures.value c.row_of_put-more.ensures c.requires.keys (with_total c.put_all.new.total (row_found (entries_of c.put_all.new.rows))) c.put_all.result c.put_all.ensures.ok
 
 pub returns-clause-overflow : goal.returns-clause-overflow
 returns-clause-overflow c = put_leaves c.args.self.now (record { keys = c.args.keys.now; values = c.args.values.now }) _ _

@@ -2,7 +2,7 @@ use Rattle.std.proofs.Common.{◌∙◌, ap, length, subst, sym}
 use Rattle.std.proofs.Math.Logic.{∥∥₁_map}
 use Rattle.star_group.specs.Entries.{entries_of}
 use Rattle.star_group.specs.Private.BasePut.{group_with}
-use Rattle.star_group.specs.Shown.{AreRows}
+use Rattle.star_group.specs.StoreRows.{AreRows}
 use Rattle.star_group.specs.Stores.{HasRoom}
 use Rattle.star_group.proofs.Contents.{if_ok}
 use Rattle.star_group.proofs.PlacedPuts.{base_of, placed_parts, placed_with_room}

@@ -4,7 +4,7 @@ use Rattle.std.proofs.lemmas.List.{with_items_is}
 use Rattle.star_group.specs.Batches.{put_in}
 use Rattle.star_group.specs.ByPlace.{IsPlaced}
 use Rattle.star_group.specs.Entries.{entries_of}
-use Rattle.star_group.specs.Placed.{group_of}
+use Rattle.star_group.specs.Placed.{group_view}
 use Rattle.star_group.specs.Private.PlacedPut.{AreAtPlaces}
 use Rattle.star_group.proofs.PlacedPuts.{batch_room, takes_batch}
 use Rattle.star_group.proofs.SpanPlaces.{within}
@@ -37,9 +37,9 @@ invariant_of-self-3 c =
       few = s.few;
       many = seen ∙ s.many;
       long = ap length filled ∙ c.take_batch.ensures.len ∙ ap length numbers ∙ s.long ∙ ap (λ n. length s.rest.aggregates.items * n) (sym seen);
-      room = batch_room (group_of s) (put_in b) b.rows room.0
-          (λ us. IsPlaced (group_of s) s.spans.items s.seen.items s.cells.items (entries_of s.rest.rows) s.rest.total us)
-          (λ us. IsPlaced (group_of s) s.spans.items (with_items s.seen c.take_batch.new.seen).items (with_items s.cells c.take_batch.new.cells).items (entries_of s.rest.rows) s.rest.total us)
+      room = batch_room (group_view s) (put_in b) b.rows room.0
+          (λ us. IsPlaced (group_view s) s.spans.items s.seen.items s.cells.items (entries_of s.rest.rows) s.rest.total us)
+          (λ us. IsPlaced (group_view s) s.spans.items (with_items s.seen c.take_batch.new.seen).items (with_items s.cells c.take_batch.new.cells).items (entries_of s.rest.rows) s.rest.total us)
           (λ us placed. takes_batch s.rest.shape s.rest.count c.as_slice-2.result.now s.rest.aggregates.items s.spans.items s.seen.items c.as_mut_slice-2.result.now c.take_batch.new.seen (with_items s.seen c.take_batch.new.seen).items
           s.cells.items c.as_mut_slice.result.now c.take_batch.new.cells (with_items s.cells c.take_batch.new.cells).items b at (entries_of s.rest.rows) s.rest.total us
           fits c.as_slice-2.ensures.value marks numbers are c.take_batch.ensures.takes written filled placed)

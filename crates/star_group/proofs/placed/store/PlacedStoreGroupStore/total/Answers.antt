@@ -2,9 +2,9 @@ use Rattle.std.proofs.Common.{None, ap, ◌∙◌, get_or}
 use Rattle.std.proofs.lemmas.List.{get_or_default}
 use Rattle.star_schema.specs.declared.group.Aggregate.TheVariants.{Count}
 use Rattle.star_schema.specs.Groups.{numbers_for}
-use Rattle.star_group.specs.Placed.{group_of}
+use Rattle.star_group.specs.Placed.{group_view}
 use Rattle.star_group.specs.Private.Given.{shown}
-use Rattle.star_group.specs.Stores.{aggregate_at}
+use Rattle.star_program.specs.Puts.{aggregate_at}
 use Rattle.star_group.proofs.Totals.{shown_held}
 use Rattle.star_group.proofs.placed.store.PlacedStoreGroupStore.total.Goals as goal
 
@@ -12,5 +12,5 @@ pub returns : goal.returns
 returns c = λ us has.
     c.shown.ensures ∙ ap (shown _) c.get.ensures
     ∙ ap (λ g. shown g (get_or c.whole_total.result c.args.aggregate None)) (c.index.ensures ∙ get_or_default _ _ _ Count c.requires)
-    ∙ ap (shown (aggregate_at (group_of c.args.self.now) c.args.aggregate)) (c.whole_total.ensures us has c.args.aggregate c.requires)
-    ∙ shown_held (aggregate_at (group_of c.args.self.now) c.args.aggregate) (numbers_for c.args.aggregate us)
+    ∙ ap (shown (aggregate_at (group_view c.args.self.now).aggregates c.args.aggregate)) (c.whole_total.ensures us has c.args.aggregate c.requires)
+    ∙ shown_held (aggregate_at (group_view c.args.self.now).aggregates c.args.aggregate) (numbers_for c.args.aggregate us)

@@ -7,8 +7,8 @@ use Rattle.star_schema.specs.declared.table.TableId.{TableId}
 use Rattle.star_schema.specs.Database.{Database, rows_in}
 use Rattle.star_schema.specs.Dictionary.{text_cmp}
 use Rattle.star_schema.specs.Schema.{key_of, references, table_of}
-use Rattle.star_program.specs.World.{World, IsRowOf, is_text}
-use Rattle.star_world.specs.WorldOf.{column_numbers, column_texts}
+use Rattle.star_program.specs.World.{World, IsRowNumberOf, is_text}
+use Rattle.star_schema.specs.Columns.{column_numbers, column_texts}
 
 -- a row has this number, or this text, in a column
 abbrev pub HasNumber : Database → ColumnId → ℕ → ℤ → Type 0
@@ -37,4 +37,4 @@ pub record IsWorldOf (database : Database) (w : World) : Type 0 where
   pub find : (key : ColumnId) (n : ℤ) (row : ℕ) → key_of (table_of key) ≡ One key
       → (w.find (table_of key) n ≡ Some row) ↔ HasNumber database key row n
   pub found : (c : ColumnId) (t : TableId) (row : ℕ) → references c ≡ Some t
-      → row < w.size (table_of c) → IsRowOf w t (w.find t (w.number c row))
+      → row < w.size (table_of c) → IsRowNumberOf w t (w.find t (w.number c row))

@@ -4,16 +4,17 @@ use Rattle.star_schema.specs.Groups.{AreGroups, GroupRow as Row}
 use Rattle.star_program.specs.declared.key.KeyValue.{KeyValue}
 use Rattle.star_group.specs.declared.group_row.GroupRow.{GroupRow}
 use Rattle.star_program.specs.Keys.{key_value_cmp}
-use Rattle.star_group.specs.Stores.{Put, Group}
+use Rattle.star_program.specs.Puts.{Update}
+use Rattle.star_group.specs.Stores.{Group}
 
-abbrev pub row_shown : GroupRow → Row KeyValue
-row_shown row = record { keys = row.keys; totals = row.aggregates }
+abbrev pub row_view : GroupRow → Row KeyValue
+row_view row = record { keys = row.keys; totals = row.aggregates }
 
 -- the row of a number from 0; past the last one there is nothing in it
 abbrev pub row_at : List GroupRow → ℕ → GroupRow
 row_at rows number = slice_index_or rows number (record { keys = []; aggregates = [] })
 
 -- the rows are the groups of the puts with their aggregates, each once
-pub record AreRows (d : Group) (puts : List Put) (rows : List GroupRow) : Type 0 where
-  pub groups : AreGroups key_value_cmp d.shape d.count d.aggregates puts (map row_shown rows)
+pub record AreRows (d : Group) (puts : List Update) (rows : List GroupRow) : Type 0 where
+  pub groups : AreGroups key_value_cmp d.shape d.count d.aggregates puts (map row_view rows)
   pub once : (i j : ℕ) (a b : GroupRow) → slice_get rows i ≡ Some a → slice_get rows j ≡ Some b → a.keys ≡ b.keys → i ≡ j

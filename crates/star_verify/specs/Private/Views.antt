@@ -14,32 +14,32 @@ use Rattle.star_verify.specs.declared.known.Known.{Known}
 use Rattle.star_verify.specs.declared.known.Known.TheVariants as known
 
 -- a column's bit is 1
-abbrev pub reach_shown : Reach → ranges.Reach
-reach_shown reach c = nat_eq (bit_at reach.columns (index_of c)) 1
+abbrev pub reach_view : Reach → ranges.Reach
+reach_view reach c = nat_eq (bit_at reach.columns (index_of c)) 1
 
-abbrev pub known_shown : Known → ranges.Known
-known_shown (known.Number range reach origin) =
-    ranges.KnownNumber (range_of range) (reach_shown reach) origin
-known_shown (known.Text c) = ranges.KnownText c
-known_shown (known.Place c) = ranges.KnownPlace c
-known_shown (known.Row t) = ranges.KnownRow t
-known_shown known.Flag = ranges.KnownFlag
+abbrev pub known_view : Known → ranges.Known
+known_view (known.Number range reach origin) =
+    ranges.KnownNumber (range_of range) (reach_view reach) origin
+known_view (known.Text c) = ranges.KnownText c
+known_view (known.Place c) = ranges.KnownPlace c
+known_view (known.Row t) = ranges.KnownRow t
+known_view known.Flag = ranges.KnownFlag
 
 -- what some puts give an aggregate
 pub record IsTally (tally : Tally) (ss : List Share) : Type 0 where
   pub sum : wide_range_of tally.sum ≡ sum_range ss
   pub many : tally.many ≡ most_of ss
   pub each : option_map range_of tally.each ≡ hull_of ss
-  pub reach : reach_shown tally.reach ≡ reach_of ss
+  pub reach : reach_view tally.reach ≡ reach_of ss
 
 -- what is known of registers, by their numbers
 abbrev pub known_of : Register → Option ranges.Known
-known_of register = option_map known_shown register.known
+known_of register = option_map known_view register.known
 
 abbrev pub nothing_known : Register
 nothing_known = record { known = None }
 
-abbrev pub known_in : List Register → ranges.Table
+abbrev pub known_in : List Register → ranges.AllKnown
 known_in registers r = known_of (slice_index_or registers r nothing_known)
 
 abbrev pub kind_known : Register → Option Kind

@@ -4,5 +4,5 @@ use Rattle.star_program.specs.declared.value.Value.{Value}
 use Rattle.star_program.specs.Values.{Registers}
 
 -- what stands in the registers, by their numbers
-abbrev pub held : List (Option Value) → Registers
-held registers r = slice_index_or registers r None
+abbrev pub registers_view : List (Option Value) → Registers
+registers_view registers r = slice_index_or registers r None

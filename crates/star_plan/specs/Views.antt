@@ -15,36 +15,36 @@ use Rattle.star_plan.specs.Meaning.{RowCondition, Plan}
 use Rattle.star_plan.specs.Names.{literal_value}
 
 -- the value that a literal stands for
-abbrev pub literal_shown : Literal → Value
-literal_shown l = literal_value (literal_view l)
+abbrev pub literal_value_view : Literal → Value
+literal_value_view l = literal_value (literal_view l)
 
-abbrev pub comparison_shown : of_comparison.Comparison ColumnId → Comparison ColumnId Value
-comparison_shown c = comparison_by (λ c. c) literal_shown c
+abbrev pub comparison_view : of_comparison.Comparison ColumnId → Comparison ColumnId Value
+comparison_view c = comparison_by (λ c. c) literal_value_view c
 
-abbrev pub condition_shown : of_condition.Condition (of_comparison.Comparison ColumnId) → RowCondition
-condition_shown c = condition_by comparison_shown c
+abbrev pub row_condition_view : of_condition.Condition (of_comparison.Comparison ColumnId) → RowCondition
+row_condition_view c = condition_by comparison_view c
 
-abbrev pub expression_shown : of_expression.Expression ColumnId → Expression ColumnId
-expression_shown e = expression_by (λ c. c) e
+abbrev pub column_expression_view : of_expression.Expression ColumnId → Expression ColumnId
+column_expression_view e = expression_by (λ c. c) e
 
-abbrev pub measure_shown : of_measure.Measure ColumnId → Measure ColumnId
-measure_shown m = measure_by (λ c. c) m
+abbrev pub column_measure_view : of_measure.Measure ColumnId → Measure ColumnId
+column_measure_view m = measure_by (λ c. c) m
 
-abbrev pub measures_shown : List Aggregate → List (Measure ColumnId)
-measures_shown as' = map (λ a. measure_shown a.measure) as'
+abbrev pub measures_view : List Aggregate → List (Measure ColumnId)
+measures_view as' = map (λ a. column_measure_view a.measure) as'
 
-abbrev pub names_shown : List Aggregate → List (List ℕ)
-names_shown as' = map (λ a. a.name.items) as'
+abbrev pub names_view : List Aggregate → List (List ℕ)
+names_view as' = map (λ a. a.name.items) as'
 
 -- the resolved query that the tree of a plan holds
-abbrev pub shown : PlanTree → Plan
-shown t = record {
+abbrev pub plan_view : PlanTree → Plan
+plan_view t = record {
   joins = t.joins.items;
-  conjuncts = map condition_shown t.conjuncts.items;
+  conjuncts = map row_condition_view t.conjuncts.items;
   shape = t.shape;
   keys = t.keys.items;
-  measures = measures_shown t.aggregates.items;
-  names = names_shown t.aggregates.items;
+  measures = measures_view t.aggregates.items;
+  names = names_view t.aggregates.items;
   items = t.items.items;
   sorts = t.sorts.items;
 }

@@ -6,11 +6,11 @@ use Rattle.star_verify.specs.declared.refusal.Refusal.{Refusal}
 use Rattle.star_verify.specs.declared.refusal.Refusal.TheVariants as told
 
 -- None for want of memory
-abbrev pub refusal_shown : Refusal → Option admissible.Refusal
-refusal_shown told.OutOfMemory = None
-refusal_shown (told.TooCostly visits) = Some (admissible.TooCostly visits)
-refusal_shown (told.Refused at reason) = Some (admissible.Refused (at, reason))
-refusal_shown (told.BadShow place) = Some (admissible.BadShow place)
+abbrev pub refusal_view : Refusal → Option admissible.Refusal
+refusal_view told.OutOfMemory = None
+refusal_view (told.TooCostly visits) = Some (admissible.TooCostly visits)
+refusal_view (told.Refused at reason) = Some (admissible.Refused (at, reason))
+refusal_view (told.BadShow place) = Some (admissible.BadShow place)
 
 -- Ok where there is no reason, else it
 abbrev pub IsReason : Result (Unit {0}) Reason → Option Reason → Type 0

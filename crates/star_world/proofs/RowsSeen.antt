@@ -13,8 +13,9 @@ use Rattle.star_schema.specs.declared.column.ColumnId.{ColumnId}
 use Rattle.star_schema.specs.declared.table.Key.TheVariants.{One}
 use Rattle.star_schema.proofs.Dictionaries.{IsDictionary-dictionary_of}
 use Rattle.star_schema.proofs.TextPlaces.{has_code, nat_lt-low_in, nat_lt-high_in}
-use Rattle.star_world.specs.Shown.{HasNumber, HasText, IsCodeOf, IsWorldOf}
-use Rattle.star_world.specs.WorldOf.{world_of, column_dictionary, column_numbers, column_texts}
+use Rattle.star_world.specs.RowsSeen.{HasNumber, HasText, IsCodeOf, IsWorldOf}
+use Rattle.star_schema.specs.Columns.{column_dictionary, column_numbers, column_texts}
+use Rattle.star_world.specs.WorldOf.{world_of}
 use Rattle.star_world.proofs.Found.{IsFound, found_from, one_place}
 use Rattle.star_world.proofs.Loaded.{loaded}
 

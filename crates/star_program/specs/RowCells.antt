@@ -1,0 +1,24 @@
+-- The cells of a row of a group, of a program or of a query.
+use Rattle.std.specs.Prelude.{ℤ, slice_index_or, Option, Some, None}
+use Rattle.star_schema.specs.declared.group.GroupColumn.{GroupColumn}
+use Rattle.star_schema.specs.declared.group.GroupColumn.TheVariants as column
+use Rattle.star_schema.specs.Groups.{GroupRow}
+use Rattle.star_schema.specs.Tables.{Value, Number, Text}
+use Rattle.star_program.specs.declared.outcome.Cell.{Cell}
+use Rattle.star_program.specs.declared.outcome.Cell.TheVariants as cell
+
+-- a key that is hidden is ALL
+abbrev pub key_cell : Option Value → Cell
+key_cell None = cell.All
+key_cell (Some (Number z)) = cell.Number z
+key_cell (Some (Text bytes)) = cell.Text bytes
+
+-- an aggregate over nothing is NULL
+abbrev pub total_cell : Option ℤ → Cell
+total_cell None = cell.Null
+total_cell (Some z) = cell.Number z
+
+-- what the row has in a column
+abbrev pub cell_of : GroupRow Value → GroupColumn → Cell
+cell_of row (column.Key place) = key_cell (slice_index_or row.keys place None)
+cell_of row (column.Aggregate place) = total_cell (slice_index_or row.totals place None)
