@@ -20,7 +20,7 @@ const NO_ROW: u32 = u32::MAX;
 
 /// The numbers for each key, and those besides, that may lie between the least key and the greatest
 /// for a row to be kept for each number.
-const NUMBERS_FOR_EACH: u64 = 8;
+const NUMBERS_FOR_EACH: u64 = 4;
 
 const NUMBERS_FREE: u64 = 131_072;
 

@@ -10,6 +10,7 @@ ghost use Rattle.star_flat.specs.Private.Order.{AreInOrder, key_of, texts_of};
 ghost use Rattle.star_flat.specs.Private.Codes.{LeadTo, different};
 
 use crate::ordered::{Numbered, in_order};
+use crate::release::release;
 use crate::texts::FlatTexts;
 use std::alloc::{AllocError, Global};
 
@@ -23,7 +24,9 @@ impl FlatTexts {
         ensures repeated { IfOk result (λ coded. AreRepeated coded.0 coded.1.items) }
     {
         let ordered = in_order(alloc, self)?;
-        code_ordered(alloc, self, ordered.as_slice())
+        let coded = code_ordered(alloc, self, ordered.as_slice());
+        release(ordered);
+        coded
     }
 }
 

@@ -8,6 +8,7 @@ mod coding;
 mod marks;
 mod numbers;
 mod ordered;
+mod release;
 mod repeated;
 mod slot;
 mod texts;

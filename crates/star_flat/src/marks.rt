@@ -2,6 +2,7 @@
 
 ghost use Rattle.std.specs.Prelude.{◌≡◌, ◌<◌, ◌^◌, IfOk, IsTrue, length};
 
+use crate::release::release;
 use crate::texts::FlatTexts;
 use std::alloc::{AllocError, Global};
 
@@ -29,16 +30,18 @@ fn count_remainders(alloc: Global, texts: &FlatTexts, count: u32) -> Result<u32,
             different += 1;
         }
     }
+    release(met);
     Ok(different)
 }
 
 /// Whether some of these texts, of which there are fewer than 2^32, may be equal. Otherwise at least
-/// half as many as there are are different.
+/// three fifths of them are different. (Marks of texts that all differ leave five eighths of the
+/// remainders.)
 pub(crate) fn may_repeat(alloc: Global, texts: &FlatTexts) -> Result<bool, AllocError>
     ensures { IfOk result (λ repeat. IsTrue repeat → length texts.now < 2 ^ 32) }
 {
     match u32::try_from(texts.len()) {
-        Ok(count) => Ok(count_remainders(alloc, texts, count)? < count / 2),
+        Ok(count) => Ok(count_remainders(alloc, texts, count)? / 3 < count / 5),
         Err(_) => Ok(false),
     }
 }

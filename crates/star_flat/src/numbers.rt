@@ -80,6 +80,11 @@ impl FlatNumbers {
         }
     }
 
+    /// Lets the numbers go, as `release` does.
+    pub(crate) fn release(self) {
+        self.words.release();
+    }
+
     /// Keeps the first so many numbers alone.
     pub(crate) fn truncate(&mut self, count: usize)
         ensures { self.new ≡ take count self.old }

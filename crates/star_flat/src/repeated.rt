@@ -5,10 +5,12 @@ ghost use Rattle.star_flat.specs.Repeated.{AreRepeated, places, texts_at};
 
 use crate::marks::may_repeat;
 use crate::numbers::FlatNumbers;
+use crate::release::release;
 use crate::slot::{SLOTS, slot_of};
 use crate::texts::FlatTexts;
 use std::alloc::{AllocError, Global};
 use std::marker::Model;
+use std::mem::replace;
 
 /// How many texts are kept at least before they are compacted. The places of so many fit into words
 /// of 16 bits.
@@ -116,8 +118,10 @@ fn keep_different(
     ensures repeated { AreRepeated kept.new (places rows.new) }
 {
     let (different, codes) = kept.coded(alloc)?;
-    *rows = renumbered(alloc, rows, codes.as_slice())?;
-    *kept = different;
+    let places = renumbered(alloc, rows, codes.as_slice())?;
+    release(codes);
+    replace(rows, places).release();
+    replace(kept, different).release();
     Ok(())
 }
 
@@ -188,17 +192,22 @@ impl RepeatedTexts {
     /// Keeps one of equal texts alone, where they may repeat, or changes nothing where memory is
     /// refused.
     ///
-    /// Until the next time at least as many texts are kept as are left now, and as a quarter of the
-    /// rows. So each text that is kept pays for the sort of two texts and for the new places of four
-    /// rows, and no choice of texts takes more than n log n.
+    /// After that at least as many texts are kept as are left now, and as a quarter of the rows,
+    /// before it is done again. So each text that is kept pays for the sort of two texts and for the
+    /// new places of four rows. Where they don't repeat, they are only marked, and a quarter more of
+    /// them are kept, so each pays for five marks. No choice of texts takes more than n log n.
     fn compact(&mut self) -> Result<(), AllocError>
         ensures { self.new ≡ self.old }
     {
         if may_repeat(self.alloc, &self.kept)? {
             keep_different(self.alloc, &mut self.kept, &mut self.rows)?;
+            let left = self.kept.len();
+            let more = left.max(self.rows.len() / 4);
+            self.most = MANY.max(left.saturating_add(more));
+        } else {
+            let left = self.kept.len();
+            self.most = MANY.max(left.saturating_add(left / 4));
         }
-        let left = self.kept.len();
-        self.most = MANY.max(left.saturating_add(left.max(self.rows.len() / 4)));
         Ok(())
     }
 }

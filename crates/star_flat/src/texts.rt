@@ -5,6 +5,7 @@ ghost use Rattle.star_flat.specs.Private.Cut.{texts_from, start_of, IsCut};
 ghost use Rattle.star_flat.specs.Repeated.{places};
 
 use crate::numbers::FlatNumbers;
+use crate::release::release;
 use std::alloc::{AllocError, Global};
 use std::marker::Model;
 
@@ -60,6 +61,12 @@ impl FlatTexts {
         ensures { slice_get self.now place ≡ Some result.now }
     {
         text_at(self.bytes.as_slice(), &self.ends, place)
+    }
+
+    /// Lets the texts go, as `release` does.
+    pub(crate) fn release(self) {
+        release(self.bytes);
+        self.ends.release();
     }
 
     /// Puts a text at the end, or changes nothing where memory is refused.

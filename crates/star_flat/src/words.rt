@@ -6,6 +6,7 @@ ghost use Rattle.std.specs.Ordering.{int_cmp};
 ghost use Rattle.star_flat.specs.Words.{numbers_in};
 ghost use Rattle.star_flat.specs.Private.Widths.{widenings};
 
+use crate::release::release;
 use std::alloc::{AllocError, Global};
 
 /// A signed integer of some width.
@@ -213,6 +214,16 @@ impl SignedWords {
             SignedWords::Bits16(words) => push_to(words, number),
             SignedWords::Bits32(words) => push_to(words, number),
             SignedWords::Bits64(words) => push_to(words, number),
+        }
+    }
+
+    /// Lets the numbers go, as `release` does.
+    pub(crate) fn release(self) {
+        match self {
+            SignedWords::Bits8(words) => release(words),
+            SignedWords::Bits16(words) => release(words),
+            SignedWords::Bits32(words) => release(words),
+            SignedWords::Bits64(words) => release(words),
         }
     }
 

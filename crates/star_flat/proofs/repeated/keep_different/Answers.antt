@@ -9,12 +9,22 @@ renumbered-requires c =
 
 pub returns-clause-texts : goal.returns-clause-texts
 returns-clause-texts c =
-    rw (c.in_ok-rows.ensures, c.as_slice.ensures.value)
+    rw (
+      c.replace.ensures.after,
+      c.replace-2.ensures.after,
+      c.in_ok-places.ensures,
+      c.as_slice.ensures.value,
+    )
     (texts_of_coded _ _ _ _ c.requires.repeated c.in_ok-different.ensures.repeated
     c.in_ok-different.ensures.texts)
 
 pub returns-clause-repeated : goal.returns-clause-repeated
 returns-clause-repeated c =
-    rw (c.in_ok-rows.ensures, c.as_slice.ensures.value)
+    rw (
+      c.replace.ensures.after,
+      c.replace-2.ensures.after,
+      c.in_ok-places.ensures,
+      c.as_slice.ensures.value,
+    )
     (places_coded _ _ _ _ c.requires.repeated c.in_ok-different.ensures.repeated
     c.in_ok-different.ensures.texts)
