@@ -403,7 +403,7 @@ module _ (w : World) (f : Parts) (may : ℕ → Bool) (p : Plan) (at : ℕ → T
         updates = ap (λ x. x.updates) (sym same) ∙ sym (add-zero s.updates);
       }
   turns_run go each (suc k) i q s e h =
-      let begun : Store = record s { visits = s.visits + 1 } in
+      let begun : State = record s { visits = s.visits + 1 } in
       let a = after_ends (begin (may s.visits) s (go i)) (turns may k (i + 1) go) e h in
       let t = each i (omega arith) begun a.0 (begin_ends (may s.visits) s (go i) a.0 a.1) in
       let r = turns_run go each k (i + 1) (omega arith) a.0 e a.2 in

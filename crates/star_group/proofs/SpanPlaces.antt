@@ -192,3 +192,44 @@ pub word_there : (f : ℕ → ℤ) (rs : List ℕ) (i : ℕ) → i < length rs �
 word_there f [] i h = absurd (omega (arith, h))
 word_there f (r ∷ rs) zero h = refl
 word_there f (r ∷ rs) (suc i) h = word_there f rs i (omega (arith, h))
+
+-- ---- rows with no place
+
+above_none : (o : Option ℕ) (size : ℕ) → above o size None ≡ None
+above_none (Some n) size = refl
+above_none None size = refl
+
+-- where the last keys have none, all have none
+none_before : (ss : List Span) (ks : List KeyValue) (i : ℕ) → cell_place (drop i ss) (drop i ks) ≡ None → cell_place ss ks ≡ None
+none_before ss ks zero e = e
+none_before [] [] (suc i) e = absurd (let no : ⊥ = cc e in no)
+none_before [] (k ∷ ks) (suc i) e = refl
+none_before (s ∷ ss) [] (suc i) e = refl
+none_before (s ∷ ss) (k ∷ ks) (suc i) e = ap (above (offset_of s k) (s.last + 1)) (none_before ss ks i e) ∙ above_none (offset_of s k) (s.last + 1)
+
+pub offset_other : (s : Span) (g : GroupKey) (z : ℤ) → (IsOf s g → ⊥) → IsKeyWord g z → offset_of s (key_word g z) ≡ None
+offset_other s declared.Number z other fits = by s.is_code refl
+  where
+    by : (b : Bool) → s.is_code ≡ b → cond s.is_code None (place_up_to s.last (z -ℤ s.low)) ≡ None
+    by true e = ap (λ b. cond b None (place_up_to s.last (z -ℤ s.low))) e
+    by false e = absurd (other e)
+offset_other s (declared.Text c) (pos n) other fits = by s.is_code refl
+  where
+    by : (b : Bool) → s.is_code ≡ b → cond s.is_code (place_up_to s.last (pos n -ℤ s.low)) None ≡ None
+    by true e = absurd (other e)
+    by false e = ap (λ b. cond b (place_up_to s.last (pos n -ℤ s.low)) None) e
+offset_other s (declared.Text c) (negsuc n) other fits = absurd (let e = fits.2 in let no : ⊥ = cc e in no)
+
+-- a word that isn't in its range
+pub offset_outside : (s : Span) (g : GroupKey) (z w : ℤ) → IsOf s g → IsKeyWord g z → z ≡ w → place_up_to s.last (w -ℤ s.low) ≡ None → offset_of s (key_word g z) ≡ None
+offset_outside s g z w own fits same e = offset_word s g z own fits ∙ ap (λ n. place_up_to s.last (n -ℤ s.low)) same ∙ e
+
+pub batch_none : (ss : List Span) (s : Span) (i : ℕ) (kinds : List GroupKey) (zs : List ℤ) → i < length ss → length kinds ≡ length ss → length zs ≡ length ss → s ≡ get_or ss i s
+    → offset_of s (key_word (get_or kinds i declared.Number) (get_or zs i (pos 0))) ≡ None → cell_place ss (batch_keys kinds zs) ≡ None
+batch_none ss s i kinds zs h many wide is none =
+    let here : i < length (batch_keys kinds zs) = omega (arith, h, many, wide, length-keys_of kinds zs (omega (arith, many, wide))) in
+    let rest = cell_place (drop (suc i) ss) (drop (suc i) (batch_keys kinds zs)) in
+    none_before ss (batch_keys kinds zs) i
+    (more ss (batch_keys kinds zs) i s (Number (pos 0)) h here
+    ∙ (λ j. above (offset_of (sym is j) (key_there kinds zs i (Number (pos 0)) (omega (arith, h, many)) (omega (arith, h, wide)) j)) ((sym is j).last + 1) rest)
+    ∙ ap (λ o. above o (s.last + 1) rest) none)

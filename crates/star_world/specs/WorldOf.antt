@@ -24,5 +24,5 @@ world_of database = record {
   high = λ c text. high_in (column_dictionary database c) text;
   text = λ c code. slice_index_or (column_dictionary database c) code [];
   find = λ t n. position_from (is_key n) 0 (keys_of t (rows_in database t));
-  bounds = bounds_in (rows_in database);
+  bounds = λ c. bounds_in (rows_in database) c;
 }

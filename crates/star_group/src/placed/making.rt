@@ -1,10 +1,10 @@
 // A placed store of no puts, for keys that are expected in some ranges.
 
-ghost use Rattle.std.specs.Prelude.{◌≡◌, ◌≤◌, ◌<◌, ◌+◌, ◌*◌, ℕ, [], length, replicate, slice_index_or, IfOk};
+ghost use Rattle.std.specs.Prelude.{◌≡◌, ◌≤◌, ◌<◌, ◌+◌, ◌*◌, ℕ, [], length, pos, replicate, slice_index_or, IfOk};
 ghost use Rattle.star_schema.specs.declared.group.Aggregate.TheVariants.{Count};
 ghost use Rattle.star_program.specs.Rows.{cut};
 ghost use Rattle.star_group.specs.ByPlace as spec;
-ghost use Rattle.star_group.specs.Places.{places};
+ghost use Rattle.star_group.specs.Places.{IsOf, places};
 
 use super::span::Span;
 use star_interval::Interval;
@@ -14,7 +14,9 @@ use std::alloc::{AllocError, Global};
 
 // A range of the one value 0.
 fn single(is_code: bool) -> Span
-    ensures { result.last ≡ 0 }
+    ensures kind { result.is_code ≡ is_code }
+    ensures low { result.low ≡ pos 0 }
+    ensures last { result.last ≡ 0 }
 {
     Span {
         is_code,
@@ -25,7 +27,8 @@ fn single(is_code: bool) -> Span
 
 // The values of a key from one to another.
 fn span_between(is_code: bool, low: i64, last: u32) -> Span
-    ensures { result.last ≤ last }
+    ensures kind { result.is_code ≡ is_code }
+    ensures last { result.last ≤ last }
 {
     let least = if is_code { 0 } else { i64::MIN };
     let most = if is_code {
@@ -42,7 +45,8 @@ fn span_between(is_code: bool, low: i64, last: u32) -> Span
 // The range of a key, where one is expected of at most so many values; else that of the one value 0.
 fn span_of(key: GroupKey, range: Option<&Interval>, most: u32) -> Span
     requires { 0 < most }
-    ensures { result.last < most }
+    ensures kind { IsOf result key }
+    ensures last { result.last < most }
 {
     let is_code = match key {
         GroupKey::Number => false,

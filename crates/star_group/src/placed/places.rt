@@ -1,6 +1,6 @@
 // The places of key lists in ranges of keys.
 
-ghost use Rattle.std.specs.Prelude.{◌≡◌, ◌≤◌, ◌<◌, ◌+◌, ◌*◌, ◌^◌, ◌-ℤ◌, ℕ, IfSome, List, Some, length, pos, slice_index_or, take, true, MatchOption};
+ghost use Rattle.std.specs.Prelude.{◌≡◌, ◌≤◌, ◌<◌, ◌+◌, ◌*◌, ◌^◌, ◌-ℤ◌, ℕ, IfSome, List, None, Some, false, length, pos, slice_index_or, take, true, MatchOption};
 ghost use Rattle.star_program.specs.declared.key.KeyValue.{KeyValue as Value};
 ghost use Rattle.star_group.specs.Batches.{IsPutBatch, put_in};
 ghost use Rattle.star_group.specs.Places as spec;
@@ -123,6 +123,8 @@ fn add_lane(span: Span, lane: &[i64], at: &mut [u32]) -> bool
         → above (place_up_to span.last (slice_index_or lane.now row (pos 0) -ℤ span.low))
         (span.last + 1) (Some (slice_index_or at.old row 0))
         ≡ Some (slice_index_or at.new row 0) }
+    ensures outside { result ≡ false → (row : ℕ) × (row < length lane.now)
+        × (place_up_to span.last (slice_index_or lane.now row (pos 0) -ℤ span.low) ≡ None) }
     ensures len { length at.new ≡ length at.old }
 {
     let size = span.last + 1;
@@ -137,7 +139,8 @@ fn add_lane(span: Span, lane: &[i64], at: &mut [u32]) -> bool
 
 // Whether the range is one of such keys.
 fn is_of(span: Span, declared: GroupKey) -> bool
-    ensures { result ≡ true → spec.IsOf span declared }
+    ensures is { result ≡ true → spec.IsOf span declared }
+    ensures all { spec.IsOf span declared → result ≡ true }
 {
     match declared {
         GroupKey::Number => !span.is_code,
@@ -163,6 +166,8 @@ pub(crate) fn find_places(spans: &[Span], batch: &PutBatch<'_>, at: &mut [u32]) 
     requires rows { length at.old ≡ batch.now.rows }
     ensures places { result ≡ true → (row : ℕ) → row < batch.now.rows
         → spec.cell_place spans.now (put_in batch.now row).keys ≡ Some (slice_index_or at.new row 0) }
+    ensures outside { result ≡ false → 0 < batch.now.rows → (row : ℕ) × (row < batch.now.rows)
+        × (spec.cell_place spans.now (put_in batch.now row).keys ≡ None) }
     ensures len { length at.new ≡ length at.old }
 {
     clear(at);

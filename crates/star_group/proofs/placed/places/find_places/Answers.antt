@@ -4,7 +4,7 @@ use Rattle.star_program.specs.declared.group.GroupKey.TheVariants as declared
 use Rattle.star_group.specs.Batches.{IsKeyWord, put_in, word_in}
 use Rattle.star_group.specs.Places as spec
 use Rattle.star_group.specs.Places.{IsOf}
-use Rattle.star_group.proofs.SpanPlaces.{batch_place, few_places, few_values, length-keys_of, none_left, word_there}
+use Rattle.star_group.proofs.SpanPlaces.{batch_none, batch_place, few_places, few_values, length-keys_of, none_left, offset_other, offset_outside, word_there}
 use Rattle.star_group.proofs.placed.places.find_places.Goals as goal
 
 pub loop-index-init : goal.loop-index-init
@@ -45,7 +45,7 @@ loop-index-preserved c =
     let s = c.index-spans-index.result in
     let back : c.loop-index.index ≡ suc i = omega (arith, c.loop-index-test.true) in
     let here : i < length spans = omega (arith, c.loop-index-test.true, c.loop-index.invariant.within) in
-    let own : IsOf s (get_or kinds i declared.Number) = subst (λ ks. IsOf s (get_or ks i declared.Number)) c.as_slice-declared.ensures (c.is_of.ensures c.if-not-is_of.false) in
+    let own : IsOf s (get_or kinds i declared.Number) = subst (λ ks. IsOf s (get_or ks i declared.Number)) c.as_slice-declared.ensures (c.is_of.ensures.is c.if-not-is_of.false) in
     record {
       behind = λ row h.
           let f = word_in b.lanes.now row in
@@ -60,3 +60,45 @@ loop-index-preserved c =
           (c.add_lane.ensures.places c.if-not-add_lane.false row (omega (arith, h, c.lane-lane.ensures.len)));
       within = omega (arith, here);
     }
+
+pub returns-then-not-is_of-clause-outside : goal.returns-then-not-is_of-clause-outside
+returns-then-not-is_of-clause-outside c = λ e some.
+    let i = c.loop-index.index - 1 in
+    let b = c.args.batch.now in
+    let spans = c.args.spans.now in
+    let kinds = b.declared.now.keys in
+    let s = c.index-spans-index.result in
+    let here : i < length spans = omega (arith, c.loop-index-test.true, c.loop-index.invariant.within) in
+    let other : IsOf s (get_or kinds i declared.Number) → ⊥ = λ own. let no : ⊥ = cc (c.if-not-is_of.true, c.is_of.ensures.all (subst (λ ks. IsOf s (get_or ks i declared.Number)) (sym c.as_slice-declared.ensures) own)) in no in
+    let f = word_in b.lanes.now 0 in
+    let zs = map f b.keys.now in
+    let wide : length zs ≡ length spans = length-map b.keys.now f ∙ sym c.requires.keys in
+    let many : length kinds ≡ length spans = sym (c.requires.keys ∙ c.requires.batch.keys) in
+    let within : i < length b.keys.now = omega (arith, here, c.requires.keys) in
+    let fits = subst (IsKeyWord (get_or kinds i declared.Number)) (sym (word_there f b.keys.now i within)) (c.requires.batch.words 0 some i within) in
+    (0, some, batch_none spans s i kinds zs here many wide c.index-spans-index.is (offset_other s (get_or kinds i declared.Number) (get_or zs i (pos 0)) other fits))
+
+pub returns-then-not-add_lane-clause-outside : goal.returns-then-not-add_lane-clause-outside
+returns-then-not-add_lane-clause-outside c = λ e some.
+    let i = c.loop-index.index - 1 in
+    let b = c.args.batch.now in
+    let spans = c.args.spans.now in
+    let kinds = b.declared.now.keys in
+    let s = c.index-spans-index.result in
+    let here : i < length spans = omega (arith, c.loop-index-test.true, c.loop-index.invariant.within) in
+    let own : IsOf s (get_or kinds i declared.Number) = subst (λ ks. IsOf s (get_or ks i declared.Number)) c.as_slice-declared.ensures (c.is_of.ensures.is c.if-not-is_of.false) in
+    let found = c.add_lane.ensures.outside c.if-not-add_lane.true in
+    let row = found.0 in
+    let h : row < b.rows = omega (arith, found.1, c.lane-lane.ensures.len) in
+    let f = word_in b.lanes.now row in
+    let zs = map f b.keys.now in
+    let wide : length zs ≡ length spans = length-map b.keys.now f ∙ sym c.requires.keys in
+    let many : length kinds ≡ length spans = sym (c.requires.keys ∙ c.requires.batch.keys) in
+    let within : i < length b.keys.now = omega (arith, here, c.requires.keys) in
+    let word = word_there f b.keys.now i within in
+    let fits = subst (IsKeyWord (get_or kinds i declared.Number)) (sym word) (c.requires.batch.words row h i within) in (
+      row,
+      h,
+      batch_none spans s i kinds zs here many wide c.index-spans-index.is
+          (offset_outside s (get_or kinds i declared.Number) (get_or zs i (pos 0)) (get_or c.lane-lane.result.now row (pos 0)) own fits (word ∙ sym (c.lane-lane.ensures.words row h)) found.2),
+    )
