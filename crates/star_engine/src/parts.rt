@@ -11,9 +11,11 @@ use std::alloc::Global;
 use std::io::Read;
 
 // The room for a piece is cleared for each file, of which there may be a thousand small ones, and
-// stays in the processor's cache.
+// stays in the processor's cache. It is smaller than the 128 KiB from which on the C library maps a
+// block by itself: once such a block was let go, it would keep the growing lists of the columns
+// among small blocks too, with holes between them.
 /// The most bytes of one read, and so of one piece of a table.
-const MOST_OF_A_PIECE: usize = 262_144;
+const MOST_OF_A_PIECE: usize = 122_880;
 
 // Gives a reader of a table the bytes of one more read, and says how many there were; no more than
 // are left of a limit.
@@ -80,7 +82,7 @@ fn feed_all<R: Read>(
 }
 
 /// Gives a reader of a table all bytes of a file as one more part, up to the first read that gives
-/// none; no more than `limit`. They come in pieces, as they are read, of at most 256 KiB: no more of
+/// none; no more than `limit`. They come in pieces, as they are read, of at most 120 KiB: no more of
 /// them is in memory at once. No read is tried again, so there are at most `limit + 1`.
 pub fn read_part<R: Read>(
     alloc: Global,
